@@ -1,0 +1,11 @@
+pub mod Lists
+pub mod Values
+pub mod Syntax
+pub mod Runs
+pub mod Births
+pub mod Ids
+pub mod Meaning
+pub mod Readings
+pub mod Law
+pub mod Kinds
+pub mod Examples

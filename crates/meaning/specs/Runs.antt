@@ -1,0 +1,79 @@
+-- What a run does, as a tree: it goes on with whatever reference a birth gives, and with whatever value a get gives.
+use Rattle.std.specs.Prelude.{◌+◌, List, [], ◌∷◌}
+use Rattle.meaning.specs.Syntax.{Kind}
+use Rattle.meaning.specs.Values.{Value, Int, Items, Named, Known, Outcome, Val, Trapped, Birth, Id, Index}
+
+pub data Run : Type 0 where
+  Ends : (c : Outcome) → Run
+  Prints : (v : Value) (next : Run) → Run
+  -- a birth, what makes its object, and what follows once the object has a reference
+  Bears : (b : Birth) (made_by : Run) (next : Value → Run) → Run
+  -- a get of a reference, with the kind of what is got
+  Gets : (t : Kind) (r : Value) (next : Value → Run) → Run
+
+-- a trace
+pub data Item : Type 0 where
+  TraceBirth : (b : Birth) → Item
+  TraceGet : (c : Outcome) → Item
+  TracePrint : (v : Value) → Item
+
+-- The serial run: each birth is made at once, and a reference is the outcome.
+
+-- the outcome that a reference is; what is none, or only an id, counts as a trap, which a serial run never meets
+abbrev pub outcome_of : Value → Outcome
+outcome_of (Int n) = Trapped Index
+outcome_of (Items vs) = Trapped Index
+outcome_of (Named o) = Trapped Index
+outcome_of (Known c) = c
+
+-- goes on with a value, or ends with a trap
+abbrev pub go_on : {A : Type 0} → (Outcome → A) → Outcome → (Value → A) → A
+go_on ends (Val v) next = next v
+go_on ends (Trapped t) next = ends (Trapped t)
+
+abbrev pub serial_end : Run → Outcome
+serial_end (Ends c) = c
+serial_end (Prints v next) = serial_end next
+serial_end (Bears b made_by next) = serial_end (next (Known (serial_end made_by)))
+serial_end (Gets t r next) = go_on (λ c. c) (outcome_of r) (λ v. serial_end (next v))
+
+abbrev pub serial_trace : Run → List Item
+serial_trace (Ends c) = []
+serial_trace (Prints v next) = TracePrint v ∷ serial_trace next
+serial_trace (Bears b made_by next) = TraceBirth b ∷ serial_trace (next (Known (serial_end made_by)))
+serial_trace (Gets t r next) = TraceGet (outcome_of r) ∷ go_on (λ c. []) (outcome_of r) (λ v. serial_trace (next v))
+
+-- The run in pieces: a birth takes the next id, and a get the next answer.
+
+pub data Stop : Type 0 where
+  Needs : (r : Value) → Stop
+  Over : (c : Outcome) → Stop
+
+-- what was born and printed, and where it stops
+pub record Piece : Type 0 where
+  pub births : List Birth
+  pub prints : List Value
+  pub stop : Stop
+
+abbrev pub with_birth : Birth → Piece → Piece
+with_birth b p = record p { births = b ∷ p.births }
+
+abbrev pub with_print : Value → Piece → Piece
+with_print v p = record p { prints = v ∷ p.prints }
+
+abbrev pub stopped : Stop → Piece
+stopped s = record { births = []; prints = []; stop = s }
+
+abbrev pub next_id : Id → Id
+next_id o = record { owner = o.owner; serial = o.serial + 1 }
+
+abbrev pub answered : {A : Type 0} → List Outcome → A → (Outcome → List Outcome → A) → A
+answered [] none_left some = none_left
+answered (c ∷ cs) none_left some = some c cs
+
+abbrev pub piece : Run → Id → List Outcome → Piece
+piece (Ends c) base answers = stopped (Over c)
+piece (Prints v next) base answers = with_print v (piece next base answers)
+piece (Bears b made_by next) base answers = with_birth b (piece (next (Named base)) (next_id base) answers)
+piece (Gets t r next) base answers =
+    answered answers (stopped (Needs r)) (λ c rest. go_on (λ e. stopped (Over e)) c (λ v. piece (next v) base rest))

@@ -1,0 +1,27 @@
+// The laws of the definitions.
+
+ghost use Rattle.std.specs.Prelude.{ℕ, List};
+ghost use Rattle.meaning.specs.Law.{LawOfReplay, LawOfIds};
+ghost use Rattle.meaning.specs.Kinds.{AreSafe};
+ghost use Rattle.meaning.specs.Readings.{DenIsTheReading};
+
+/// Under every reading of ids under which births hold, what a task does on answers that begin what its run gets is a
+/// beginning of what the run does with every remote call a plain call, and where it ends, the whole.
+pub fn law_of_replay()
+    ensures { LawOfReplay }
+{}
+
+/// What a task bears, prints, needs or ends with names only ids that stand in its arguments or in an answer, or that it bore.
+pub fn law_of_ids()
+    ensures { LawOfIds }
+{}
+
+/// A checked script never meets an operand of the wrong kind, in a serial run or in pieces, and ends in its function's kind.
+pub fn checked_scripts_are_safe()
+    ensures { AreSafe }
+{}
+
+/// Where births are of new objects and name only earlier ones, exactly one reading has all of them hold and 0 elsewhere.
+pub fn births_have_one_reading()
+    ensures { DenIsTheReading }
+{}

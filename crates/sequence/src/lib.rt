@@ -1,0 +1,103 @@
+//! A list that contracts see as a list, whatever its capacity.
+#![tactic(auto)]
+
+ghost use Rattle.std.specs.Prelude.{◌≡◌, ◌<◌, ◌↔◌, IsTrue, IfOk, OnOk, OnErr, Some, [], ◌∷◌, ◌++◌, length, slice_get, slice_set};
+
+use std::alloc::{AllocError, Global};
+use std::marker::Model;
+
+/// A `Vec` that a contract sees as the list of its items: two with equal items are equal, whatever their capacities.
+#[derive(Drop, Debug)]
+pub struct Seq<T> {
+    pub items: Vec<T>,
+}
+
+impl<T> Model for Seq<T> {
+    ghost use Rattle.std.specs.Prelude.{List};
+
+    ghost Value = { List T };
+
+    ghost view = { λ s. s.items.items };
+}
+
+impl<T> Seq<T> {
+    /// The empty list.
+    pub fn new(alloc: Global) -> Self
+        ensures { result ≡ [] }
+    {
+        Seq {
+            items: Vec::new(alloc),
+        }
+    }
+
+    pub fn len(&self) -> usize
+        ensures { result ≡ length self.now }
+    {
+        self.items.len()
+    }
+
+    pub fn is_empty(&self) -> bool
+        ensures { IsTrue result ↔ (self.now ≡ []) }
+    {
+        self.items.is_empty()
+    }
+
+    /// The item at a place, counted from 0.
+    pub fn get(&self, place: usize) -> &T
+        requires { place < length self.now }
+        ensures { slice_get self.now place ≡ Some result.now }
+    {
+        &self.items[place]
+    }
+
+    pub fn as_slice(&self) -> &[T]
+        ensures { result.now ≡ self.now }
+    {
+        self.items.as_slice()
+    }
+}
+
+impl<T: Drop> Seq<T> {
+    /// Adds an item at the end. On an error the list is as it was, and the item is gone.
+    pub fn push(&mut self, item: T) -> Result<(), AllocError>
+        ensures ok { OnOk result (self.new ≡ self.old ++ item ∷ []) }
+        ensures err { OnErr result (self.new ≡ self.old) }
+    {
+        self.items.push(item)?;
+        Ok(())
+    }
+
+    /// Adds the other's items at the end. On an error the list is as it was.
+    pub fn append(&mut self, other: Self) -> Result<(), AllocError>
+        ensures ok { OnOk result (self.new ≡ self.old ++ other) }
+        ensures err { OnErr result (self.new ≡ self.old) }
+    {
+        let mut more = other.items;
+        self.items.append(&mut more)?;
+        Ok(())
+    }
+
+    /// Puts an item in the place of the one that stands there.
+    pub fn set(&mut self, place: usize, item: T)
+        requires { place < length self.old }
+        ensures { self.new ≡ slice_set self.old place item }
+    {
+        self.items[place] = item;
+    }
+}
+
+impl<T: Copy + Drop> Seq<T> {
+    /// An equal list.
+    pub fn copy(&self, alloc: Global) -> Result<Self, AllocError>
+        ensures { IfOk result (λ other. other ≡ self.now) }
+    {
+        let mut other = Seq::new(alloc);
+        for item in &self.items {
+            other.push(*item)?;
+        }
+        Ok(other)
+    }
+}
+
+#[cfg(test)]
+mod tests;

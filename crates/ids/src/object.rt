@@ -1,0 +1,59 @@
+// Objects.
+
+use crate::number::{read_number, split_at_dot};
+use crate::worker::WorkerId;
+use std::fmt;
+
+/// An object: the worker that owns it, and its number there, in the order in which the worker made its objects. Main's own
+/// object is `o1.0`. Ordered by owner, then by serial.
+#[derive(Clone, Copy, PartialEq, Eq, PartialOrd, Ord, Hash, Debug)]
+pub struct ObjectId {
+    pub owner: WorkerId,
+    pub serial: u64,
+}
+
+impl fmt::Display for ObjectId {
+    ghost use Rattle.std.specs.Prelude.{Some};
+    ghost use Rattle.ids.specs.Texts.{object_text};
+
+    ghost output = { λ o. Some (object_text o) };
+
+    fn fmt<W: fmt::Write>(&self, f: &mut fmt::Formatter<W>) -> fmt::Result {
+        let owner = self.owner.0;
+        let serial = self.serial;
+        write!(f, "o{owner}.{serial}")
+    }
+}
+
+impl ObjectId {
+    ghost use Rattle.std.specs.Prelude.{◌≡◌, IfSome, Some};
+    ghost use Rattle.ids.specs.declared.object.ObjectId.{ObjectId};
+    ghost use Rattle.ids.specs.Texts.{object_text, IsObject};
+
+    /// The object that a text such as `o3.7` names, with no leading zeros; no other text names one. Takes no memory.
+    pub fn read(text: &[u8]) -> Option<ObjectId>
+        ensures found { IfSome result (λ o. text.now ≡ object_text o) }
+        ensures only { (o : ObjectId) → IsObject o → text.now ≡ object_text o → result ≡ Some o }
+    {
+        let [b'o', rest @ ..] = text else {
+            return None;
+        };
+        let Some((owner, serial)) = split_at_dot(rest) else {
+            return None;
+        };
+        let Some(owner) = read_number(owner) else {
+            return None;
+        };
+        let Some(serial) = read_number(serial) else {
+            return None;
+        };
+        if owner > 4294967295 {
+            return None;
+        }
+        let owner = owner as u32;
+        Some(ObjectId {
+            owner: WorkerId(owner),
+            serial,
+        })
+    }
+}

@@ -1,0 +1,72 @@
+// Values.
+
+ghost use Rattle.std.specs.Prelude.{◌≡◌, IfOk, OnOk, map, ◌&&◌, ◌==◌, [], ◌∷◌};
+ghost use Rattle.std.specs.List.{list_any};
+ghost use Rattle.values.specs.Values.{value_of, id_of};
+ghost use Rattle.values.specs.Listed.{ids_listed, adding};
+
+use ids::ObjectId;
+use std::alloc::{AllocError, Global};
+
+/// A value of a run: a number, a list, or a reference as the id of its object.
+#[derive(Drop)]
+pub enum RunValue {
+    Int(i64),
+    List(Vec<RunValue>),
+    Id(ObjectId),
+}
+
+impl RunValue {
+    /// An equal value.
+    pub fn copy(&self, alloc: Global) -> Result<RunValue, AllocError>
+        ensures { IfOk result (λ r. value_of r ≡ value_of self.now) }
+    {
+        match self {
+            RunValue::Int(n) => Ok(RunValue::Int(*n)),
+            RunValue::Id(o) => Ok(RunValue::Id(*o)),
+            RunValue::List(items) => {
+                let mut copies = Vec::new(alloc);
+                for item in items {
+                    copies.push(item.copy(alloc)?)?;
+                }
+                Ok(RunValue::List(copies))
+            }
+        }
+    }
+}
+
+/// Whether the object is one of these.
+fn is_among(objects: &[ObjectId], object: ObjectId) -> bool
+    ensures { result ≡ list_any (λ o. (o.owner.0 == object.owner.0) && (o.serial == object.serial)) objects.now }
+{
+    objects
+        .iter()
+        .any(|o| o.owner.0 == object.owner.0 && o.serial == object.serial)
+}
+
+/// Adds the object at the end, unless it is there already.
+fn add(found: &mut Vec<ObjectId>, object: ObjectId) -> Result<(), AllocError>
+    ensures { OnOk result (map id_of found.new.items ≡ adding (map id_of found.old.items) (id_of object ∷ [])) }
+{
+    if is_among(found.as_slice(), object) {
+        return Ok(());
+    }
+    found.push(object)?;
+    Ok(())
+}
+
+/// Adds the ids that stand in a value, in order of first place, but for those that are there already.
+pub fn add_ids(value: &RunValue, found: &mut Vec<ObjectId>) -> Result<(), AllocError>
+    ensures { OnOk result (map id_of found.new.items ≡ adding (map id_of found.old.items) (ids_listed (value_of value.now))) }
+{
+    match value {
+        RunValue::Int(_) => Ok(()),
+        RunValue::Id(object) => add(found, *object),
+        RunValue::List(items) => {
+            for item in items {
+                add_ids(item, found)?;
+            }
+            Ok(())
+        }
+    }
+}

@@ -1,11 +1,11 @@
 -- Ids that are added one by one.
 use Rattle.std.proofs.Common.{◌≡◌, ℕ, ◌+◌, ◌<◌, ◌≤◌, Bool, true, false, List, [], ◌∷◌, ◌++◌, length, take, get_or, map, refl, sym, ap, ◌∙◌, subst, append_assoc, append-nil, arith}
-use Rattle.std.specs.Prelude.{if◌then◌else◌, ◌&&◌, ◌||◌, ◌==◌, slice_get, Some}
-use Rattle.std.specs.List.{list_any, flat_map}
+use Rattle.std.specs.Prelude.{if◌then◌else◌, ◌&&◌, ◌||◌, ◌==◌}
+use Rattle.std.specs.List.{list_any}
 use Rattle.std.proofs.lemmas.List.{take_all, take_more}
 use Rattle.std.specs.declared.vec.Vec.{Vec}
 use Rattle.std.specs.declared.alloc.Global.{Global}
-use Rattle.meaning.specs.Values.{Value, Items, Values, none, more, values_of, Id}
+use Rattle.meaning.specs.Values.{values_of, Id}
 use Rattle.meaning.specs.Births.{same_id}
 use Rattle.meaning.proofs.BirthLaws.{same_id-true, at_test}
 use Rattle.std.proofs.lemmas.Bool.Decides.{nat_tests}

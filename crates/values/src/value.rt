@@ -39,9 +39,7 @@ impl RunValue {
 fn is_among(objects: &[ObjectId], object: ObjectId) -> bool
     ensures { result ≡ list_any (λ o. (o.owner.0 == object.owner.0) && (o.serial == object.serial)) objects.now }
 {
-    objects
-        .iter()
-        .any(|o| o.owner.0 == object.owner.0 && o.serial == object.serial)
+    objects.iter().any(|o| o.owner.0 == object.owner.0 && o.serial == object.serial)
 }
 
 /// Adds the object at the end, unless it is there already.

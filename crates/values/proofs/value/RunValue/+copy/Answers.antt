@@ -1,4 +1,4 @@
-use Rattle.std.proofs.Common.{sym, ap, ◌∙◌, rules, ◌≤◌, length}
+use Rattle.std.proofs.Common.{sym, ap, ◌∙◌}
 use Rattle.values.specs.Values.{value_of}
 use Rattle.values.proofs.Rows.{list_copied}
 use Rattle.values.proofs.value.RunValue.+copy.Goals as goal

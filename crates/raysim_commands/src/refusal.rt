@@ -1,0 +1,63 @@
+// What a command refuses.
+
+ghost use Rattle.std.specs.Prelude.{◌≡◌};
+ghost use Rattle.raysim_commands.specs.declared.refusal.Refusal.TheVariants.{NoMemory, Failed};
+
+use crate::source::Fault;
+use script_tokens::Span;
+use std::alloc::{AllocError, AllocFailed};
+use std::fmt;
+
+/// Why a command gives no report. Its text is the line that goes to standard error.
+#[derive(Clone, Copy, Debug, PartialEq, Eq, Drop)]
+pub enum Refusal {
+    /// The script is refused with this number (1 to 4 and 10 to 17), at these bytes: `refused 3 at 28..29`.
+    At { code: u16, span: Span },
+    /// Want of memory: `refused 39`.
+    NoMemory,
+    /// A read or a write failed: `refused 50`.
+    Failed,
+}
+
+impl fmt::Display for Refusal {
+    ghost use Rattle.std.specs.Prelude.{Some};
+    ghost use Rattle.raysim_commands.specs.Refusals.{refusal_text};
+
+    ghost output = { λ r. Some (refusal_text r) };
+
+    fn fmt<W: fmt::Write>(&self, f: &mut fmt::Formatter<W>) -> fmt::Result {
+        match self {
+            Refusal::At { code, span } => {
+                let start = span.start;
+                let end = span.end;
+                write!(f, "refused {code} at {start}..{end}")
+            }
+            Refusal::NoMemory => write!(f, "refused 39"),
+            Refusal::Failed => write!(f, "refused 50"),
+        }
+    }
+}
+
+impl From<AllocError> for Refusal {
+    ghost from_gives = { λ _ e. e ≡ NoMemory };
+
+    fn from(_error: AllocError) -> Refusal {
+        Refusal::NoMemory
+    }
+}
+
+impl<T: Drop> From<AllocFailed<T>> for Refusal {
+    ghost from_gives = { λ _ e. e ≡ NoMemory };
+
+    fn from(_error: AllocFailed<T>) -> Refusal {
+        Refusal::NoMemory
+    }
+}
+
+impl From<Fault> for Refusal {
+    ghost from_gives = { λ _ e. e ≡ Failed };
+
+    fn from(_fault: Fault) -> Refusal {
+        Refusal::Failed
+    }
+}

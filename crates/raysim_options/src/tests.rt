@@ -1,0 +1,83 @@
+use crate::{Request, options};
+use std::alloc::Global;
+use std::test::Fail;
+
+fn words(alloc: Global, all: &[&str]) -> Result<Vec<String>, Fail> {
+    let mut out = Vec::new(alloc);
+    for word in all {
+        out.push(String::from_str(alloc, word)?)?;
+    }
+    Ok(out)
+}
+
+#[test]
+fn reads_a_run(rt: HostRuntime) -> Result<(), Fail> {
+    let alloc = rt.alloc();
+    let w = words(
+        alloc,
+        &["raysim", "run", "sq.ray", "--threads", "8", "--plan=p"],
+    )?;
+    let Request::Run(run) = options(alloc, w.as_slice())? else {
+        return Err(Fail::from("a run"));
+    };
+    assert_eq!(rt; run.threads, 8);
+    assert_eq!(rt; run.nodes, 1);
+    assert_eq!(rt; run.slots, 4);
+    assert_eq!(rt; run.plan, Some("p"));
+    assert_eq!(rt; run.history, None);
+    let w = words(alloc, &["raysim", "run", "sq.ray", "--threads", "9"])?;
+    assert!(rt; options(alloc, w.as_slice()).is_err());
+    Ok(())
+}
+
+#[test]
+fn reads_a_simulation(rt: HostRuntime) -> Result<(), Fail> {
+    let alloc = rt.alloc();
+    let w = words(
+        alloc,
+        &[
+            "raysim",
+            "sim",
+            "sq.ray",
+            "events",
+            "--nodes",
+            "64",
+            "--slots=1",
+            "--json",
+        ],
+    )?;
+    let Request::Sim(sim) = options(alloc, w.as_slice())? else {
+        return Err(Fail::from("a simulation"));
+    };
+    assert_eq!(rt; sim.script, "sq.ray");
+    assert_eq!(rt; sim.events, "events");
+    assert_eq!(rt; sim.nodes, 64);
+    assert_eq!(rt; sim.slots, 1);
+    assert!(rt; sim.json);
+    let w = words(
+        alloc,
+        &["raysim", "sim", "sq.ray", "events", "--nodes", "0"],
+    )?;
+    assert!(rt; options(alloc, w.as_slice()).is_err());
+    Ok(())
+}
+
+#[test]
+fn reads_the_short_commands(rt: HostRuntime) -> Result<(), Fail> {
+    let alloc = rt.alloc();
+    let w = words(alloc, &["raysim", "check", "a.ray"])?;
+    let Request::Check(script) = options(alloc, w.as_slice())? else {
+        return Err(Fail::from("a check"));
+    };
+    assert_eq!(rt; script, "a.ray");
+    let w = words(alloc, &["raysim", "serial", "b.ray"])?;
+    let Request::Serial(script) = options(alloc, w.as_slice())? else {
+        return Err(Fail::from("a serial run"));
+    };
+    assert_eq!(rt; script, "b.ray");
+    let w = words(alloc, &["raysim", "fly", "b.ray"])?;
+    assert!(rt; options(alloc, w.as_slice()).is_err());
+    let w = words(alloc, &["raysim"])?;
+    assert!(rt; options(alloc, w.as_slice()).is_err());
+    Ok(())
+}

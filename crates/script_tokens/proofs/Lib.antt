@@ -1,0 +1,9 @@
+pub mod Cases
+pub mod Runs
+pub mod Digits
+pub mod Words
+pub mod Symbols
+pub mod Pieces
+pub mod Readings
+pub mod Spells
+pub mod Spans

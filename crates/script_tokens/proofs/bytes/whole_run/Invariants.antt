@@ -1,0 +1,14 @@
+use Rattle.std.proofs.Common.{◌≡◌, ◌≤◌, ◌++◌, ◌-◌, length, take, drop}
+use Rattle.script_tokens.specs.Bytes.{in_run}
+use Rattle.script_tokens.specs.Bytes.{front, past}
+use Rattle.script_tokens.proofs.bytes.whole_run.Given as goal
+
+abbrev pub invariant-loop-n : goal.invariant-loop-n
+invariant-loop-n l = record {
+  within : l.n ≤ length l.text;
+  word : take l.n l.text ++ front in_run (drop l.n l.text) ≡ front in_run l.text;
+  after : past in_run (drop l.n l.text) ≡ past in_run l.text;
+}
+
+abbrev pub decreases-loop-n : goal.decreases-loop-n
+decreases-loop-n l = length l.text - l.n

@@ -1,10 +1,16 @@
 //! The program's commands, over any readers and writers.
 #![tactic(auto)]
 
+mod checking;
 mod refusal;
+mod script;
 mod sink;
 mod source;
 
+pub use checking::check;
 pub use refusal::Refusal;
 pub use sink::{Sink, Tracked, put_all};
 pub use source::{Fault, Source, Watched, read_all};
+
+#[cfg(test)]
+mod tests;

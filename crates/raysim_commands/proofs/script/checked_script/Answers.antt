@@ -1,0 +1,14 @@
+use Rattle.std.proofs.Common.{sym, subst}
+use Rattle.script_syntax.specs.Views.{program_of}
+use Rattle.raysim_commands.specs.Scripts.{IsRefusalOf}
+use Rattle.raysim_commands.proofs.Refused.{refused_by_parser, refused_by_checker}
+use Rattle.raysim_commands.proofs.script.checked_script.Goals as goal
+
+pub returns-in-Err-clause-refused : goal.returns-in-Err-clause-refused
+returns-in-Err-clause-refused c =
+    subst (λ r. IsRefusalOf c.args.text.now r) (sym c.syntax_refusal.ensures) (refused_by_parser c.args.text.now c.in-Err.error c.in-Err.ensures.read)
+
+pub returns-in-Err-check-clause-refused : goal.returns-in-Err-check-clause-refused
+returns-in-Err-check-clause-refused c =
+    subst (λ r. IsRefusalOf c.args.text.now r) (sym c.check_refusal.ensures)
+    (refused_by_checker c.args.text.now (program_of c.in-Ok.program.functions.items) c.in-Err-check.error c.in-Ok.ensures.read c.in-Err-check.ensures.only)

@@ -1,0 +1,54 @@
+-- What a command says of a script's text.
+use Rattle.std.specs.Prelude.{◌≡◌, ◌⊎◌, ℕ, Bool, true, List, Option, IfSome}
+use Rattle.meaning.specs.Syntax.{Script}
+use Rattle.script_tokens.specs.declared.error.SyntaxError.{SyntaxError}
+use Rattle.script_tokens.specs.declared.error.SyntaxError.TheVariants as syntax
+use Rattle.script_syntax.specs.Trees.{Program}
+use Rattle.script_syntax.specs.Grammar.{Reads}
+use Rattle.script_check.specs.Rules.{IsCheckedOf}
+use Rattle.script_check.specs.declared.error.CheckError.{CheckError}
+use Rattle.script_check.specs.declared.error.CheckError.TheVariants as faults
+use Rattle.raysim_commands.specs.declared.refusal.Refusal.{Refusal}
+use Rattle.raysim_commands.specs.declared.refusal.Refusal.TheVariants.{At, NoMemory, Failed}
+
+-- the text reads as a program that the rules allow, and that becomes the script
+abbrev pub IsScript : List ℕ → Script → Type 0
+IsScript text script = (program : Program) × Reads text program × IsCheckedOf program script
+
+-- the text is no script that the rules allow
+abbrev pub IsNoScript : List ℕ → Type 0
+IsNoScript text = (script : Script) → IsScript text script → ⊥
+
+-- the refusal has a cause: the text is no script
+abbrev pub IsRefusalOf : List ℕ → Refusal → Type 0
+IsRefusalOf text (At code span) = IsNoScript text
+IsRefusalOf text NoMemory = Unit {0}
+IsRefusalOf text Failed = ⊥
+
+abbrev pub syntax_refusal : SyntaxError → Refusal
+syntax_refusal (syntax.NotAscii span) = At 1 span
+syntax_refusal (syntax.BadToken span) = At 2 span
+syntax_refusal (syntax.Expected span) = At 3 span
+syntax_refusal (syntax.TooLarge span) = At 4 span
+syntax_refusal syntax.NoMemory = NoMemory
+
+abbrev pub check_refusal : CheckError → Refusal
+check_refusal (faults.UnknownName span) = At 10 span
+check_refusal (faults.WrongType span) = At 11 span
+check_refusal (faults.WrongCount span) = At 12 span
+check_refusal faults.NoMain = At 13 (record { start = 0; end = 0 })
+check_refusal (faults.PrintOutsideMain span) = At 14 span
+check_refusal (faults.MissingReturn span) = At 15 span
+check_refusal (faults.BadRetries span) = At 16 span
+check_refusal (faults.Duplicate span) = At 17 span
+check_refusal faults.NoMemory = NoMemory
+
+-- the text is a script that the rules allow
+abbrev pub IsAllowed : List ℕ → Type 0
+IsAllowed text = (script : Script) × IsScript text script
+
+-- why a command refuses: what was read, where it is known, is no script; or a read or a write failed
+abbrev pub Explains : Option (List ℕ) → Bool → Bool → Refusal → Type 0
+Explains text read_failed write_failed (At code span) = IfSome text IsNoScript
+Explains text read_failed write_failed NoMemory = Unit {0}
+Explains text read_failed write_failed Failed = (read_failed ≡ true) ⊎ (write_failed ≡ true)

@@ -1,0 +1,34 @@
+// The command `check`.
+
+ghost use Rattle.std.specs.Prelude.{◌≡◌, ◌⊎◌, ℕ, List, codes, true, take, IfOk, OnOk, IfErr, IfSome};
+ghost use Rattle.std.specs.Io.KnownBytes.{Appends};
+ghost use Rattle.raysim_commands.specs.Scripts.{IsAllowed, Explains};
+
+use crate::refusal::Refusal;
+use crate::script::checked_script;
+use crate::sink::{Sink, put_all};
+use crate::source::{Source, read_all};
+use std::alloc::Global;
+
+/// Reads a script's text, and writes `ok` where the text is a script that the rules allow. The status is then 0.
+///
+/// Else the refusal says why: `At` where the text is no such script, `NoMemory`, or `Failed` where a read or a write failed. After
+/// a failed write a beginning of the text is out; before any other refusal nothing is written.
+pub fn check<R: Source, W: Sink>(
+    alloc: Global,
+    reader: &mut R,
+    writer: &mut W,
+) -> Result<u8, Refusal>
+    ensures status { IfOk result (λ status. status ≡ 0) }
+    ensures allowed { OnOk result (IfSome (R.left reader.old) IsAllowed) }
+    ensures written { OnOk result (Appends (W.held writer.old) (W.held writer.new) (codes "ok\n")) }
+    ensures refused { IfErr result (λ refusal. Explains (R.left reader.old) (R.has_failed reader.new) (W.has_failed writer.new) refusal) }
+    ensures beginning { IfErr result (λ refusal. (k : ℕ) × Appends (W.held writer.old) (W.held writer.new) (take k (codes "ok\n"))) }
+{
+    let text = read_all(alloc, reader)?;
+    if let Err(refusal) = checked_script(alloc, text.as_slice()) {
+        return Err(refusal);
+    }
+    put_all(writer, b"ok\n")?;
+    Ok(0)
+}

@@ -1,0 +1,10 @@
+pub mod Rows
+pub mod Arms
+pub mod Binds
+pub mod Blocks
+pub mod Whole
+pub mod Sound
+pub mod Complete
+pub mod Programs
+pub mod Safe
+pub mod Copies

@@ -1,0 +1,84 @@
+// Why a script is refused.
+
+ghost use Rattle.std.specs.Prelude.{◌≡◌};
+ghost use Rattle.script_check.specs.declared.error.CheckError.TheVariants.{NoMemory};
+ghost use Rattle.script_check.specs.Refusals.{number_of, span_of};
+
+use script_syntax::Span;
+use std::alloc::{AllocError, AllocFailed};
+
+/// Why a script is refused, and where.
+#[derive(Clone, Copy, PartialEq, Eq, Debug, Drop)]
+pub enum CheckError {
+    /// 10: a variable or function that is not in scope, or a call of main.
+    UnknownName(Span),
+    /// 11: an expression of a wrong type.
+    WrongType(Span),
+    /// 12: a call with a wrong number of arguments, at the function's name there.
+    WrongCount(Span),
+    /// 13: no main, or one with parameters or with another type than int.
+    NoMain,
+    /// 14: a print in another function than main.
+    PrintOutsideMain(Span),
+    /// 15: a body that may end without return, at the function's name.
+    MissingReturn(Span),
+    /// 16: retries above 10, at the number.
+    BadRetries(Span),
+    /// 17: a name that is in scope already.
+    Duplicate(Span),
+    /// 39: want of memory.
+    NoMemory,
+}
+
+impl CheckError {
+    /// The refusal's number: 10 to 17, or 39 for want of memory.
+    pub fn number(self) -> u16
+        ensures { result ≡ number_of self }
+    {
+        match self {
+            CheckError::UnknownName(_) => 10,
+            CheckError::WrongType(_) => 11,
+            CheckError::WrongCount(_) => 12,
+            CheckError::NoMain => 13,
+            CheckError::PrintOutsideMain(_) => 14,
+            CheckError::MissingReturn(_) => 15,
+            CheckError::BadRetries(_) => 16,
+            CheckError::Duplicate(_) => 17,
+            CheckError::NoMemory => 39,
+        }
+    }
+
+    /// Where the fault stands: bytes of the text, counted from 0. A missing main is at 0..0, and
+    /// want of memory has no place.
+    pub fn span(self) -> Option<Span>
+        ensures { result ≡ span_of self }
+    {
+        match self {
+            CheckError::UnknownName(span)
+            | CheckError::WrongType(span)
+            | CheckError::WrongCount(span)
+            | CheckError::PrintOutsideMain(span)
+            | CheckError::MissingReturn(span)
+            | CheckError::BadRetries(span)
+            | CheckError::Duplicate(span) => Some(span),
+            CheckError::NoMain => Some(Span { start: 0, end: 0 }),
+            CheckError::NoMemory => None,
+        }
+    }
+}
+
+impl From<AllocError> for CheckError {
+    ghost from_gives = { λ _ e. e ≡ NoMemory };
+
+    fn from(_e: AllocError) -> CheckError {
+        CheckError::NoMemory
+    }
+}
+
+impl<T: Drop> From<AllocFailed<T>> for CheckError {
+    ghost from_gives = { λ _ e. e ≡ NoMemory };
+
+    fn from(_e: AllocFailed<T>) -> CheckError {
+        CheckError::NoMemory
+    }
+}

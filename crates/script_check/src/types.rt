@@ -1,0 +1,57 @@
+// Types: whether two are the same, copies, and what they are made of.
+
+ghost use Rattle.std.specs.Prelude.{◌≡◌, IfOk, MatchOption, None, Some};
+ghost use Rattle.script_check.specs.Trees.{kind_of};
+ghost use Rattle.script_check.specs.Rules.{has_reference};
+ghost use Rattle.script_check.specs.Inference.{same_kind, mark_for};
+
+use script_syntax::ValueType;
+use std::alloc::{AllocError, Global};
+
+/// Whether two types are the same.
+pub(crate) fn is_same(left: &ValueType, right: &ValueType) -> bool
+    ensures { result ≡ same_kind (kind_of left.now) (kind_of right.now) }
+{
+    match (left, right) {
+        (ValueType::Int, ValueType::Int) => true,
+        (ValueType::List(left), ValueType::List(right)) => is_same(left, right),
+        (ValueType::Ref(left), ValueType::Ref(right)) => is_same(left, right),
+        _ => false,
+    }
+}
+
+/// An equal type.
+pub(crate) fn copy_type(alloc: Global, kind: &ValueType) -> Result<ValueType, AllocError>
+    ensures { IfOk result (λ t. kind_of t ≡ kind_of kind.now) }
+{
+    match kind {
+        ValueType::Int => Ok(ValueType::Int),
+        ValueType::List(items) => Ok(ValueType::List(Box::new(alloc, copy_type(alloc, items)?)?)),
+        ValueType::Ref(inner) => Ok(ValueType::Ref(Box::new(alloc, copy_type(alloc, inner)?)?)),
+    }
+}
+
+/// Whether a reference stands in a type.
+pub(crate) fn has_reference(kind: &ValueType) -> bool
+    ensures { result ≡ has_reference (kind_of kind.now) }
+{
+    match kind {
+        ValueType::Int => false,
+        ValueType::List(items) => has_reference(items),
+        ValueType::Ref(_) => true,
+    }
+}
+
+/// Whether an argument of a type found is marked, where a parameter's type is wanted; none where
+/// it is neither of that type nor a reference to one.
+pub(crate) fn mark_for(found: &ValueType, wanted: &ValueType) -> Option<bool>
+    ensures { result ≡ mark_for (kind_of found.now) (kind_of wanted.now) }
+{
+    if is_same(found, wanted) {
+        return Some(false);
+    }
+    match found {
+        ValueType::Ref(inner) if is_same(inner, wanted) => Some(true),
+        _ => None,
+    }
+}

@@ -1,0 +1,77 @@
+-- What is printed for a program that some text is, is read again as that program.
+use Rattle.std.proofs.Common.{◌≡◌, ◌≤◌, ℕ, zero, suc, List, [], ◌∷◌, length, refl, sym, ap, subst, ◌∙◌, arith}
+use Rattle.script_tokens.specs.Tokens.{Token}
+use Rattle.script_syntax.specs.Trees.{Expr, Stmt, Let, Set, If, IfElse, For, Print, Return, Block, stmt, Function, Program}
+use Rattle.script_syntax.specs.Expressions.{Expression, expression_tree}
+use Rattle.script_syntax.specs.Grammar.{Statement, LetOf, SetOf, IfOf, IfElseOf, ForOf, PrintOf, ReturnOf, Statements, no_statement, statement, FunctionWord, FunctionOf, Functions, no_function, function, statement_tree, statements_tree, function_tree, functions_tree, OutermostWithin, StatementWithin, StatementsWithin, FunctionWithin, FunctionsWithin, IsProgram}
+use Rattle.script_syntax.specs.Printing.{expression_of, written_statement, written_statements, written_function, written_functions, printed}
+use Rattle.script_syntax.proofs.Counts.{expression_counted}
+use Rattle.script_syntax.proofs.Prints.{good_expression, expression_good}
+use Rattle.script_syntax.proofs.Fewest.{expression_fits}
+use Rattle.script_syntax.proofs.Shortest.{expression_short}
+
+again : (e : Expression) → expression_tree (expression_of (expression_tree e)) ≡ expression_tree e
+again e = good_expression (expression_tree e) (expression_good e)
+
+outermost_again : (e : Expression) (levels : ℕ) → OutermostWithin e levels → OutermostWithin (expression_of (expression_tree e)) levels
+outermost_again e levels w = (expression_fits e levels w.0, omega (arith, w.1, expression_short e, expression_counted e [], expression_counted (expression_of (expression_tree e)) []))
+
+mutual
+  statement_again : (s : Statement) → statement_tree (written_statement (statement_tree s)) ≡ statement_tree s
+  statement_again (LetOf x e) = ap (Let x) (again e)
+  statement_again (SetOf x e) = ap (Set x) (again e)
+  statement_again (IfOf e a) = ap (λ (t : Expr). If t (statements_tree (written_statements (statements_tree a)))) (again e) ∙ ap (If (expression_tree e)) (statements_again a)
+  statement_again (IfElseOf e a b) =
+      ap (λ (t : Expr). IfElse t (statements_tree (written_statements (statements_tree a))) (statements_tree (written_statements (statements_tree b)))) (again e)
+      ∙ ap (λ (t : Block). IfElse (expression_tree e) t (statements_tree (written_statements (statements_tree b)))) (statements_again a) ∙ ap (IfElse (expression_tree e) (statements_tree a)) (statements_again b)
+  statement_again (ForOf x from to body) =
+      ap (λ (t : Expr). For x t (expression_tree (expression_of (expression_tree to))) (statements_tree (written_statements (statements_tree body)))) (again from)
+      ∙ ap (λ (t : Expr). For x (expression_tree from) t (statements_tree (written_statements (statements_tree body)))) (again to) ∙ ap (For x (expression_tree from) (expression_tree to)) (statements_again body)
+  statement_again (PrintOf e) = ap Print (again e)
+  statement_again (ReturnOf e) = ap Return (again e)
+
+  statements_again : (ss : Statements) → statements_tree (written_statements (statements_tree ss)) ≡ statements_tree ss
+  statements_again no_statement = refl
+  statements_again (statement s others) = ap (λ (t : Stmt). stmt t (statements_tree (written_statements (statements_tree others)))) (statement_again s) ∙ ap (stmt (statement_tree s)) (statements_again others)
+
+mutual
+  statement_fits : (s : Statement) (n : ℕ) → StatementWithin s n → StatementWithin (written_statement (statement_tree s)) n
+  statement_fits (LetOf x e) n w = outermost_again e n w
+  statement_fits (SetOf x e) n w = outermost_again e n w
+  statement_fits (IfOf e a) zero w = absurd w.1
+  statement_fits (IfOf e a) (suc n) w = (outermost_again e (suc n) w.0, statements_fit a n w.1)
+  statement_fits (IfElseOf e a b) zero w = absurd w.1
+  statement_fits (IfElseOf e a b) (suc n) w = (outermost_again e (suc n) w.0, statements_fit a n w.1, statements_fit b n w.2)
+  statement_fits (ForOf x from to body) zero w = absurd w.2
+  statement_fits (ForOf x from to body) (suc n) w = (outermost_again from (suc n) w.0, outermost_again to (suc n) w.1, statements_fit body n w.2)
+  statement_fits (PrintOf e) n w = outermost_again e n w
+  statement_fits (ReturnOf e) n w = outermost_again e n w
+
+  statements_fit : (ss : Statements) (n : ℕ) → StatementsWithin ss n → StatementsWithin (written_statements (statements_tree ss)) n
+  statements_fit no_statement n w = tt
+  statements_fit (statement s others) n w = (statement_fits s n w.0, statements_fit others n w.1)
+
+function_again : (g : FunctionWord) → function_tree (written_function (function_tree g)) ≡ function_tree g
+function_again (FunctionOf x ps t body) = ap (λ (b : Block). let y : Function = record { name = x; parameters = ps; result = t; body = b } in y) (statements_again body)
+
+function_fits : (g : FunctionWord) → FunctionWithin g 32 → FunctionWithin (written_function (function_tree g)) 32
+function_fits (FunctionOf x ps t body) w = (w.0, w.1, w.2, statements_fit body 31 w.3)
+
+functions_again : (gs : Functions) → functions_tree (written_functions (functions_tree gs)) ≡ functions_tree gs
+functions_again no_function = refl
+functions_again (function g others) = ap (λ (t : Function). t ∷ functions_tree (written_functions (functions_tree others))) (function_again g) ∙ ap (λ (ts : Program). function_tree g ∷ ts) (functions_again others)
+
+functions_fit : (gs : Functions) → FunctionsWithin gs 32 → FunctionsWithin (written_functions (functions_tree gs)) 32
+functions_fit no_function w = tt
+functions_fit (function g others) w = (function_fits g w.0, functions_fit others w.1)
+
+pub printed_again : (tokens : List Token) (program : Program) → IsProgram tokens program → IsProgram (printed program) program
+printed_again tokens program h =
+    subst (λ (q : Program). IsProgram (printed q) q) h.given
+    (record {
+      derivation = written_functions (functions_tree h.derivation);
+      spelled = refl;
+      given = functions_again h.derivation;
+      nesting = functions_fit h.derivation h.nesting;
+      few = subst (λ (q : Program). length q ≤ 64) (sym h.given) h.few;
+    })

@@ -1,0 +1,15 @@
+pub mod Rows
+pub mod Loops
+pub mod Counts
+pub mod Steps
+pub mod Complete
+pub mod Found
+pub mod Sound
+pub mod Programs
+pub mod Parses
+pub mod Prints
+pub mod Fewest
+pub mod Shortest
+pub mod Again
+pub mod Lines
+pub mod Spelled

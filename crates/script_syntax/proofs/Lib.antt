@@ -13,3 +13,4 @@ pub mod Shortest
 pub mod Again
 pub mod Lines
 pub mod Spelled
+pub mod Written

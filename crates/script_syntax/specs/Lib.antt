@@ -6,3 +6,4 @@ pub mod Grammar
 pub mod Reading
 pub mod Refusals
 pub mod Printing
+pub mod Writing

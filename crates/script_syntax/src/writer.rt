@@ -1,5 +1,14 @@
 // Types and expressions, written: each function adds tokens at the end.
 
+ghost use Rattle.std.specs.Prelude.{◌≡◌, OnOk, nat_lt, ◌∷◌};
+ghost use Rattle.std.specs.String.{string_bytes};
+ghost use Rattle.script_tokens.specs.Tokens.{number, name, mark};
+ghost use Rattle.script_syntax.specs.Operators.{prefix_mark};
+ghost use Rattle.script_syntax.specs.Expressions.{kind_before, retries_before, expression_before, arguments_before};
+ghost use Rattle.script_syntax.specs.Views.{type_of, retries_of, kind_tree, tree_of, trees_of};
+ghost use Rattle.script_syntax.specs.Printing.{written, written_arguments, expression_of};
+ghost use Rattle.script_syntax.specs.Writing.{Writes, tightness, word_of_operator, left_word, right_word, operator_mark, bare_word, bare_before, wanted_before, has_items};
+
 use crate::tree::{BinaryOperator, Expr, ExprKind, Name, Prefix, Retries, ValueType};
 use script_tokens::{Mark, Token};
 use std::alloc::AllocError;
@@ -15,7 +24,9 @@ enum Word {
 }
 
 /// How tight a word is.
-fn tightness(word: Word) -> u8 {
+fn tightness(word: Word) -> u8
+    ensures { result ≡ tightness word }
+{
     match word {
         Word::Expression => 0,
         Word::Sum => 1,
@@ -26,7 +37,9 @@ fn tightness(word: Word) -> u8 {
 }
 
 /// The word that an operator's expression is.
-fn word_of_operator(operator: BinaryOperator) -> Word {
+fn word_of_operator(operator: BinaryOperator) -> Word
+    ensures { result ≡ word_of_operator operator }
+{
     match operator {
         BinaryOperator::Add | BinaryOperator::Sub => Word::Sum,
         BinaryOperator::Mul | BinaryOperator::Div | BinaryOperator::Rem => Word::Product,
@@ -38,7 +51,9 @@ fn word_of_operator(operator: BinaryOperator) -> Word {
 }
 
 /// The word that an expression is without parentheses round it.
-fn word_of(kind: &ExprKind) -> Word {
+fn word_of(kind: &ExprKind) -> Word
+    ensures { result ≡ bare_word (written (kind_tree kind.now)) }
+{
     match kind {
         ExprKind::Binary(operator, _, _) => word_of_operator(*operator),
         ExprKind::Prefixed(_, _) => Word::Unary,
@@ -46,16 +61,37 @@ fn word_of(kind: &ExprKind) -> Word {
     }
 }
 
-/// The words that an operator's operands are to be.
-fn words_of_operands(operator: BinaryOperator) -> (Word, Word) {
-    match word_of_operator(operator) {
-        Word::Sum => (Word::Sum, Word::Product),
-        Word::Product => (Word::Product, Word::Unary),
-        _ => (Word::Sum, Word::Sum),
+/// One word is looser than another.
+fn is_looser(word: Word, wanted: Word) -> bool
+    ensures { result ≡ nat_lt (tightness word) (tightness wanted) }
+{
+    tightness(word) < tightness(wanted)
+}
+
+/// The word that an operator's left operand is to be.
+fn left_word(operator: BinaryOperator) -> Word
+    ensures { result ≡ left_word operator }
+{
+    match operator {
+        BinaryOperator::Mul | BinaryOperator::Div | BinaryOperator::Rem => Word::Product,
+        _ => Word::Sum,
     }
 }
 
-fn mark_of_operator(operator: BinaryOperator) -> Mark {
+/// The word that an operator's right operand is to be.
+fn right_word(operator: BinaryOperator) -> Word
+    ensures { result ≡ right_word operator }
+{
+    match operator {
+        BinaryOperator::Add | BinaryOperator::Sub => Word::Product,
+        BinaryOperator::Mul | BinaryOperator::Div | BinaryOperator::Rem => Word::Unary,
+        _ => Word::Sum,
+    }
+}
+
+fn mark_of_operator(operator: BinaryOperator) -> Mark
+    ensures { result ≡ operator_mark operator }
+{
     match operator {
         BinaryOperator::Add => Mark::Plus,
         BinaryOperator::Sub => Mark::Minus,
@@ -69,7 +105,9 @@ fn mark_of_operator(operator: BinaryOperator) -> Mark {
     }
 }
 
-fn mark_of_prefix(prefix: Prefix) -> Mark {
+fn mark_of_prefix(prefix: Prefix) -> Mark
+    ensures { result ≡ prefix_mark prefix }
+{
     match prefix {
         Prefix::Negate => Mark::Minus,
         Prefix::Get => Mark::Get,
@@ -77,35 +115,48 @@ fn mark_of_prefix(prefix: Prefix) -> Mark {
     }
 }
 
-pub(crate) fn add_mark<'p>(tokens: &mut Vec<Token<'p>>, mark: Mark) -> Result<(), AllocError> {
-    tokens.push(Token::Mark(mark))?;
+pub(crate) fn add_mark<'p>(tokens: &mut Vec<Token<'p>>, sign: Mark) -> Result<(), AllocError>
+    ensures { OnOk result (Writes tokens.old.items tokens.new.items (λ rest. mark sign ∷ rest)) }
+{
+    tokens.push(Token::Mark(sign))?;
     Ok(())
 }
 
-pub(crate) fn add_name<'p>(tokens: &mut Vec<Token<'p>>, name: &'p Name) -> Result<(), AllocError> {
-    tokens.push(Token::Name(name.text.as_str()))?;
+pub(crate) fn add_name<'p>(tokens: &mut Vec<Token<'p>>, word: &'p Name) -> Result<(), AllocError>
+    ensures { OnOk result (Writes tokens.old.items tokens.new.items (λ rest. name (string_bytes word.entry.now.text) ∷ rest)) }
+{
+    tokens.push(Token::Name(word.text.as_str()))?;
     Ok(())
 }
 
-pub(crate) fn add_number<'p>(tokens: &mut Vec<Token<'p>>, number: u64) -> Result<(), AllocError> {
-    tokens.push(Token::Int(number))?;
+pub(crate) fn add_number<'p>(tokens: &mut Vec<Token<'p>>, value: u64) -> Result<(), AllocError>
+    ensures { OnOk result (Writes tokens.old.items tokens.new.items (λ rest. number value ∷ rest)) }
+{
+    tokens.push(Token::Int(value))?;
     Ok(())
 }
 
 pub(crate) fn add_type<'p>(
     tokens: &mut Vec<Token<'p>>,
     kind: &'p ValueType,
-) -> Result<(), AllocError> {
+) -> Result<(), AllocError>
+    ensures { OnOk result (Writes tokens.old.items tokens.new.items (λ rest. kind_before (type_of kind.entry.now) rest)) }
+{
     match kind {
-        ValueType::Int => add_mark(tokens, Mark::Int),
+        ValueType::Int => {
+            add_mark(tokens, Mark::Int)?;
+            Ok(())
+        }
         ValueType::List(item) => {
             add_mark(tokens, Mark::OpenBracket)?;
             add_type(tokens, item)?;
-            add_mark(tokens, Mark::CloseBracket)
+            add_mark(tokens, Mark::CloseBracket)?;
+            Ok(())
         }
         ValueType::Ref(item) => {
             add_mark(tokens, Mark::Ref)?;
-            add_type(tokens, item)
+            add_type(tokens, item)?;
+            Ok(())
         }
     }
 }
@@ -113,13 +164,26 @@ pub(crate) fn add_type<'p>(
 fn add_retries<'p>(
     tokens: &mut Vec<Token<'p>>,
     retries: &'p Option<Retries>,
-) -> Result<(), AllocError> {
+) -> Result<(), AllocError>
+    ensures { OnOk result (Writes tokens.old.items tokens.new.items (λ rest. retries_before (retries_of retries.entry.now) rest)) }
+{
     let Some(retries) = retries else {
         return Ok(());
     };
     add_mark(tokens, Mark::OpenParenthesis)?;
     add_number(tokens, retries.number)?;
-    add_mark(tokens, Mark::CloseParenthesis)
+    add_mark(tokens, Mark::CloseParenthesis)?;
+    Ok(())
+}
+
+/// A list is not empty.
+fn has_items(items: &[Expr]) -> bool
+    ensures { result ≡ has_items (trees_of items.now) }
+{
+    let [_first, _others @ ..] = items else {
+        return false;
+    };
+    true
 }
 
 /// An expression as that word: in parentheses where it is a looser one.
@@ -128,51 +192,73 @@ fn add_as<'p>(
     tokens: &mut Vec<Token<'p>>,
     expression: &'p Expr,
     word: Word,
-) -> Result<(), AllocError> {
-    if tightness(word_of(&expression.kind)) < tightness(word) {
+) -> Result<(), AllocError>
+    ensures { OnOk result (Writes tokens.old.items tokens.new.items (λ rest. wanted_before word (written (tree_of expression.entry.now)) rest)) }
+{
+    if is_looser(word_of(&expression.kind), word) {
         add_mark(tokens, Mark::OpenParenthesis)?;
         add_bare(tokens, expression)?;
-        return add_mark(tokens, Mark::CloseParenthesis);
+        add_mark(tokens, Mark::CloseParenthesis)?;
+        return Ok(());
     }
-    add_bare(tokens, expression)
+    add_bare(tokens, expression)?;
+    Ok(())
 }
 
 /// An expression without parentheses round it.
 #[cycle(writing)]
-fn add_bare<'p>(tokens: &mut Vec<Token<'p>>, expression: &'p Expr) -> Result<(), AllocError> {
+fn add_bare<'p>(tokens: &mut Vec<Token<'p>>, expression: &'p Expr) -> Result<(), AllocError>
+    ensures { OnOk result (Writes tokens.old.items tokens.new.items (λ rest. bare_before (written (tree_of expression.entry.now)) rest)) }
+{
     match &expression.kind {
-        ExprKind::Int(number) => add_number(tokens, *number),
-        ExprKind::Variable(name) => add_name(tokens, name),
+        ExprKind::Int(number) => {
+            add_number(tokens, *number)?;
+            Ok(())
+        }
+        ExprKind::Variable(name) => {
+            add_name(tokens, name)?;
+            Ok(())
+        }
         ExprKind::Prefixed(prefix, operand) => {
             add_mark(tokens, mark_of_prefix(*prefix))?;
-            add_as(tokens, operand, Word::Unary)
+            add_as(tokens, operand, Word::Unary)?;
+            Ok(())
         }
         ExprKind::Binary(operator, left, right) => {
-            let (first, second) = words_of_operands(*operator);
-            add_as(tokens, left, first)?;
+            add_as(tokens, left, left_word(*operator))?;
             add_mark(tokens, mark_of_operator(*operator))?;
-            add_as(tokens, right, second)
+            add_as(tokens, right, right_word(*operator))?;
+            Ok(())
         }
         ExprKind::Index(list, place) => {
             add_as(tokens, list, Word::Postfix)?;
             add_mark(tokens, Mark::OpenBracket)?;
             add_as(tokens, place, Word::Expression)?;
-            add_mark(tokens, Mark::CloseBracket)
+            add_mark(tokens, Mark::CloseBracket)?;
+            Ok(())
         }
         ExprKind::List(items) => {
-            add_mark(tokens, Mark::OpenBracket)?;
-            add_items(tokens, items)?;
-            add_mark(tokens, Mark::CloseBracket)
+            if has_items(items) {
+                add_mark(tokens, Mark::OpenBracket)?;
+                add_items(tokens, items)?;
+                add_mark(tokens, Mark::CloseBracket)?;
+                return Ok(());
+            }
+            add_mark(tokens, Mark::Empty)?;
+            add_mark(tokens, Mark::Int)?;
+            Ok(())
         }
         ExprKind::Empty(kind) => {
             add_mark(tokens, Mark::Empty)?;
-            add_type(tokens, kind)
+            add_type(tokens, kind)?;
+            Ok(())
         }
         ExprKind::Call(name, arguments) => {
             add_name(tokens, name)?;
             add_mark(tokens, Mark::OpenParenthesis)?;
             add_items(tokens, arguments)?;
-            add_mark(tokens, Mark::CloseParenthesis)
+            add_mark(tokens, Mark::CloseParenthesis)?;
+            Ok(())
         }
         ExprKind::Remote(retries, name, arguments) => {
             add_mark(tokens, Mark::Remote)?;
@@ -180,13 +266,15 @@ fn add_bare<'p>(tokens: &mut Vec<Token<'p>>, expression: &'p Expr) -> Result<(),
             add_name(tokens, name)?;
             add_mark(tokens, Mark::OpenParenthesis)?;
             add_items(tokens, arguments)?;
-            add_mark(tokens, Mark::CloseParenthesis)
+            add_mark(tokens, Mark::CloseParenthesis)?;
+            Ok(())
         }
         ExprKind::Len(list) => {
             add_mark(tokens, Mark::Len)?;
             add_mark(tokens, Mark::OpenParenthesis)?;
             add_as(tokens, list, Word::Expression)?;
-            add_mark(tokens, Mark::CloseParenthesis)
+            add_mark(tokens, Mark::CloseParenthesis)?;
+            Ok(())
         }
         ExprKind::Push(list, item) => {
             add_mark(tokens, Mark::Push)?;
@@ -194,14 +282,17 @@ fn add_bare<'p>(tokens: &mut Vec<Token<'p>>, expression: &'p Expr) -> Result<(),
             add_as(tokens, list, Word::Expression)?;
             add_mark(tokens, Mark::Comma)?;
             add_as(tokens, item, Word::Expression)?;
-            add_mark(tokens, Mark::CloseParenthesis)
+            add_mark(tokens, Mark::CloseParenthesis)?;
+            Ok(())
         }
     }
 }
 
 /// Expressions with commas between.
 #[cycle(writing)]
-fn add_items<'p>(tokens: &mut Vec<Token<'p>>, items: &'p [Expr]) -> Result<(), AllocError> {
+fn add_items<'p>(tokens: &mut Vec<Token<'p>>, items: &'p [Expr]) -> Result<(), AllocError>
+    ensures { OnOk result (Writes tokens.old.items tokens.new.items (λ rest. arguments_before (written_arguments (trees_of items.entry.now)) rest)) }
+{
     let [first, others @ ..] = items else {
         return Ok(());
     };
@@ -216,6 +307,9 @@ fn add_items<'p>(tokens: &mut Vec<Token<'p>>, items: &'p [Expr]) -> Result<(), A
 pub(crate) fn add_expression<'p>(
     tokens: &mut Vec<Token<'p>>,
     expression: &'p Expr,
-) -> Result<(), AllocError> {
-    add_as(tokens, expression, Word::Expression)
+) -> Result<(), AllocError>
+    ensures { OnOk result (Writes tokens.old.items tokens.new.items (λ rest. expression_before (expression_of (tree_of expression.entry.now)) rest)) }
+{
+    add_as(tokens, expression, Word::Expression)?;
+    Ok(())
 }

@@ -268,3 +268,49 @@ fn prints_each_statement(rt: HostRuntime) -> Result<(), Fail> {
     assert_eq!(rt; print_program(rt.alloc(), &again)?.as_str(), wanted);
     Ok(())
 }
+
+/// The lines, each with a line feed.
+fn joined(alloc: Global, lines: &[&str]) -> Result<String, AllocError> {
+    let mut text = String::new(alloc);
+    for line in lines {
+        text.push_str(line)?;
+        text.push('\n')?;
+    }
+    Ok(text)
+}
+
+#[test]
+fn a_whole_program_is_read_again(rt: HostRuntime) -> Result<(), Fail> {
+    let read = [
+        "fn sq(x: int) -> int { return x * x; }",
+        "fn div(a: int, b: int) -> int { return a / b; }",
+        "fn one() -> int { return 1; }",
+        "fn big(n: int) -> [int] { let l = empty int; for i in 0 .. 9 { set l = push(l, n); } return l; }",
+        "fn inc(l: [int]) -> [int] { let m = empty int; for i in 0 .. len(l) { set m = push(m, l[i] + 1); } return m; }",
+        "fn sum(l: [ref int]) -> int { let t = 0; for i in 0 .. len(l) { set t = t + get l[i]; } return t; }",
+        "fn main() -> int { return get remote sum([remote sq(1), remote sq(2), remote sq(3), remote sq(4)]); }",
+    ];
+    let written = [
+        "fn sq ( x : int ) -> int { return x * x ; }",
+        "fn div ( a : int , b : int ) -> int { return a / b ; }",
+        "fn one ( ) -> int { return 1 ; }",
+        "fn big ( n : int ) -> [ int ] { let l = empty int ; for i in 0 .. 9 { set l = push ( l , n ) ; } return l ; }",
+        "fn inc ( l : [ int ] ) -> [ int ] { let m = empty int ; for i in 0 .. len ( l ) { set m = push ( m , l [ i ] + 1 ) ; } return m ; }",
+        "fn sum ( l : [ ref int ] ) -> int { let t = 0 ; for i in 0 .. len ( l ) { set t = t + get l [ i ] ; } return t ; }",
+        "fn main ( ) -> int { return get remote sum ( [ remote sq ( 1 ) , remote sq ( 2 ) , remote sq ( 3 ) , remote sq ( 4 ) ] ) ; }",
+    ];
+    let text = joined(rt.alloc(), &read)?;
+    let wanted = joined(rt.alloc(), &written)?;
+    let program = parse(rt.alloc(), text.as_bytes()).ok().ok_or("a program")?;
+    let printed = print_program(rt.alloc(), &program)?;
+    assert_eq!(rt; printed.as_str(), wanted.as_str());
+    let again = parse(rt.alloc(), printed.as_bytes())
+        .ok()
+        .ok_or("a program")?;
+    assert_eq!(rt; again.functions.len(), 7);
+    assert_eq!(rt;
+        print_program(rt.alloc(), &again)?.as_str(),
+        wanted.as_str()
+    );
+    Ok(())
+}

@@ -3,9 +3,10 @@ use Rattle.std.proofs.Common.{◌≡◌, ℕ, zero, suc, ◌-◌, Bool, true, fa
 use Rattle.std.specs.Prelude.{ℤ, pos, negsuc, nat_lt, if◌then◌else◌, ◌+ℤ◌, ◌-ℤ◌, ◌*ℤ◌, neg_ℤ, int_div, int_rem}
 use Rattle.meaning.specs.Values.{Name, Overflow, TooLong, Loop, Broken, Value, Int, Items, Named, Known, Values, none, more, Outcome, Val, Trapped, Argument, Id, values_of, count, item_at, push_onto}
 use Rattle.meaning.specs.Syntax.{Kind, Number, ListKind, RefKind, Operator, Add, Sub, Mul, Div, Rem, Equal, Unequal, Less, LessEqual, ItemAt, Push, Prefix, Negate, Len, Expr, Num, Var, Unary, Binary, ListOf, Empty, Call, Remote, PutOf, GetOf, Exprs, end, also, Stmt, Let, Set, Print, Return, If, For, Block, done, step, Parameter, Function, Script}
-use Rattle.meaning.specs.Runs.{Run, Ends, Prints, Bears, Gets, serial_end, piece, next_id}
+use Rattle.meaning.specs.Runs.{Run, Ends, Prints, Bears, Gets, serial_end, serial_trace, piece, next_id}
+use Rattle.meaning.specs.Law.{prints_of}
 use Rattle.meaning.specs.Meaning.{broken, Variable, Scope, same_name, value_in, set_in, bind, bind_all, as_number, as_items, fits, in_range, quotient, remainder, found, index, push, on_numbers, apply, apply_one, is_zero, turn_count, proceed, mark, get_from, dereference, Calls, evaluate, evaluate_all, turns, turns_within, leave, execute, execute_all, find, parameters_of, enter, task_by, no_level, calls_below, call_at, run_task}
-use Rattle.meaning.specs.Kinds.{IsOf, AreOf, EndsIn, Typed, Context, kind_in, OperatorChecks, PrefixChecks, argument_kind, Checks, EachChecks, ArgumentsCheck, MarkedCheck, StmtChecks, BlockChecks, Returns, BlockReturns, ScopeOf, ArgumentsOf, MarkedOf, context_of, FunctionChecks, ScriptChecks, IsSafe, AnswersFit, StopIsSound, AreSafe}
+use Rattle.meaning.specs.Kinds.{IsOf, AreOf, EndsIn, Typed, Context, kind_in, OperatorChecks, PrefixChecks, argument_kind, Checks, EachChecks, ArgumentsCheck, MarkedCheck, StmtChecks, BlockChecks, Returns, BlockReturns, ScopeOf, ArgumentsOf, MarkedOf, context_of, FunctionChecks, ScriptChecks, has_reference, IsPlain, ArePlain, AllPlain, IsSafe, AnswersFit, StopIsSound, AreSafe}
 
 -- Operators
 
@@ -73,6 +74,24 @@ operator_ends Push s u t v w e hv hw =
 prefix_ends : (op : Prefix) (s t : Kind) (v : Value) → PrefixChecks op s t → IsOf v s → EndsIn (apply_one op v) t
 prefix_ends Negate s t v e hv = subst (λ k. EndsIn (as_number (Trapped Broken) v (λ n. in_range (neg_ℤ n))) k) (sym e.1) (number_ends v _ Number (subst (λ k. IsOf v k) e.0 hv) (λ n. in_range_ends (neg_ℤ n)))
 prefix_ends Len s t v e hv = subst (λ k. EndsIn (as_items (Trapped Broken) v (λ vs. Val (Int (pos (count vs))))) k) (sym e.2) (items_end v _ e.0 Number (subst (λ k. IsOf v k) e.1 hv) (λ vs hs. tt))
+
+-- a value of a kind without references has none
+mutual
+  plain : (v : Value) (t : Kind) → IsOf v t → has_reference t ≡ false → IsPlain v
+  plain (Int n) t h e = tt
+  plain (Items vs) Number h e = absurd h
+  plain (Items vs) (ListKind t) h e = plain_items vs t h e
+  plain (Items vs) (RefKind t) h e = absurd h
+  plain (Named o) Number h e = absurd h
+  plain (Named o) (ListKind t) h e = absurd h
+  plain (Named o) (RefKind t) h e = absurd (cc)
+  plain (Known c) Number h e = absurd h
+  plain (Known c) (ListKind t) h e = absurd h
+  plain (Known c) (RefKind t) h e = absurd (cc)
+
+  plain_items : (vs : Values) (t : Kind) → AreOf vs t → has_reference t ≡ false → ArePlain vs
+  plain_items none t h e = tt
+  plain_items (more v vs) t h e = (plain v t h.0 e, plain_items vs t h.1 e)
 
 -- Scopes
 
@@ -149,7 +168,7 @@ extends_itself a = ([], sym (append-nil a))
 stmt_extends : (s : Stmt) (script : Script) (result : Kind) (context after : Context) → StmtChecks s script result context after → Extends context after
 stmt_extends (Let x e) script result context after h = (record { name = x; kind = h.0 } ∷ [], h.2)
 stmt_extends (Set x e) script result context after h = subst (λ a. Extends context a) (sym h.3) (extends_itself context)
-stmt_extends (Print e) script result context after h = subst (λ a. Extends context a) (sym h.2) (extends_itself context)
+stmt_extends (Print e) script result context after h = subst (λ a. Extends context a) (sym h.3) (extends_itself context)
 stmt_extends (Return e) script result context after h = subst (λ a. Extends context a) (sym h.1) (extends_itself context)
 stmt_extends (If e a b) script result context after h = subst (λ a. Extends context a) (sym h.3) (extends_itself context)
 stmt_extends (For x from to body) script result context after h = subst (λ a. Extends context a) (sym h.3) (extends_itself context)
@@ -246,7 +265,7 @@ module _ (script : Script) (calls : Calls) (safe : CallsSafe script calls) where
     executes (Set x e) result t context after scope next return h so l r =
         evaluates e h.0 t context scope _ h.2 so (λ v hv. l _ (subst (λ a. ScopeOf (set_in scope x v) a) (sym h.3) (set_scope scope context x v h.0 so h.1 hv)))
     executes (Print e) result t context after scope next return h so l r =
-        evaluates e h.0 t context scope _ h.1 so (λ v hv. l scope (subst (λ a. ScopeOf scope a) (sym h.2) so))
+        evaluates e h.0 t context scope _ h.1 so (λ v hv. (plain v h.0 hv h.2, l scope (subst (λ a. ScopeOf scope a) (sym h.3) so)))
     executes (Return e) result t context after scope next return h so l r = evaluates e result t context scope return h.0 so r
     executes (If e a b) result t context after scope next return h so l r =
         let l' : ScopeSafe context t next = subst (λ a. ScopeSafe a t next) h.3 l in
@@ -321,7 +340,7 @@ module _ (script : Script) (checks : ScriptChecks script script) where
 -- a safe run ends serially with a value of its kind, or with a trap of the script
 serial_is_sound : (run : Run) (t : Kind) → IsSafe run t → EndsIn (serial_end run) t
 serial_is_sound (Ends c) t h = h
-serial_is_sound (Prints v next) t h = serial_is_sound next t h
+serial_is_sound (Prints v next) t h = serial_is_sound next t h.1
 serial_is_sound (Bears b made_by next) t h = serial_is_sound (next (Known (serial_end made_by))) t (h.2 (Known (serial_end made_by)) (serial_is_sound made_by h.0 h.1))
 serial_is_sound (Gets u (Int n) next) t h = absurd h.0
 serial_is_sound (Gets u (Items vs) next) t h = absurd h.0
@@ -332,13 +351,38 @@ serial_is_sound (Gets u (Known (Trapped e)) next) t h = h.0
 -- and so does a piece, on such answers
 piece_is_sound : (run : Run) (t : Kind) (base : Id) (answers : List Outcome) → IsSafe run t → AnswersFit run base answers → StopIsSound (piece run base answers).stop t
 piece_is_sound (Ends c) t base answers h f = h
-piece_is_sound (Prints v next) t base answers h f = piece_is_sound next t base answers h f
+piece_is_sound (Prints v next) t base answers h f = piece_is_sound next t base answers h.1 f
 piece_is_sound (Bears b made_by next) t base answers h f = piece_is_sound (next (Named base)) t (next_id base) answers (h.2 (Named base) tt) f
 piece_is_sound (Gets u r next) t base [] h f = tt
 piece_is_sound (Gets u r next) t base (Val v ∷ answers) h f = piece_is_sound (next v) t base answers (h.1 v f.0) f.1
 piece_is_sound (Gets u r next) t base (Trapped e ∷ answers) h f = f
 
+-- what it prints has no reference in it
+serial_prints_plain : (run : Run) (t : Kind) → IsSafe run t → AllPlain (prints_of (serial_trace run))
+serial_prints_plain (Ends c) t h = tt
+serial_prints_plain (Prints v next) t h = (h.0, serial_prints_plain next t h.1)
+serial_prints_plain (Bears b made_by next) t h = serial_prints_plain (next (Known (serial_end made_by))) t (h.2 (Known (serial_end made_by)) (serial_is_sound made_by h.0 h.1))
+serial_prints_plain (Gets u (Int n) next) t h = absurd h.0
+serial_prints_plain (Gets u (Items vs) next) t h = absurd h.0
+serial_prints_plain (Gets u (Named o) next) t h = tt
+serial_prints_plain (Gets u (Known (Val v)) next) t h = serial_prints_plain (next v) t (h.1 v h.0)
+serial_prints_plain (Gets u (Known (Trapped e)) next) t h = tt
+
+prints_plain : (run : Run) (t : Kind) (base : Id) (answers : List Outcome) → IsSafe run t → AnswersFit run base answers → AllPlain (piece run base answers).prints
+prints_plain (Ends c) t base answers h f = tt
+prints_plain (Prints v next) t base answers h f = (h.0, prints_plain next t base answers h.1 f)
+prints_plain (Bears b made_by next) t base answers h f = prints_plain (next (Named base)) t (next_id base) answers (h.2 (Named base) tt) f
+prints_plain (Gets u r next) t base [] h f = tt
+prints_plain (Gets u r next) t base (Val v ∷ answers) h f = prints_plain (next v) t base answers (h.1 v f.0) f.1
+prints_plain (Gets u r next) t base (Trapped e ∷ answers) h f = tt
+
 pub are_safe : AreSafe
 are_safe script checks g f args depth base answers e h fit =
+    let run = run_task script g args depth in
     let safe = run_is_safe script checks g f args depth e h in
-    (serial_is_sound (run_task script g args depth) f.result safe, piece_is_sound (run_task script g args depth) f.result base answers safe fit)
+    record {
+      serial = serial_is_sound run f.result safe;
+      serial_prints = serial_prints_plain run f.result safe;
+      stop = piece_is_sound run f.result base answers safe fit;
+      prints = prints_plain run f.result base answers safe fit;
+    }

@@ -3,7 +3,8 @@ use Rattle.std.specs.Prelude.{◌≡◌, ℕ, Bool, true, false, List, [], ◌�
 use Rattle.meaning.specs.Values.{Name, Trap, Overflow, DivZero, Index, TooLong, Loop, TooDeep, Broken, Value, Int, Items, Named, Known, Values, none, more, Outcome, Val, Trapped, Argument, Id}
 use Rattle.meaning.specs.Syntax.{Kind, Number, ListKind, RefKind, Operator, ItemAt, Push, Prefix, Negate, Len, Expr, Num, Var, Unary, Binary, ListOf, Empty, Call, Remote, PutOf, GetOf, Exprs, end, also, Stmt, Let, Set, Print, Return, If, For, Block, done, step, Parameter, Function, Script}
 use Rattle.meaning.specs.Meaning.{same_name, find, Scope, run_task}
-use Rattle.meaning.specs.Runs.{Run, Ends, Prints, Bears, Gets, Stop, Needs, Over, piece, next_id, serial_end}
+use Rattle.meaning.specs.Runs.{Run, Ends, Prints, Bears, Gets, Stop, Needs, Over, piece, next_id, serial_end, serial_trace}
+use Rattle.meaning.specs.Law.{prints_of}
 
 -- Values
 
@@ -40,6 +41,28 @@ abbrev mutual
   pub EndsIn : Outcome → Kind → Type 0
   EndsIn (Val v) t = IsOf v t
   EndsIn (Trapped e) t = IsSound e
+
+-- values of the kind have a reference in them
+abbrev pub has_reference : Kind → Bool
+has_reference Number = false
+has_reference (ListKind t) = has_reference t
+has_reference (RefKind t) = true
+
+abbrev mutual
+  -- no reference stands in the value
+  pub IsPlain : Value → Type 0
+  IsPlain (Int n) = Unit {0}
+  IsPlain (Items vs) = ArePlain vs
+  IsPlain (Named o) = ⊥
+  IsPlain (Known c) = ⊥
+
+  pub ArePlain : Values → Type 0
+  ArePlain none = Unit {0}
+  ArePlain (more v vs) = IsPlain v × ArePlain vs
+
+abbrev pub AllPlain : List Value → Type 0
+AllPlain [] = Unit {0}
+AllPlain (v ∷ vs) = IsPlain v × AllPlain vs
 
 -- Expressions
 
@@ -104,7 +127,7 @@ abbrev mutual
   pub StmtChecks : Stmt → Script → Kind → Context → Context → Type 0
   StmtChecks (Let x e) script result context after = (t : Kind) × Checks script context e t × (after ≡ context ++ record { name = x; kind = t } ∷ [])
   StmtChecks (Set x e) script result context after = (t : Kind) × (kind_in context x ≡ Some t) × Checks script context e t × (after ≡ context)
-  StmtChecks (Print e) script result context after = (t : Kind) × Checks script context e t × (after ≡ context)
+  StmtChecks (Print e) script result context after = (t : Kind) × Checks script context e t × (has_reference t ≡ false) × (after ≡ context)
   StmtChecks (Return e) script result context after = Checks script context e result × (after ≡ context)
   StmtChecks (If e a b) script result context after = Checks script context e Number × BlockChecks a script result context × BlockChecks b script result context × (after ≡ context)
   StmtChecks (For x from to body) script result context after =
@@ -163,10 +186,11 @@ ScriptChecks script (f ∷ fs) = FunctionChecks script f × ScriptChecks script 
 
 -- Runs
 
--- the run never meets an operand of the wrong kind, whatever of the right kinds its gets get, and ends in the kind
+-- the run never meets an operand of the wrong kind nor prints a reference, whatever of the right kinds its gets get, and
+-- ends in the kind
 abbrev pub IsSafe : Run → Kind → Type 0
 IsSafe (Ends c) t = EndsIn c t
-IsSafe (Prints v next) t = IsSafe next t
+IsSafe (Prints v next) t = IsPlain v × IsSafe next t
 IsSafe (Bears b made_by next) t = (u : Kind) × IsSafe made_by u × ((r : Value) → IsOf r (RefKind u) → IsSafe (next r) t)
 IsSafe (Gets u r next) t = IsOf r (RefKind u) × ((v : Value) → IsOf v u → IsSafe (next v) t)
 
@@ -187,9 +211,16 @@ abbrev pub StopIsSound : Stop → Kind → Type 0
 StopIsSound (Needs r) t = Unit {0}
 StopIsSound (Over c) t = EndsIn c t
 
--- a checked script never meets an operand of the wrong kind, in a serial run or in pieces
+-- a task never meets an operand of the wrong kind nor prints a reference, in a serial run or in pieces
+pub record IsSafeTask (run : Run) (t : Kind) (base : Id) (answers : List Outcome) : Type 0 where
+  pub serial : EndsIn (serial_end run) t
+  pub serial_prints : AllPlain (prints_of (serial_trace run))
+  pub stop : StopIsSound (piece run base answers).stop t
+  pub prints : AllPlain (piece run base answers).prints
+
+-- of a checked script each task with arguments and answers of the kinds asked for is safe
 abbrev pub AreSafe : Type 0
 AreSafe =
     (script : Script) → ScriptChecks script script → (g : Name) (f : Function) (args : List Argument) (depth : ℕ) (base : Id) (answers : List Outcome) →
     find script g ≡ Some f → MarkedOf args f.parameters → AnswersFit (run_task script g args depth) base answers →
-    EndsIn (serial_end (run_task script g args depth)) f.result × StopIsSound (piece (run_task script g args depth) base answers).stop f.result
+    IsSafeTask (run_task script g args depth) f.result base answers

@@ -16,7 +16,8 @@ pub fn law_of_ids()
     ensures { LawOfIds }
 {}
 
-/// A checked script never meets an operand of the wrong kind, in a serial run or in pieces, and ends in its function's kind.
+/// A task of a checked script never meets an operand of the wrong kind nor prints a reference, in a serial run or in
+/// pieces, and ends in its function's kind.
 pub fn checked_scripts_are_safe()
     ensures { AreSafe }
 {}

@@ -5,7 +5,7 @@ use Rattle.std.proofs.lemmas.List.{length-map}
 use Rattle.meaning.specs.Values.{Name}
 use Rattle.meaning.specs.Syntax.{Kind, Number, Expr, Stmt, Block, done, step}
 use Rattle.meaning.specs.Syntax as syntax
-use Rattle.meaning.specs.Kinds.{Context, kind_in}
+use Rattle.meaning.specs.Kinds.{Context, kind_in, has_reference}
 use Rattle.script_syntax.specs.Trees as parsed
 use Rattle.script_syntax.specs.Views.{statement_of, statements_of}
 use Rattle.script_syntax.specs.declared.tree.Statement.{Statement}
@@ -20,7 +20,6 @@ use Rattle.script_check.specs.declared.scope.Variable.{Variable}
 use Rattle.script_check.specs.declared.tree.CheckedStatement.{CheckedStatement}
 use Rattle.script_check.proofs.Arms.{here, drop_end, both, neither}
 use Rattle.script_check.proofs.Binds.{bind_some, some_is}
-use Rattle.script_check.specs.Rules.{has_reference}
 use Rattle.meaning.specs.Values.{main_name}
 use Rattle.meaning.specs.Meaning.{same_name}
 use Rattle.std.specs.Prelude.{if◌then◌else◌}

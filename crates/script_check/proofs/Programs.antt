@@ -4,10 +4,10 @@ use Rattle.std.specs.Prelude.{nat_eq, if◌then◌else◌, ◌&&◌, ◌||◌, �
 use Rattle.meaning.specs.Syntax.{Kind, Number, ListKind, RefKind, Expr, Stmt, Block, done, step, Parameter, Function, Script}
 use Rattle.meaning.specs.Syntax as syntax
 use Rattle.meaning.specs.Meaning.{same_name}
-use Rattle.meaning.specs.Kinds.{Context, kind_in}
+use Rattle.meaning.specs.Kinds.{Context, kind_in, has_reference}
 use Rattle.script_syntax.specs.Trees as parsed
 use Rattle.script_check.specs.Trees.{kind_named}
-use Rattle.script_check.specs.Rules.{function_in, variable, has_reference, StatementChecked, BlockChecked, Returns, BlockReturns, ParametersChecked, FunctionChecked, FunctionsChecked, AreNamedApart, HasMain, IsCheckedOf}
+use Rattle.script_check.specs.Rules.{function_in, variable, StatementChecked, BlockChecked, Returns, BlockReturns, ParametersChecked, FunctionChecked, FunctionsChecked, AreNamedApart, HasMain, IsCheckedOf}
 use Rattle.meaning.specs.Values.{main_name}
 use Rattle.script_check.specs.Inference.{◌>>=◌, when, same_kind, Typing, infer, infer_as, free, fresh, Stepped, Blocked, step_of, steps_of, block_from, block_alone, returns, block_returns, Declared, declared, function_from, functions_from, is_absent, are_apart, is_main_good}
 use Rattle.std.specs.Prelude.{IsTrue}

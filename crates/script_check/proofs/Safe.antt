@@ -91,7 +91,7 @@ module _ (program : parsed.Program) (script : Script) (finds : Finds program scr
       statement_safe (parsed.If e a) before c after h = subst (λ z. StmtChecks z script result before after) (sym h.4) (expr_safe before e h.0 Number h.2, block_safe a before h.1 h.3, tt, h.5)
       statement_safe (parsed.IfElse e a b) before c after h = subst (λ z. StmtChecks z script result before after) (sym h.6) (expr_safe before e h.0 Number h.3, block_safe a before h.1 h.4, block_safe b before h.2 h.5, h.7)
       statement_safe (parsed.For x from to body) before c after h = subst (λ z. StmtChecks z script result before after) (sym h.7) (expr_safe before from h.0 Number h.4, expr_safe before to h.1 Number h.5, block_safe body (before ++ variable x Number) h.2 h.6, h.8)
-      statement_safe (parsed.Print e) before c after h = subst (λ z. StmtChecks z script result before after) (sym h.5) (h.1, expr_safe before e h.0 h.1 h.3, h.6)
+      statement_safe (parsed.Print e) before c after h = subst (λ z. StmtChecks z script result before after) (sym h.5) (h.1, expr_safe before e h.0 h.1 h.3, h.4, h.6)
       statement_safe (parsed.Return e) before c after h = subst (λ z. StmtChecks z script result before after) (sym h.2) (expr_safe before e h.0 result h.1, h.3)
 
       block_safe : (b : parsed.Block) (before : Context) (c : Block) → BlockChecked program function b before c → BlockChecks c script result before

@@ -4,12 +4,12 @@ use Rattle.meaning.specs.Values.{Name}
 use Rattle.meaning.specs.Syntax.{Kind, Number, ListKind, RefKind, Expr, Exprs, end, also, Stmt, Block, done, step, Parameter, Function, Script}
 use Rattle.meaning.specs.Syntax as syntax
 use Rattle.meaning.specs.Meaning.{same_name}
-use Rattle.meaning.specs.Kinds.{Context, kind_in}
+use Rattle.meaning.specs.Kinds.{Context, kind_in, has_reference}
 use Rattle.script_syntax.specs.Trees as parsed
 use Rattle.script_syntax.specs.declared.tree.Prefix.{Prefix}
 use Rattle.script_syntax.specs.declared.tree.Prefix.TheVariants as prefixes
 use Rattle.script_check.specs.Trees.{kind_named}
-use Rattle.script_check.specs.Rules.{function_in, variable, retries_of, operator_named, has_reference, parameter_named}
+use Rattle.script_check.specs.Rules.{function_in, variable, retries_of, operator_named, parameter_named}
 use Rattle.meaning.specs.Values.{main_name}
 
 infixl 10 ◌>>=◌

@@ -4,7 +4,7 @@ use Rattle.meaning.specs.Values.{Name, main_name}
 use Rattle.meaning.specs.Syntax.{Kind, Number, ListKind, RefKind, Operator, Expr, Exprs, end, also, Stmt, Block, done, step, Parameter, Function, Script}
 use Rattle.meaning.specs.Syntax as syntax
 use Rattle.meaning.specs.Meaning.{same_name}
-use Rattle.meaning.specs.Kinds.{Context, kind_in, argument_kind}
+use Rattle.meaning.specs.Kinds.{Context, kind_in, argument_kind, has_reference}
 use Rattle.script_syntax.specs.Trees as parsed
 use Rattle.script_syntax.specs.declared.tree.Prefix.TheVariants as prefixes
 use Rattle.script_syntax.specs.declared.tree.BinaryOperator.{BinaryOperator}
@@ -81,12 +81,6 @@ module _ (program : parsed.Program) (context : Context) where
     MarkedChecked _ _ _ _ = ⊥
 
 -- Statements
-
--- a reference stands somewhere in the type
-abbrev pub has_reference : Kind → Bool
-has_reference Number = false
-has_reference (ListKind t) = has_reference t
-has_reference (RefKind t) = true
 
 -- in a function of a program
 module _ (program : parsed.Program) (function : parsed.Function) where

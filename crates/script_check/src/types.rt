@@ -2,7 +2,7 @@
 
 ghost use Rattle.std.specs.Prelude.{◌≡◌, IfOk, MatchOption, None, Some};
 ghost use Rattle.script_check.specs.Trees.{kind_of};
-ghost use Rattle.script_check.specs.Rules.{has_reference};
+ghost use Rattle.meaning.specs.Kinds.{has_reference};
 ghost use Rattle.script_check.specs.Inference.{same_kind, mark_for};
 
 use script_syntax::ValueType;

@@ -1,5 +1,6 @@
 pub mod Replay
 pub mod Safety
+pub mod KeptKinds
 pub mod Ids
 pub mod Given
 pub mod Agreeing

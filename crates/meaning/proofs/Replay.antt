@@ -1,5 +1,5 @@
 -- The law of replay: a part of a script on values with ids, and the same part on the values as read, do the same.
-use Rattle.std.proofs.Common.{◌≡◌, ℕ, zero, suc, ◌+◌, ◌-◌, ◌≤◌, Bool, true, false, List, [], ◌∷◌, length, take, map, Option, Some, None, refl, sym, ap, ◌∙◌, subst, arith}
+use Rattle.std.proofs.Common.{◌≡◌, ℕ, zero, suc, ◌+◌, ◌-◌, ◌≤◌, Bool, true, false, List, [], ◌∷◌, ◌++◌, length, take, map, Option, Some, None, refl, sym, ap, ◌∙◌, subst, arith}
 use Rattle.std.proofs.Common.{rules}
 use Rattle.std.proofs.lemmas.List.{length-map}
 use Rattle.std.proofs.lemmas.Bool.Decides.{nat_tests}
@@ -7,24 +7,79 @@ use Rattle.std.specs.Prelude.{ℤ, pos, negsuc, nat_lt, if◌then◌else◌, ◌
 use Rattle.std.specs.Prelude.{int_rem, int_lt, int_le, not, neg_ℤ, ◌*ℤ◌}
 use Rattle.std.specs.Ordering.{int_eq}
 use Rattle.meaning.specs.Values.{Name, Overflow, TooLong, Loop, TooDeep, Broken, Value, Int, Items, Named, Known, Values, none, more, Outcome, Val, Trapped, Argument, Birth, Put, Task, Id, values_of, count, item_at, push_onto}
-use Rattle.meaning.specs.Syntax.{Kind, Operator, Add, Sub, Mul, Div, Rem, Equal, Unequal, Less, LessEqual, ItemAt, Push, Prefix, Negate, Len, Expr, Num, Var, Unary, Binary, ListOf, Empty, Call, Remote, PutOf, GetOf, Exprs, end, also, Stmt, Let, Set, Print, Return, If, For, Block, done, step, Parameter, Function, Script}
-use Rattle.meaning.specs.Runs.{Run, Ends, Prints, Bears, Gets, serial_end, serial_trace, go_on, Over, Piece, piece, next_id, stopped}
+use Rattle.meaning.specs.Syntax.{Kind, Number, ListKind, RefKind, Operator, Add, Sub, Mul, Div, Rem, Equal, Unequal, Less, LessEqual, ItemAt, Push, Prefix, Negate, Len, Expr, Num, Var, Unary, Binary, ListOf, Empty, Call, Remote, PutOf, GetOf, Exprs, end, also, Stmt, Let, Set, Print, Return, If, For, Block, done, step, Parameter, Function, Script}
+use Rattle.meaning.specs.Runs.{Run, Ends, Prints, Bears, Gets, outcome_of, serial_end, serial_trace, go_on, Needs, Over, Piece, piece, next_id, stopped}
 use Rattle.meaning.specs.Meaning.{broken, Variable, Scope, same_name, value_in, set_in, bind, bind_all, as_number, as_items, fits, in_range, quotient, remainder, truth, found, index, push, on_numbers, apply, apply_one, is_zero, turn_count, proceed, mark, get_from, dereference, Calls, evaluate, evaluate_all, turns, turns_within, leave, execute, execute_all, find, parameters_of, enter, task_by, no_level, calls_below, call_at, run_task, run_birth}
 use Rattle.meaning.specs.Lists.{IsFirst}
+use Rattle.meaning.specs.Kinds.{IsOf, AreOf, EndsIn, IsBirthOf, IsSafe, Answers, AnswersFit}
+use Rattle.meaning.proofs.Safety.{serial_is_sound}
 use Rattle.meaning.specs.Readings.{Reading, read, read_items, read_outcome, read_argument, read_birth, BirthsHold}
 use Rattle.meaning.specs.Law.{gets_of, up_to, get_after, births_of, prints_of, StopsAs, Begins, LawOfReplay}
 
 module _ (script : Script) (reading : Reading) where
+  -- the birth as read makes an object of some kind
+  abbrev HasKind : Birth → Type 0
+  HasKind b = (u : Kind) × IsBirthOf script (read_birth reading b) u
+
   -- the piece of one run as read is a beginning of the other
-  record Law (run run' : Run) : Type 0 where
-    by : (base : Id) (answers : List Outcome) → BirthsHold reading script base (piece run base answers).births → IsFirst (map (read_outcome reading) answers) (gets_of (serial_trace run')) → Begins reading (piece run base answers) (length answers) run'
+  pub record Law (run run' : Run) : Type 0 where
+    pub by : (base : Id) (answers : List Outcome) → BirthsHold reading script base (piece run base answers).births → IsFirst (map (read_outcome reading) answers) (gets_of (serial_trace run')) → Begins reading (piece run base answers) (length answers) run'
+    -- and where the other is safe, the answers are of the kinds asked for
+    pub fits : (t : Kind) (base : Id) (answers : List Outcome) → BirthsHold reading script base (piece run base answers).births → IsFirst (map (read_outcome reading) answers) (gets_of (serial_trace run')) → IsSafe script run' t → AnswersFit run base answers
+    -- each birth, if those before it hold, has a kind
+    pub kinds : (t : Kind) (base : Id) (answers : List Outcome) (bs : List Birth) (b : Birth) → IsFirst (bs ++ b ∷ []) (piece run base answers).births → BirthsHold reading script base bs → IsFirst (map (read_outcome reading) answers) (gets_of (serial_trace run')) → IsSafe script run' t → HasKind b
+    -- also with one more
+    pub more_fit : (t : Kind) (base : Id) (answers : List Outcome) (r : Value) (c : Outcome) → BirthsHold reading script base (piece run base answers).births → IsFirst (map (read_outcome reading) answers) (gets_of (serial_trace run')) → IsSafe script run' t → (piece run base answers).stop ≡ Needs r → outcome_of (read reading r) ≡ read_outcome reading c → AnswersFit run base (answers ++ c ∷ [])
 
   -- what follows a value does the same as what follows it as read
   abbrev Follows : (Value → Run) → (Value → Run) → Type 0
   Follows next next' = (v : Value) → Law (next v) (next' (read reading v))
 
+  -- a value as read is of no more kinds
+  mutual
+    pub of_read : (v : Value) (t : Kind) → IsOf (read reading v) t → IsOf v t
+    of_read (Int n) t h = h
+    of_read (Items vs) Number h = h
+    of_read (Items vs) (ListKind t) h = all_of_read vs t h
+    of_read (Items vs) (RefKind t) h = h
+    of_read (Named o) Number h = h
+    of_read (Named o) (ListKind t) h = h
+    of_read (Named o) (RefKind t) h = tt
+    of_read (Known c) t h = h
+
+    all_of_read : (vs : Values) (t : Kind) → AreOf (read_items reading vs) t → AreOf vs t
+    all_of_read none t h = tt
+    all_of_read (more v vs) t h = (of_read v t h.0, all_of_read vs t h.1)
+
+  known_ends : (r : Value) (t : Kind) → IsOf r (RefKind t) → EndsIn (outcome_of r) t
+  known_ends (Int n) t h = absurd h
+  known_ends (Items vs) t h = absurd h
+  known_ends (Named o) t h = tt
+  known_ends (Known c) t h = h
+
+  none_first : (bs : List Birth) (b : Birth) → IsFirst (bs ++ b ∷ []) [] → ⊥
+  none_first [] b f = f
+  none_first (x ∷ xs) b f = f
+
+  -- no answers fit
+  none_fit : (run : Run) (base : Id) → AnswersFit run base []
+  none_fit (Ends c) base = tt
+  none_fit (Prints v next) base = none_fit next base
+  none_fit (Bears b m next) base = none_fit (next (Named base)) (next_id base)
+  none_fit (Gets t r next) base = tt
+
+  -- so does a first answer that is of the kind as read
+  first_fits : (c : Outcome) (t : Kind) (next : Value → Run) (base : Id) → EndsIn (read_outcome reading c) t → Answers (c ∷ []) t (λ v left. AnswersFit (next v) base left)
+  first_fits (Val v) t next base h = (of_read v t h, none_fit (next v) base)
+  first_fits (Trapped e) t next base h = h
+
   ends : (c : Outcome) → Law (Ends c) (Ends (read_outcome reading c))
-  ends c = record { by = λ base answers h g. record { births = refl; prints = refl; stop = (refl, refl) } }
+  ends c = record {
+    by = λ base answers h g. record { births = refl; prints = refl; stop = (refl, refl) };
+    fits = λ t base answers h g s. tt;
+    kinds = λ t base answers bs b f h g s. absurd (none_first bs b f);
+    more_fit = λ t base answers r c' h g s e f. absurd (cc);
+  }
 
   prints : (v : Value) (next next' : Run) → Law next next' → Law (Prints v next) (Prints (read reading v) next')
   prints v next next' l = record {
@@ -33,6 +88,9 @@ module _ (script : Script) (reading : Reading) where
       prints = ap (λ vs. read reading v ∷ vs) b.prints;
       stop = b.stop;
     };
+    fits = λ t base answers h g s. l.fits t base answers h g s.1;
+    kinds = λ t base answers bs b f h g s. l.kinds t base answers bs b f h g s.1;
+    more_fit = λ t base answers r c h g s e f. l.more_fit t base answers r c h g s.1 e f;
   }
 
   bears : (b : Birth) (m m' : Run) (next next' : Value → Run) → serial_end (run_birth script (read_birth reading b)) ≡ serial_end m' → Follows next next' → Law (Bears b m next) (Bears (read_birth reading b) m' next')
@@ -47,7 +105,24 @@ module _ (script : Script) (reading : Reading) where
           prints = j.prints;
           stop = j.stop;
         };
+    fits = λ t base answers h g s.
+        let P : Outcome → Type 0 = λ c. IsFirst (map (read_outcome reading) answers) (gets_of (serial_trace (next' (Known c)))) → IsSafe script (next' (Known c)) t → AnswersFit (next (Named base)) (next_id base) answers in
+        let i : P (serial_end m') = subst P (h.0 ∙ e) ((l (Named base)).fits t (next_id base) answers h.1) in
+        i g (s.3 (Known (serial_end m')) (serial_is_sound script m' s.0 s.2));
+    kinds = λ t base answers bs b' f h g s. here t base answers bs b' f h g s;
+    more_fit = λ t base answers r c h g s f d.
+        let P : Outcome → Type 0 = λ c'. IsFirst (map (read_outcome reading) answers) (gets_of (serial_trace (next' (Known c')))) → IsSafe script (next' (Known c')) t → AnswersFit (next (Named base)) (next_id base) (answers ++ c ∷ []) in
+        let i : P (serial_end m') = subst P (h.0 ∙ e) (λ g' s'. (l (Named base)).more_fit t (next_id base) answers r c h.1 g' s' f d) in
+        i g (s.3 (Known (serial_end m')) (serial_is_sound script m' s.0 s.2));
   }
+    where
+      here : (t : Kind) (base : Id) (answers : List Outcome) (bs : List Birth) (b' : Birth) → IsFirst (bs ++ b' ∷ []) (piece (Bears b m next) base answers).births → BirthsHold reading script base bs → IsFirst (map (read_outcome reading) answers) (gets_of (serial_trace (Bears (read_birth reading b) m' next'))) → IsSafe script (Bears (read_birth reading b) m' next') t → HasKind b'
+      here t base answers [] b' f h g s = subst HasKind f.0 (s.0, s.1)
+      here t base answers (x ∷ xs) b' f h g s =
+          let P : Outcome → Type 0 = λ c. IsFirst (map (read_outcome reading) answers) (gets_of (serial_trace (next' (Known c)))) → IsSafe script (next' (Known c)) t → HasKind b' in
+          let made : reading base ≡ serial_end m' = h.0 ∙ ap (λ y. serial_end (run_birth script (read_birth reading y))) (sym f.0) ∙ e in
+          let i : P (serial_end m') = subst P made ((l (Named base)).kinds t (next_id base) answers xs b' f.1 h.1) in
+          i g (s.3 (Known (serial_end m')) (serial_is_sound script m' s.0 s.2))
 
   -- after a get that was answered
   abbrev After : Piece → ℕ → (Value → Run) → List Outcome → Outcome → Type 0
@@ -58,8 +133,34 @@ module _ (script : Script) (reading : Reading) where
       × StopsAs reading p.stop (get_after n (go_on (λ c. []) d (λ v. serial_trace (next' v)))) (go_on (λ c. c) d (λ v. serial_end (next' v)))
 
   gets : (t : Kind) (r : Value) (next next' : Value → Run) → Follows next next' → Law (Gets t r next) (Gets t (read reading r) next')
-  gets t r next next' l = record { by = go }
+  gets t r next next' l = record { by = go; fits = fit; kinds = kind; more_fit = one }
     where
+      kind : (u : Kind) (base : Id) (answers : List Outcome) (bs : List Birth) (b : Birth) → IsFirst (bs ++ b ∷ []) (piece (Gets t r next) base answers).births → BirthsHold reading script base bs → IsFirst (map (read_outcome reading) answers) (gets_of (serial_trace (Gets t (read reading r) next'))) → IsSafe script (Gets t (read reading r) next') u → HasKind b
+      kind u base [] bs b f h g s = absurd (none_first bs b f)
+      kind u base (Val v ∷ answers) bs b f h g s =
+          let ends_so : EndsIn (Val (read reading v)) t = subst (λ d. EndsIn d t) g.0 (known_ends (read reading r) t s.0) in
+          let P : Outcome → Type 0 = λ d. IsFirst (map (read_outcome reading) answers) (gets_of (go_on (λ c. []) d (λ w. serial_trace (next' w)))) in
+          (l v).kinds u base answers bs b f h (subst P g.0 g.1) (s.1 (read reading v) ends_so)
+      kind u base (Trapped x ∷ answers) bs b f h g s = absurd (none_first bs b f)
+
+      one : (u : Kind) (base : Id) (answers : List Outcome) (r' : Value) (c : Outcome) → BirthsHold reading script base (piece (Gets t r next) base answers).births → IsFirst (map (read_outcome reading) answers) (gets_of (serial_trace (Gets t (read reading r) next'))) → IsSafe script (Gets t (read reading r) next') u → (piece (Gets t r next) base answers).stop ≡ Needs r' → outcome_of (read reading r') ≡ read_outcome reading c → AnswersFit (Gets t r next) base (answers ++ c ∷ [])
+      one u base [] r' c h g s e f =
+          let same : r' ≡ r = cc in
+          first_fits c t (next) base (subst (λ d. EndsIn d t) (ap (λ x. outcome_of (read reading x)) (sym same) ∙ f) (known_ends (read reading r) t s.0))
+      one u base (Val v ∷ answers) r' c h g s e f =
+          let ends_so : EndsIn (Val (read reading v)) t = subst (λ d. EndsIn d t) g.0 (known_ends (read reading r) t s.0) in
+          let P : Outcome → Type 0 = λ d. IsFirst (map (read_outcome reading) answers) (gets_of (go_on (λ c'. []) d (λ w. serial_trace (next' w)))) in
+          (of_read v t ends_so, (l v).more_fit u base answers r' c h (subst P g.0 g.1) (s.1 (read reading v) ends_so) e f)
+      one u base (Trapped x ∷ answers) r' c h g s e f = absurd (cc)
+
+      fit : (u : Kind) (base : Id) (answers : List Outcome) → BirthsHold reading script base (piece (Gets t r next) base answers).births → IsFirst (map (read_outcome reading) answers) (gets_of (serial_trace (Gets t (read reading r) next'))) → IsSafe script (Gets t (read reading r) next') u → AnswersFit (Gets t r next) base answers
+      fit u base [] h g s = tt
+      fit u base (Val v ∷ answers) h g s =
+          let ends_so : EndsIn (Val (read reading v)) t = subst (λ c. EndsIn c t) g.0 (known_ends (read reading r) t s.0) in
+          let P : Outcome → Type 0 = λ d. IsFirst (map (read_outcome reading) answers) (gets_of (go_on (λ c. []) d (λ w. serial_trace (next' w)))) in
+          (of_read v t ends_so, (l v).fits u base answers h (subst P g.0 g.1) (s.1 (read reading v) ends_so))
+      fit u base (Trapped e ∷ answers) h g s = subst (λ c. EndsIn c t) g.0 (known_ends (read reading r) t s.0)
+
       go : (base : Id) (answers : List Outcome) → BirthsHold reading script base (piece (Gets t r next) base answers).births → IsFirst (map (read_outcome reading) answers) (gets_of (serial_trace (Gets t (read reading r) next'))) → Begins reading (piece (Gets t r next) base answers) (length answers) (Gets t (read reading r) next')
       go base [] h g = record { births = refl; prints = refl; stop = refl }
       go base (Val v ∷ answers) h g =
@@ -324,7 +425,7 @@ module _ (script : Script) (reading : Reading) where
   tasks_follow true ps call args l = ends (Trapped TooDeep)
   tasks_follow false ps call args l = dereferences ps args _ _ (λ vs. l vs _ _ (λ v. ends (Val v)))
 
-  births_follow : (b : Birth) → Law (run_birth script b) (run_birth script (read_birth reading b))
+  pub births_follow : (b : Birth) → Law (run_birth script b) (run_birth script (read_birth reading b))
   births_follow (Put v) = ends (Val v)
   births_follow (Task g args depth retries) = tasks_follow (nat_lt 32 depth) (parameters_of (find script g)) (call_at script (33 - depth) g) args (calls_follow (33 - depth) (omega arith) g)
 

@@ -128,261 +128,262 @@ set_scope (w ∷ scope) (k ∷ context) x v t so e h =
 
 -- Expressions
 
-abbrev NextSafe : Kind → Kind → (Value → Run) → Type 0
-NextSafe u t next = (v : Value) → IsOf v u → IsSafe (next v) t
+module _ (script : Script) where
+  abbrev NextSafe : Kind → Kind → (Value → Run) → Type 0
+  NextSafe u t next = (v : Value) → IsOf v u → IsSafe script (next v) t
 
-proceeds : (c : Outcome) (u t : Kind) (next : Value → Run) → EndsIn c u → NextSafe u t next → IsSafe (proceed c next) t
-proceeds (Val v) u t next h l = l v h
-proceeds (Trapped e) u t next h l = h
+  proceeds : (c : Outcome) (u t : Kind) (next : Value → Run) → EndsIn c u → NextSafe u t next → IsSafe script (proceed c next) t
+  proceeds (Val v) u t next h l = l v h
+  proceeds (Trapped e) u t next h l = h
 
-gets : (u t : Kind) (r : Value) (next : Value → Run) → IsOf r (RefKind u) → NextSafe u t next → IsSafe (get_from u r next) t
-gets u t (Int n) next h l = absurd h
-gets u t (Items vs) next h l = absurd h
-gets u t (Named o) next h l = (h, l)
-gets u t (Known c) next h l = (h, l)
+  gets : (u t : Kind) (r : Value) (next : Value → Run) → IsOf r (RefKind u) → NextSafe u t next → IsSafe script (get_from u r next) t
+  gets u t (Int n) next h l = absurd h
+  gets u t (Items vs) next h l = absurd h
+  gets u t (Named o) next h l = (h, l)
+  gets u t (Known c) next h l = (h, l)
 
--- a context and what was added to it
-abbrev Extends : Context → Context → Type 0
-Extends context after = (added : Context) × (after ≡ context ++ added)
+  -- a context and what was added to it
+  abbrev Extends : Context → Context → Type 0
+  Extends context after = (added : Context) × (after ≡ context ++ added)
 
-taken : (scope : Scope) (before : Scope) (context added : Context) → ScopeOf before context → ScopeOf scope (context ++ added) → ScopeOf (take (length before) scope) context
-taken scope [] [] added sb so = tt
-taken scope [] (k ∷ context) added sb so = absurd sb
-taken scope (b ∷ before) [] added sb so = absurd sb
-taken [] (b ∷ before) (k ∷ context) added sb so = absurd so
-taken (w ∷ scope) (b ∷ before) (k ∷ context) added sb so = (so.0, so.1, taken scope before context added sb.2 so.2)
+  taken : (scope : Scope) (before : Scope) (context added : Context) → ScopeOf before context → ScopeOf scope (context ++ added) → ScopeOf (take (length before) scope) context
+  taken scope [] [] added sb so = tt
+  taken scope [] (k ∷ context) added sb so = absurd sb
+  taken scope (b ∷ before) [] added sb so = absurd sb
+  taken [] (b ∷ before) (k ∷ context) added sb so = absurd so
+  taken (w ∷ scope) (b ∷ before) (k ∷ context) added sb so = (so.0, so.1, taken scope before context added sb.2 so.2)
 
-abbrev ScopeSafe : Context → Kind → (Scope → Run) → Type 0
-ScopeSafe context t next = (scope : Scope) → ScopeOf scope context → IsSafe (next scope) t
+  abbrev ScopeSafe : Context → Kind → (Scope → Run) → Type 0
+  ScopeSafe context t next = (scope : Scope) → ScopeOf scope context → IsSafe script (next scope) t
 
--- safe after a block, whatever it added
-abbrev BlockSafe : Context → Kind → (Scope → Run) → Type 0
-BlockSafe context t next = (scope : Scope) (after : Context) → Extends context after → ScopeOf scope after → IsSafe (next scope) t
+  -- safe after a block, whatever it added
+  abbrev BlockSafe : Context → Kind → (Scope → Run) → Type 0
+  BlockSafe context t next = (scope : Scope) (after : Context) → Extends context after → ScopeOf scope after → IsSafe script (next scope) t
 
-extends_all : (a b c : Context) → Extends a b → Extends b c → Extends a c
-extends_all a b c e f = (e.0 ++ f.0, f.1 ∙ ap (λ x. x ++ f.0) e.1 ∙ append_assoc a e.0 f.0)
+  extends_all : (a b c : Context) → Extends a b → Extends b c → Extends a c
+  extends_all a b c e f = (e.0 ++ f.0, f.1 ∙ ap (λ x. x ++ f.0) e.1 ∙ append_assoc a e.0 f.0)
 
-extends_itself : (a : Context) → Extends a a
-extends_itself a = ([], sym (append-nil a))
+  extends_itself : (a : Context) → Extends a a
+  extends_itself a = ([], sym (append-nil a))
 
-stmt_extends : (s : Stmt) (script : Script) (result : Kind) (context after : Context) → StmtChecks s script result context after → Extends context after
-stmt_extends (Let x e) script result context after h = (record { name = x; kind = h.0 } ∷ [], h.2)
-stmt_extends (Set x e) script result context after h = subst (λ a. Extends context a) (sym h.3) (extends_itself context)
-stmt_extends (Print e) script result context after h = subst (λ a. Extends context a) (sym h.3) (extends_itself context)
-stmt_extends (Return e) script result context after h = subst (λ a. Extends context a) (sym h.1) (extends_itself context)
-stmt_extends (If e a b) script result context after h = subst (λ a. Extends context a) (sym h.3) (extends_itself context)
-stmt_extends (For x from to body) script result context after h = subst (λ a. Extends context a) (sym h.3) (extends_itself context)
+  stmt_extends : (s : Stmt) (result : Kind) (context after : Context) → StmtChecks s script result context after → Extends context after
+  stmt_extends (Let x e) result context after h = (record { name = x; kind = h.0 } ∷ [], h.2)
+  stmt_extends (Set x e) result context after h = subst (λ a. Extends context a) (sym h.3) (extends_itself context)
+  stmt_extends (Print e) result context after h = subst (λ a. Extends context a) (sym h.3) (extends_itself context)
+  stmt_extends (Return e) result context after h = subst (λ a. Extends context a) (sym h.1) (extends_itself context)
+  stmt_extends (If e a b) result context after h = subst (λ a. Extends context a) (sym h.3) (extends_itself context)
+  stmt_extends (For x from to body) result context after h = subst (λ a. Extends context a) (sym h.3) (extends_itself context)
 
-bound_all : (ps : List Parameter) (vs : List Value) (t : Kind) (next : Scope → Run) → ArgumentsOf vs ps → ScopeSafe (context_of ps) t next → IsSafe (bind_all broken ps vs next) t
-bound_all [] [] t next h l = l [] tt
-bound_all [] (v ∷ vs) t next h l = absurd h
-bound_all (p ∷ ps) [] t next h l = absurd h
-bound_all (p ∷ ps) (v ∷ vs) t next h l = bound_all ps vs t _ h.1 (λ scope so. l (record { name = p.name; value = v } ∷ scope) (refl, h.0, so))
+  bound_all : (ps : List Parameter) (vs : List Value) (t : Kind) (next : Scope → Run) → ArgumentsOf vs ps → ScopeSafe (context_of ps) t next → IsSafe script (bind_all broken ps vs next) t
+  bound_all [] [] t next h l = l [] tt
+  bound_all [] (v ∷ vs) t next h l = absurd h
+  bound_all (p ∷ ps) [] t next h l = absurd h
+  bound_all (p ∷ ps) (v ∷ vs) t next h l = bound_all ps vs t _ h.1 (λ scope so. l (record { name = p.name; value = v } ∷ scope) (refl, h.0, so))
 
-found_checks : (script fs : Script) (g : Name) (f : Function) → ScriptChecks script fs → find fs g ≡ Some f → FunctionChecks script f
-found_checks script [] g f h e = absurd (cc)
-found_checks script (k ∷ fs) g f h e = go (same_name k.name g) e (found_checks script fs g f h.1)
-  where
-    go : (b : Bool) → (if b then Some k else find fs g) ≡ Some f → (find fs g ≡ Some f → FunctionChecks script f) → FunctionChecks script f
-    go true e' r = let e'' : k ≡ f = cc in subst (λ x. FunctionChecks script x) e'' h.0
-    go false e' r = r e'
+  found_checks : (fs : Script) (g : Name) (f : Function) → ScriptChecks script fs → find fs g ≡ Some f → FunctionChecks script f
+  found_checks [] g f h e = absurd (cc)
+  found_checks (k ∷ fs) g f h e = go (same_name k.name g) e (found_checks fs g f h.1)
+    where
+      go : (b : Bool) → (if b then Some k else find fs g) ≡ Some f → (find fs g ≡ Some f → FunctionChecks script f) → FunctionChecks script f
+      go true e' r = let e'' : k ≡ f = cc in subst (λ x. FunctionChecks script x) e'' h.0
+      go false e' r = r e'
 
-number_runs : (v : Value) (t : Kind) (f : ℤ → Run) → IsOf v Number → ((n : ℤ) → IsSafe (f n) t) → IsSafe (as_number broken v f) t
-number_runs (Int n) t f h l = l n
-number_runs (Items vs) t f h l = absurd h
-number_runs (Named o) t f h l = absurd h
-number_runs (Known c) t f h l = absurd h
+  number_runs : (v : Value) (t : Kind) (f : ℤ → Run) → IsOf v Number → ((n : ℤ) → IsSafe script (f n) t) → IsSafe script (as_number broken v f) t
+  number_runs (Int n) t f h l = l n
+  number_runs (Items vs) t f h l = absurd h
+  number_runs (Named o) t f h l = absurd h
+  number_runs (Known c) t f h l = absurd h
 
--- calls that never break
-record CallsSafe (script : Script) (calls : Calls) : Type 0 where
-  plain : (g : Name) (f : Function) → find script g ≡ Some f → (vs : List Value) (t : Kind) (next : Value → Run) → ArgumentsOf vs f.parameters → NextSafe f.result t next → IsSafe (calls.plain g vs next) t
-  task : (g : Name) (f : Function) → find script g ≡ Some f → (args : List Argument) → MarkedOf args f.parameters → IsSafe (calls.task g args) f.result
+  -- calls that never break
+  record CallsSafe (calls : Calls) : Type 0 where
+    plain : (g : Name) (f : Function) → find script g ≡ Some f → (vs : List Value) (t : Kind) (next : Value → Run) → ArgumentsOf vs f.parameters → NextSafe f.result t next → IsSafe script (calls.plain g vs next) t
+    task : (g : Name) (f : Function) → find script g ≡ Some f → (args : List Argument) → MarkedOf args f.parameters → IsSafe script (calls.task g args) f.result
 
-module _ (script : Script) (calls : Calls) (safe : CallsSafe script calls) where
-  mutual
-    evaluates : (e : Expr) (u t : Kind) (context : Context) (scope : Scope) (next : Value → Run) → Checks script context e u → ScopeOf scope context → NextSafe u t next → IsSafe (evaluate calls e scope next) t
-    evaluates (Num n) u t context scope next h so l = l (Int n) (subst (λ k. IsOf (Int n) k) (sym h) tt)
-    evaluates (Var x) u t context scope next h so l = proceeds (value_in scope x) u t next (var_ends scope context x u so h) l
-    evaluates (Unary op a) u t context scope next h so l =
-        evaluates a h.0 t context scope _ h.1 so (λ v hv. proceeds (apply_one op v) u t next (prefix_ends op h.0 u v h.2 hv) l)
-    evaluates (Binary op a b) u t context scope next h so l =
-        evaluates a h.0 t context scope _ h.2 so (λ v hv. evaluates b h.1 t context scope _ h.3 so (λ w hw. proceeds (apply op v w) u t next (operator_ends op h.0 h.1 u v w h.4 hv hw) l))
-    evaluates (ListOf es) u t context scope next h so l =
-        evaluates_each es h.0 t context scope _ h.1 so (λ vs hvs. l (Items (values_of vs)) (subst (λ k. IsOf (Items (values_of vs)) k) (sym h.2) hvs))
-    evaluates (Empty k) u t context scope next h so l = l (Items none) (subst (λ k. IsOf (Items none) k) (sym h) tt)
-    evaluates (Call g args) u t context scope next h so l =
-        evaluates_args args h.0.parameters t context scope _ h.2 so (λ vs hvs. safe.plain g h.0 h.1 vs t next hvs (λ v hv. l v (subst (λ k. IsOf v k) (sym h.3) hv)))
-    evaluates (Remote k g marks args) u t context scope next h so l =
-        evaluates_marked args marks h.0.parameters t context scope _ h.2 so (λ vs hvs. (h.0.result, safe.task g h.0 h.1 (mark vs marks) hvs, λ r hr. l r (subst (λ k. IsOf r k) (sym h.3) hr)))
-    evaluates (PutOf a) u t context scope next h so l =
-        evaluates a h.0 t context scope _ h.1 so (λ v hv. (h.0, hv, λ r hr. l r (subst (λ k. IsOf r k) (sym h.2) hr)))
-    evaluates (GetOf k a) u t context scope next h so l =
-        evaluates a (RefKind k) t context scope _ h.0 so (λ r hr. gets k t r next hr (λ v hv. l v (subst (λ k. IsOf v k) (sym h.1) hv)))
+  module _ (calls : Calls) (safe : CallsSafe calls) where
+    mutual
+      evaluates : (e : Expr) (u t : Kind) (context : Context) (scope : Scope) (next : Value → Run) → Checks script context e u → ScopeOf scope context → NextSafe u t next → IsSafe script (evaluate calls e scope next) t
+      evaluates (Num n) u t context scope next h so l = l (Int n) (subst (λ k. IsOf (Int n) k) (sym h) tt)
+      evaluates (Var x) u t context scope next h so l = proceeds (value_in scope x) u t next (var_ends scope context x u so h) l
+      evaluates (Unary op a) u t context scope next h so l =
+          evaluates a h.0 t context scope _ h.1 so (λ v hv. proceeds (apply_one op v) u t next (prefix_ends op h.0 u v h.2 hv) l)
+      evaluates (Binary op a b) u t context scope next h so l =
+          evaluates a h.0 t context scope _ h.2 so (λ v hv. evaluates b h.1 t context scope _ h.3 so (λ w hw. proceeds (apply op v w) u t next (operator_ends op h.0 h.1 u v w h.4 hv hw) l))
+      evaluates (ListOf es) u t context scope next h so l =
+          evaluates_each es h.0 t context scope _ h.1 so (λ vs hvs. l (Items (values_of vs)) (subst (λ k. IsOf (Items (values_of vs)) k) (sym h.2) hvs))
+      evaluates (Empty k) u t context scope next h so l = l (Items none) (subst (λ k. IsOf (Items none) k) (sym h) tt)
+      evaluates (Call g args) u t context scope next h so l =
+          evaluates_args args h.0.parameters t context scope _ h.2 so (λ vs hvs. safe.plain g h.0 h.1 vs t next hvs (λ v hv. l v (subst (λ k. IsOf v k) (sym h.3) hv)))
+      evaluates (Remote k g marks args) u t context scope next h so l =
+          evaluates_marked args marks h.0.parameters t context scope _ h.2 so (λ vs hvs. (h.0.result, (h.0, h.1, hvs, refl), safe.task g h.0 h.1 (mark vs marks) hvs, λ r hr. l r (subst (λ k. IsOf r k) (sym h.3) hr)))
+      evaluates (PutOf a) u t context scope next h so l =
+          evaluates a h.0 t context scope _ h.1 so (λ v hv. (h.0, hv, hv, λ r hr. l r (subst (λ k. IsOf r k) (sym h.2) hr)))
+      evaluates (GetOf k a) u t context scope next h so l =
+          evaluates a (RefKind k) t context scope _ h.0 so (λ r hr. gets k t r next hr (λ v hv. l v (subst (λ k. IsOf v k) (sym h.1) hv)))
 
-    evaluates_each : (es : Exprs) (u t : Kind) (context : Context) (scope : Scope) (next : List Value → Run) → EachChecks script context es u → ScopeOf scope context → ((vs : List Value) → AreOf (values_of vs) u → IsSafe (next vs) t) → IsSafe (evaluate_all calls es scope next) t
-    evaluates_each end u t context scope next h so l = l [] tt
-    evaluates_each (also e es) u t context scope next h so l =
-        evaluates e u t context scope _ h.0 so (λ v hv. evaluates_each es u t context scope _ h.1 so (λ vs hvs. l (v ∷ vs) (hv, hvs)))
+      evaluates_each : (es : Exprs) (u t : Kind) (context : Context) (scope : Scope) (next : List Value → Run) → EachChecks script context es u → ScopeOf scope context → ((vs : List Value) → AreOf (values_of vs) u → IsSafe script (next vs) t) → IsSafe script (evaluate_all calls es scope next) t
+      evaluates_each end u t context scope next h so l = l [] tt
+      evaluates_each (also e es) u t context scope next h so l =
+          evaluates e u t context scope _ h.0 so (λ v hv. evaluates_each es u t context scope _ h.1 so (λ vs hvs. l (v ∷ vs) (hv, hvs)))
 
-    evaluates_args : (es : Exprs) (ps : List Parameter) (t : Kind) (context : Context) (scope : Scope) (next : List Value → Run) → ArgumentsCheck script context es ps → ScopeOf scope context → ((vs : List Value) → ArgumentsOf vs ps → IsSafe (next vs) t) → IsSafe (evaluate_all calls es scope next) t
-    evaluates_args end [] t context scope next h so l = l [] tt
-    evaluates_args end (p ∷ ps) t context scope next h so l = absurd h
-    evaluates_args (also e es) [] t context scope next h so l = absurd h
-    evaluates_args (also e es) (p ∷ ps) t context scope next h so l =
-        evaluates e p.kind t context scope _ h.0 so (λ v hv. evaluates_args es ps t context scope _ h.1 so (λ vs hvs. l (v ∷ vs) (hv, hvs)))
+      evaluates_args : (es : Exprs) (ps : List Parameter) (t : Kind) (context : Context) (scope : Scope) (next : List Value → Run) → ArgumentsCheck script context es ps → ScopeOf scope context → ((vs : List Value) → ArgumentsOf vs ps → IsSafe script (next vs) t) → IsSafe script (evaluate_all calls es scope next) t
+      evaluates_args end [] t context scope next h so l = l [] tt
+      evaluates_args end (p ∷ ps) t context scope next h so l = absurd h
+      evaluates_args (also e es) [] t context scope next h so l = absurd h
+      evaluates_args (also e es) (p ∷ ps) t context scope next h so l =
+          evaluates e p.kind t context scope _ h.0 so (λ v hv. evaluates_args es ps t context scope _ h.1 so (λ vs hvs. l (v ∷ vs) (hv, hvs)))
 
-    evaluates_marked : (es : Exprs) (ms : List Bool) (ps : List Parameter) (t : Kind) (context : Context) (scope : Scope) (next : List Value → Run) → MarkedCheck script context es ms ps → ScopeOf scope context → ((vs : List Value) → MarkedOf (mark vs ms) ps → IsSafe (next vs) t) → IsSafe (evaluate_all calls es scope next) t
-    evaluates_marked end [] [] t context scope next h so l = l [] tt
-    evaluates_marked end [] (p ∷ ps) t context scope next h so l = absurd h
-    evaluates_marked end (m ∷ ms) ps t context scope next h so l = absurd h
-    evaluates_marked (also e es) [] ps t context scope next h so l = absurd h
-    evaluates_marked (also e es) (m ∷ ms) [] t context scope next h so l = absurd h
-    evaluates_marked (also e es) (m ∷ ms) (p ∷ ps) t context scope next h so l =
-        evaluates e (argument_kind m p.kind) t context scope _ h.0 so (λ v hv. evaluates_marked es ms ps t context scope _ h.1 so (λ vs hvs. l (v ∷ vs) (hv, hvs)))
+      evaluates_marked : (es : Exprs) (ms : List Bool) (ps : List Parameter) (t : Kind) (context : Context) (scope : Scope) (next : List Value → Run) → MarkedCheck script context es ms ps → ScopeOf scope context → ((vs : List Value) → MarkedOf (mark vs ms) ps → IsSafe script (next vs) t) → IsSafe script (evaluate_all calls es scope next) t
+      evaluates_marked end [] [] t context scope next h so l = l [] tt
+      evaluates_marked end [] (p ∷ ps) t context scope next h so l = absurd h
+      evaluates_marked end (m ∷ ms) ps t context scope next h so l = absurd h
+      evaluates_marked (also e es) [] ps t context scope next h so l = absurd h
+      evaluates_marked (also e es) (m ∷ ms) [] t context scope next h so l = absurd h
+      evaluates_marked (also e es) (m ∷ ms) (p ∷ ps) t context scope next h so l =
+          evaluates e (argument_kind m p.kind) t context scope _ h.0 so (λ v hv. evaluates_marked es ms ps t context scope _ h.1 so (λ vs hvs. l (v ∷ vs) (hv, hvs)))
 
-  left : (before : Scope) (context : Context) (t : Kind) (next : Scope → Run) → ScopeOf before context → ScopeSafe context t next → BlockSafe context t (leave calls before next)
-  left before context t next sb l = λ scope after x so. l _ (taken scope before context x.0 sb (subst (λ a. ScopeOf scope a) x.1 so))
+    left : (before : Scope) (context : Context) (t : Kind) (next : Scope → Run) → ScopeOf before context → ScopeSafe context t next → BlockSafe context t (leave calls before next)
+    left before context t next sb l = λ scope after x so. l _ (taken scope before context x.0 sb (subst (λ a. ScopeOf scope a) x.1 so))
 
-  choice : (n : ℤ) (t : Kind) (a b : Run) → IsSafe a t → IsSafe b t → IsSafe (if is_zero n then b else a) t
-  choice n t a b ha hb = elim (is_zero n) as (λ z. IsSafe (if z then b else a) t) [ true ↦ hb | false ↦ ha ]
+    choice : (n : ℤ) (t : Kind) (a b : Run) → IsSafe script a t → IsSafe script b t → IsSafe script (if is_zero n then b else a) t
+    choice n t a b ha hb = elim (is_zero n) as (λ z. IsSafe script (if z then b else a) t) [ true ↦ hb | false ↦ ha ]
 
-  turn : (n : ℕ) (i : ℤ) (body : ℤ → Scope → (Scope → Run) → Run) (context : Context) (t : Kind) (scope : Scope) (next : Scope → Run) →
-      ((i : ℤ) (scope : Scope) (next : Scope → Run) → ScopeOf scope context → ScopeSafe context t next → IsSafe (body i scope next) t) → ScopeOf scope context → ScopeSafe context t next → IsSafe (turns calls n i body scope next) t
-  turn zero i body context t scope next f so l = l scope so
-  turn (suc n) i body context t scope next f so l = f i scope _ so (λ after sa. turn n (i +ℤ pos 1) body context t after next f sa l)
+    turn : (n : ℕ) (i : ℤ) (body : ℤ → Scope → (Scope → Run) → Run) (context : Context) (t : Kind) (scope : Scope) (next : Scope → Run) →
+        ((i : ℤ) (scope : Scope) (next : Scope → Run) → ScopeOf scope context → ScopeSafe context t next → IsSafe script (body i scope next) t) → ScopeOf scope context → ScopeSafe context t next → IsSafe script (turns calls n i body scope next) t
+    turn zero i body context t scope next f so l = l scope so
+    turn (suc n) i body context t scope next f so l = f i scope _ so (λ after sa. turn n (i +ℤ pos 1) body context t after next f sa l)
 
-  loops : (from to : ℤ) (body : ℤ → Scope → (Scope → Run) → Run) (context : Context) (t : Kind) (scope : Scope) (next : Scope → Run) →
-      ((i : ℤ) (scope : Scope) (next : Scope → Run) → ScopeOf scope context → ScopeSafe context t next → IsSafe (body i scope next) t) → ScopeOf scope context → ScopeSafe context t next → IsSafe (turns_within calls from to body scope next) t
-  loops from to body context t scope next f so l =
-      let n = turn_count (to -ℤ from) in
-      let run = turn n from body context t scope next f so l in
-      elim (nat_lt 10000 n) as (λ b. IsSafe (if b then Ends (Trapped Loop) else turns calls n from body scope next) t) [ true ↦ tt | false ↦ run ]
+    loops : (from to : ℤ) (body : ℤ → Scope → (Scope → Run) → Run) (context : Context) (t : Kind) (scope : Scope) (next : Scope → Run) →
+        ((i : ℤ) (scope : Scope) (next : Scope → Run) → ScopeOf scope context → ScopeSafe context t next → IsSafe script (body i scope next) t) → ScopeOf scope context → ScopeSafe context t next → IsSafe script (turns_within calls from to body scope next) t
+    loops from to body context t scope next f so l =
+        let n = turn_count (to -ℤ from) in
+        let run = turn n from body context t scope next f so l in
+        elim (nat_lt 10000 n) as (λ b. IsSafe script (if b then Ends (Trapped Loop) else turns calls n from body scope next) t) [ true ↦ tt | false ↦ run ]
 
-  mutual
-    executes : (s : Stmt) (result t : Kind) (context after : Context) (scope : Scope) (next : Scope → Run) (return : Value → Run) → StmtChecks s script result context after → ScopeOf scope context → ScopeSafe after t next → NextSafe result t return → IsSafe (execute calls s scope next return) t
-    executes (Let x e) result t context after scope next return h so l r =
-        evaluates e h.0 t context scope _ h.1 so (λ v hv. l _ (subst (λ a. ScopeOf (bind scope x v) a) (sym h.2) (bound_scope scope context x v h.0 so hv)))
-    executes (Set x e) result t context after scope next return h so l r =
-        evaluates e h.0 t context scope _ h.2 so (λ v hv. l _ (subst (λ a. ScopeOf (set_in scope x v) a) (sym h.3) (set_scope scope context x v h.0 so h.1 hv)))
-    executes (Print e) result t context after scope next return h so l r =
-        evaluates e h.0 t context scope _ h.1 so (λ v hv. (plain v h.0 hv h.2, l scope (subst (λ a. ScopeOf scope a) (sym h.3) so)))
-    executes (Return e) result t context after scope next return h so l r = evaluates e result t context scope return h.0 so r
-    executes (If e a b) result t context after scope next return h so l r =
-        let l' : ScopeSafe context t next = subst (λ a. ScopeSafe a t next) h.3 l in
-        evaluates e Number t context scope _ h.0 so (λ v hv. number_runs v t _ hv (λ n. choice n t _ _
-        (executes_all a result t context scope _ return h.1 so (left scope context t next so l') r)
-        (executes_all b result t context scope _ return h.2 so (left scope context t next so l') r)))
-    executes (For x from to body) result t context after scope next return h so l r =
-        let l' : ScopeSafe context t next = subst (λ a. ScopeSafe a t next) h.3 l in
-        evaluates from Number t context scope _ h.0 so (λ v hv. evaluates to Number t context scope _ h.1 so (λ w hw.
-        number_runs v t _ hv (λ m. number_runs w t _ hw (λ n. loops m n _ context t scope next
-        (λ i before k sb lk. executes_all body result t (context ++ record { name = x; kind = Number } ∷ []) (bind before x (Int i)) _ return h.2
-        (bound_scope before context x (Int i) Number sb tt)
-        (λ scope' after' x' so'. left before context t k sb lk scope' after' (extends_all context (context ++ record { name = x; kind = Number } ∷ []) after' (record { name = x; kind = Number } ∷ [], refl) x') so') r)
-        so l'))))
+    mutual
+      executes : (s : Stmt) (result t : Kind) (context after : Context) (scope : Scope) (next : Scope → Run) (return : Value → Run) → StmtChecks s script result context after → ScopeOf scope context → ScopeSafe after t next → NextSafe result t return → IsSafe script (execute calls s scope next return) t
+      executes (Let x e) result t context after scope next return h so l r =
+          evaluates e h.0 t context scope _ h.1 so (λ v hv. l _ (subst (λ a. ScopeOf (bind scope x v) a) (sym h.2) (bound_scope scope context x v h.0 so hv)))
+      executes (Set x e) result t context after scope next return h so l r =
+          evaluates e h.0 t context scope _ h.2 so (λ v hv. l _ (subst (λ a. ScopeOf (set_in scope x v) a) (sym h.3) (set_scope scope context x v h.0 so h.1 hv)))
+      executes (Print e) result t context after scope next return h so l r =
+          evaluates e h.0 t context scope _ h.1 so (λ v hv. (plain v h.0 hv h.2, l scope (subst (λ a. ScopeOf scope a) (sym h.3) so)))
+      executes (Return e) result t context after scope next return h so l r = evaluates e result t context scope return h.0 so r
+      executes (If e a b) result t context after scope next return h so l r =
+          let l' : ScopeSafe context t next = subst (λ a. ScopeSafe a t next) h.3 l in
+          evaluates e Number t context scope _ h.0 so (λ v hv. number_runs v t _ hv (λ n. choice n t _ _
+          (executes_all a result t context scope _ return h.1 so (left scope context t next so l') r)
+          (executes_all b result t context scope _ return h.2 so (left scope context t next so l') r)))
+      executes (For x from to body) result t context after scope next return h so l r =
+          let l' : ScopeSafe context t next = subst (λ a. ScopeSafe a t next) h.3 l in
+          evaluates from Number t context scope _ h.0 so (λ v hv. evaluates to Number t context scope _ h.1 so (λ w hw.
+          number_runs v t _ hv (λ m. number_runs w t _ hw (λ n. loops m n _ context t scope next
+          (λ i before k sb lk. executes_all body result t (context ++ record { name = x; kind = Number } ∷ []) (bind before x (Int i)) _ return h.2
+          (bound_scope before context x (Int i) Number sb tt)
+          (λ scope' after' x' so'. left before context t k sb lk scope' after' (extends_all context (context ++ record { name = x; kind = Number } ∷ []) after' (record { name = x; kind = Number } ∷ [], refl) x') so') r)
+          so l'))))
 
-    executes_all : (b : Block) (result t : Kind) (context : Context) (scope : Scope) (next : Scope → Run) (return : Value → Run) → BlockChecks b script result context → ScopeOf scope context → BlockSafe context t next → NextSafe result t return → IsSafe (execute_all calls b scope next return) t
-    executes_all done result t context scope next return h so l r = l scope context (extends_itself context) so
-    executes_all (step s rest) result t context scope next return h so l r =
-        executes s result t context h.0 scope _ return h.1 so
-        (λ scope' so'. executes_all rest result t h.0 scope' next return h.2 so' (λ scope'' after x so''. l scope'' after (extends_all context h.0 after (stmt_extends s script result context h.0 h.1) x) so'') r) r
+      executes_all : (b : Block) (result t : Kind) (context : Context) (scope : Scope) (next : Scope → Run) (return : Value → Run) → BlockChecks b script result context → ScopeOf scope context → BlockSafe context t next → NextSafe result t return → IsSafe script (execute_all calls b scope next return) t
+      executes_all done result t context scope next return h so l r = l scope context (extends_itself context) so
+      executes_all (step s rest) result t context scope next return h so l r =
+          executes s result t context h.0 scope _ return h.1 so
+          (λ scope' so'. executes_all rest result t h.0 scope' next return h.2 so' (λ scope'' after x so''. l scope'' after (extends_all context h.0 after (stmt_extends s result context h.0 h.1) x) so'') r) r
 
-  -- what returns never goes on
-  mutual
-    returns : (s : Stmt) (result t : Kind) (context after : Context) (scope : Scope) (next : Scope → Run) (return : Value → Run) → Returns s → StmtChecks s script result context after → ScopeOf scope context → NextSafe result t return → IsSafe (execute calls s scope next return) t
-    returns (Let x e) result t context after scope next return m h so r = absurd m
-    returns (Set x e) result t context after scope next return m h so r = absurd m
-    returns (Print e) result t context after scope next return m h so r = absurd m
-    returns (Return e) result t context after scope next return m h so r = evaluates e result t context scope return h.0 so r
-    returns (If e a b) result t context after scope next return m h so r =
-        evaluates e Number t context scope _ h.0 so (λ v hv. number_runs v t _ hv (λ n. choice n t _ _
-        (returns_all a result t context scope _ return m.0 h.1 so r) (returns_all b result t context scope _ return m.1 h.2 so r)))
-    returns (For x from to body) result t context after scope next return m h so r = absurd m
+    -- what returns never goes on
+    mutual
+      returns : (s : Stmt) (result t : Kind) (context after : Context) (scope : Scope) (next : Scope → Run) (return : Value → Run) → Returns s → StmtChecks s script result context after → ScopeOf scope context → NextSafe result t return → IsSafe script (execute calls s scope next return) t
+      returns (Let x e) result t context after scope next return m h so r = absurd m
+      returns (Set x e) result t context after scope next return m h so r = absurd m
+      returns (Print e) result t context after scope next return m h so r = absurd m
+      returns (Return e) result t context after scope next return m h so r = evaluates e result t context scope return h.0 so r
+      returns (If e a b) result t context after scope next return m h so r =
+          evaluates e Number t context scope _ h.0 so (λ v hv. number_runs v t _ hv (λ n. choice n t _ _
+          (returns_all a result t context scope _ return m.0 h.1 so r) (returns_all b result t context scope _ return m.1 h.2 so r)))
+      returns (For x from to body) result t context after scope next return m h so r = absurd m
 
-    returns_all : (b : Block) (result t : Kind) (context : Context) (scope : Scope) (next : Scope → Run) (return : Value → Run) → BlockReturns b → BlockChecks b script result context → ScopeOf scope context → NextSafe result t return → IsSafe (execute_all calls b scope next return) t
-    returns_all done result t context scope next return m h so r = absurd m
-    returns_all (step s rest) result t context scope next return (inl m) h so r = returns s result t context h.0 scope _ return m h.1 so r
-    returns_all (step s rest) result t context scope next return (inr m) h so r =
-        executes s result t context h.0 scope _ return h.1 so (λ scope' so'. returns_all rest result t h.0 scope' next return m h.2 so' r) r
+      returns_all : (b : Block) (result t : Kind) (context : Context) (scope : Scope) (next : Scope → Run) (return : Value → Run) → BlockReturns b → BlockChecks b script result context → ScopeOf scope context → NextSafe result t return → IsSafe script (execute_all calls b scope next return) t
+      returns_all done result t context scope next return m h so r = absurd m
+      returns_all (step s rest) result t context scope next return (inl m) h so r = returns s result t context h.0 scope _ return m h.1 so r
+      returns_all (step s rest) result t context scope next return (inr m) h so r =
+          executes s result t context h.0 scope _ return h.1 so (λ scope' so'. returns_all rest result t h.0 scope' next return m h.2 so' r) r
 
-  entered : (f : Function) (vs : List Value) (t : Kind) (next : Value → Run) → FunctionChecks script f → ArgumentsOf vs f.parameters → NextSafe f.result t next → IsSafe (enter calls (Some f) vs next) t
-  entered f vs t next h hvs l = bound_all f.parameters vs t _ hvs (λ scope so. returns_all f.body f.result t (context_of f.parameters) scope _ next h.returns h.body so l)
+    entered : (f : Function) (vs : List Value) (t : Kind) (next : Value → Run) → FunctionChecks script f → ArgumentsOf vs f.parameters → NextSafe f.result t next → IsSafe script (enter calls (Some f) vs next) t
+    entered f vs t next h hvs l = bound_all f.parameters vs t _ hvs (λ scope so. returns_all f.body f.result t (context_of f.parameters) scope _ next h.returns h.body so l)
 
-dereferenced : (ps : List Parameter) (args : List Argument) (t : Kind) (next : List Value → Run) → MarkedOf args ps → ((vs : List Value) → ArgumentsOf vs ps → IsSafe (next vs) t) → IsSafe (dereference ps args next) t
-dereferenced [] [] t next h l = l [] tt
-dereferenced (p ∷ ps) [] t next h l = absurd h
-dereferenced [] (a ∷ args) t next h l = absurd h
-dereferenced (p ∷ ps) (a ∷ args) t next h l =
-    go a.marked h.0 (λ v hv. dereferenced ps args t _ h.1 (λ vs hvs. l (v ∷ vs) (hv, hvs)))
-  where
-    go : (m : Bool) → IsOf a.value (argument_kind m p.kind) → ((v : Value) → IsOf v p.kind → IsSafe (dereference ps args (λ vs. next (v ∷ vs))) t) → IsSafe (if m then get_from p.kind a.value (λ v. dereference ps args (λ vs. next (v ∷ vs))) else dereference ps args (λ vs. next (a.value ∷ vs))) t
-    go true k rest = gets p.kind t a.value _ k rest
-    go false k rest = rest a.value k
+  dereferenced : (ps : List Parameter) (args : List Argument) (t : Kind) (next : List Value → Run) → MarkedOf args ps → ((vs : List Value) → ArgumentsOf vs ps → IsSafe script (next vs) t) → IsSafe script (dereference ps args next) t
+  dereferenced [] [] t next h l = l [] tt
+  dereferenced (p ∷ ps) [] t next h l = absurd h
+  dereferenced [] (a ∷ args) t next h l = absurd h
+  dereferenced (p ∷ ps) (a ∷ args) t next h l =
+      go a.marked h.0 (λ v hv. dereferenced ps args t _ h.1 (λ vs hvs. l (v ∷ vs) (hv, hvs)))
+    where
+      go : (m : Bool) → IsOf a.value (argument_kind m p.kind) → ((v : Value) → IsOf v p.kind → IsSafe script (dereference ps args (λ vs. next (v ∷ vs))) t) → IsSafe script (if m then get_from p.kind a.value (λ v. dereference ps args (λ vs. next (v ∷ vs))) else dereference ps args (λ vs. next (a.value ∷ vs))) t
+      go true k rest = gets p.kind t a.value _ k rest
+      go false k rest = rest a.value k
 
-tasks_safe : (script : Script) (b : Bool) (call : Name → List Value → (Value → Run) → Run) → ((g : Name) (f : Function) → find script g ≡ Some f → (vs : List Value) (t : Kind) (next : Value → Run) → ArgumentsOf vs f.parameters → NextSafe f.result t next → IsSafe (call g vs next) t) → (g : Name) (f : Function) → find script g ≡ Some f → (args : List Argument) → MarkedOf args f.parameters → IsSafe (task_by b (parameters_of (find script g)) (call g) args) f.result
-tasks_safe script true call l g f e args h = tt
-tasks_safe script false call l g f e args h =
-    subst (λ o. IsSafe (dereference (parameters_of o) args (λ vs. call g vs (λ v. Ends (Val v)))) f.result) (sym e)
-    (dereferenced f.parameters args f.result _ h (λ vs hvs. l g f e vs f.result _ hvs (λ v hv. hv)))
+  tasks_safe : (b : Bool) (call : Name → List Value → (Value → Run) → Run) → ((g : Name) (f : Function) → find script g ≡ Some f → (vs : List Value) (t : Kind) (next : Value → Run) → ArgumentsOf vs f.parameters → NextSafe f.result t next → IsSafe script (call g vs next) t) → (g : Name) (f : Function) → find script g ≡ Some f → (args : List Argument) → MarkedOf args f.parameters → IsSafe script (task_by b (parameters_of (find script g)) (call g) args) f.result
+  tasks_safe true call l g f e args h = tt
+  tasks_safe false call l g f e args h =
+      subst (λ o. IsSafe script (dereference (parameters_of o) args (λ vs. call g vs (λ v. Ends (Val v)))) f.result) (sym e)
+      (dereferenced f.parameters args f.result _ h (λ vs hvs. l g f e vs f.result _ hvs (λ v hv. hv)))
 
-module _ (script : Script) (checks : ScriptChecks script script) where
-  calls_safe : (n : ℕ) → (g : Name) (f : Function) → find script g ≡ Some f → (vs : List Value) (t : Kind) (next : Value → Run) → ArgumentsOf vs f.parameters → NextSafe f.result t next → IsSafe (call_at script n g vs next) t
-  unfolding call_at
-  calls_safe zero g f e vs t next hvs l = tt
-  calls_safe (suc n) g f e vs t next hvs l =
-      subst (λ o. IsSafe (enter (calls_below script n) o vs next) t) (sym e)
-      (entered script (calls_below script n) (record { plain = calls_safe n; task = tasks_safe script (no_level n) (call_at script n) (calls_safe n) }) f vs t next (found_checks script script g f checks e) hvs l)
+  module _ (checks : ScriptChecks script script) where
+    calls_safe : (n : ℕ) → (g : Name) (f : Function) → find script g ≡ Some f → (vs : List Value) (t : Kind) (next : Value → Run) → ArgumentsOf vs f.parameters → NextSafe f.result t next → IsSafe script (call_at script n g vs next) t
+    unfolding call_at
+    calls_safe zero g f e vs t next hvs l = tt
+    calls_safe (suc n) g f e vs t next hvs l =
+        subst (λ o. IsSafe script (enter (calls_below script n) o vs next) t) (sym e)
+        (entered (calls_below script n) (record { plain = calls_safe n; task = tasks_safe (no_level n) (call_at script n) (calls_safe n) }) f vs t next (found_checks script g f checks e) hvs l)
 
-  -- a task with arguments of the kinds asked for is safe
-  run_is_safe : (g : Name) (f : Function) (args : List Argument) (depth : ℕ) → find script g ≡ Some f → MarkedOf args f.parameters → IsSafe (run_task script g args depth) f.result
-  run_is_safe g f args depth e h = tasks_safe script (nat_lt 32 depth) (call_at script (33 - depth)) (calls_safe (33 - depth)) g f e args h
+    -- a task with arguments of the kinds asked for is safe
+    pub run_is_safe : (g : Name) (f : Function) (args : List Argument) (depth : ℕ) → find script g ≡ Some f → MarkedOf args f.parameters → IsSafe script (run_task script g args depth) f.result
+    run_is_safe g f args depth e h = tasks_safe (nat_lt 32 depth) (call_at script (33 - depth)) (calls_safe (33 - depth)) g f e args h
 
--- a safe run ends serially with a value of its kind, or with a trap of the script
-serial_is_sound : (run : Run) (t : Kind) → IsSafe run t → EndsIn (serial_end run) t
-serial_is_sound (Ends c) t h = h
-serial_is_sound (Prints v next) t h = serial_is_sound next t h.1
-serial_is_sound (Bears b made_by next) t h = serial_is_sound (next (Known (serial_end made_by))) t (h.2 (Known (serial_end made_by)) (serial_is_sound made_by h.0 h.1))
-serial_is_sound (Gets u (Int n) next) t h = absurd h.0
-serial_is_sound (Gets u (Items vs) next) t h = absurd h.0
-serial_is_sound (Gets u (Named o) next) t h = tt
-serial_is_sound (Gets u (Known (Val v)) next) t h = serial_is_sound (next v) t (h.1 v h.0)
-serial_is_sound (Gets u (Known (Trapped e)) next) t h = h.0
+  -- a safe run ends serially with a value of its kind, or with a trap of the script
+  pub serial_is_sound : (run : Run) (t : Kind) → IsSafe script run t → EndsIn (serial_end run) t
+  serial_is_sound (Ends c) t h = h
+  serial_is_sound (Prints v next) t h = serial_is_sound next t h.1
+  serial_is_sound (Bears b made_by next) t h = serial_is_sound (next (Known (serial_end made_by))) t (h.3 (Known (serial_end made_by)) (serial_is_sound made_by h.0 h.2))
+  serial_is_sound (Gets u (Int n) next) t h = absurd h.0
+  serial_is_sound (Gets u (Items vs) next) t h = absurd h.0
+  serial_is_sound (Gets u (Named o) next) t h = tt
+  serial_is_sound (Gets u (Known (Val v)) next) t h = serial_is_sound (next v) t (h.1 v h.0)
+  serial_is_sound (Gets u (Known (Trapped e)) next) t h = h.0
 
--- and so does a piece, on such answers
-piece_is_sound : (run : Run) (t : Kind) (base : Id) (answers : List Outcome) → IsSafe run t → AnswersFit run base answers → StopIsSound (piece run base answers).stop t
-piece_is_sound (Ends c) t base answers h f = h
-piece_is_sound (Prints v next) t base answers h f = piece_is_sound next t base answers h.1 f
-piece_is_sound (Bears b made_by next) t base answers h f = piece_is_sound (next (Named base)) t (next_id base) answers (h.2 (Named base) tt) f
-piece_is_sound (Gets u r next) t base [] h f = tt
-piece_is_sound (Gets u r next) t base (Val v ∷ answers) h f = piece_is_sound (next v) t base answers (h.1 v f.0) f.1
-piece_is_sound (Gets u r next) t base (Trapped e ∷ answers) h f = f
+  -- and so does a piece, on such answers
+  piece_is_sound : (run : Run) (t : Kind) (base : Id) (answers : List Outcome) → IsSafe script run t → AnswersFit run base answers → StopIsSound (piece run base answers).stop t
+  piece_is_sound (Ends c) t base answers h f = h
+  piece_is_sound (Prints v next) t base answers h f = piece_is_sound next t base answers h.1 f
+  piece_is_sound (Bears b made_by next) t base answers h f = piece_is_sound (next (Named base)) t (next_id base) answers (h.3 (Named base) tt) f
+  piece_is_sound (Gets u r next) t base [] h f = tt
+  piece_is_sound (Gets u r next) t base (Val v ∷ answers) h f = piece_is_sound (next v) t base answers (h.1 v f.0) f.1
+  piece_is_sound (Gets u r next) t base (Trapped e ∷ answers) h f = f
 
--- what it prints has no reference in it
-serial_prints_plain : (run : Run) (t : Kind) → IsSafe run t → AllPlain (prints_of (serial_trace run))
-serial_prints_plain (Ends c) t h = tt
-serial_prints_plain (Prints v next) t h = (h.0, serial_prints_plain next t h.1)
-serial_prints_plain (Bears b made_by next) t h = serial_prints_plain (next (Known (serial_end made_by))) t (h.2 (Known (serial_end made_by)) (serial_is_sound made_by h.0 h.1))
-serial_prints_plain (Gets u (Int n) next) t h = absurd h.0
-serial_prints_plain (Gets u (Items vs) next) t h = absurd h.0
-serial_prints_plain (Gets u (Named o) next) t h = tt
-serial_prints_plain (Gets u (Known (Val v)) next) t h = serial_prints_plain (next v) t (h.1 v h.0)
-serial_prints_plain (Gets u (Known (Trapped e)) next) t h = tt
+  -- what it prints has no reference in it
+  serial_prints_plain : (run : Run) (t : Kind) → IsSafe script run t → AllPlain (prints_of (serial_trace run))
+  serial_prints_plain (Ends c) t h = tt
+  serial_prints_plain (Prints v next) t h = (h.0, serial_prints_plain next t h.1)
+  serial_prints_plain (Bears b made_by next) t h = serial_prints_plain (next (Known (serial_end made_by))) t (h.3 (Known (serial_end made_by)) (serial_is_sound made_by h.0 h.2))
+  serial_prints_plain (Gets u (Int n) next) t h = absurd h.0
+  serial_prints_plain (Gets u (Items vs) next) t h = absurd h.0
+  serial_prints_plain (Gets u (Named o) next) t h = tt
+  serial_prints_plain (Gets u (Known (Val v)) next) t h = serial_prints_plain (next v) t (h.1 v h.0)
+  serial_prints_plain (Gets u (Known (Trapped e)) next) t h = tt
 
-prints_plain : (run : Run) (t : Kind) (base : Id) (answers : List Outcome) → IsSafe run t → AnswersFit run base answers → AllPlain (piece run base answers).prints
-prints_plain (Ends c) t base answers h f = tt
-prints_plain (Prints v next) t base answers h f = (h.0, prints_plain next t base answers h.1 f)
-prints_plain (Bears b made_by next) t base answers h f = prints_plain (next (Named base)) t (next_id base) answers (h.2 (Named base) tt) f
-prints_plain (Gets u r next) t base [] h f = tt
-prints_plain (Gets u r next) t base (Val v ∷ answers) h f = prints_plain (next v) t base answers (h.1 v f.0) f.1
-prints_plain (Gets u r next) t base (Trapped e ∷ answers) h f = tt
+  prints_plain : (run : Run) (t : Kind) (base : Id) (answers : List Outcome) → IsSafe script run t → AnswersFit run base answers → AllPlain (piece run base answers).prints
+  prints_plain (Ends c) t base answers h f = tt
+  prints_plain (Prints v next) t base answers h f = (h.0, prints_plain next t base answers h.1 f)
+  prints_plain (Bears b made_by next) t base answers h f = prints_plain (next (Named base)) t (next_id base) answers (h.3 (Named base) tt) f
+  prints_plain (Gets u r next) t base [] h f = tt
+  prints_plain (Gets u r next) t base (Val v ∷ answers) h f = prints_plain (next v) t base answers (h.1 v f.0) f.1
+  prints_plain (Gets u r next) t base (Trapped e ∷ answers) h f = tt
 
 pub are_safe : AreSafe
 are_safe script checks g f args depth base answers e h fit =
     let run = run_task script g args depth in
     let safe = run_is_safe script checks g f args depth e h in
     record {
-      serial = serial_is_sound run f.result safe;
-      serial_prints = serial_prints_plain run f.result safe;
-      stop = piece_is_sound run f.result base answers safe fit;
-      prints = prints_plain run f.result base answers safe fit;
+      serial = serial_is_sound script run f.result safe;
+      serial_prints = serial_prints_plain script run f.result safe;
+      stop = piece_is_sound script run f.result base answers safe fit;
+      prints = prints_plain script run f.result base answers safe fit;
     }

@@ -1,6 +1,6 @@
 -- What the checker allows, and what has which kind.
 use Rattle.std.specs.Prelude.{◌≡◌, ℕ, Bool, true, false, List, [], ◌∷◌, ◌++◌, ◌⊎◌, Option, Some, None, if◌then◌else◌}
-use Rattle.meaning.specs.Values.{Name, Trap, Overflow, DivZero, Index, TooLong, Loop, TooDeep, Broken, Value, Int, Items, Named, Known, Values, none, more, Outcome, Val, Trapped, Argument, Id}
+use Rattle.meaning.specs.Values.{Name, Trap, Overflow, DivZero, Index, TooLong, Loop, TooDeep, Broken, Value, Int, Items, Named, Known, Values, none, more, Outcome, Val, Trapped, Argument, Birth, Put, Task, Id}
 use Rattle.meaning.specs.Syntax.{Kind, Number, ListKind, RefKind, Operator, ItemAt, Push, Prefix, Negate, Len, Expr, Num, Var, Unary, Binary, ListOf, Empty, Call, Remote, PutOf, GetOf, Exprs, end, also, Stmt, Let, Set, Print, Return, If, For, Block, done, step, Parameter, Function, Script}
 use Rattle.meaning.specs.Meaning.{same_name, find, Scope, run_task}
 use Rattle.meaning.specs.Runs.{Run, Ends, Prints, Bears, Gets, Stop, Needs, Over, piece, next_id, serial_end, serial_trace}
@@ -186,13 +186,19 @@ ScriptChecks script (f ∷ fs) = FunctionChecks script f × ScriptChecks script 
 
 -- Runs
 
--- the run never meets an operand of the wrong kind nor prints a reference, whatever of the right kinds its gets get, and
--- ends in the kind
-abbrev pub IsSafe : Run → Kind → Type 0
-IsSafe (Ends c) t = EndsIn c t
-IsSafe (Prints v next) t = IsPlain v × IsSafe next t
-IsSafe (Bears b made_by next) t = (u : Kind) × IsSafe made_by u × ((r : Value) → IsOf r (RefKind u) → IsSafe (next r) t)
-IsSafe (Gets u r next) t = IsOf r (RefKind u) × ((v : Value) → IsOf v u → IsSafe (next v) t)
+-- the birth makes an object of the kind
+abbrev pub IsBirthOf : Script → Birth → Kind → Type 0
+IsBirthOf script (Put v) u = IsOf v u
+IsBirthOf script (Task g args depth retries) u = (f : Function) × (find script g ≡ Some f) × MarkedOf args f.parameters × (u ≡ f.result)
+
+-- the run never meets an operand of the wrong kind nor prints a reference, whatever of the right kinds its gets get; its
+-- births make objects of the kinds of their references, and it ends in the kind
+abbrev pub IsSafe : Script → Run → Kind → Type 0
+IsSafe script (Ends c) t = EndsIn c t
+IsSafe script (Prints v next) t = IsPlain v × IsSafe script next t
+IsSafe script (Bears b made_by next) t =
+    (u : Kind) × IsBirthOf script b u × IsSafe script made_by u × ((r : Value) → IsOf r (RefKind u) → IsSafe script (next r) t)
+IsSafe script (Gets u r next) t = IsOf r (RefKind u) × ((v : Value) → IsOf v u → IsSafe script (next v) t)
 
 -- what follows an answer that is of the kind
 abbrev pub Answers : List Outcome → Kind → (Value → List Outcome → Type 0) → Type 0

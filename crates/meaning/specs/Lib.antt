@@ -8,4 +8,5 @@ pub mod Meaning
 pub mod Readings
 pub mod Law
 pub mod Kinds
+pub mod KindLaw
 pub mod Examples

@@ -3,6 +3,7 @@
 ghost use Rattle.std.specs.Prelude.{ℕ, List};
 ghost use Rattle.meaning.specs.Law.{LawOfReplay, LawOfIds};
 ghost use Rattle.meaning.specs.Kinds.{AreSafe};
+ghost use Rattle.meaning.specs.KindLaw.{LawOfKinds};
 ghost use Rattle.meaning.specs.Readings.{DenIsTheReading};
 
 /// Under every reading of ids under which births hold, what a task does on answers that begin what its run gets is a
@@ -20,6 +21,12 @@ pub fn law_of_ids()
 /// pieces, and ends in its function's kind.
 pub fn checked_scripts_are_safe()
     ensures { AreSafe }
+{}
+
+/// What a task of a checked script is answered is of the kinds that it asks for, and what it bears has kinds, where its
+/// answers begin what its run gets with every remote call a plain call.
+pub fn law_of_kinds()
+    ensures { LawOfKinds }
 {}
 
 /// Where births are of new objects and name only earlier ones, exactly one reading has all of them hold and 0 elsewhere.

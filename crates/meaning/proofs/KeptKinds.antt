@@ -21,7 +21,7 @@ marked_read script reading [] (p ∷ ps) h = h
 marked_read script reading (a ∷ args) [] h = h
 marked_read script reading (a ∷ args) (p ∷ ps) h = (of_read script reading a.value (argument_kind a.marked p.kind) h.0, marked_read script reading args ps h.1)
 
-birth_read : (script : Script) (reading : Reading) (b : Birth) (u : Kind) → IsBirthOf script (read_birth reading b) u → IsBirthOf script b u
+pub birth_read : (script : Script) (reading : Reading) (b : Birth) (u : Kind) → IsBirthOf script (read_birth reading b) u → IsBirthOf script b u
 birth_read script reading (Put v) u h = of_read script reading v u h
 birth_read script reading (Task g args depth retries) u h = (h.0, h.1, marked_read script reading args h.0.parameters h.2, h.3)
 

@@ -20,7 +20,7 @@ pub fn answer<R: Files + Print + Eprint + AllocGlobal>(
     };
     match request {
         Request::Check(path) => ended(rt, check(rt, path)),
-        Request::Serial(_) => not_there(rt, "serial"),
+        Request::Serial(path) => ended(rt, serial(rt, path)),
         Request::Sim(_) => not_there(rt, "sim"),
         Request::Run(_) => not_there(rt, "run"),
     }
@@ -39,7 +39,7 @@ fn ended<R: Eprint>(rt: &R, done: Result<u8, Refusal>) -> io::Result<ExitCode> {
 
 /// Says that a command is still to come.
 fn not_there<R: Eprint>(rt: &R, command: &str) -> io::Result<ExitCode> {
-    eprintln!(rt; "raysim {command} is not there yet; raysim check is")?;
+    eprintln!(rt; "raysim {command} is not there yet; raysim check and raysim serial are")?;
     Ok(ExitCode::from(1))
 }
 
@@ -50,4 +50,13 @@ fn check<R: Files + Print + AllocGlobal>(rt: &R, path: &str) -> Result<u8, Refus
     let mut reader = Watched::new(file);
     let mut writer = Tracked::new(io::writer(rt));
     raysim_commands::check(rt.alloc(), &mut reader, &mut writer)
+}
+
+fn serial<R: Files + Print + AllocGlobal>(rt: &R, path: &str) -> Result<u8, Refusal> {
+    let Ok(file) = fs::open(rt, path) else {
+        return Err(Refusal::Failed);
+    };
+    let mut reader = Watched::new(file);
+    let mut writer = Tracked::new(io::writer(rt));
+    raysim_commands::serial(rt.alloc(), &mut reader, &mut writer)
 }

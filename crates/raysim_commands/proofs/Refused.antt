@@ -1,5 +1,5 @@
 -- Refusals have their causes.
-use Rattle.std.proofs.Common.{◌≡◌, ℕ, Bool, List, Option, None, Some, sym, ◌∙◌, subst}
+use Rattle.std.proofs.Common.{◌≡◌, ℕ, Bool, List, Option, None, Some, sym, subst}
 use Rattle.std.specs.Prelude.{IfSome}
 use Rattle.meaning.specs.Syntax.{Script}
 use Rattle.script_tokens.specs.declared.error.SyntaxError.{SyntaxError}
@@ -11,7 +11,7 @@ use Rattle.script_check.specs.declared.error.CheckError.{CheckError}
 use Rattle.script_check.specs.declared.error.CheckError.TheVariants as faults
 use Rattle.raysim_commands.specs.declared.refusal.Refusal.{Refusal}
 use Rattle.raysim_commands.specs.declared.refusal.Refusal.TheVariants.{At, NoMemory, Failed}
-use Rattle.raysim_commands.specs.Scripts.{IsScript, IsNoScript, IsRefusalOf, syntax_refusal, check_refusal, Explains}
+use Rattle.raysim_commands.specs.Scripts.{IsNoScript, IsRefusalOf, syntax_refusal, check_refusal, Explains}
 
 -- a text that reads as a program is refused by the parser for want of memory alone
 pub refused_by_parser : (text : List ℕ) (e : SyntaxError) → ((program : Program) → Reads text program → e ≡ syntax.NoMemory) → IsRefusalOf text (syntax_refusal e)

@@ -52,3 +52,9 @@ abbrev pub Explains : Option (List ℕ) → Bool → Bool → Refusal → Type 0
 Explains text read_failed write_failed (At code span) = IfSome text IsNoScript
 Explains text read_failed write_failed NoMemory = Unit {0}
 Explains text read_failed write_failed Failed = (read_failed ≡ true) ⊎ (write_failed ≡ true)
+
+-- a refusal before anything was written
+abbrev pub IsUnwritten : Refusal → Type 0
+IsUnwritten (At code span) = Unit {0}
+IsUnwritten NoMemory = Unit {0}
+IsUnwritten Failed = ⊥

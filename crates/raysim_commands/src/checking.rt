@@ -2,7 +2,7 @@
 
 ghost use Rattle.std.specs.Prelude.{◌≡◌, ◌⊎◌, ℕ, List, codes, true, take, IfOk, OnOk, IfErr, IfSome};
 ghost use Rattle.std.specs.Io.KnownBytes.{Appends};
-ghost use Rattle.raysim_commands.specs.Scripts.{IsAllowed, Explains};
+ghost use Rattle.raysim_commands.specs.Scripts.{IsAllowed, Explains, IsUnwritten};
 
 use crate::refusal::Refusal;
 use crate::script::checked_script;
@@ -23,6 +23,7 @@ pub fn check<R: Source, W: Sink>(
     ensures allowed { OnOk result (IfSome (R.left reader.old) IsAllowed) }
     ensures written { OnOk result (Appends (W.held writer.old) (W.held writer.new) (codes "ok\n")) }
     ensures refused { IfErr result (λ refusal. Explains (R.left reader.old) (R.has_failed reader.new) (W.has_failed writer.new) refusal) }
+    ensures unwritten { IfErr result (λ refusal. IsUnwritten refusal → W.held writer.new ≡ W.held writer.old) }
     ensures beginning { IfErr result (λ refusal. (k : ℕ) × Appends (W.held writer.old) (W.held writer.new) (take k (codes "ok\n"))) }
 {
     let text = read_all(alloc, reader)?;

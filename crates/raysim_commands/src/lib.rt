@@ -4,11 +4,13 @@
 mod checking;
 mod refusal;
 mod script;
+mod serial_command;
 mod sink;
 mod source;
 
 pub use checking::check;
 pub use refusal::Refusal;
+pub use serial_command::serial;
 pub use sink::{Sink, Tracked, put_all};
 pub use source::{Fault, Source, Watched, read_all};
 

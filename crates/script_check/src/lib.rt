@@ -21,6 +21,3 @@ pub use tree::{
     CheckedBlock, CheckedExpr, CheckedFunction, CheckedParameter, CheckedStatement, Operator,
     UnaryOperator,
 };
-
-#[cfg(test)]
-mod tests;

@@ -24,6 +24,3 @@ pub use tree::{
     BinaryOperator, Block, Expr, ExprKind, Function, Name, Parameter, Prefix, Program, Retries,
     Statement, ValueType,
 };
-
-#[cfg(test)]
-mod tests;

@@ -15,6 +15,3 @@ pub use laws::{line_of_spaced, one_reading, read_are_tokens, spaced_in_parts, sp
 pub use reader::tokens_in;
 pub use token::{Mark, Placed, Span, Token};
 pub use writer::{write_line, write_token};
-
-#[cfg(test)]
-mod tests;

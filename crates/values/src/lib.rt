@@ -3,10 +3,12 @@
 
 mod content;
 mod fault;
+mod same;
 mod value;
 
 pub use content::{Content, Trap, ids_in};
 pub use fault::{Fault, FaultKind};
+pub use same::{are_same_contents, are_same_values};
 pub use value::RunValue;
 
 #[cfg(test)]

@@ -1,0 +1,9 @@
+pub mod Rows
+pub mod Binds
+pub mod States
+pub mod Dereferencing
+pub mod Sizes
+pub mod Steps
+pub mod Conversions
+pub mod Endings
+pub mod TaskRuns

@@ -1,0 +1,95 @@
+-- A worker is opened, and runs the first attempt of a task.
+use Rattle.std.proofs.Common.{◌≡◌, ℕ, ◌+◌, Bool, true, List, [], ◌∷◌, ◌++◌, length, Some, refl, sym, ap, ◌∙◌, subst, arith, append-nil, append_assoc}
+use Rattle.std.specs.Prelude.{◌&&◌}
+use Rattle.std.specs.List.{flat_map}
+use Rattle.std.proofs.lemmas.List.Concat.{flat_map-append}
+use Rattle.sequence.proofs.Places.{and_left, and_right}
+use Rattle.meaning.specs.Values.{Name, Value, Argument, Birth, Task, Id}
+use Rattle.meaning.specs.Runs.{Stop, Needs, Over, next_id}
+use Rattle.meaning.specs.Births.{Bearing, numbered, birth_at}
+use Rattle.event_log.specs.Entries.{Attempt, Commit, Entry, In, Opened, Begun}
+use Rattle.event_log.specs.Words.{attempt, main_bearing, births, born_in, opened, run_in, runs_of, resolved_in, resolves_of, released_in, releases_of}
+use Rattle.event_log.specs.Events.{node_lives}
+use Rattle.event_log.specs.Rules.{Setting, IsOwn}
+use Rattle.event_log.specs.Legal.{EachAllowed}
+use Rattle.event_log.specs.Commits.{commit_entries}
+use Rattle.event_log.proofs.Extending.{births-more}
+use Rattle.event_log.proofs.OwnLaws.{is_plain, own-plain, node_of-opened}
+use Rattle.event_log.proofs.LeftLaws.{unchanged}
+
+-- ---- entries of one event
+
+abbrev pub all_plain : List Entry → Bool
+all_plain [] = true
+all_plain (x ∷ es) = is_plain x && all_plain es
+
+-- an own event stays own behind all its entries
+pub own-more : (s : Setting) (log es : List Entry) (w : ℕ) → all_plain es ≡ true → IsOwn s log w → IsOwn s (log ++ es) w
+own-more s log [] w p h = subst (λ l. IsOwn s l w) (sym (append-nil log)) h
+own-more s log (x ∷ es) w p h =
+    subst (λ l. IsOwn s l w) (append_assoc log (x ∷ []) es)
+    (own-more s (log ++ x ∷ []) es w (and_right (is_plain x) (all_plain es) p) (own-plain s log x w (and_left (is_plain x) (all_plain es) p) h))
+
+pub commits_plain : (a : Attempt) (next : Id) (news : List Birth) (vs : List Value) (stop : Stop) → all_plain (commit_entries a next news vs stop) ≡ true
+commits_plain a next (b ∷ news) vs stop = commits_plain a (next_id next) news vs stop
+commits_plain a next [] (v ∷ vs) stop = commits_plain a next [] vs stop
+commits_plain a next [] [] (Over c) = refl
+commits_plain a next [] [] (Needs r) = refl
+
+-- ---- births of a commit
+
+born_in_commit : (a : Attempt) (next : Id) (news : List Birth) (vs : List Value) (stop : Stop) → flat_map born_in (commit_entries a next news vs stop) ≡ numbered next news
+born_in_commit a next (b ∷ news) vs stop =
+    let x : Bearing = record { object = next; birth = b } in
+    ap (λ xs. x ∷ xs) (born_in_commit a (next_id next) news vs stop)
+born_in_commit a next [] (v ∷ vs) stop = born_in_commit a next [] vs stop
+born_in_commit a next [] [] (Over c) = refl
+born_in_commit a next [] [] (Needs r) = refl
+
+-- what was born behind a commit: what was born before it, and its own births
+pub births_of_commit : (log : List Entry) (j seat : ℕ) (a : Attempt) (next : Id) (news : List Birth) (vs : List Value) (stop : Stop) →
+    births (log ++ In (Commit j) seat ∷ commit_entries a next news vs stop) ≡ births log ++ numbered next news
+births_of_commit log j seat a next news vs stop =
+    ap (λ xs. main_bearing ∷ xs) (flat_map-append born_in log (In (Commit j) seat ∷ commit_entries a next news vs stop) ∙ ap (λ xs. flat_map born_in log ++ xs) (born_in_commit a next news vs stop))
+
+-- ---- a worker, and what it runs
+
+-- a task of which nothing was begun yet, in an own event of its owner
+pub record IsNewTask (s : Setting) (before : List Entry) (o : Id) (n : ℕ) : Type 0 where
+  pub own : IsOwn s before o.owner
+  pub function : Name
+  pub args : List Argument
+  pub depth : ℕ
+  pub retries : ℕ
+  pub born : birth_at (births before) o ≡ Some (Task function args depth retries)
+  pub unreleased : releases_of o before ≡ []
+  pub unresolved : resolves_of o before ≡ []
+  pub unbegun : runs_of o before ≡ []
+  pub lives : node_lives s.nodes n before ≡ true
+
+-- the next worker may be opened on the node, and run the task's first attempt
+pub opens_and_begins : (s : Setting) (before : List Entry) (o : Id) (n : ℕ) → IsNewTask s before o n →
+    EachAllowed s before (Opened (length (opened before) + 1) n ∷ Begun (attempt o 0) (length (opened before) + 1) ∷ [])
+opens_and_begins s before o n h =
+    let w = length (opened before) + 1 in
+    let x = Opened w n in (
+      record { event = h.own.event; now = h.own.now; next = refl; lives = h.lives },
+      (
+        record {
+          own = own-plain s before x o.owner refl h.own;
+          function = h.function;
+          args = h.args;
+          depth = h.depth;
+          retries = h.retries;
+          born = births-more before (x ∷ []) o _ h.born;
+          unreleased = unchanged (released_in o) before x refl ∙ h.unreleased;
+          unresolved = unchanged (resolved_in o) before x refl ∙ h.unresolved;
+          node = n;
+          place = node_of-opened before w n;
+          next = sym (ap (λ ws. length ws) (unchanged (run_in o) before x refl ∙ h.unbegun));
+          broken = tt;
+          few = omega arith;
+        },
+        tt,
+      ),
+    )

@@ -1,0 +1,94 @@
+-- An object that isn't born yet is nowhere in a legal log.
+use Rattle.std.proofs.Common.{◌≡◌, ℕ, Bool, true, false, List, [], ◌∷◌, ◌++◌, Option, Some, None, ◌⊎◌, inl, inr, refl, subst, arith}
+use Rattle.std.specs.Prelude.{if◌then◌else◌, slice_get}
+use Rattle.std.specs.List.{flat_map}
+use Rattle.meaning.specs.Values.{Birth, Id}
+use Rattle.meaning.specs.Births.{same_id, birth_at}
+use Rattle.meaning.specs.Readings.{IsBorn}
+use Rattle.meaning.proofs.BirthLaws.{same_id-true}
+use Rattle.sequence.proofs.Places.{slice_get_below}
+use Rattle.event_log.specs.Entries.{Attempt, Fault, Entry, Born, Resolved, Released}
+use Rattle.event_log.specs.Words.{attempt, births, born_in, main_bearing, bearers_of, runs_of, resolved_in, resolves_of, released_in, releases_of}
+use Rattle.event_log.specs.Breaks.{Cause}
+use Rattle.event_log.specs.Rules.{Setting, IsLast, IsLoss, LastFaulted, LostBelow, Allowed}
+use Rattle.event_log.specs.Legal.{opening}
+use Rattle.event_log.specs.Fresh.{FreshObjectsAreUnknown}
+use Rattle.event_log.proofs.Extending.{births-more}
+use Rattle.event_log.proofs.SaneLaws.{always, word_last, none_at, one_at, BegunWell, begun_step, begun_first, legal_logs_are_sane}
+
+-- ---- what was borne was born
+
+borne_by : (t : Bool) (a c : Attempt) (x : Option Birth) (ls : List Attempt) (p : Option Birth) (b : Birth) (k : ℕ) → ((j : ℕ) → slice_get ls j ≡ Some c → (d : Birth) × (p ≡ Some d)) →
+    slice_get ((if t then a ∷ [] else []) ++ ls) k ≡ Some c → (d : Birth) × ((if t then Some b else p) ≡ Some d)
+borne_by true a c x ls p b k f e = (b, refl)
+borne_by false a c x ls p b k f e = f k e
+
+born_if_borne : (o : Id) (log : List Entry) (k : ℕ) (c : Attempt) → slice_get (bearers_of o log) k ≡ Some c → IsBorn (flat_map born_in log) o
+born_if_borne o [] k c e = absurd (none_at k c e)
+born_if_borne o (Born p a b ∷ log) k c e = borne_by (same_id p o) a c None (bearers_of o log) (birth_at (flat_map born_in log) o) b k (λ j h. born_if_borne o log j c h) e
+born_if_borne o (x ∷ log) k c e = born_if_borne o log k c e
+
+or_main : (t : Bool) (m : Birth) (p : Option Birth) → ((d : Birth) × (p ≡ Some d)) → (d : Birth) × ((if t then Some m else p) ≡ Some d)
+or_main true m p h = (m, refl)
+or_main false m p h = h
+
+borne_is_born : (o : Id) (log : List Entry) (k : ℕ) (c : Attempt) → slice_get (bearers_of o log) k ≡ Some c → IsBorn (births log) o
+borne_is_born o log k c e = or_main (same_id main_bearing.object o) main_bearing.birth (birth_at (flat_map born_in log) o) (born_if_borne o log k c e)
+
+-- ---- what was resolved or released was born
+
+born_if_last : (before : List Entry) (o : Id) (number : ℕ) → BegunWell before → IsLast before (attempt o number) → IsBorn (births before) o
+born_if_last before o number w l = let r = slice_get_below (runs_of o before) 0 (omega (arith, l)) in (w o 0 r.0 r.1).0
+
+born_if_lost : (before : List Entry) (o : Id) (f : Fault) → Cause before f → IsLoss f o → IsBorn (births before) o
+born_if_lost before o f c (inl e) = let h = subst (λ g. Cause before g) e c in (_, h.put)
+born_if_lost before o f c (inr e) = let h = subst (λ g. Cause before g) e c in (_, h.task)
+
+born_if_resolved : (before : List Entry) (o : Id) (f : Fault) → BegunWell before → Cause before f → (LastFaulted before o f ⊎ IsLoss f o ⊎ LostBelow before o f) → IsBorn (births before) o
+born_if_resolved before o f w c (inl h) = born_if_last before o h.number w h.last
+born_if_resolved before o f w c (inr (inl h)) = born_if_lost before o f c h
+born_if_resolved before o f w c (inr (inr h)) = born_if_last before o h.number w h.last
+
+abbrev KnownBorn : List Entry → Type 0
+KnownBorn log =
+    BegunWell log
+    × ((o : Id) (k : ℕ) (f : Fault) → slice_get (resolves_of o log) k ≡ Some f → IsBorn (births log) o)
+    × ((o : Id) (k : ℕ) (p : Id) → slice_get (releases_of o log) k ≡ Some p → IsBorn (births log) o)
+
+born-more : (before : List Entry) (x : Entry) (o : Id) → IsBorn (births before) o → IsBorn (births (before ++ x ∷ [])) o
+born-more before x o h = (h.0, births-more before (x ∷ []) o h.0 h.1)
+
+resolved_now : (s : Setting) (before : List Entry) (x : Entry) → BegunWell before → Allowed s before x → (o : Id) (j : ℕ) (f : Fault) → slice_get (resolved_in o x) j ≡ Some f → IsBorn (births before) o
+resolved_now s before (Resolved q g) w h o j f e = subst (λ p. IsBorn (births before) p) (same_id-true q o (one_at (same_id q o) g f j e).0) (born_if_resolved before q g w h.cause h.reason)
+resolved_now s before x w h o j f e = absurd (none_at j f e)
+
+released_now : (s : Setting) (before : List Entry) (x : Entry) → Allowed s before x → (o : Id) (j : ℕ) (p : Id) → slice_get (released_in o x) j ≡ Some p → IsBorn (births before) o
+released_now s before (Released q) h o j p e = subst (λ r. IsBorn (births before) r) (same_id-true q o (one_at (same_id q o) q p j e).0) (borne_is_born q before h.bore.0 h.bearer h.bore.1)
+released_now s before x h o j p e = absurd (none_at j p e)
+
+known_step : (s : Setting) (before : List Entry) (x : Entry) → KnownBorn before → Allowed s before x → KnownBorn (before ++ x ∷ [])
+known_step s before x h a = (
+  begun_step s before x h.0 a,
+  λ o k f e. born-more before x o (elim (word_last (resolved_in o) before x k f e) [ inl old ↦ h.1 o k f old | inr new ↦ resolved_now s before x h.0 a o new.0 f new.1 ]),
+  λ o k p e. born-more before x o (elim (word_last (released_in o) before x k p e) [ inl old ↦ h.2 o k p old | inr new ↦ released_now s before x a o new.0 p new.1 ]),
+)
+
+known_first : KnownBorn opening
+known_first = (begun_first, λ o k f e. absurd (none_at k f e), λ o k p e. absurd (none_at k p e))
+
+-- ---- fresh objects
+
+none_if : {X : Type 0} (xs : List X) → ((x : X) → slice_get xs 0 ≡ Some x → ⊥) → xs ≡ []
+none_if [] h = refl
+none_if (x ∷ xs) h = absurd (h x refl)
+
+pub fresh_objects_are_unknown : FreshObjectsAreUnknown
+fresh_objects_are_unknown end s log h o e =
+    let k = always KnownBorn known_step end s log known_first h in
+    let sane = legal_logs_are_sane end s log h in
+    let unborn : IsBorn (births log) o → ⊥ = λ b. let l = sane.serials o b.0 b.1 in absurd (omega (arith, l, e)) in
+    record {
+      unbegun = none_if (runs_of o log) (λ w f. unborn (k.0 o 0 w f).0);
+      unresolved = none_if (resolves_of o log) (λ f g. unborn (k.1 o 0 f g));
+      unreleased = none_if (releases_of o log) (λ p g. unborn (k.2 o 0 p g));
+    }

@@ -1,0 +1,84 @@
+-- A log stays legal beside a larger network.
+use Rattle.std.proofs.Common.{◌≡◌, ℕ, Bool, true, false, List, [], ◌∷◌, ◌++◌, Option, Some, inl, inr}
+use Rattle.meaning.specs.Values.{Id}
+use Rattle.meaning.specs.Runs.{Stop, Piece}
+use Rattle.event_log.specs.Entries.{Attempt, Event, Commit, Deliver, Entry, In, Refused, Opened, Begun, Born, Got, Printed, Ended, Accepted, Faulted, Resolved, Released}
+use Rattle.event_log.specs.Events.{refused_next}
+use Rattle.event_log.specs.Rules.{Setting, actor, IsOwn, Replays, Stops, Allowed}
+use Rattle.event_log.specs.Legal.{BreaksOff, Happens, HappensTo, End, Whole, BrokenOff, of_event, has_event, Unless, Answered, LegalFrom, opening}
+use Rattle.event_log.specs.Laws.{with_receiver, LegalInLargerNetworks}
+
+module _ (s : Setting) (receiver : ℕ → Option ℕ) (larger : (m w : ℕ) → s.receiver m ≡ Some w → receiver m ≡ Some w) where
+  abbrev t : Setting
+  t = with_receiver s receiver
+
+  same_actor : (before : List Entry) (e : Event) (w : ℕ) → actor s before e ≡ Some w → actor t before e ≡ Some w
+  same_actor before (Deliver m) w h = larger m w h
+  same_actor before e w h = h
+
+  own : (before : List Entry) (w : ℕ) → IsOwn s before w → IsOwn t before w
+  own before w h = record { event = h.event; now = h.now; own = same_actor before h.event w h.own; lives = h.lives }
+
+  replays : (before : List Entry) (a : Attempt) (base : Id) (p : Piece) → Replays s before a base p → Replays t before a base p
+  replays before a base p h = record { spec = h.spec; born = h.born; ended = h.ended; faulted = h.faulted; replayed = h.replayed }
+
+  stops : (before : List Entry) (a : Attempt) (stop : Stop) → Stops s before a stop → Stops t before a stop
+  stops before a stop h = record { base = h.base; p = h.p; replays = replays before a h.base h.p h.replays; own = h.own; prints = h.prints; stopped = h.stopped }
+
+  allowed : (before : List Entry) (x : Entry) → Allowed s before x → Allowed t before x
+  allowed before (In e seat) h = h
+  allowed before (Refused code) h = h
+  allowed before (Opened w n) h = record { event = h.event; now = h.now; next = h.next; lives = h.lives }
+  allowed before (Begun a w) h = record {
+    own = own before a.object.owner h.own;
+    function = h.function;
+    args = h.args;
+    depth = h.depth;
+    retries = h.retries;
+    born = h.born;
+    unreleased = h.unreleased;
+    unresolved = h.unresolved;
+    node = h.node;
+    place = h.place;
+    next = h.next;
+    broken = h.broken;
+    few = h.few;
+  }
+  allowed before (Born o a b) h = record { job = h.job; base = h.base; p = h.p; replays = replays before a h.base h.p h.replays; own = h.own; next = h.next }
+  allowed before (Got a y c) h = record { worker = h.worker; runs = h.runs; own = own before h.worker h.own; needs = stops before a _ h.needs; content = h.content; untold = h.untold }
+  allowed before (Printed v) h = record { worker = h.worker; job = h.job; base = h.base; p = h.p; replays = replays before _ h.base h.p h.replays; own = h.own; prints = h.prints }
+  allowed before (Ended a c) h = record { worker = h.worker; job = h.job; stops = stops before a _ h.stops }
+  allowed before (Accepted a) h = record { own = own before a.object.owner h.own; content = h.content; ended = h.ended; last = h.last; unresolved = h.unresolved; once = h.once }
+  allowed before (Faulted a y f) h = record { worker = h.worker; runs = h.runs; own = own before h.worker h.own; needs = stops before a _ h.needs; reason = h.reason; cause = h.cause }
+  allowed before (Resolved o f) h = record { own = own before o.owner h.own; once = h.once; reason = h.reason; cause = h.cause }
+  allowed before (Released o) h = record { own = own before o.owner h.own; once = h.once; settled = h.settled; bearer = h.bearer; bore = h.bore; over = h.over; unheld = h.unheld }
+
+  happens : (before : List Entry) (e : Event) (es : List Entry) → Happens s before e es → Happens t before e es
+  happens before (Commit j) es h = (h.0, h.1, record { base = h.2.base; p = h.2.p; replays = replays before h.0 h.2.base h.2.p h.2.replays; own = h.2.own; prints = h.2.prints; ends = h.2.ends })
+  happens before e es h = h
+
+  breaks_off : (before : List Entry) (e : Event) (es : List Entry) → BreaksOff s before e es → BreaksOff t before e es
+  breaks_off before (Commit j) es (inl h) = inl h
+  breaks_off before (Commit j) es (inr h) = inr (h.0, h.1, record { base = h.2.base; p = h.2.p; replays = replays before h.0 h.2.base h.2.p h.2.replays; own = h.2.own; prints = h.2.prints; ends = h.2.ends })
+  breaks_off before e es h = h
+
+  happens_to : (end : End) (b : Bool) (before : List Entry) (e : Event) (es : List Entry) → HappensTo end b s before e es → HappensTo end b t before e es
+  happens_to Whole true before e es h = happens before e es h
+  happens_to Whole false before e es h = happens before e es h
+  happens_to BrokenOff true before e es h = happens before e es h
+  happens_to BrokenOff false before e es h = breaks_off before e es h
+
+  unless_refused : (b : Bool) (end : End) (more : Bool) (before : List Entry) (e : Event) (es : List Entry) → Unless b (HappensTo end more s before e es) → Unless b (HappensTo end more t before e es)
+  unless_refused true end more before e es h = h
+  unless_refused false end more before e es h = happens_to end more before e es h
+
+  answered : (end : End) (before : List Entry) (x : Entry) (es : List Entry) → Answered s end before x es → Answered t end before x es
+  answered end before (In e seat) es h = unless_refused (refused_next es) end (has_event es) before e (of_event es) h
+  answered end before x es h = h
+
+  legal_from : (end : End) (before es : List Entry) → LegalFrom s end before es → LegalFrom t end before es
+  legal_from end before [] h = tt
+  legal_from end before (x ∷ es) h = (allowed before x h.0, answered end before x es h.1, legal_from end (before ++ x ∷ []) es h.2)
+
+pub legal_in_larger_networks : LegalInLargerNetworks
+legal_in_larger_networks end s receiver log larger h = record { rest = h.rest; begins = h.begins; each = legal_from s receiver larger end opening h.rest h.each }

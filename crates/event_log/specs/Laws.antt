@@ -1,0 +1,92 @@
+-- Laws of legal logs.
+use Rattle.std.specs.Prelude.{◌≡◌, ℕ, ◌+◌, Bool, true, false, List, [], ◌∷◌, ◌++◌, length, Option, Some}
+use Rattle.meaning.specs.Values.{Id}
+use Rattle.event_log.specs.Entries.{Attempt, Fault, Event, Claim, Commit, Entry, In, Refused, Faulted, Resolved}
+use Rattle.event_log.specs.Events.{refused_next, claims}
+use Rattle.event_log.specs.Breaks.{Cause}
+use Rattle.event_log.specs.Rules.{Setting, Allowed}
+use Rattle.event_log.specs.Legal.{End, Whole, BrokenOff, has_event, HappensTo, Answered, EachAllowed, LegalTo, Legal, opening}
+use Rattle.event_log.specs.Books.{Totals, totals}
+
+-- ---- beginnings and more events
+
+-- what stands before an event of a legal log is legal
+abbrev pub BeginningsAreLegal : Type 0
+BeginningsAreLegal = (end : End) (s : Setting) (log : List Entry) (e : Event) (seat : ℕ) (rest : List Entry) → LegalTo end s (log ++ In e seat ∷ rest) → Legal s log
+
+-- an event that isn't refused may add these entries to the log, which then ends so
+pub record MayAdd (end : End) (s : Setting) (log : List Entry) (e : Event) (seat : ℕ) (es : List Entry) : Type 0 where
+  pub no_event : has_event es ≡ false
+  pub unrefused : refused_next es ≡ false
+  pub happens : HappensTo end false s log e es
+  pub each : EachAllowed s (log ++ In e seat ∷ []) es
+
+-- a legal log stays legal with one more event: refused, or with what it may add
+pub record StaysLegal (end : End) (s : Setting) (log : List Entry) (e : Event) (seat : ℕ) : Type 0 where
+  pub refused : (code : ℕ) → LegalTo end s (log ++ In e seat ∷ Refused code ∷ [])
+  pub added : (es : List Entry) → MayAdd end s log e seat es → LegalTo end s (log ++ In e seat ∷ es)
+
+abbrev pub LegalLogsGrow : Type 0
+LegalLogsGrow = (end : End) (s : Setting) (log : List Entry) (e : Event) (seat : ℕ) → Legal s log → StaysLegal end s log e seat
+
+-- ---- what stands in a legal log
+
+-- an entry behind the opening has what it needs, of those before it and of those that come
+pub record HasItsNeeds (end : End) (s : Setting) (before : List Entry) (x : Entry) (es : List Entry) : Type 0 where
+  pub allowed : Allowed s before x
+  pub answered : Answered s end before x es
+
+abbrev pub EntriesHaveTheirNeeds : Type 0
+EntriesHaveTheirNeeds =
+    (end : End) (s : Setting) (log : List Entry) → LegalTo end s log →
+    (before : List Entry) (x : Entry) (es : List Entry) → log ≡ opening ++ (before ++ x ∷ es) → HasItsNeeds end s (opening ++ before) x es
+
+-- the cause of each fault stands earlier in the log
+pub record FaultsHaveCauses (log : List Entry) : Type 0 where
+  pub faulted : (before : List Entry) (a : Attempt) (y : Id) (f : Fault) (es : List Entry) → log ≡ before ++ Faulted a y f ∷ es → Cause before f
+  pub resolved : (before : List Entry) (o : Id) (f : Fault) (es : List Entry) → log ≡ before ++ Resolved o f ∷ es → Cause before f
+
+abbrev pub LegalFaultsHaveCauses : Type 0
+LegalFaultsHaveCauses = (end : End) (s : Setting) (log : List Entry) → LegalTo end s log → FaultsHaveCauses log
+
+-- ---- totals
+
+abbrev pub nothing : Totals
+nothing = record { events = 0; given = 0; commits = 0; committed = 0 }
+
+abbrev pub plus : Totals → Totals → Totals
+plus t u = record { events = t.events + u.events; given = t.given + u.given; commits = t.commits + u.commits; committed = t.committed + u.committed }
+
+-- what an accepted event adds beside itself, where so many claims were accepted before
+abbrev pub accepted_totals : ℕ → Event → Totals
+accepted_totals claims (Claim w) = record nothing { given = claims + 1 }
+accepted_totals claims (Commit j) = record nothing { commits = 1; committed = j }
+accepted_totals claims _ = nothing
+
+abbrev pub answered_totals : Bool → ℕ → Event → Totals
+answered_totals true claims e = nothing
+answered_totals false claims e = accepted_totals claims e
+
+abbrev pub event_totals : ℕ → Event → List Entry → Totals
+event_totals claims e es = record (answered_totals (refused_next es) claims e) { events = 1 }
+
+-- the totals are sums over the events: each adds its own, but for one that was broken off
+pub record TotalsAreSums (log : List Entry) : Type 0 where
+  pub none : totals Whole [] ≡ nothing
+  pub more : (e : Event) (seat : ℕ) (es : List Entry) → has_event es ≡ false → totals Whole (log ++ In e seat ∷ es) ≡ plus (totals Whole log) (event_totals (length (claims log)) e es)
+  pub broken_off : (e : Event) (seat : ℕ) (es : List Entry) → has_event es ≡ false → totals BrokenOff (log ++ In e seat ∷ es) ≡ totals Whole log
+
+abbrev pub LawOfTotals : Type 0
+LawOfTotals = (log : List Entry) → TotalsAreSums log
+
+-- ---- the network
+
+-- the same, but beside a network that says of more messages to whom they go
+abbrev pub with_receiver : Setting → (ℕ → Option ℕ) → Setting
+with_receiver s receiver = record s { receiver = receiver }
+
+-- a legal log stays legal as messages are added to the network
+abbrev pub LegalInLargerNetworks : Type 0
+LegalInLargerNetworks =
+    (end : End) (s : Setting) (receiver : ℕ → Option ℕ) (log : List Entry) →
+    ((m w : ℕ) → s.receiver m ≡ Some w → receiver m ≡ Some w) → LegalTo end s log → LegalTo end (with_receiver s receiver) log

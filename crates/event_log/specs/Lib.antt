@@ -1,0 +1,17 @@
+pub mod Entries
+pub mod Words
+pub mod Events
+pub mod Breaks
+pub mod Holding
+pub mod Rules
+pub mod Legal
+pub mod Serial
+pub mod Books
+pub mod Laws
+pub mod Extends
+pub mod Commits
+pub mod Claims
+pub mod Sane
+pub mod Fresh
+pub mod Texts
+pub mod Views

@@ -1,0 +1,224 @@
+-- What each entry of a log needs of those before it.
+use Rattle.std.specs.Prelude.{◌≡◌, ℕ, ◌+◌, ◌≤◌, true, false, List, [], ◌∷◌, ◌++◌, ◌⊎◌, length, slice_get, Option, Some, None}
+use Rattle.meaning.specs.Lists.{IsFirst}
+use Rattle.meaning.specs.Values.{Name, Value, Outcome, Val, Argument, Birth, Put, Task, Id, Named}
+use Rattle.meaning.specs.Syntax.{Script}
+use Rattle.meaning.specs.Runs.{Stop, Needs, Over, Piece}
+use Rattle.meaning.specs.Births.{numbered, birth_at}
+use Rattle.meaning.specs.Meaning.{replay}
+use Rattle.task_spec.specs.Dereferenced.{dereferenced_in}
+use Rattle.event_log.specs.Entries.{Attempt, OwnerDied, PutLost, RetriesUsed, Fault, Event, Claim, Commit, Deliver, Tick, Notice, NoticeNode, Entry, In, Refused, Opened, Begun, Born, Got, Printed, Ended, Accepted, Faulted, Resolved, Released, main_attempt}
+use Rattle.event_log.specs.Words.{attempt, births, next_serial, own_births, bearers_of, runs_of, worker_of, answers_of, printed_by, ends_of, Lack, faults_of, accepts_of, resolves_of, releases_of, opened}
+use Rattle.event_log.specs.Events.{under_way, ends_with_in, worker_of_job, node_lives, node_of, is_live, was_told}
+use Rattle.event_log.specs.Breaks.{Among, Broken, AllBroken, Cause}
+use Rattle.event_log.specs.Holding.{is_held}
+
+-- what a log is read beside: the script, the number of the cluster's first nodes, and the network, which says to which
+-- worker a message goes, if to one
+pub record Setting : Type 0 where
+  pub script : Script
+  pub nodes : ℕ
+  pub receiver : ℕ → Option ℕ
+
+-- ---- words of the rules
+
+-- the worker whose own event it is: its claims, ticks and notices, the commits of its jobs, and the deliveries to it
+abbrev pub actor : Setting → List Entry → Event → Option ℕ
+actor s log (Claim w) = Some w
+actor s log (Commit j) = worker_of_job j log
+actor s log (Deliver m) = s.receiver m
+actor s log (Tick w) = Some w
+actor s log (Notice w v) = Some w
+actor s log (NoticeNode w n) = Some w
+actor s log _ = None
+
+-- an event of the worker's own is under way, and the worker lives
+pub record IsOwn (s : Setting) (before : List Entry) (w : ℕ) : Type 0 where
+  pub event : Event
+  pub now : under_way before ≡ Some event
+  pub own : actor s before event ≡ Some w
+  pub lives : is_live w before ≡ true
+
+-- the commit of a job of the attempt's own worker is under way, and the worker lives
+pub record IsOwnCommit (before : List Entry) (a : Attempt) (w : ℕ) : Type 0 where
+  pub job : ℕ
+  pub now : under_way before ≡ Some (Commit job)
+  pub own : worker_of_job job before ≡ Some w
+  pub runs : worker_of a before ≡ Some w
+  pub lives : is_live w before ≡ true
+
+-- the attempt goes on, and this is what it does on its answers so far, its births taking ids from the base on
+pub record Replays (s : Setting) (before : List Entry) (a : Attempt) (base : Id) (p : Piece) : Type 0 where
+  pub spec : Birth
+  pub born : birth_at (births before) a.object ≡ Some spec
+  pub ended : ends_of a before ≡ []
+  pub faulted : faults_of a before ≡ []
+  pub replayed : p ≡ replay s.script spec base (answers_of a before)
+
+-- the attempt stops so on its answers so far, all its births and prints logged
+pub record Stops (s : Setting) (before : List Entry) (a : Attempt) (stop : Stop) : Type 0 where
+  pub base : Id
+  pub p : Piece
+  pub replays : Replays s before a base p
+  pub own : own_births a before ≡ numbered base p.births
+  pub prints : printed_by a before ≡ p.prints
+  pub stopped : p.stop ≡ stop
+
+-- the object's content: what was put, or what an attempt of it ended with
+abbrev pub HasContent : List Entry → Id → Outcome → Type 0
+HasContent before y c =
+    ((v : Value) × (birth_at (births before) y ≡ Some (Put v)) × (c ≡ Val v)) ⊎ ((number k : ℕ) × (slice_get (ends_of (attempt y number) before) k ≡ Some c))
+
+-- it is the last attempt of its object that was begun
+abbrev pub IsLast : List Entry → Attempt → Type 0
+IsLast before a = length (runs_of a.object before) ≡ a.number + 1
+
+-- steps from an object to one from which a call computes it, by arguments that are dereferenced
+abbrev pub AreSteps : List Entry → Id → List Id → Id → Type 0
+AreSteps before o [] x = o ≡ x
+AreSteps before o (p ∷ ps) x = ((b : Birth) × (birth_at (births before) o ≡ Some b) × Among p (dereferenced_in b)) × AreSteps before p ps x
+
+-- ---- what each entry needs before it
+
+-- a worker gets the next number, on a live node
+pub record MayOpen (s : Setting) (before : List Entry) (w n : ℕ) : Type 0 where
+  pub event : Event
+  pub now : under_way before ≡ Some event
+  pub next : w ≡ length (opened before) + 1
+  pub lives : node_lives s.nodes n before ≡ true
+
+-- in an own event of the owner, the next attempt of a task that is neither released nor resolved; all earlier ones are
+-- broken, and there are no more than the retries
+pub record MayBegin (s : Setting) (before : List Entry) (a : Attempt) (w : ℕ) : Type 0 where
+  pub own : IsOwn s before a.object.owner
+  pub function : Name
+  pub args : List Argument
+  pub depth : ℕ
+  pub retries : ℕ
+  pub born : birth_at (births before) a.object ≡ Some (Task function args depth retries)
+  pub unreleased : releases_of a.object before ≡ []
+  pub unresolved : resolves_of a.object before ≡ []
+  pub node : ℕ
+  pub place : node_of w before ≡ Some node
+  pub next : a.number ≡ length (runs_of a.object before)
+  pub broken : AllBroken before a.object a.number
+  pub few : a.number ≤ retries
+
+-- in a commit of the attempt's own, the next birth of its replay, with the next id of its worker
+pub record MayBear (s : Setting) (before : List Entry) (o : Id) (a : Attempt) (b : Birth) : Type 0 where
+  pub job : IsOwnCommit before a o.owner
+  pub base : Id
+  pub p : Piece
+  pub replays : Replays s before a base p
+  pub own : IsFirst (own_births a before ++ record { object = o; birth = b } ∷ []) (numbered base p.births)
+  pub next : o.serial ≡ next_serial o.owner (births before)
+
+-- in a commit of main's own, the next print of its replay, whose births are all logged
+pub record MayPrint (s : Setting) (before : List Entry) (v : Value) : Type 0 where
+  pub worker : ℕ
+  pub job : IsOwnCommit before main_attempt worker
+  pub base : Id
+  pub p : Piece
+  pub replays : Replays s before main_attempt base p
+  pub own : own_births main_attempt before ≡ numbered base p.births
+  pub prints : IsFirst (printed_by main_attempt before ++ v ∷ []) p.prints
+
+-- in a commit of the attempt's own, its replay ends so
+pub record MayEnd (s : Setting) (before : List Entry) (a : Attempt) (c : Outcome) : Type 0 where
+  pub worker : ℕ
+  pub job : IsOwnCommit before a worker
+  pub stops : Stops s before a (Over c)
+
+-- in an own event of the attempt's worker, which wasn't told that the object's owner is dead, the attempt needs the object,
+-- and the content is the object's
+pub record MayGet (s : Setting) (before : List Entry) (a : Attempt) (y : Id) (c : Outcome) : Type 0 where
+  pub worker : ℕ
+  pub runs : worker_of a before ≡ Some worker
+  pub own : IsOwn s before worker
+  pub needs : Stops s before a (Needs (Named y))
+  pub content : HasContent before y c
+  pub untold : was_told worker y.owner before ≡ false
+
+-- in an own event of the owner, once: the attempt ended, is the last one begun, and its object isn't resolved
+pub record MayAccept (s : Setting) (before : List Entry) (a : Attempt) : Type 0 where
+  pub own : IsOwn s before a.object.owner
+  pub content : Outcome
+  pub ended : Among content (ends_of a before)
+  pub last : IsLast before a
+  pub unresolved : resolves_of a.object before ≡ []
+  pub once : accepts_of a before ≡ []
+
+-- why a get of the object is answered with the fault: the object is resolved to it, or the worker was told that its owner
+-- is dead
+abbrev pub IsFaultOf : List Entry → ℕ → Id → Fault → Type 0
+IsFaultOf before w y f = Among f (resolves_of y before) ⊎ ((f ≡ record { kind = OwnerDied; object = y }) × (was_told w y.owner before ≡ true))
+
+-- in an own event of the attempt's worker, the attempt needs the object, which has the fault; and the fault has its cause
+pub record MayFault (s : Setting) (before : List Entry) (a : Attempt) (y : Id) (f : Fault) : Type 0 where
+  pub worker : ℕ
+  pub runs : worker_of a before ≡ Some worker
+  pub own : IsOwn s before worker
+  pub needs : Stops s before a (Needs (Named y))
+  pub reason : IsFaultOf before worker y f
+  pub cause : Cause before f
+
+-- the fault says that the object was put and lost, or that its runs are used up
+abbrev pub IsLoss : Fault → Id → Type 0
+IsLoss f o = (f ≡ record { kind = PutLost; object = o }) ⊎ (f ≡ record { kind = RetriesUsed; object = o })
+
+-- the last attempt of the object has the fault
+pub record LastFaulted (before : List Entry) (o : Id) (f : Fault) : Type 0 where
+  pub number : ℕ
+  pub last : IsLast before (attempt o number)
+  pub got : Id
+  pub faulted : Among (record { object = got; fault = f }) (faults_of (attempt o number) before)
+
+-- the last attempt of the object is broken, and an object from which it has to be made again is lost for good
+pub record LostBelow (before : List Entry) (o : Id) (f : Fault) : Type 0 where
+  pub number : ℕ
+  pub last : IsLast before (attempt o number)
+  pub broken : Broken before (attempt o number)
+  pub below : Id
+  pub steps : List Id
+  pub reached : AreSteps before o steps below
+  pub loss : IsLoss f below
+
+-- in an own event of the owner, once, with a cause
+pub record MayResolve (s : Setting) (before : List Entry) (o : Id) (f : Fault) : Type 0 where
+  pub own : IsOwn s before o.owner
+  pub once : resolves_of o before ≡ []
+  pub reason : LastFaulted before o f ⊎ IsLoss f o ⊎ LostBelow before o f
+  pub cause : Cause before f
+
+-- nothing more will be made of the object: it was put, is resolved, or its last attempt is accepted
+abbrev pub IsSettled : List Entry → Id → Type 0
+IsSettled before o =
+    ((v : Value) × (birth_at (births before) o ≡ Some (Put v)))
+    ⊎ ((f : Fault) × Among f (resolves_of o before))
+    ⊎ ((number : ℕ) × IsLast before (attempt o number) × Among (attempt o number) (accepts_of (attempt o number) before))
+
+-- in an own event of the owner, once: the object is settled, the attempt that bore it has ended or has a fault, and the
+-- object isn't held
+pub record MayRelease (s : Setting) (before : List Entry) (o : Id) : Type 0 where
+  pub own : IsOwn s before o.owner
+  pub once : releases_of o before ≡ []
+  pub settled : IsSettled before o
+  pub bearer : Attempt
+  pub bore : Among bearer (bearers_of o before)
+  pub over : ((c : Outcome) × Among c (ends_of bearer before)) ⊎ ((x : Lack) × Among x (faults_of bearer before))
+  pub unheld : is_held o before ≡ false
+
+-- the entry may stand behind those before; for an event see below
+abbrev pub Allowed : Setting → List Entry → Entry → Type 0
+Allowed s before (In e seat) = Unit {0}
+Allowed s before (Refused code) = ends_with_in before ≡ true
+Allowed s before (Opened w n) = MayOpen s before w n
+Allowed s before (Begun a w) = MayBegin s before a w
+Allowed s before (Born o a b) = MayBear s before o a b
+Allowed s before (Got a y c) = MayGet s before a y c
+Allowed s before (Printed v) = MayPrint s before v
+Allowed s before (Ended a c) = MayEnd s before a c
+Allowed s before (Accepted a) = MayAccept s before a
+Allowed s before (Faulted a y f) = MayFault s before a y f
+Allowed s before (Resolved o f) = MayResolve s before o f
+Allowed s before (Released o) = MayRelease s before o

@@ -1,0 +1,134 @@
+-- Logs with one wrong entry are not legal.
+use Rattle.std.proofs.Common.{◌≡◌, ℕ, zero, suc, Bool, true, false, List, [], ◌∷◌, ◌++◌, take, Option, Some, None, inl, inr, refl, sym, ap, ◌∙◌, subst, arith}
+use Rattle.std.specs.Prelude.{slice_get, if◌then◌else◌}
+use Rattle.meaning.specs.Values.{Value, Outcome, Birth, Put, Val, Id, main_birth}
+use Rattle.meaning.specs.Runs.{Piece}
+use Rattle.meaning.specs.Meaning.{replay, call_at}
+use Rattle.meaning.specs.Births.{same_id, numbered}
+use Rattle.meaning.proofs.BirthLaws.{same_id-true}
+use Rattle.meaning.specs.Examples.{value, object, square, squaring}
+use Rattle.event_log.specs.Entries.{Attempt, Entry, OwnerDied, Event, Claim, Commit, Tick, Notice, In, Opened, Begun, Born, Got, Printed, Ended, Accepted, Faulted, Released, main_object, main_attempt}
+use Rattle.event_log.specs.Words.{same_attempt, attempt, runs_of}
+use Rattle.event_log.specs.Events.{accepted_events, under_way_from, is_killed, is_live}
+use Rattle.event_log.specs.Breaks.{Among, breaks_from, breaks_of}
+use Rattle.event_log.specs.Holding.{is_one_of, anchored, is_held}
+use Rattle.event_log.specs.Rules.{Setting, Allowed}
+use Rattle.event_log.specs.Legal.{Whole, BrokenOff, Happens, CommitsAll, LegalTo, opening}
+use Rattle.event_log.proofs.Growing.{entries_have_their_needs}
+use Rattle.log_examples.specs.Logs.{first_of, number, square_setting}
+use Rattle.log_examples.specs.ReleaseLogs.{releasing_setting}
+use Rattle.log_examples.specs.WrongLogs.{IsWrong, two_puts_setting, wrong_content, begun_again, accepted_twice, passed_setting, released_while_held, released_out_of_order, fault_without_cause, print_after_end, skipped_serial, end_of_the_dead, notice_of_the_living, entry_of_a_refused_event, half_a_commit, half_a_commit_and_more}
+
+-- by an entry that may not stand there
+wrong_by : (s : Setting) (before : List Entry) (x : Entry) (es : List Entry) → (Allowed s (opening ++ before) x → ⊥) → IsWrong s (before ++ x ∷ es)
+wrong_by s before x es h end legal = h (entries_have_their_needs end s (opening ++ (before ++ x ∷ es)) legal before x es refl).allowed
+
+none_there : {X : Type 0} (x : X) → Among x [] → ⊥
+none_there x h = let e = h.1 in absurd (cc)
+
+not_so : ◌≡◌ {A = Bool} false true → ⊥
+not_so e = absurd (cc)
+
+so : ◌≡◌ {A = Bool} true false → ⊥
+so e = absurd (cc)
+
+not_nil : {X : Type 0} (x : X) (xs : List X) → ◌≡◌ {A = List X} (x ∷ xs) [] → ⊥
+not_nil x xs e = absurd (cc)
+
+one_for_two : ◌≡◌ {A = ℕ} 2 1 → ⊥
+one_for_two e = absurd (omega arith)
+
+other_put : (v : Value) → ◌≡◌ {A = Option Birth} (Some (Put (number 1))) (Some (Put v)) → value 2 ≡ Val v → ⊥
+other_put v e f = absurd (cc)
+
+never_ended : (k : ℕ) → ◌≡◌ {A = Option Outcome} (slice_get [] k) (Some (value 2)) → ⊥
+never_ended k e = absurd (cc)
+
+pub wrong_content_is_wrong : IsWrong two_puts_setting wrong_content
+unfolding same_id same_attempt
+wrong_content_is_wrong = wrong_by two_puts_setting (take 4 wrong_content) (Got main_attempt (object 1 1) (value 2)) [] (λ h. elim h.content [ inl x ↦ other_put x.0 x.1 x.2 | inr x ↦ never_ended x.1 x.2 ])
+
+pub begun_again_is_wrong : IsWrong square_setting begun_again
+unfolding same_id same_attempt accepted_events breaks_from breaks_of
+begun_again_is_wrong = wrong_by square_setting (take 8 begun_again) (Begun (attempt (object 1 1) 1) 2) [] (λ h. none_there h.broken.1.0 h.broken.1.1)
+
+pub accepted_twice_is_wrong : IsWrong square_setting accepted_twice
+unfolding same_id same_attempt
+accepted_twice_is_wrong = wrong_by square_setting (take 13 accepted_twice) (Accepted (first_of (object 1 1))) [] (λ h. not_nil _ _ h.once)
+
+pub released_while_held_is_wrong : IsWrong passed_setting released_while_held
+unfolding same_id same_attempt accepted_events is_live is_one_of anchored is_held
+released_while_held_is_wrong = wrong_by passed_setting (take 9 released_while_held) (Released (object 1 1)) [] (λ h. so h.unheld)
+
+pub released_out_of_order_is_wrong : IsWrong releasing_setting released_out_of_order
+unfolding same_id same_attempt accepted_events is_live is_one_of anchored is_held
+released_out_of_order_is_wrong = wrong_by releasing_setting (take 47 released_out_of_order) (Released (object 1 1)) [] (λ h. so h.unheld)
+
+pub fault_without_cause_is_wrong : IsWrong square_setting fault_without_cause
+unfolding accepted_events is_killed
+fault_without_cause_is_wrong = wrong_by square_setting (take 4 fault_without_cause) (Faulted main_attempt (object 1 1) (record { kind = OwnerDied; object = object 1 1 })) [] (λ h. not_so h.cause)
+
+pub print_after_end_is_wrong : IsWrong square_setting print_after_end
+unfolding same_id same_attempt
+print_after_end_is_wrong = wrong_by square_setting (take 20 print_after_end) (Printed (number 49)) [] (λ h. not_nil _ _ h.replays.ended)
+
+pub skipped_serial_is_wrong : IsWrong square_setting skipped_serial
+skipped_serial_is_wrong = wrong_by square_setting (take 2 skipped_serial) (Born (object 1 2) main_attempt squaring) [] (λ h. one_for_two h.next)
+
+that_worker : (w : ℕ) → ◌≡◌ {A = Option ℕ} (Some 2) (Some w) → ◌≡◌ {A = ℕ} w 2
+that_worker w e = cc
+
+pub end_of_the_dead_is_wrong : IsWrong square_setting end_of_the_dead
+unfolding same_id accepted_events is_live
+end_of_the_dead_is_wrong = wrong_by square_setting (take 11 end_of_the_dead) (Ended (first_of (object 1 1)) (value 49)) [] (λ h. not_so (subst (λ w. is_live w (opening ++ take 11 end_of_the_dead) ≡ true) (that_worker h.worker h.job.runs) h.job.lives))
+
+pub entry_of_a_refused_event_is_wrong : IsWrong square_setting entry_of_a_refused_event
+unfolding under_way_from
+entry_of_a_refused_event_is_wrong = wrong_by square_setting (take 2 entry_of_a_refused_event) (Opened 2 1) [] (λ h. nothing_under_way h.event h.now)
+  where
+    nothing_under_way : (e : Event) → ◌≡◌ {A = Option Event} None (Some e) → ⊥
+    nothing_under_way e h = absurd (cc)
+
+-- by an event that may not happen there
+wrong_by_event : (s : Setting) (before : List Entry) (e : Event) (f : Event) → (Happens s (opening ++ before) e [] → ⊥) → IsWrong s (before ++ In e 0 ∷ In f 0 ∷ [])
+wrong_by_event s before e f h Whole legal = h (entries_have_their_needs Whole s (opening ++ (before ++ In e 0 ∷ In f 0 ∷ [])) legal before (In e 0) (In f 0 ∷ []) refl).answered
+wrong_by_event s before e f h BrokenOff legal = h (entries_have_their_needs BrokenOff s (opening ++ (before ++ In e 0 ∷ In f 0 ∷ [])) legal before (In e 0) (In f 0 ∷ []) refl).answered
+
+pub notice_of_the_living_is_wrong : IsWrong square_setting notice_of_the_living
+unfolding accepted_events is_killed
+notice_of_the_living_is_wrong = wrong_by_event square_setting (take 5 notice_of_the_living) (Notice 1 2) (Claim 1) (λ h. not_so h)
+
+-- only main runs, and it bears an object
+main_only : (o : Id) (k w : ℕ) → slice_get (runs_of o (opening ++ take 1 half_a_commit)) k ≡ Some w → (main_object ≡ o) × (◌≡◌ {A = ℕ} k 0)
+main_only o k w e = by_test (same_id main_object o) k (same_id-true main_object o) e
+  where
+    by_test : (t : Bool) (k : ℕ) → (t ≡ true → main_object ≡ o) → slice_get ((if t then 1 ∷ [] else []) ++ []) k ≡ Some w → (main_object ≡ o) × (◌≡◌ {A = ℕ} k 0)
+    by_test true zero f e = (f refl, refl)
+    by_test true (suc k) f e = absurd (cc)
+    by_test false k f e = absurd (cc)
+
+bears_one : (base : Id) (p : Piece) (spec : Birth) → ◌≡◌ {A = Option Birth} (Some main_birth) (Some spec) → p ≡ replay square spec base [] → [] ≡ numbered base p.births → ⊥
+unfolding call_at
+bears_one base p spec e f g =
+    let same : main_birth ≡ spec = cc in
+    let q : p ≡ replay square main_birth base [] = f ∙ ap (λ b. replay square b base []) (sym same) in
+    let r : [] ≡ numbered base (squaring ∷ []) = g ∙ ap (λ (x : Piece). numbered base x.births) q in
+    absurd (cc)
+
+no_half : (a : Attempt) → main_object ≡ a.object → ◌≡◌ {A = ℕ} a.number 0 → CommitsAll square_setting (opening ++ take 1 half_a_commit) a [] → ⊥
+unfolding same_id same_attempt
+no_half a e f h = subst (λ (x : Attempt). CommitsAll square_setting (opening ++ take 1 half_a_commit) x [] → ⊥) (attempt_is a e f) (λ k. bears_one k.base k.p k.replays.spec k.replays.born k.replays.replayed k.own) h
+  where
+    attempt_parts : (o p : Id) (m n : ℕ) → o ≡ p → m ≡ n → ◌≡◌ {A = Attempt} (record { object = o; number = m }) (record { object = p; number = n })
+    attempt_parts o p m n e f = cc
+
+    attempt_is : (a : Attempt) → main_object ≡ a.object → ◌≡◌ {A = ℕ} a.number 0 → main_attempt ≡ a
+    attempt_is a e f = attempt_parts main_object a.object 0 a.number e (sym f)
+
+pub half_a_commit_and_more_is_wrong : IsWrong square_setting half_a_commit_and_more
+half_a_commit_and_more_is_wrong = wrong_by_event square_setting (take 1 half_a_commit) (Commit 1) (Tick 1) (λ h. let m = main_only h.0.object h.0.number h.1.worker h.1.runs in no_half h.0 m.0 m.1 h.2)
+
+-- where it was broken off for want of memory, it is legal
+pub half_a_commit_is_legal : LegalTo BrokenOff square_setting (opening ++ half_a_commit)
+unfolding accepted_events is_live
+half_a_commit_is_legal = record { rest = half_a_commit; begins = refl; each = (tt, refl, (tt, inl refl, tt)) }

@@ -1,0 +1,38 @@
+use Rattle.log_examples.proofs.Wrong.{wrong_content_is_wrong, begun_again_is_wrong, accepted_twice_is_wrong, released_while_held_is_wrong, released_out_of_order_is_wrong, fault_without_cause_is_wrong, print_after_end_is_wrong, skipped_serial_is_wrong, end_of_the_dead_is_wrong, entry_of_a_refused_event_is_wrong, notice_of_the_living_is_wrong, half_a_commit_and_more_is_wrong}
+use Rattle.log_examples.proofs.examples.wrong_examples.Goals as goal
+
+pub returns-clause-wrong_content : goal.returns-clause-wrong_content
+returns-clause-wrong_content c = wrong_content_is_wrong
+
+pub returns-clause-begun_again : goal.returns-clause-begun_again
+returns-clause-begun_again c = begun_again_is_wrong
+
+pub returns-clause-accepted_twice : goal.returns-clause-accepted_twice
+returns-clause-accepted_twice c = accepted_twice_is_wrong
+
+pub returns-clause-released_while_held : goal.returns-clause-released_while_held
+returns-clause-released_while_held c = released_while_held_is_wrong
+
+pub returns-clause-fault_without_cause : goal.returns-clause-fault_without_cause
+returns-clause-fault_without_cause c = fault_without_cause_is_wrong
+
+pub returns-clause-print_after_end : goal.returns-clause-print_after_end
+returns-clause-print_after_end c = print_after_end_is_wrong
+
+pub returns-clause-skipped_serial : goal.returns-clause-skipped_serial
+returns-clause-skipped_serial c = skipped_serial_is_wrong
+
+pub returns-clause-end_of_the_dead : goal.returns-clause-end_of_the_dead
+returns-clause-end_of_the_dead c = end_of_the_dead_is_wrong
+
+pub returns-clause-entry_of_a_refused_event : goal.returns-clause-entry_of_a_refused_event
+returns-clause-entry_of_a_refused_event c = entry_of_a_refused_event_is_wrong
+
+pub returns-clause-notice_of_the_living : goal.returns-clause-notice_of_the_living
+returns-clause-notice_of_the_living c = notice_of_the_living_is_wrong
+
+pub returns-clause-half_a_commit : goal.returns-clause-half_a_commit
+returns-clause-half_a_commit c = half_a_commit_and_more_is_wrong
+
+pub returns-clause-released_out_of_order : goal.returns-clause-released_out_of_order
+returns-clause-released_out_of_order c = released_out_of_order_is_wrong

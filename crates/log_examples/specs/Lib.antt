@@ -1,0 +1,4 @@
+pub mod Logs
+pub mod WrongLogs
+pub mod FaultLogs
+pub mod ReleaseLogs

@@ -1,0 +1,41 @@
+// Worked logs.
+
+ghost use Rattle.std.specs.Prelude.{◌++◌};
+ghost use Rattle.event_log.specs.Legal.{BrokenOff, LegalTo, Legal, opening};
+ghost use Rattle.log_examples.specs.Logs.{square_setting, square_log, trap_setting, trap_log, passing_setting, passing_log};
+ghost use Rattle.log_examples.specs.FaultLogs.{unretried_setting, unretried_log, retried_setting, retried_log, put_lost_setting, put_lost_log, owner_died_setting, owner_died_log};
+ghost use Rattle.log_examples.specs.ReleaseLogs.{releasing_setting, releasing_log};
+ghost use Rattle.log_examples.specs.WrongLogs.{IsWrong, two_puts_setting, wrong_content, begun_again, accepted_twice, passed_setting, released_while_held, released_out_of_order, fault_without_cause, print_after_end, skipped_serial, end_of_the_dead, notice_of_the_living, half_a_commit, half_a_commit_and_more, entry_of_a_refused_event};
+
+/// Logs that are legal.
+pub fn legal_examples()
+    ensures square { Legal square_setting square_log }
+    ensures trap_not_got { Legal trap_setting trap_log }
+    ensures reference_passed { Legal passing_setting passing_log }
+    ensures all_released { Legal releasing_setting releasing_log }
+    ensures not_run_again { Legal unretried_setting unretried_log }
+    ensures run_again { Legal retried_setting retried_log }
+    ensures put_lost { Legal put_lost_setting put_lost_log }
+    ensures owner_died { Legal owner_died_setting owner_died_log }
+{}
+
+/// Logs of which one entry is wrong.
+pub fn wrong_examples()
+    ensures wrong_content { IsWrong two_puts_setting wrong_content }
+    ensures begun_again { IsWrong square_setting begun_again }
+    ensures accepted_twice { IsWrong square_setting accepted_twice }
+    ensures released_while_held { IsWrong passed_setting released_while_held }
+    ensures released_out_of_order { IsWrong releasing_setting released_out_of_order }
+    ensures fault_without_cause { IsWrong square_setting fault_without_cause }
+    ensures print_after_end { IsWrong square_setting print_after_end }
+    ensures skipped_serial { IsWrong square_setting skipped_serial }
+    ensures end_of_the_dead { IsWrong square_setting end_of_the_dead }
+    ensures notice_of_the_living { IsWrong square_setting notice_of_the_living }
+    ensures half_a_commit { IsWrong square_setting half_a_commit_and_more }
+    ensures entry_of_a_refused_event { IsWrong square_setting entry_of_a_refused_event }
+{}
+
+/// A log that ends within an event that found no memory is legal with any part of the event's entries.
+pub fn broken_off_examples()
+    ensures half_a_commit { LegalTo BrokenOff square_setting (opening ++ half_a_commit) }
+{}

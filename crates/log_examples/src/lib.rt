@@ -1,0 +1,4 @@
+//! Worked logs: legal ones, written from the rules, and such as have one wrong entry.
+#![tactic(auto)]
+
+pub mod examples;

@@ -1,0 +1,62 @@
+-- One more birth, which names only what is born, keeps all that was true.
+use Rattle.std.proofs.Common.{◌≡◌, ℕ, ◌<◌, true, List, [], ◌∷◌, ◌++◌, Option, Some, None, refl, sym, ap, subst, arith, append-nil, append_assoc}
+use Rattle.std.specs.Prelude.{if◌then◌else◌, ◌==◌}
+use Rattle.std.proofs.lemmas.Bool.Decides.{nat_tests}
+use Rattle.meaning.specs.Values.{Birth, Id}
+use Rattle.meaning.specs.Syntax.{Script}
+use Rattle.meaning.specs.Births.{Bearing, birth_at}
+use Rattle.meaning.specs.Ids.{BirthIn}
+use Rattle.meaning.specs.Readings.{IsBorn, NameEarlier}
+use Rattle.meaning.proofs.BirthLaws.{or_else, birth_at-push}
+use Rattle.meaning.proofs.Dens.{kept, sub, same, by_birth, holds_push, named_push}
+use Rattle.event_log.specs.Entries.{Attempt}
+use Rattle.event_log.specs.Words.{next_serial}
+use Rattle.event_log.proofs.WordLaws.{next_serial-push, Deeds}
+use Rattle.meaning_laws.proofs.Good.{AllBorn, Told, Stands, Good, told_nothing, told_more}
+
+earlier_push : (before xs : List Bearing) (x : Bearing) → NameEarlier before xs → birth_at (before ++ xs) x.object ≡ None → BirthIn (IsBorn (before ++ xs)) x.birth → NameEarlier before (xs ++ x ∷ [])
+earlier_push before [] x h f n =
+    let e = append-nil before in
+    (subst (λ bs. birth_at bs x.object ≡ None) e f, subst (λ bs. BirthIn (IsBorn bs) x.birth) e n, tt)
+earlier_push before (y ∷ xs) x h f n =
+    let e = sym (append_assoc before (y ∷ []) xs) in
+    (h.0, h.1, earlier_push (before ++ y ∷ []) xs x h.2 (subst (λ bs. birth_at bs x.object ≡ None) e f) (subst (λ bs. BirthIn (IsBorn bs) x.birth) e n))
+
+module _ (script : Script) (bs : List Bearing) (x : Bearing) (own : Attempt → List Bearing) (did : Attempt → Deeds) (good : Good script bs own did) (next : x.object.serial ≡ next_serial x.object.owner bs) (named : BirthIn (IsBorn bs) x.birth) where
+  fresh_by : (p : Option Birth) → birth_at bs x.object ≡ p → p ≡ None
+  fresh_by None e = refl
+  fresh_by (Some b) e = let h = good.bound x.object b e in absurd (omega (arith, h, next))
+
+  pub fresh : birth_at bs x.object ≡ None
+  fresh = fresh_by (birth_at bs x.object) refl
+
+  one : (n : ℕ) → ◌≡◌ {A = ℕ} (if n == n then 1 else 0) 1
+  one n = let e : (n == n) ≡ true = grind (arith, nat_tests) in ap {B = ℕ} (λ t. if t then 1 else 0) e
+
+  all_bound : (o : Id) (b : Birth) → birth_at (bs ++ x ∷ []) o ≡ Some b → o.serial < next_serial o.owner (bs ++ x ∷ [])
+  all_bound o b e = by_birth script bs x fresh o b (λ p c. p.serial < next_serial p.owner (bs ++ x ∷ [])) e
+      (λ h. let k = good.bound o b h in let m = next_serial-push o.owner bs x in omega (arith, k, m))
+      (let m = next_serial-push x.object.owner bs x in let n = one x.object.owner in omega (arith, m, n, next))
+
+  pub all_born : (xs : List Bearing) → AllBorn bs xs → AllBorn (bs ++ x ∷ []) xs
+  all_born [] h = tt
+  all_born (y ∷ xs) h = (kept script bs x fresh y.object y.birth h.0, all_born xs h.1)
+
+  stands_by : (p q : Option Birth) (d : Deeds) → ((b : Birth) → p ≡ Some b → BirthIn (IsBorn bs) b) → Stands script bs p d → Stands script (bs ++ x ∷ []) (or_else p q) d
+  stands_by None None d k h = h
+  stands_by None (Some b) d k h = subst (λ d'. Told script (bs ++ x ∷ []) b d') (sym h) (told_nothing script (bs ++ x ∷ []) b)
+  stands_by (Some spec) q d k h = told_more script bs (bs ++ x ∷ []) (sub script bs x fresh) (same script bs x fresh) spec d (k spec refl) h
+
+  stands : (a : Attempt) → Stands script (bs ++ x ∷ []) (birth_at (bs ++ x ∷ []) a.object) (did a)
+  stands a = subst (λ p. Stands script (bs ++ x ∷ []) p (did a)) (sym (birth_at-push bs x a.object))
+      (stands_by (birth_at bs a.object) (birth_at (x ∷ []) a.object) (did a) (good.named a.object) (good.told a))
+
+  pub good_birth : Good script (bs ++ x ∷ []) own did
+  good_birth = record {
+    hold = holds_push script bs x fresh named good.named good.hold;
+    named = named_push script bs x fresh named good.named;
+    earlier = earlier_push [] bs x good.earlier fresh named;
+    bound = all_bound;
+    born = λ a. all_born (own a) (good.born a);
+    told = stands;
+  }

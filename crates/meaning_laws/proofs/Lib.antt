@@ -1,0 +1,8 @@
+pub mod Traces
+pub mod Lacks
+pub mod Good
+pub mod Births
+pub mod Steps
+pub mod LogLaw
+pub mod Headline
+pub mod Knowing

@@ -1,0 +1,11 @@
+//! The report's lines, as text.
+#![tactic(auto)]
+
+mod main_lines;
+mod value;
+
+pub use main_lines::write_main_lines;
+pub use value::write_value;
+
+#[cfg(test)]
+mod tests;

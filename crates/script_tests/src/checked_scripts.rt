@@ -1,0 +1,96 @@
+use crate::support::refusal;
+use script_check::{
+    CheckError, Checked, CheckedExpr, CheckedStatement, Program, Span, ValueType, check,
+};
+use script_syntax::{Block, Expr, ExprKind, Function, Name, Statement, parse};
+use std::alloc::{AllocError, Global};
+use std::process::Abort;
+use std::test::Fail;
+
+#[test]
+fn allows_what_the_rules_allow(rt: HostRuntime) -> Result<(), Fail> {
+    let cases = [
+        "fn main() -> int { return 0; }",
+        "fn f(x: int) -> int { return x; } fn main() -> int { let f = f(1); return f; }",
+        "fn main() -> int { if 1 { let a = 1; } else { let a = [1]; } for a in 0 .. 1 { } let a = 2; return a; }",
+        "fn f(x: int) -> int { return x; } fn main() -> int { let r = put 1; return get remote(10) f(r) + get remote(0) f(2); }",
+        "fn main() -> int { return 1; print 2; }",
+        "fn main() -> int { if 1 { return 1; } else { return 2; } }",
+        "fn even(n: int) -> int { if n == 0 { return 1; } return odd(n - 1); } fn odd(n: int) -> int { if n == 0 { return 0; } return even(n - 1); } fn main() -> int { print [[1], empty int]; return even(4); }",
+        "fn sum(l: [ref int]) -> int { let t = 0; for i in 0 .. len(l) { set t = t + get l[i]; } return t; } fn sq(x: int) -> int { return x * x; } fn main() -> int { return get remote sum([remote sq(1), remote sq(2)]); }",
+    ];
+    for text in cases {
+        assert_eq!(rt; refusal(rt.alloc(), text)?, None, "{text}");
+    }
+    Ok(())
+}
+
+/// That main's `if` has an empty second block, and that its task has 3 new runs and a marked argument.
+fn assert_filled_in(rt: &impl Abort, script: &Checked) {
+    let functions = script.functions();
+    assert_eq!(rt; functions.len(), 2);
+    assert_eq!(rt; functions[1].name.as_str(), "main");
+    let statements = &functions[1].body.statements;
+    assert_eq!(rt; statements.len(), 3);
+    let CheckedStatement::If(_, first, second) = &statements[1] else {
+        panic!(rt; "no if");
+    };
+    assert_eq!(rt; first.statements.len(), 1);
+    assert_eq!(rt; second.statements.len(), 0);
+    let CheckedStatement::Return(CheckedExpr::Get(ValueType::Int, task)) = &statements[2] else {
+        panic!(rt; "no get");
+    };
+    let CheckedExpr::Remote(retries, function, marks, arguments) = &**task else {
+        panic!(rt; "no task");
+    };
+    assert_eq!(rt; *retries, 3);
+    assert_eq!(rt; function.as_str(), "f");
+    assert_eq!(rt; marks.as_slice(), [true, false].as_slice());
+    assert_eq!(rt; arguments.len(), 2);
+}
+
+#[test]
+fn gives_the_checked_script_and_its_copy(rt: HostRuntime) -> Result<(), Fail> {
+    let text =
+        "fn f(x: int, y: int) -> int { return x - y; } fn main() -> int { let r = put 1; if 0 { return 5; } return get remote f(r, 2); }";
+    let script = check(rt.alloc(), parse(rt.alloc(), text.as_bytes())?)?;
+    assert_filled_in(&rt, &script);
+    assert_filled_in(&rt, &script.copy(rt.alloc())?);
+    Ok(())
+}
+
+/// A script whose main returns an expression.
+fn returning(alloc: Global, kind: ExprKind) -> Result<Program, AllocError> {
+    let span = Span { start: 26, end: 31 };
+    let mut statements = Vec::new(alloc);
+    statements.push(Statement::Return(Expr { kind, span }))?;
+    let text = String::from_str(alloc, "main")?;
+    let name = Name {
+        text,
+        span: Span { start: 3, end: 7 },
+    };
+    let mut functions = Vec::new(alloc);
+    functions.push(Function {
+        name,
+        parameters: Vec::new(alloc),
+        result: ValueType::Int,
+        body: Block { statements },
+    })?;
+    Ok(Program { functions })
+}
+
+#[test]
+fn refuses_trees_that_no_text_has(rt: HostRuntime) -> Result<(), Fail> {
+    let cases = [
+        ExprKind::Int(9223372036854775808),
+        ExprKind::List(Vec::new(rt.alloc())),
+    ];
+    for kind in cases {
+        let span = Span { start: 26, end: 31 };
+        let refused = check(rt.alloc(), returning(rt.alloc(), kind)?);
+        assert!(rt; matches!(refused, Err(CheckError::WrongType(s)) if s == span));
+    }
+    let largest = returning(rt.alloc(), ExprKind::Int(9223372036854775807))?;
+    assert!(rt; check(rt.alloc(), largest).is_ok());
+    Ok(())
+}

@@ -1,0 +1,4 @@
+mod Beyond
+mod Growing
+mod MainJobs
+mod Safe

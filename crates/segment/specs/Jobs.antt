@@ -1,0 +1,78 @@
+-- What a job is, and what is done on it.
+use Rattle.std.specs.Prelude.{◌≡◌, ℕ, List, ◌++◌, map, length, drop, Some}
+use Rattle.meaning.specs.Lists.{IsFirst}
+use Rattle.meaning.specs.Values as meant
+use Rattle.meaning.specs.Syntax.{Function, Script}
+use Rattle.meaning.specs.Runs.{Piece}
+use Rattle.meaning.specs.Meaning.{find, run_birth, replay}
+use Rattle.meaning.specs.Kinds.{MarkedOf, AnswersFit}
+use Rattle.ids.specs.declared.attempt.AttemptId.{AttemptId}
+use Rattle.ids.specs.declared.object.ObjectId.{ObjectId}
+use Rattle.values.specs.declared.value.RunValue.{RunValue}
+use Rattle.values.specs.declared.content.Content.{Content}
+use Rattle.values.specs.Values.{value_of, content_of, id_of}
+use Rattle.task_spec.specs.declared.birth.Birth.{Birth}
+use Rattle.task_spec.specs.Births.{birth_of}
+use Rattle.evaluation.specs.declared.piece.Stop.{Stop}
+use Rattle.evaluation.specs.Pieces.{stop_of}
+
+-- a job: its number, the attempt and its task, the id of its first birth, what it did so far, and its answers so far
+pub record JobData : Type 0 where
+  pub number : ℕ
+  pub attempt : AttemptId
+  pub spec : Birth
+  pub base : ObjectId
+  pub births : List Birth
+  pub printed : List RunValue
+  pub answers : List Content
+
+-- a job that was run: what it bore and printed beyond what the job had, and where it stopped
+pub record DoneData : Type 0 where
+  pub job : JobData
+  pub births : List Birth
+  pub prints : List RunValue
+  pub stop : Stop
+
+-- the two have the same task, and did and were answered the same
+pub record HasSameHistory (j k : JobData) : Type 0 where
+  pub spec : birth_of j.spec ≡ birth_of k.spec
+  pub births : map birth_of j.births ≡ map birth_of k.births
+  pub printed : map value_of j.printed ≡ map value_of k.printed
+  pub answers : map content_of j.answers ≡ map content_of k.answers
+
+-- the two are the same job
+pub record IsSameJob (j k : JobData) : Type 0 where
+  pub number : j.number ≡ k.number
+  pub attempt : j.attempt ≡ k.attempt
+  pub base : j.base ≡ k.base
+  pub history : HasSameHistory j k
+
+-- what the job's task does on the job's answers
+abbrev pub replay_of : Script → JobData → Piece
+replay_of script j = replay script (birth_of j.spec) (id_of j.base) (map content_of j.answers)
+
+-- a piece without the births and prints that the job has already
+abbrev pub beyond : JobData → Piece → Piece
+beyond j p = record { births = drop (length j.births) p.births; prints = drop (length j.printed) p.prints; stop = p.stop }
+
+-- all that was born and printed up to the stop: what the job had, and then what was done
+abbrev pub whole_of : DoneData → Piece
+whole_of d = record { births = map birth_of d.job.births ++ map birth_of d.births; prints = map value_of d.job.printed ++ map value_of d.prints; stop = stop_of d.stop }
+
+-- a task of one of the script's functions, with arguments of its parameters' kinds
+abbrev pub IsTaskOf : Script → meant.Birth → Type 0
+IsTaskOf script (meant.Put v) = ⊥
+IsTaskOf script (meant.Task g args depth retries) = (f : Function) × (find script g ≡ Some f) × MarkedOf args f.parameters
+
+-- what is kept of each job of the script
+pub record IsBegun (script : Script) (j : JobData) : Type 0 where
+  pub task : IsTaskOf script (birth_of j.spec)
+  -- the answers are of the kinds asked for
+  pub answers : AnswersFit (run_birth script (birth_of j.spec)) (id_of j.base) (map content_of j.answers)
+  -- births and prints so far begin those that the task's replay has
+  pub births : IsFirst (map birth_of j.births) (replay_of script j).births
+  pub printed : IsFirst (map value_of j.printed) (replay_of script j).prints
+
+-- what was done is true of its job: with what the job had, it is the whole replay
+abbrev pub IsTrueOf : Script → DoneData → Type 0
+IsTrueOf script d = replay_of script d.job ≡ whole_of d

@@ -1,0 +1,4 @@
+pub mod Growth
+pub mod Jobs
+pub mod Parts
+pub mod Pieces

@@ -1,0 +1,108 @@
+// Jobs that were run.
+
+ghost use Rattle.std.specs.Prelude.{◌≡◌};
+ghost use Rattle.evaluation.specs.Pieces.{piece_of};
+ghost use Rattle.segment.specs.Jobs.{IsTrueOf};
+ghost use Rattle.segment.specs.Pieces.{done_of};
+
+use crate::job::Job;
+use crate::script_name::ScriptName;
+use evaluation::{Piece, Stop};
+use std::marker::Model;
+use task_spec::Birth;
+use values::RunValue;
+
+/// The parts of a job that was run.
+#[derive(Drop)]
+pub struct DoneParts<S: ScriptName> {
+    pub job: Job<S>,
+    /// What the attempt bore beyond what the job had.
+    pub births: Vec<Birth>,
+    /// What the attempt printed beyond what the job had.
+    pub prints: Vec<RunValue>,
+    pub stop: Stop,
+}
+
+/// A job of the script `S` that was run, and what was done on it. It is true of its job: the job's births and prints
+/// with these after them, and the stop, are what the job's task does on the job's answers.
+#[derive(Drop)]
+pub struct Done<S: ScriptName> {
+    job: Job<S>,
+    piece: Piece,
+}
+
+impl<S: ScriptName> Model for Done<S> {
+    ghost use Rattle.std.specs.Coded.{codes};
+    ghost use Rattle.values.specs.contracts.value.RunValue as run_values;
+    ghost use Rattle.segment.specs.Jobs.{DoneData, IsTrueOf};
+    ghost use Rattle.segment.specs.Pieces.{done_of};
+
+    ghost Value = { DoneData };
+
+    ghost coded = { Prim.hlevel (codes, run_values.the_row.coded) };
+
+    ghost view = { λ d. done_of d.job d.piece };
+
+    ghost invariant = { λ d. IsTrueOf S.script (done_of d.job d.piece) };
+}
+
+impl<S: ScriptName> Done<S> {
+    /// The job with what was done on it.
+    pub(crate) fn new(job: Job<S>, piece: Piece) -> Done<S>
+        requires { IsTrueOf S.script (done_of job piece) }
+        ensures { result ≡ done_of job piece }
+    {
+        Done { job, piece }
+    }
+
+    /// The job that was run.
+    pub fn job(&self) -> &Job<S>
+        ensures value { result.now ≡ self.now.job }
+        ensures is_true { IsTrueOf S.script self.now }
+    {
+        &self.job
+    }
+
+    /// What the attempt bore beyond what the job had.
+    pub fn births(&self) -> &[Birth]
+        ensures { result.now ≡ self.now.births }
+    {
+        &self.piece.births
+    }
+
+    /// What the attempt printed beyond what the job had.
+    pub fn prints(&self) -> &[RunValue]
+        ensures { result.now ≡ self.now.prints }
+    {
+        &self.piece.prints
+    }
+
+    /// Where the job stopped: at a get of an object for which there was no answer left, or at the task's end.
+    pub fn stop(&self) -> &Stop
+        ensures { result.now ≡ self.now.stop }
+    {
+        &self.piece.stop
+    }
+
+    /// The job, and what was done on it.
+    pub fn into_parts(self) -> DoneParts<S>
+        ensures job { result.job ≡ self.job }
+        ensures births { result.births.items ≡ self.births }
+        ensures prints { result.prints.items ≡ self.prints }
+        ensures stop { result.stop ≡ self.stop }
+        ensures is_true { IsTrueOf S.script self }
+    {
+        let Done { job, piece } = self;
+        let Piece {
+            births,
+            prints,
+            stop,
+        } = piece;
+        DoneParts {
+            job,
+            births,
+            prints,
+            stop,
+        }
+    }
+}

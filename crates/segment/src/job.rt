@@ -1,0 +1,141 @@
+// Jobs.
+
+ghost use Rattle.std.specs.Prelude.{◌≡◌, IfOk, true};
+ghost use Rattle.script_check.specs.Trees.{script_of};
+ghost use Rattle.segment.specs.Jobs.{IsBegun, IsSameJob, IsTrueOf};
+ghost use Rattle.segment.specs.Parts.{data_of};
+
+use crate::done::Done;
+use crate::parts::JobParts;
+use crate::script_name::ScriptName;
+use evaluation::{Piece, PieceError};
+use ids::{AttemptId, ObjectId};
+use meaning::law::checked_scripts_are_safe;
+use script_check::Checked;
+use std::alloc::Global;
+use std::marker::{Model, PhantomData};
+use task_spec::Birth;
+use values::{Content, RunValue};
+
+/// Memory, or the numbers of objects, ran out.
+#[derive(Clone, Copy, PartialEq, Eq, Debug)]
+pub struct NoMemory;
+
+/// An attempt of a task of the script `S`, to be run up to the next answer that it needs. Its births and prints so far
+/// begin what its task does on its answers so far, and arguments and answers are of the kinds that the script asks for.
+#[derive(Drop)]
+pub struct Job<S: ScriptName> {
+    parts: JobParts,
+    script: PhantomData<S>,
+}
+
+impl<S: ScriptName> Model for Job<S> {
+    ghost use Rattle.std.specs.Coded.{codes};
+    ghost use Rattle.values.specs.contracts.value.RunValue as run_values;
+    ghost use Rattle.segment.specs.Jobs.{JobData, IsBegun};
+    ghost use Rattle.segment.specs.Parts.{data_of};
+
+    ghost Value = { JobData };
+
+    ghost coded = { Prim.hlevel (codes, run_values.the_row.coded) };
+
+    ghost view = { λ j. data_of j.parts };
+
+    ghost invariant = { λ j. IsBegun S.script (data_of j.parts) };
+}
+
+impl<S: ScriptName> Job<S> {
+    /// The job with these parts.
+    pub fn new(parts: JobParts) -> Job<S>
+        requires { IsBegun S.script (data_of parts) }
+        ensures { result ≡ data_of parts }
+    {
+        Job {
+            parts,
+            script: PhantomData,
+        }
+    }
+
+    /// The job's number, counted from 1.
+    pub fn number(&self) -> u64
+        ensures { result ≡ self.now.number }
+    {
+        self.parts.number
+    }
+
+    /// The attempt that the job carries on.
+    pub fn attempt(&self) -> AttemptId
+        ensures { result ≡ self.now.attempt }
+    {
+        self.parts.attempt
+    }
+
+    /// The attempt's task.
+    pub fn spec(&self) -> &Birth
+        ensures { result.now ≡ self.now.spec }
+    {
+        &self.parts.spec
+    }
+
+    /// The id of the attempt's first own birth.
+    pub fn base(&self) -> ObjectId
+        ensures { result ≡ self.now.base }
+    {
+        self.parts.base
+    }
+
+    /// What the attempt bore so far.
+    pub fn births(&self) -> &[Birth]
+        ensures { result.now ≡ self.now.births }
+    {
+        &self.parts.births
+    }
+
+    /// What the attempt printed so far.
+    pub fn printed(&self) -> &[RunValue]
+        ensures { result.now ≡ self.now.printed }
+    {
+        &self.parts.printed
+    }
+
+    /// The contents that the attempt was answered so far, those of its dereferenced arguments first.
+    pub fn answers(&self) -> &[Content]
+        ensures { result.now ≡ self.now.answers }
+    {
+        &self.parts.answers
+    }
+
+    /// Whether these are the job's parts.
+    pub fn is_made_of(&self, parts: &JobParts) -> bool
+        ensures same { result ≡ true → IsSameJob self.now (data_of parts.now) }
+        ensures only { IsSameJob self.now (data_of parts.now) → result ≡ true }
+    {
+        self.parts.is_same(parts)
+    }
+
+    /// The job's parts.
+    pub fn into_parts(self) -> JobParts
+        ensures value { data_of result ≡ self }
+        ensures begun { IsBegun S.script self }
+    {
+        let Job { parts, script: _ } = self;
+        parts
+    }
+
+    /// Runs the job: the task is run again from its start on the answers, up to the next answer that it needs or to its
+    /// end. Takes no lock. On `NoMemory` the job is given up.
+    pub fn run(self, alloc: Global, script: &Checked) -> Result<Done<S>, NoMemory>
+        requires { script_of script.now ≡ S.script }
+        ensures own { IfOk result (λ d. d.job ≡ self) }
+        ensures is_true { IfOk result (λ d. IsTrueOf S.script d) }
+    {
+        checked_scripts_are_safe();
+        let _ = script.functions();
+        let piece = match self.parts.run_on(alloc, script) {
+            Ok(piece) => piece,
+            Err(PieceError::Broken) => unreachable!(),
+            Err(PieceError::NoMemory) => return Err(NoMemory),
+        };
+        Ok(Done::new(self, piece))
+    }
+}

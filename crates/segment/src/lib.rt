@@ -1,0 +1,17 @@
+//! Jobs: a task's attempt, run up to the next answer that it needs.
+#![tactic(auto)]
+
+mod done;
+pub mod growth;
+mod job;
+mod parts;
+mod script_name;
+
+pub use done::{Done, DoneParts};
+pub use evaluation::Stop;
+pub use job::{Job, NoMemory};
+pub use parts::JobParts;
+pub use script_name::ScriptName;
+
+#[cfg(test)]
+mod tests;

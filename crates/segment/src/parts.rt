@@ -1,0 +1,84 @@
+// What a job has.
+
+ghost use Rattle.std.specs.Prelude.{◌≡◌, IfOk, IfErr, drop, true};
+ghost use Rattle.meaning.specs.Values.{Trapped, Broken};
+ghost use Rattle.meaning.specs.Runs.{Over};
+ghost use Rattle.script_check.specs.Trees.{script_of};
+ghost use Rattle.evaluation.specs.Pieces.{piece_of};
+ghost use Rattle.segment.specs.Jobs.{replay_of, beyond, IsSameJob, HasSameHistory};
+ghost use Rattle.segment.specs.Parts.{data_of};
+
+use evaluation::{Piece, PieceError, run_piece};
+use ids::{AttemptId, ObjectId};
+use script_check::Checked;
+use std::alloc::{AllocError, Global};
+use task_spec::{Birth, are_same_births};
+use values::{Content, RunValue, are_same_contents, are_same_values};
+
+/// The parts of a job.
+#[derive(Drop)]
+pub struct JobParts {
+    /// The job's number, counted from 1.
+    pub number: u64,
+    /// The attempt that the job carries on.
+    pub attempt: AttemptId,
+    /// The attempt's task.
+    pub spec: Birth,
+    /// The id of the attempt's first own birth. Each further birth has the next serial.
+    pub base: ObjectId,
+    /// What the attempt bore so far.
+    pub births: Vec<Birth>,
+    /// What the attempt printed so far.
+    pub printed: Vec<RunValue>,
+    /// The contents that the attempt was answered so far, those of its dereferenced arguments first.
+    pub answers: Vec<Content>,
+}
+
+/// The items after the first `count`, moved.
+fn items_after<T: Drop>(items: Vec<T>, count: usize) -> Result<Vec<T>, AllocError>
+    ensures { IfOk result (λ rest. rest.items ≡ drop count items.items) }
+{
+    let mut items = items;
+    let at = count.min(items.len());
+    items.split_off(at)
+}
+
+impl JobParts {
+    /// Whether the other parts are those of the same job.
+    pub fn is_same(&self, other: &JobParts) -> bool
+        ensures same { result ≡ true → IsSameJob (data_of self.now) (data_of other.now) }
+        ensures only { IsSameJob (data_of self.now) (data_of other.now) → result ≡ true }
+    {
+        self.number == other.number
+            && self.attempt == other.attempt
+            && self.base == other.base
+            && self.has_same_history(other)
+    }
+
+    /// Whether the other job has the same task, births, prints and answers.
+    fn has_same_history(&self, other: &JobParts) -> bool
+        ensures same { result ≡ true → HasSameHistory (data_of self.now) (data_of other.now) }
+        ensures only { HasSameHistory (data_of self.now) (data_of other.now) → result ≡ true }
+    {
+        self.spec.is_same(&other.spec)
+            && are_same_births(&self.births, &other.births)
+            && are_same_values(&self.printed, &other.printed)
+            && are_same_contents(&self.answers, &other.answers)
+    }
+
+    /// Runs the task on the answers, and gives what it bears and prints beyond what it bore and printed before. What the
+    /// run makes again is dropped.
+    pub(crate) fn run_on(&self, alloc: Global, script: &Checked) -> Result<Piece, PieceError>
+        ensures beyond { IfOk result (λ p. piece_of p ≡ beyond (data_of self.now) (replay_of (script_of script.now) (data_of self.now))) }
+        ensures broken { IfErr result (λ e. e ≡ PieceError.Broken → (replay_of (script_of script.now) (data_of self.now)).stop ≡ Over (Trapped Broken)) }
+    {
+        let piece = run_piece(alloc, script, &self.spec, self.base, &self.answers)?;
+        let births = items_after(piece.births, self.births.len())?;
+        let prints = items_after(piece.prints, self.printed.len())?;
+        Ok(Piece {
+            births,
+            prints,
+            stop: piece.stop,
+        })
+    }
+}

@@ -1,0 +1,5 @@
+mod fixtures;
+mod jobs;
+mod pieces;
+mod rows;
+mod text;

@@ -1,0 +1,14 @@
+-- What the code's births stand for.
+use Rattle.std.specs.Prelude.{map, string_bytes}
+use Rattle.meaning.specs.Values as meant
+use Rattle.values.specs.Values.{value_of}
+use Rattle.task_spec.specs.declared.birth.Argument.{Argument}
+use Rattle.task_spec.specs.declared.birth.Birth.{Birth}
+use Rattle.task_spec.specs.declared.birth.Birth.TheVariants as births
+
+abbrev pub argument_of : Argument → meant.Argument
+argument_of a = record { value = value_of a.value; marked = a.is_dereferenced }
+
+abbrev pub birth_of : Birth → meant.Birth
+birth_of (births.Put v) = meant.Put (value_of v)
+birth_of (births.Task g args d k) = meant.Task (string_bytes g) (map argument_of args.items) d k

@@ -14,6 +14,3 @@ mod value;
 
 pub use piece::{Piece, PieceError, Stop, run_piece};
 pub use serial::{SerialError, SerialRun, run_serially};
-
-#[cfg(test)]
-mod tests;

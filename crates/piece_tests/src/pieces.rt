@@ -1,4 +1,4 @@
-use super::*;
+use evaluation::*;
 use ids::{ObjectId, WorkerId};
 use script_check::{Checked, check};
 use script_syntax::parse;

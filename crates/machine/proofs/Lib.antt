@@ -1,0 +1,9 @@
+mod Numbers
+mod Growth
+mod Chunks
+mod Calm
+mod Refusing
+mod Claiming
+mod Committing
+mod Committed
+mod Sound

@@ -1,24 +1,26 @@
 #!/usr/bin/env bash
 # Times `raysim serial` beside Lua 5.4 and Python 3 (Debian's packages lua5.4 and python3) on the same two computations, and
-# prints seconds and ratios. First build the proved program: (cd crates/raysim && rt run)
+# prints seconds and ratios; RAYSIM and PYTHON name other programs. First build the proved program: (cd crates/raysim && rt run)
 set -euo pipefail
 cd "$(dirname "$0")"
 raysim=${RAYSIM:-../crates/raysim/out/raysim}
+python=${PYTHON:-python3}
+output=$(mktemp)
+trap 'rm -f "$output"' EXIT
 seconds() {
     local start end
     start=$(date +%s.%N)
-    "$@" > /tmp/benchmark.$$
+    "$@" > "$output"
     end=$(date +%s.%N)
     echo "$end - $start" | bc
 }
 for name in loops lists; do
     ours=$(seconds "$raysim" serial $name.ray)
-    wanted=$(cat /tmp/benchmark.$$)
+    wanted=$(cat "$output")
     lua=$(seconds lua5.4 $name.lua)
-    [ "$(cat /tmp/benchmark.$$)" = "$wanted" ] || { echo "$name: Lua gives another answer"; exit 1; }
-    python=$(seconds /usr/bin/python3 $name.py)
-    [ "$(cat /tmp/benchmark.$$)" = "$wanted" ] || { echo "$name: Python gives another answer"; exit 1; }
-    rm -f /tmp/benchmark.$$
+    [ "$(cat "$output")" = "$wanted" ] || { echo "$name: Lua gives another answer"; exit 1; }
+    python_seconds=$(seconds "$python" $name.py)
+    [ "$(cat "$output")" = "$wanted" ] || { echo "$name: Python gives another answer"; exit 1; }
     printf '%s: raysim %.2f s, Lua %.2f s (ratio %.1f), Python %.2f s (ratio %.1f)\n' \
-        "$name" "$ours" "$lua" "$(echo "$ours / $lua" | bc -l)" "$python" "$(echo "$ours / $python" | bc -l)"
+        "$name" "$ours" "$lua" "$(echo "$ours / $lua" | bc -l)" "$python_seconds" "$(echo "$ours / $python_seconds" | bc -l)"
 done

@@ -1,3 +1,4 @@
 mod Numbers
 mod Typed
-mod Laws
+pub mod Laws
+pub mod Mains

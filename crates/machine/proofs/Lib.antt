@@ -1,9 +1,12 @@
-mod Numbers
-mod Growth
+pub mod Numbers
+pub mod Growth
 mod Chunks
 mod Calm
+mod Contents
 mod Refusing
 mod Claiming
 mod Committing
 mod Committed
+mod Printing
 mod Sound
+mod Given

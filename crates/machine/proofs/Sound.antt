@@ -3,6 +3,7 @@ use Rattle.std.proofs.Common.{◌≡◌, ℕ, ◌<◌, Bool, true, false, List, 
 use Rattle.std.specs.Prelude.{◌==◌, if◌then◌else◌, slice_get}
 use Rattle.meaning.specs.Values.{Outcome, Val, Trapped, Overflow, Birth, Put, Task, Id, main_birth}
 use Rattle.meaning.specs.Births.{birth_at, same_id}
+use Rattle.meaning.specs.Mains.{KeepsMainApart}
 use Rattle.std.specs.List.{list_any}
 use Rattle.std.proofs.lemmas.Bool.Decides.{nat_tests}
 use Rattle.meaning.proofs.BirthLaws.{at_test, same_id-refl}
@@ -20,11 +21,13 @@ use Rattle.machine.specs.Steps.{Request, Claims, Commits, answer, tables_after, 
 use Rattle.machine.specs.Knows.{KnowsBirth, KnowsObject, KnowsPhase, KnowsRow, IsUntouched, is_other, listed}
 use Rattle.machine.specs.Law.{MayCome, IsSound, EventsStaySound}
 use Rattle.machine.proofs.Numbers.{same_number, all_at}
+use Rattle.machine.proofs.Contents.{found}
 use Rattle.machine.proofs.Refusing.{refused_sound}
+use Rattle.machine.proofs.Printing.{only_main_prints}
 use Rattle.machine.proofs.Claiming.{IsToAccept, claimed_sound}
 use Rattle.machine.proofs.Committed.{Returns, committed_sound}
 
-module _ (s : Setting) (nodes : 0 < s.nodes) (log : List Entry) (t : Tables) (sound : IsSound s log t) where
+module _ (s : Setting) (nodes : 0 < s.nodes) (apart : KeepsMainApart s.script) (log : List Entry) (t : Tables) (sound : IsSound s log t) where
   -- sound after an answer to a claim
   abbrev AfterClaim : ℕ → Answer → Type 0
   AfterClaim w x = IsSound s (log ++ logged (Claims w) x) (tables_after t x)
@@ -39,21 +42,6 @@ module _ (s : Setting) (nodes : 0 < s.nodes) (log : List Entry) (t : Tables) (so
   refuses_commit j d code = refused_sound s log t (Commit j) code refl sound
 
   -- ---- claims
-
-  content_of : (o : Id) (b : Birth) (x : Object) (c : Outcome) → birth_at (births log) o ≡ Some b → KnowsBirth log o b x → x.content ≡ Some c → HasContent log o c
-  content_of o (Put v) x c e h f =
-      let g : Some c ≡ Some (Val v) = sym f ∙ ap (λ (z : Object). z.content) h in
-      let same : c ≡ Val v = cc in
-      inl (v, e, same)
-  content_of o (Task g args d r) x c e h f = inr (0, 0, ap (λ cs. slice_get cs 0) (h.ended ∙ ap listed f))
-
-  -- the object of that id is known
-  found : (y : Id) (o : Option Row) (p : Option Object) (c : Outcome) → item_of 1 t.rows y.owner ≡ o → item_of 1 (objects_of o) y.serial ≡ p → content_in p ≡ Some c → HasContent log y c
-  found y o None c e f g = absurd (cc)
-  found y None (Some x) c e f g = absurd (cc)
-  found y (Some r) (Some x) c e f g =
-      let k = all_at (KnowsObject log y.owner) 1 r.objects y.serial x (all_at (KnowsRow s log t.jobs) 1 t.rows y.owner r sound.knows.rows e).objects f in
-      content_of y x.birth x c k.born k.state g
 
   -- whether there is something to accept
   to_accept : (w : ℕ) (row : Row) (y : Id) (p : Option Object) (c : Outcome) (at_w : item_of 1 t.rows w ≡ Some row) → item_of 1 (objects_of (item_of 1 t.rows y.owner)) y.serial ≡ p → content_in p ≡ Some c →
@@ -80,7 +68,7 @@ module _ (s : Setting) (nodes : 0 < s.nodes) (log : List Entry) (t : Tables) (so
   claim_got w row at_w y e (Some c) f =
       let known : KnowsRow s log t.jobs w row = all_at (KnowsRow s log t.jobs) 1 t.rows w row sound.knows.rows at_w in
       let waits = subst (λ p. KnowsPhase s log t.jobs w row p) e known.phase in
-      let content = found y (item_of 1 t.rows y.owner) (object_at t.rows y) c refl refl f in
+      let content = found s log t sound y (item_of 1 t.rows y.owner) (object_at t.rows y) c refl refl f in
       go (is_to_accept t.rows w y) refl waits content
     where
       go : (accepted : Bool) → is_to_accept t.rows w y ≡ accepted → KnowsPhase s log t.jobs w row (Waits y) → HasContent log y c → AfterClaim w (give t w (settled accepted y row) (accepts accepted y ++ Got row.attempt y c ∷ []) (row.answers ++ c ∷ []))
@@ -109,8 +97,9 @@ module _ (s : Setting) (nodes : 0 < s.nodes) (log : List Entry) (t : Tables) (so
   commit_same j w row at_w out Nothing m = refuses_commit j Nothing 32
   commit_same j w row at_w out OfAnother m = refuses_commit j OfAnother 32
   commit_same j w row at_w out (OfJob d) m =
-      let x = m w row at_w out in
-      commit_taken j w row d (record { at_w = at_w; out = out; done = x.0; of_main = x.1 }) (is_too_much t w d)
+      let done = m w row at_w out in
+      let known : KnowsRow s log t.jobs w row = all_at (KnowsRow s log t.jobs) 1 t.rows w row sound.knows.rows at_w in
+      commit_taken j w row d (record { at_w = at_w; out = out; done = done; of_main = only_main_prints s apart log t.jobs j w row d sound.legal known done }) (is_too_much t w d)
 
   commit_of_phase : (j w : ℕ) (row : Row) → item_of 1 t.rows w ≡ Some row → (p : Phase) → row.phase ≡ p → (h : Handed) → MayCome s t (Commits j h) → AfterCommit j h (commit_phase t j w row p h)
   commit_of_phase j w row at_w (Out i) e h m =
@@ -199,4 +188,4 @@ module _ (s : Setting) where
   }
 
 pub events_stay_sound : EventsStaySound
-events_stay_sound s nodes = record { first = first_sound s; next = λ log t r sound m. answers_sound s nodes log t sound r m }
+events_stay_sound s nodes apart = record { first = first_sound s; next = λ log t r sound m. answers_sound s nodes apart log t sound r m }

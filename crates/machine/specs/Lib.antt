@@ -3,6 +3,8 @@ pub mod Tables
 pub mod Jobs
 pub mod Claims
 pub mod Commits
+pub mod Ready
 pub mod Steps
 pub mod Knows
 pub mod Law
+pub mod Given

@@ -157,6 +157,24 @@ loop_name_set = script_of []
     ∷ For (codes "i") (number 0) (number 3) (block (Set (codes "i") (Binary Mul (Var (codes "i")) (number 10)) ∷ Set (codes "s") (Binary Add (Var (codes "s")) (Var (codes "i"))) ∷ []))
     ∷ Return (Var (codes "s")) ∷ [])
 
+-- ---- such as no checker allows: main is not apart
+
+-- fn loud() -> int { print 1; return 2; }
+abbrev pub loud : Function
+loud = function (codes "loud") [] Number (Print (number 1) ∷ Return (number 2) ∷ [])
+
+-- return get remote loud();
+abbrev pub prints_elsewhere : Script
+prints_elsewhere = script_of (loud ∷ []) (Return (GetOf Number (remote (codes "loud") [])) ∷ [])
+
+-- return main();
+abbrev pub calls_main : Script
+calls_main = just (Call (codes "main") (each []))
+
+-- return get remote main();
+abbrev pub bears_main : Script
+bears_main = just (GetOf Number (remote (codes "main") []))
+
 -- ---- pieces
 
 -- let p = put 1; return get p + get p;
@@ -170,6 +188,10 @@ object w n = record { owner = w; serial = n }
 -- the task that the square's main makes
 abbrev pub squaring : Birth
 squaring = Task (codes "sq") (record { value = Int (pos 7); marked = false } ∷ []) 1 3
+
+-- the task that main makes where another function prints
+abbrev pub louder : Birth
+louder = Task (codes "loud") [] 1 3
 
 abbrev pub this_piece : List Birth → List Value → Stop → Piece
 this_piece births prints stop = record { births = births; prints = prints; stop = stop }

@@ -7,6 +7,7 @@ pub mod Ids
 pub mod Meaning
 pub mod Readings
 pub mod Law
+pub mod Mains
 pub mod Kinds
 pub mod KindLaw
 pub mod Examples

@@ -5,7 +5,8 @@ ghost use Rattle.meaning.specs.Values.{Int, Named, Val, Trapped, Overflow, DivZe
 ghost use Rattle.meaning.specs.Syntax.{Binary, Div, Rem, Unary, Negate};
 ghost use Rattle.meaning.specs.Runs.{Needs, Over};
 ghost use Rattle.meaning.specs.Meaning.{replay};
-ghost use Rattle.meaning.specs.Examples.{MainGives, value, number, least, just, square, sum_of_squares, trap_not_got, trap_got, first_trap, deep, reference_got, reference_passed, loop, loop_name_set, got_twice, object, squaring, this_piece};
+ghost use Rattle.meaning.specs.Mains.{KeepsMainApart};
+ghost use Rattle.meaning.specs.Examples.{MainGives, value, number, least, just, square, sum_of_squares, trap_not_got, trap_got, first_trap, deep, reference_got, reference_passed, loop, loop_name_set, got_twice, object, squaring, prints_elsewhere, calls_main, bears_main, louder, this_piece};
 
 /// What main prints and how it ends where every remote call is a plain call.
 pub fn serial_examples()
@@ -40,4 +41,13 @@ pub fn replay_examples()
     ensures whole_of_main { replay square main_birth (object 1 1) (value 49 ∷ []) ≡ this_piece (squaring ∷ []) (Int (pos 49) ∷ []) (Over (value 0)) }
     ensures got_once { replay got_twice main_birth (object 1 1) (value 1 ∷ []) ≡ this_piece (Put (Int (pos 1)) ∷ []) [] (Needs (Named (object 1 1))) }
     ensures got_again { replay got_twice main_birth (object 1 1) (value 1 ∷ value 1 ∷ []) ≡ this_piece (Put (Int (pos 1)) ∷ []) [] (Over (value 2)) }
+{}
+
+/// Which scripts keep main apart, and that a task prints in one that doesn't.
+pub fn main_examples()
+    ensures apart { KeepsMainApart square }
+    ensures another_prints { KeepsMainApart prints_elsewhere → ⊥ }
+    ensures main_is_called { KeepsMainApart calls_main → ⊥ }
+    ensures main_is_born { KeepsMainApart bears_main → ⊥ }
+    ensures another_task_prints { replay prints_elsewhere louder (object 2 1) [] ≡ this_piece [] (Int (pos 1) ∷ []) (Over (value 2)) }
 {}

@@ -4,6 +4,7 @@ ghost use Rattle.std.specs.Prelude.{ℕ, List};
 ghost use Rattle.meaning.specs.Law.{LawOfReplay, LawOfIds};
 ghost use Rattle.meaning.specs.Kinds.{AreSafe};
 ghost use Rattle.meaning.specs.KindLaw.{LawOfKinds};
+ghost use Rattle.meaning.specs.Mains.{MainStaysApart};
 ghost use Rattle.meaning.specs.Readings.{DenIsTheReading};
 
 /// Under every reading of ids under which births hold, what a task does on answers that begin what its run gets is a
@@ -27,6 +28,12 @@ pub fn checked_scripts_are_safe()
 /// answers begin what its run gets with every remote call a plain call.
 pub fn law_of_kinds()
     ensures { LawOfKinds }
+{}
+
+/// Of a script in which no function calls main and none but main prints: what a task does on any answers bears no task of
+/// main, and what is a put or a task of another function prints nothing.
+pub fn main_stays_apart()
+    ensures { MainStaysApart }
 {}
 
 /// Where births are of new objects and name only earlier ones, exactly one reading has all of them hold and 0 elsewhere.

@@ -1,41 +1,97 @@
 -- Refusals have their causes.
-use Rattle.std.proofs.Common.{◌≡◌, ℕ, Bool, List, Option, None, Some, sym, subst}
+use Rattle.std.proofs.Common.{◌≡◌, ℕ, Bool, List, Option, None, Some, inl, inr, refl, sym, subst, ◌∙◌}
 use Rattle.std.specs.Prelude.{IfSome}
 use Rattle.meaning.specs.Syntax.{Script}
 use Rattle.script_tokens.specs.declared.error.SyntaxError.{SyntaxError}
 use Rattle.script_tokens.specs.declared.error.SyntaxError.TheVariants as syntax
+use Rattle.script_tokens.specs.declared.token.Span.{Span}
 use Rattle.script_syntax.specs.Trees.{Program}
 use Rattle.script_syntax.specs.Grammar.{Reads}
+use Rattle.script_syntax.specs.Refusals.{IsRefusalOfText}
 use Rattle.script_check.specs.Rules.{IsCheckedOf}
 use Rattle.script_check.specs.declared.error.CheckError.{CheckError}
 use Rattle.script_check.specs.declared.error.CheckError.TheVariants as faults
 use Rattle.raysim_commands.specs.declared.refusal.Refusal.{Refusal}
-use Rattle.raysim_commands.specs.declared.refusal.Refusal.TheVariants.{At, NoMemory, Failed}
-use Rattle.raysim_commands.specs.Scripts.{IsNoScript, IsRefusalOf, syntax_refusal, check_refusal, Explains}
+use Rattle.raysim_commands.specs.declared.refusal.Refusal.TheVariants.{At, NoMemory, Stopped, Failed}
+use Rattle.raysim_commands.specs.Scripts.{IsScript, IsNoScript, IsRefusalOf, IsParserError, IsCheckerError, IsNoScriptFor, syntax_refusal, check_refusal, Explains}
+use Rattle.raysim_commands.specs.RunReports.{IsRunStop, ExplainsRun}
 
--- a text that reads as a program is refused by the parser for want of memory alone
-pub refused_by_parser : (text : List ℕ) (e : SyntaxError) → ((program : Program) → Reads text program → e ≡ syntax.NoMemory) → IsRefusalOf text (syntax_refusal e)
-refused_by_parser text (syntax.NotAscii span) h = λ script s. let e = h s.0 s.1 in absurd (cc)
-refused_by_parser text (syntax.BadToken span) h = λ script s. let e = h s.0 s.1 in absurd (cc)
-refused_by_parser text (syntax.Expected span) h = λ script s. let e = h s.0 s.1 in absurd (cc)
-refused_by_parser text (syntax.TooLarge span) h = λ script s. let e = h s.0 s.1 in absurd (cc)
-refused_by_parser text syntax.NoMemory h = tt
+-- the parser's error
+pub refused_by_parser : (text : List ℕ) (e : SyntaxError) (r : Refusal) → IsRefusalOfText text e → ((program : Program) → Reads text program → e ≡ syntax.NoMemory) → r ≡ syntax_refusal e → IsRefusalOf text r
+refused_by_parser text e r cause only same = inl (e, record { cause = cause; only = only }, same)
 
--- so is a program that the rules allow by the checker
-pub refused_by_checker : (text : List ℕ) (program : Program) (e : CheckError) → ((q : Program) → Reads text q → program ≡ q) → ((script : Script) → IsCheckedOf program script → e ≡ faults.NoMemory) → IsRefusalOf text (check_refusal e)
-refused_by_checker text program (faults.UnknownName span) same h = λ script s. let e = h script (subst (λ q. IsCheckedOf q script) (sym (same s.0 s.1)) s.2) in absurd (cc)
-refused_by_checker text program (faults.WrongType span) same h = λ script s. let e = h script (subst (λ q. IsCheckedOf q script) (sym (same s.0 s.1)) s.2) in absurd (cc)
-refused_by_checker text program (faults.WrongCount span) same h = λ script s. let e = h script (subst (λ q. IsCheckedOf q script) (sym (same s.0 s.1)) s.2) in absurd (cc)
-refused_by_checker text program faults.NoMain same h = λ script s. let e = h script (subst (λ q. IsCheckedOf q script) (sym (same s.0 s.1)) s.2) in absurd (cc)
-refused_by_checker text program (faults.PrintOutsideMain span) same h = λ script s. let e = h script (subst (λ q. IsCheckedOf q script) (sym (same s.0 s.1)) s.2) in absurd (cc)
-refused_by_checker text program (faults.MissingReturn span) same h = λ script s. let e = h script (subst (λ q. IsCheckedOf q script) (sym (same s.0 s.1)) s.2) in absurd (cc)
-refused_by_checker text program (faults.BadRetries span) same h = λ script s. let e = h script (subst (λ q. IsCheckedOf q script) (sym (same s.0 s.1)) s.2) in absurd (cc)
-refused_by_checker text program (faults.Duplicate span) same h = λ script s. let e = h script (subst (λ q. IsCheckedOf q script) (sym (same s.0 s.1)) s.2) in absurd (cc)
-refused_by_checker text program faults.NoMemory same h = tt
+-- the checker's error, of the one program that the text reads as
+pub refused_by_checker : (text : List ℕ) (program : Program) (e : CheckError) (r : Refusal) → Reads text program → ((q : Program) → Reads text q → program ≡ q) → ((script : Script) → IsCheckedOf program script → e ≡ faults.NoMemory) → r ≡ check_refusal e → IsRefusalOf text r
+refused_by_checker text program e r reads same h told =
+    inr (e, record { program = program; reads = reads; only = λ script s. h script (subst (λ q. IsCheckedOf q script) (sym (same s.0 s.1)) s.2) }, told)
+
+-- what a refusal with a place tells is no want of memory
+abbrev pub HasPlace : Refusal → Type 0
+HasPlace (At code span) = Unit {0}
+HasPlace NoMemory = ⊥
+HasPlace (Stopped code) = ⊥
+HasPlace Failed = ⊥
+
+placed_syntax : (e : SyntaxError) → HasPlace (syntax_refusal e) → e ≡ syntax.NoMemory → ⊥
+placed_syntax e p same = subst (λ x. HasPlace (syntax_refusal x)) same p
+
+placed_check : (e : CheckError) → HasPlace (check_refusal e) → e ≡ faults.NoMemory → ⊥
+placed_check e p same = subst (λ x. HasPlace (check_refusal x)) same p
+
+-- a text that is refused at a place is no script
+pub no_script : (text : List ℕ) (code : ℕ) (span : Span) → IsRefusalOf text (At code span) → IsNoScript text
+no_script text code span (inl (e, h, same)) = λ script s. placed_syntax e (subst HasPlace same tt) (h.only s.0 s.1)
+no_script text code span (inr (e, h, same)) = λ script s. placed_check e (subst HasPlace same tt) (h.only script s)
+
+-- what is told of a text
+abbrev pub IsOfText : Refusal → Type 0
+IsOfText (At code span) = Unit {0}
+IsOfText NoMemory = Unit {0}
+IsOfText (Stopped code) = ⊥
+IsOfText Failed = ⊥
+
+of_text_syntax : (e : SyntaxError) → IsOfText (syntax_refusal e)
+of_text_syntax (syntax.NotAscii span) = tt
+of_text_syntax (syntax.BadToken span) = tt
+of_text_syntax (syntax.Expected span) = tt
+of_text_syntax (syntax.TooLarge span) = tt
+of_text_syntax syntax.NoMemory = tt
+
+of_text_check : (e : CheckError) → IsOfText (check_refusal e)
+of_text_check (faults.UnknownName span) = tt
+of_text_check (faults.WrongType span) = tt
+of_text_check (faults.WrongCount span) = tt
+of_text_check faults.NoMain = tt
+of_text_check (faults.PrintOutsideMain span) = tt
+of_text_check (faults.MissingReturn span) = tt
+of_text_check (faults.BadRetries span) = tt
+of_text_check (faults.Duplicate span) = tt
+of_text_check faults.NoMemory = tt
+
+-- a text is refused by what is told of texts
+of_text : (text : List ℕ) (r : Refusal) → IsRefusalOf text r → IsOfText r
+of_text text r (inl (e, h, same)) = subst IsOfText (sym same) (of_text_syntax e)
+of_text text r (inr (e, h, same)) = subst IsOfText (sym same) (of_text_check e)
 
 -- what was read, where it is known, explains the refusal
 pub explains_read : (known : Option (List ℕ)) (text : List ℕ) (read_failed write_failed : Bool) (r : Refusal) → IfSome known (λ bytes. text ≡ bytes) → IsRefusalOf text r → Explains known read_failed write_failed r
 explains_read None text a b (At code span) h k = tt
-explains_read (Some bytes) text a b (At code span) h k = subst (λ t. IsNoScript t) h k
+explains_read (Some bytes) text a b (At code span) h k = subst (λ t. IsNoScriptFor t (At code span)) h (record { none = no_script text code span k; told = k })
 explains_read known text a b NoMemory h k = tt
-explains_read known text a b Failed h k = absurd k
+explains_read known text a b (Stopped code) h k = absurd (of_text text (Stopped code) k)
+explains_read known text a b Failed h k = absurd (of_text text Failed k)
+
+-- `run` refuses for the other commands' causes
+pub explains_as_others : (known : Option (List ℕ)) (read_failed write_failed : Bool) (r : Refusal) → Explains known read_failed write_failed r → ExplainsRun known read_failed write_failed r
+explains_as_others known a b (At code span) h = h
+explains_as_others known a b NoMemory h = h
+explains_as_others known a b (Stopped code) h = absurd h
+explains_as_others known a b Failed h = h
+
+-- what was read, where it is known, is the script whose run stops
+pub explains_stop : (known : Option (List ℕ)) (text : List ℕ) (script : Script) (read_failed write_failed : Bool) (r : Refusal) → IfSome known (λ bytes. text ≡ bytes) → IsScript text script → IsRunStop script r → ExplainsRun known read_failed write_failed r
+explains_stop known text script a b (At code span) h s k = absurd k
+explains_stop known text script a b NoMemory h s k = tt
+explains_stop None text script a b (Stopped code) h s k = tt
+explains_stop (Some bytes) text script a b (Stopped code) h s k = (script, subst (λ t. IsScript t script) h s, k)
+explains_stop known text script a b Failed h s k = absurd k

@@ -1,3 +1,4 @@
 pub mod Refusals
+pub mod RunReports
 pub mod Scripts
 pub mod SerialReports

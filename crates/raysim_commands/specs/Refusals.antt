@@ -2,9 +2,10 @@
 use Rattle.std.specs.Prelude.{ℕ, List, ◌++◌, codes}
 use Rattle.std.specs.Fmt.{decimal}
 use Rattle.raysim_commands.specs.declared.refusal.Refusal.{Refusal}
-use Rattle.raysim_commands.specs.declared.refusal.Refusal.TheVariants.{At, NoMemory, Failed}
+use Rattle.raysim_commands.specs.declared.refusal.Refusal.TheVariants.{At, NoMemory, Stopped, Failed}
 
 abbrev pub refusal_text : Refusal → List ℕ
 refusal_text (At code span) = codes "refused " ++ (decimal code ++ (codes " at " ++ (decimal span.start ++ (codes ".." ++ decimal span.end))))
 refusal_text NoMemory = codes "refused 39"
+refusal_text (Stopped code) = codes "refused " ++ decimal code
 refusal_text Failed = codes "refused 50"

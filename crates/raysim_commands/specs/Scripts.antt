@@ -5,11 +5,12 @@ use Rattle.script_tokens.specs.declared.error.SyntaxError.{SyntaxError}
 use Rattle.script_tokens.specs.declared.error.SyntaxError.TheVariants as syntax
 use Rattle.script_syntax.specs.Trees.{Program}
 use Rattle.script_syntax.specs.Grammar.{Reads}
+use Rattle.script_syntax.specs.Refusals.{IsRefusalOfText}
 use Rattle.script_check.specs.Rules.{IsCheckedOf}
 use Rattle.script_check.specs.declared.error.CheckError.{CheckError}
 use Rattle.script_check.specs.declared.error.CheckError.TheVariants as faults
 use Rattle.raysim_commands.specs.declared.refusal.Refusal.{Refusal}
-use Rattle.raysim_commands.specs.declared.refusal.Refusal.TheVariants.{At, NoMemory, Failed}
+use Rattle.raysim_commands.specs.declared.refusal.Refusal.TheVariants.{At, NoMemory, Stopped, Failed}
 
 -- the text reads as a program that the rules allow, and that becomes the script
 abbrev pub IsScript : List ℕ → Script → Type 0
@@ -18,12 +19,6 @@ IsScript text script = (program : Program) × Reads text program × IsCheckedOf 
 -- the text is no script that the rules allow
 abbrev pub IsNoScript : List ℕ → Type 0
 IsNoScript text = (script : Script) → IsScript text script → ⊥
-
--- the refusal has a cause: the text is no script
-abbrev pub IsRefusalOf : List ℕ → Refusal → Type 0
-IsRefusalOf text (At code span) = IsNoScript text
-IsRefusalOf text NoMemory = Unit {0}
-IsRefusalOf text Failed = ⊥
 
 abbrev pub syntax_refusal : SyntaxError → Refusal
 syntax_refusal (syntax.NotAscii span) = At 1 span
@@ -43,18 +38,42 @@ check_refusal (faults.BadRetries span) = At 16 span
 check_refusal (faults.Duplicate span) = At 17 span
 check_refusal faults.NoMemory = NoMemory
 
+-- the parser's error at the text: it has its cause there, and a text that reads as a program is refused for want of memory alone
+pub record IsParserError (text : List ℕ) (e : SyntaxError) : Type 0 where
+  pub cause : IsRefusalOfText text e
+  pub only : (program : Program) → Reads text program → e ≡ syntax.NoMemory
+
+-- the checker's error at the text: it reads as a program, and a text that is a script is refused for want of memory alone
+pub record IsCheckerError (text : List ℕ) (e : CheckError) : Type 0 where
+  pub program : Program
+  pub reads : Reads text program
+  pub only : (script : Script) → IsScript text script → e ≡ faults.NoMemory
+
+-- the refusal tells the parser's error at the text, or the checker's
+abbrev pub IsRefusalOf : List ℕ → Refusal → Type 0
+IsRefusalOf text r =
+    ((e : SyntaxError) × IsParserError text e × (r ≡ syntax_refusal e))
+    ⊎ ((e : CheckError) × IsCheckerError text e × (r ≡ check_refusal e))
+
 -- the text is a script that the rules allow
 abbrev pub IsAllowed : List ℕ → Type 0
 IsAllowed text = (script : Script) × IsScript text script
 
+-- the text is no script that the rules allow, and the refusal tells the error that says so
+pub record IsNoScriptFor (text : List ℕ) (r : Refusal) : Type 0 where
+  pub none : IsNoScript text
+  pub told : IsRefusalOf text r
+
 -- why a command refuses: what was read, where it is known, is no script; or a read or a write failed
 abbrev pub Explains : Option (List ℕ) → Bool → Bool → Refusal → Type 0
-Explains text read_failed write_failed (At code span) = IfSome text IsNoScript
+Explains text read_failed write_failed (At code span) = IfSome text (λ bytes. IsNoScriptFor bytes (At code span))
 Explains text read_failed write_failed NoMemory = Unit {0}
+Explains text read_failed write_failed (Stopped code) = ⊥
 Explains text read_failed write_failed Failed = (read_failed ≡ true) ⊎ (write_failed ≡ true)
 
 -- a refusal before anything was written
 abbrev pub IsUnwritten : Refusal → Type 0
 IsUnwritten (At code span) = Unit {0}
 IsUnwritten NoMemory = Unit {0}
+IsUnwritten (Stopped code) = Unit {0}
 IsUnwritten Failed = ⊥

@@ -3,6 +3,7 @@
 
 mod checking;
 mod refusal;
+mod run_command;
 mod script;
 mod serial_command;
 mod sink;
@@ -10,6 +11,7 @@ mod source;
 
 pub use checking::check;
 pub use refusal::Refusal;
+pub use run_command::run;
 pub use serial_command::serial;
 pub use sink::{Sink, Tracked, put_all};
 pub use source::{Fault, Source, Watched, read_all};

@@ -15,6 +15,8 @@ pub enum Refusal {
     At { code: u16, span: Span },
     /// Want of memory: `refused 39`.
     NoMemory,
+    /// A run was stopped before its end, for the reason of this number (20 to 41): `refused 41`.
+    Stopped { code: u16 },
     /// A read or a write failed: `refused 50`.
     Failed,
 }
@@ -33,6 +35,7 @@ impl fmt::Display for Refusal {
                 write!(f, "refused {code} at {start}..{end}")
             }
             Refusal::NoMemory => write!(f, "refused 39"),
+            Refusal::Stopped { code } => write!(f, "refused {code}"),
             Refusal::Failed => write!(f, "refused 50"),
         }
     }

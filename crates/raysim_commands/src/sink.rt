@@ -1,6 +1,6 @@
 // Writers that tell of their failures.
 
-ghost use Rattle.std.specs.Prelude.{◌≡◌, ◌<◌, ◌≤◌, ℕ, Bool, List, Option, true, take, length, IfOk, OnOk, OnErr};
+ghost use Rattle.std.specs.Prelude.{◌≡◌, ◌<◌, ◌≤◌, ℕ, Bool, List, Option, true, false, take, length, IfOk, OnOk, OnErr};
 ghost use Rattle.std.specs.Io.KnownBytes.{WriteAppends, Appends};
 ghost use Rattle.std.specs.Io.{WritesAtMost};
 
@@ -31,7 +31,11 @@ pub struct Tracked<W: Write> {
 }
 
 impl<W: Write> Tracked<W> {
-    pub fn new(inner: W) -> Self {
+    /// A writer of which no write has failed yet.
+    pub fn new(inner: W) -> Self
+        ensures held { ⟦<Tracked<W> as Sink>⟧.held result ≡ W.contents inner }
+        ensures unfailed { ⟦<Tracked<W> as Sink>⟧.has_failed result ≡ false }
+    {
         Tracked {
             inner,
             failed: false,

@@ -1,6 +1,6 @@
 // Readers that tell of their failures.
 
-ghost use Rattle.std.specs.Prelude.{◌≡◌, ◌≤◌, ◌++◌, ◌⊎◌, ℕ, Bool, List, Option, true, vec_len, take, IfOk, OnErr, IfSome, IfErr, IsErrOf};
+ghost use Rattle.std.specs.Prelude.{◌≡◌, ◌≤◌, ◌++◌, ◌⊎◌, ℕ, Bool, List, Option, true, false, vec_len, take, IfOk, OnErr, IfSome, IfErr, IsErrOf};
 ghost use Rattle.std.specs.Io.KnownBytes.{ReadConsumes};
 ghost use Rattle.std.specs.Io.{ReadsAtMost};
 
@@ -35,7 +35,11 @@ pub struct Watched<R: Read> {
 }
 
 impl<R: Read> Watched<R> {
-    pub fn new(inner: R) -> Self {
+    /// A reader of which no read has failed yet.
+    pub fn new(inner: R) -> Self
+        ensures left { ⟦<Watched<R> as Source>⟧.left result ≡ R.remaining inner }
+        ensures unfailed { ⟦<Watched<R> as Source>⟧.has_failed result ≡ false }
+    {
         Watched {
             inner,
             failed: false,

@@ -6,6 +6,7 @@ use Rattle.meaning.specs.Syntax.{Kind, Number, ListKind, RefKind, Expr, Exprs, e
 use Rattle.meaning.specs.Syntax as syntax
 use Rattle.meaning.specs.Meaning.{same_name}
 use Rattle.meaning.specs.Kinds.{Context, kind_in, argument_kind}
+use Rattle.meaning.proofs.Names.{same_name-true}
 use Rattle.script_syntax.specs.Trees as parsed
 use Rattle.script_syntax.specs.declared.tree.Prefix.TheVariants as prefixes
 use Rattle.script_check.specs.Trees.{kind_named}
@@ -13,7 +14,7 @@ use Rattle.script_check.specs.Rules.{function_in, IsCallee, retries_of, IsChecke
 use Rattle.meaning.specs.Values.{main_name}
 use Rattle.script_check.specs.Inference.{◌>>=◌, when, same_kind, Typing, of_kind, prefixed, mark_for, retries_within, count, callee, infer, infer_as, infer_each, infer_arguments, infer_marked}
 use Rattle.script_check.proofs.Arms.{both}
-use Rattle.script_check.proofs.Sound.{same_kind_itself, lt_to, le_to, eq_to, same_name_is}
+use Rattle.script_check.proofs.Sound.{same_kind_itself, lt_to, le_to, eq_to}
 
 abbrev typing : Expr → Kind → Typing
 typing c t = record { expr = c; kind = t }
@@ -25,7 +26,7 @@ callee_to : (program : parsed.Program) (g : Name) (n : ℕ) (f : parsed.Function
 callee_to program g n f h e = go (same_name g main_name) refl
   where
     go : (b : Bool) → same_name g main_name ≡ b → (if b then None else (function_in program g >>= λ k. when (nat_eq (length k.parameters) n) k)) ≡ Some f
-    go true same = absurd (h.not_main (same_name_is g main_name same))
+    go true same = absurd (h.not_main (same_name-true g main_name same))
     go false other = both (function_in program g) f _ _ h.found (ap (λ b. when b f) (eq_to (length f.parameters) n e))
 
 not_itself : (t : Kind) → same_kind (RefKind t) t ≡ true → ⊥

@@ -6,5 +6,6 @@ pub mod Whole
 pub mod Sound
 pub mod Complete
 pub mod Programs
+pub mod MainApart
 pub mod Safe
 pub mod Copies

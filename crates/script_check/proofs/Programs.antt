@@ -5,6 +5,7 @@ use Rattle.meaning.specs.Syntax.{Kind, Number, ListKind, RefKind, Expr, Stmt, Bl
 use Rattle.meaning.specs.Syntax as syntax
 use Rattle.meaning.specs.Meaning.{same_name}
 use Rattle.meaning.specs.Kinds.{Context, kind_in, has_reference}
+use Rattle.meaning.proofs.Names.{same_name-true, same_name-refl}
 use Rattle.script_syntax.specs.Trees as parsed
 use Rattle.script_check.specs.Trees.{kind_named}
 use Rattle.script_check.specs.Rules.{function_in, variable, StatementChecked, BlockChecked, Returns, BlockReturns, ParametersChecked, FunctionChecked, FunctionsChecked, AreNamedApart, HasMain, IsCheckedOf}
@@ -16,7 +17,7 @@ use Rattle.script_check.specs.declared.error.CheckError.{CheckError}
 use Rattle.script_check.specs.declared.error.CheckError.TheVariants.{UnknownName, WrongType, WrongCount, NoMain, PrintOutsideMain, MissingReturn, BadRetries, Duplicate, NoMemory}
 use Rattle.script_check.proofs.Binds.{bind_some, some_is, when_some}
 use Rattle.script_check.proofs.Arms.{both}
-use Rattle.script_check.proofs.Sound.{is_sound, is_sound_as, same_name_is, same_name_itself, same_kind_is, eq_from}
+use Rattle.script_check.proofs.Sound.{is_sound, is_sound_as, same_kind_is, eq_from}
 use Rattle.script_check.proofs.Complete.{is_complete, is_complete_as}
 
 -- Tests
@@ -94,7 +95,7 @@ module _ (program : parsed.Program) (function : parsed.Function) where
       printed i some false q m k = (i.expr, i.kind, m, is_sound program before e i some, q, stmt_eq _ r k, after_eq _ r k)
 
       main : (b : Bool) → same_name function.name main_name ≡ b → (if b then (infer program before e >>= λ c. if has_reference c.kind then None else Some (stepped (syntax.Print c.expr) before)) else None) ≡ Some r → StatementChecked program function (parsed.Print e) before r.stmt r.after
-      main true m k = let i = bind_some (infer program before e) _ r k in printed i.0 i.1 (has_reference i.0.kind) refl (same_name_is function.name main_name m) i.2
+      main true m k = let i = bind_some (infer program before e) _ r k in printed i.0 i.1 (has_reference i.0.kind) refl (same_name-true function.name main_name m) i.2
       main false m k = absurd (cc)
 
   mutual
@@ -149,7 +150,7 @@ module _ (program : parsed.Program) (function : parsed.Function) where
         (both (block_from program function body (before ++ variable x Number)) h.2 _ _ (alone body (before ++ variable x Number) h.2 (steps_complete body (before ++ variable x Number) h.2 h.6)) (stepped_is _ _ c after h.7 h.8))))
     step_complete (parsed.Print e) before c after h =
         let i = is_complete program before e h.0 h.1 h.3 in
-        ap (λ b. if b then (infer program before e >>= λ y. if has_reference y.kind then None else Some (stepped (syntax.Print y.expr) before)) else None) (ap (λ n. same_name n main_name) h.2 ∙ same_name_itself main_name)
+        ap (λ b. if b then (infer program before e >>= λ y. if has_reference y.kind then None else Some (stepped (syntax.Print y.expr) before)) else None) (ap (λ n. same_name n main_name) h.2 ∙ same_name-refl main_name)
         ∙ both (infer program before e) (record { expr = h.0; kind = h.1 }) _ _ i (ap (λ b. if b then None else Some (stepped (syntax.Print h.0) before)) h.4 ∙ stepped_is _ _ c after h.5 h.6)
     step_complete (parsed.Return e) before c after h =
         both (infer_as program before (kind_named function.result) e) h.0 _ _ (is_complete_as program before e h.0 (kind_named function.result) h.1) (stepped_is _ _ c after h.2 h.3)

@@ -13,6 +13,7 @@ use Rattle.script_check.specs.Trees.{kind_named}
 use Rattle.script_check.specs.Rules.{function_in, variable, operator_named, IsChecked, EachChecked, ArgumentsChecked, MarkedChecked, StatementChecked, BlockChecked, Returns, BlockReturns, parameter_named, ParametersChecked, FunctionChecked, FunctionsChecked, AreNamedApart, IsCheckedOf}
 use Rattle.meaning.specs.Values.{main_name}
 use Rattle.script_check.specs.Scripts.{AreApart, IsWellTyped}
+use Rattle.script_check.proofs.MainApart.{main_is_apart}
 
 abbrev named_all : List parsed.Parameter → List Parameter
 named_all = map parameter_named
@@ -182,4 +183,5 @@ well_typed program script h =
       checks = all_safe program script finds program script h.functions;
       apart = apart_safe program [] program [] script refl h.functions h.apart;
       main = (d.0, d.1.found, no_parameters h.main.0 d.0 d.1.parameters h.main.2, d.1.result ∙ ap kind_named h.main.3);
+      main_apart = main_is_apart program program script h.functions;
     }

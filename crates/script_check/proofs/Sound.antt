@@ -1,12 +1,13 @@
 -- What is inferred is allowed.
 use Rattle.std.proofs.Common.{◌≡◌, ℕ, ◌<◌, ◌≤◌, ◌^◌, Bool, true, false, List, [], ◌∷◌, length, refl, sym, ap, ◌∙◌, subst, arith, Option, Some, None}
-use Rattle.std.specs.Prelude.{nat_lt, nat_le, nat_eq, if◌then◌else◌, ◌&&◌}
+use Rattle.std.specs.Prelude.{nat_lt, nat_le, nat_eq, if◌then◌else◌}
 use Rattle.std.proofs.lemmas.Bool.Decides.{nat_tests}
 use Rattle.meaning.specs.Values.{Name}
 use Rattle.meaning.specs.Syntax.{Kind, Number, ListKind, RefKind, Expr, Exprs, end, also, Stmt, Block, done, step, Parameter, Function, Script}
 use Rattle.meaning.specs.Syntax as syntax
 use Rattle.meaning.specs.Meaning.{same_name}
 use Rattle.meaning.specs.Kinds.{Context, kind_in, argument_kind}
+use Rattle.meaning.proofs.Names.{same_name-refl}
 use Rattle.script_syntax.specs.Trees as parsed
 use Rattle.script_syntax.specs.declared.tree.Prefix.TheVariants as prefixes
 use Rattle.script_check.specs.Trees.{kind_named}
@@ -51,20 +52,6 @@ le_to m n h = grind (arith, nat_tests)
 pub eq_to : (m n : ℕ) → m ≡ n → nat_eq m n ≡ true
 eq_to m n h = grind (arith, nat_tests)
 
-pub same_name_itself : (x : Name) → same_name x x ≡ true
-same_name_itself [] = refl
-same_name_itself (c ∷ x) = ap (λ b. b && same_name x x) (eq_to c c refl) ∙ same_name_itself x
-
-pub same_name_is : (x y : Name) → same_name x y ≡ true → x ≡ y
-same_name_is [] [] h = refl
-same_name_is [] (d ∷ y) h = absurd (cc)
-same_name_is (c ∷ x) [] h = absurd (cc)
-same_name_is (c ∷ x) (d ∷ y) h = go (nat_eq c d) refl h (same_name_is x y)
-  where
-    go : (b : Bool) → nat_eq c d ≡ b → (b && same_name x y) ≡ true → (same_name x y ≡ true → x ≡ y) → c ∷ x ≡ d ∷ y
-    go true e k f = let p = eq_from c d e in let q = f k in cc
-    go false e k f = absurd (cc)
-
 -- a typing of a kind
 typed : (P : Expr → Kind → Type 0) (x : Typing) (t : Kind) (c : Expr) → P x.expr x.kind → of_kind t x ≡ Some c → P c t
 typed P x t c h e = let w = when_some (same_kind x.kind t) x.expr c e in subst (λ k. P c k) (same_kind_is x.kind t w.0) (subst (λ z. P z x.kind) w.1 h)
@@ -97,7 +84,7 @@ callee_is program g n f e = go (same_name g main_name) refl e
     go true h k = absurd (cc)
     go false h k =
         let i = bind_some (function_in program g) _ f k in let w = when_some (nat_eq (length i.0.parameters) n) i.0 f i.2 in
-        record { found = i.1 ∙ ap Some w.1; not_main = λ same. let z = ap (λ y. same_name g y) (sym same) in let y = same_name_itself g in absurd (cc) }
+        record { found = i.1 ∙ ap Some w.1; not_main = λ same. let z = ap (λ y. same_name g y) (sym same) in let y = same_name-refl g in absurd (cc) }
 
 few_are : (r : Option ℕ) (k : ℕ) → retries_within r ≡ Some k → (retries_of r ≤ 10) × (retries_of r ≡ k)
 few_are r k e = let w = when_some (nat_le (retries_of r) 10) (retries_of r) k e in (le_from (retries_of r) 10 w.0, w.1)

@@ -3,6 +3,7 @@ use Rattle.std.specs.Prelude.{◌≡◌, [], ◌∷◌, ◌++◌, Some, None}
 use Rattle.meaning.specs.Syntax.{Number, Function, Script}
 use Rattle.meaning.specs.Meaning.{find}
 use Rattle.meaning.specs.Kinds.{ScriptChecks}
+use Rattle.meaning.specs.Mains.{KeepsMainApart}
 use Rattle.script_syntax.specs.Trees.{Program}
 use Rattle.script_check.specs.Rules.{IsCheckedOf}
 use Rattle.meaning.specs.Values.{main_name}
@@ -16,6 +17,7 @@ pub record IsWellTyped (script : Script) : Type 0 where
   pub checks : ScriptChecks script script
   pub apart : AreApart [] script
   pub main : (f : Function) × (find script main_name ≡ Some f) × (f.parameters ≡ []) × (f.result ≡ Number)
+  pub main_apart : KeepsMainApart script
 
 -- a program becomes one script at most
 abbrev pub OneChecked : Type 0

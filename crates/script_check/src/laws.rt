@@ -7,7 +7,8 @@ pub fn one_checked_script()
     ensures { OneChecked }
 {}
 
-/// What the rules allow is well typed, so that it never meets an operand of a wrong kind.
+/// What the rules allow is well typed, so that it never meets an operand of a wrong kind; and no function of it calls main, and none
+/// but main prints.
 pub fn checked_scripts_are_well_typed()
     ensures { AllWellTyped }
 {}

@@ -1,0 +1,76 @@
+#!/usr/bin/env bash
+# Times `raysim run` on scripts of N remote calls, and prints microseconds of processor time a task: the mean of 20 whole processes
+# less that of an empty script, by N. The shapes: calls that need nothing of one another, of which main gets the last (apart) or each
+# in turn (got); calls that each need the one before (chain); and a task that calls two, which call two each, and so on (tree).
+# RAYSIM names another program. First build the proved program: (cd crates/raysim && rt run)
+set -euo pipefail
+cd "$(dirname "$0")"
+raysim=${RAYSIM:-../crates/raysim/out/raysim}
+folder=$(mktemp -d)
+trap 'rm -rf "$folder"' EXIT
+
+empty() {
+    echo 'fn main() -> int { return 0; }'
+}
+
+# N calls, and the value of the last.
+apart() {
+    echo "fn one(x: int) -> int { return x; }
+fn main() -> int {
+    let last = put 0;
+    for i in 0 .. $1 { let new = remote one(i + 1); set last = new; }
+    return get last;
+}"
+}
+
+# N calls, and how many values were got.
+got() {
+    echo "fn one(x: int) -> int { return 1; }
+fn main() -> int {
+    let sum = 0;
+    for i in 0 .. $1 { set sum = sum + get remote one(i); }
+    return sum;
+}"
+}
+
+# N calls, each of the one before, and the value of the last.
+chain() {
+    echo "fn next(x: int) -> int { return x + 1; }
+fn main() -> int {
+    let last = put 0;
+    for i in 0 .. $1 { let new = remote next(last); set last = new; }
+    return get last;
+}"
+}
+
+# A tree of N tasks: each has half of those below it on either side, and its value is how many tasks it and those below it are.
+tree() {
+    echo "fn tree(n: int) -> int {
+    if n == 1 { return 1; }
+    let half = (n - 1) / 2;
+    let left = remote tree(n - 1 - half);
+    if half == 0 { return 1 + get left; }
+    let right = remote tree(half);
+    return 1 + get left + get right;
+}
+fn main() -> int { return get remote tree($1); }"
+}
+
+# Processor time of one run of the script $1, in microseconds: the mean of 20 runs.
+microseconds() {
+    local TIMEFORMAT='%U %S' spent
+    spent=$({ time for turn in {1..20}; do "$raysim" run "$1" > "$folder/report"; done; } 2>&1)
+    awk '{ printf "%d\n", ($1 + $2) * 50000 }' <<< "$spent"
+}
+
+empty > "$folder/empty.ray"
+base=$(microseconds "$folder/empty.ray")
+echo "an empty script: $base microseconds"
+for shape in apart got chain tree; do
+    for tasks in 100 300 500 900; do
+        $shape "$tasks" > "$folder/script.ray"
+        whole=$(microseconds "$folder/script.ray")
+        grep -qx "main value $tasks" "$folder/report" || { echo "$shape $tasks: main ends otherwise"; exit 1; }
+        echo "$shape $tasks: $(((whole - base) / tasks)) microseconds a task"
+    done
+done

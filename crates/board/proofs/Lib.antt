@@ -1,0 +1,3 @@
+mod Meant
+mod Replies
+mod Turning

@@ -1,0 +1,27 @@
+// Faults, written.
+
+ghost use Rattle.std.specs.Prelude.{◌≡◌, ◌++◌, OnOk, string_bytes};
+ghost use Rattle.event_log.specs.Views.{fault_of, kind_of};
+ghost use Rattle.history.specs.Texts.{fault_text, kind_name};
+
+use std::alloc::AllocError;
+use values::{Fault, FaultKind};
+
+fn kind_name(kind: FaultKind) -> &'static str
+    ensures { result.now ≡ kind_name (kind_of kind) }
+{
+    match kind {
+        FaultKind::OwnerDied => "OwnerDied",
+        FaultKind::PutLost => "PutLost",
+        FaultKind::RetriesUsed => "RetriesUsed",
+    }
+}
+
+/// Writes a fault as `PutLost o1.1`: its kind, and the object in which it began.
+pub fn write_fault(text: &mut String, fault: Fault) -> Result<(), AllocError>
+    ensures { OnOk result (string_bytes text.new ≡ string_bytes text.old ++ fault_text (fault_of fault)) }
+{
+    let kind = kind_name(fault.kind);
+    let object = fault.object;
+    write!(text, "{kind} {object}")
+}

@@ -1,0 +1,45 @@
+// The refused events.
+
+ghost use Rattle.std.specs.Prelude.{◌≡◌, ◌++◌, OnOk, None, string_bytes};
+ghost use Rattle.std.specs.Option.{option_map};
+ghost use Rattle.event_log.specs.Views.{entry_of, event_of, log_of};
+ghost use Rattle.history.specs.Refusals.{last_in, refused_in, refused_lines};
+
+use event_log::{Entry, Event};
+use std::alloc::AllocError;
+
+/// The last event of a log, after one more entry.
+fn last_event(last: Option<Event>, entry: &Entry) -> Option<Event>
+    ensures { option_map event_of result ≡ last_in (option_map event_of last) (entry_of entry.now) }
+{
+    match entry {
+        Entry::In { event, .. } => Some(*event),
+        _ => last,
+    }
+}
+
+/// Writes `refused 30 kill 2` where the entry is a refusal, of the last event before it.
+fn write_refusal(text: &mut String, last: Option<Event>, entry: &Entry) -> Result<(), AllocError>
+    ensures { OnOk result (string_bytes text.new ≡ string_bytes text.old ++ refused_in (option_map event_of last) (entry_of entry.now)) }
+{
+    let Entry::Refused(refusal) = entry else {
+        return Ok(());
+    };
+    let code = refusal.number();
+    match last {
+        Some(event) => writeln!(text, "refused {code} {event}"),
+        None => writeln!(text, "refused {code}"),
+    }
+}
+
+/// Writes a line for each refusal of the log.
+pub fn write_refusals(text: &mut String, log: &[Entry]) -> Result<(), AllocError>
+    ensures { OnOk result (string_bytes text.new ≡ string_bytes text.old ++ refused_lines None (log_of log.now)) }
+{
+    let mut last = None;
+    for entry in log {
+        write_refusal(text, last, entry)?;
+        last = last_event(last, entry);
+    }
+    Ok(())
+}

@@ -1,0 +1,184 @@
+-- Where main is apart, a run bears no task of main, and prints only in main.
+use Rattle.std.proofs.Common.{◌≡◌, ℕ, zero, suc, ◌-◌, Bool, true, false, List, [], ◌∷◌, Some, refl, sym, ◌∙◌}
+use Rattle.std.specs.Prelude.{ℤ, pos, nat_lt, if◌then◌else◌, ◌+ℤ◌, ◌-ℤ◌}
+use Rattle.std.specs.List.{AllByRecursion}
+use Rattle.meaning.specs.Values.{Name, Loop, Value, Int, Items, Named, Known, Outcome, Val, Trapped, Argument, Birth, Put, Task, Id, main_name}
+use Rattle.meaning.specs.Syntax.{Kind, Expr, Num, Var, Unary, Binary, ListOf, Empty, Call, Remote, PutOf, GetOf, Exprs, end, also, Stmt, Let, Set, Print, Return, If, For, Block, done, step, Parameter, Script}
+use Rattle.meaning.specs.Runs.{Run, Ends, Prints, Bears, Gets, piece, next_id}
+use Rattle.meaning.specs.Meaning.{broken, Scope, same_name, value_in, bind, bind_all, as_number, apply, apply_one, is_zero, turn_count, proceed, get_from, dereference, Calls, evaluate, evaluate_all, turns, turns_within, leave, execute, execute_all, find, parameters_of, enter, task_by, calls_below, call_at, run_birth}
+use Rattle.meaning.proofs.BirthLaws.{at_test}
+use Rattle.meaning.proofs.Names.{same_name-true}
+use Rattle.meaning.specs.Mains.{CallsOthers, AllCallOthers, IsApart, BlockIsApart, KeepsMainApart, IsNotMains, MainStaysApart}
+
+-- whether prints are allowed
+module _ (prints : Bool) where
+  -- it prints only where that is allowed, and bears no task of main, whatever it is given
+  abbrev IsQuiet : Run → Type 0
+  IsQuiet (Ends c) = Unit {0}
+  IsQuiet (Prints v next) = (prints ≡ true) × IsQuiet next
+  IsQuiet (Bears b made_by next) = IsNotMains b × ((v : Value) → IsQuiet (next v))
+  IsQuiet (Gets t r next) = (v : Value) → IsQuiet (next v)
+
+  abbrev IsQuietNext : (Value → Run) → Type 0
+  IsQuietNext next = (v : Value) → IsQuiet (next v)
+
+  abbrev IsQuietAfter : (Scope → Run) → Type 0
+  IsQuietAfter next = (scope : Scope) → IsQuiet (next scope)
+
+  -- main may be run only where prints are allowed
+  abbrev MayRun : Name → Type 0
+  MayRun g = g ≡ main_name → prints ≡ true
+
+  -- what makes the object may be run
+  abbrev MayMake : Birth → Type 0
+  MayMake (Put v) = Unit {0}
+  MayMake (Task g args depth retries) = MayRun g
+
+  proceeds : (c : Outcome) (next : Value → Run) → IsQuietNext next → IsQuiet (proceed c next)
+  proceeds (Val v) next l = l v
+  proceeds (Trapped e) next l = tt
+
+  gets : (u : Kind) (r : Value) (next : Value → Run) → IsQuietNext next → IsQuiet (get_from u r next)
+  gets u (Int n) next l = tt
+  gets u (Items vs) next l = tt
+  gets u (Named o) next l = l
+  gets u (Known c) next l = l
+
+  number_runs : (v : Value) (f : ℤ → Run) → ((n : ℤ) → IsQuiet (f n)) → IsQuiet (as_number broken v f)
+  number_runs (Int n) f l = l n
+  number_runs (Items vs) f l = tt
+  number_runs (Named o) f l = tt
+  number_runs (Known c) f l = tt
+
+  bound_all : (ps : List Parameter) (vs : List Value) (next : Scope → Run) → IsQuietAfter next → IsQuiet (bind_all broken ps vs next)
+  bound_all [] [] next l = l []
+  bound_all [] (v ∷ vs) next l = tt
+  bound_all (p ∷ ps) [] next l = tt
+  bound_all (p ∷ ps) (v ∷ vs) next l = bound_all ps vs _ (λ scope. l (record { name = p.name; value = v } ∷ scope))
+
+  dereferenced : (ps : List Parameter) (args : List Argument) (next : List Value → Run) → ((vs : List Value) → IsQuiet (next vs)) → IsQuiet (dereference ps args next)
+  dereferenced ps [] next l = l []
+  dereferenced [] (a ∷ args) next l = tt
+  dereferenced (p ∷ ps) (a ∷ args) next l =
+      let rest = λ (v : Value). dereferenced ps args (λ vs. next (v ∷ vs)) (λ vs. l (v ∷ vs)) in
+      let got = gets p.kind a.value (λ v. dereference ps args (λ vs. next (v ∷ vs))) rest in
+      let here = rest a.value in
+      elim a.marked as (λ m. IsQuiet (if m then get_from p.kind a.value (λ v. dereference ps args (λ vs. next (v ∷ vs))) else dereference ps args (λ vs. next (a.value ∷ vs)))) [ true ↦ got | false ↦ here ]
+
+  -- calls that may be made are quiet
+  abbrev AreQuiet : (Name → List Value → (Value → Run) → Run) → Type 0
+  AreQuiet call = (g : Name) → MayRun g → (vs : List Value) (next : Value → Run) → IsQuietNext next → IsQuiet (call g vs next)
+
+  module _ (calls : Calls) (quiet : AreQuiet calls.plain) where
+    mutual
+      evaluates : (e : Expr) (scope : Scope) (next : Value → Run) → CallsOthers e → IsQuietNext next → IsQuiet (evaluate calls e scope next)
+      evaluates (Num n) scope next h l = l (Int n)
+      evaluates (Var x) scope next h l = proceeds (value_in scope x) next l
+      evaluates (Unary op a) scope next h l = evaluates a scope _ h (λ v. proceeds (apply_one op v) next l)
+      evaluates (Binary op a b) scope next h l = evaluates a scope _ h.0 (λ v. evaluates b scope _ h.1 (λ w. proceeds (apply op v w) next l))
+      evaluates (ListOf es) scope next h l = evaluates_all es scope _ h (λ vs. l _)
+      evaluates (Empty k) scope next h l = l _
+      evaluates (Call g args) scope next h l = evaluates_all args scope _ h.1 (λ vs. quiet g (λ e. absurd (h.0 e)) vs next l)
+      evaluates (Remote k g marks args) scope next h l = evaluates_all args scope _ h.1 (λ vs. (h.0, l))
+      evaluates (PutOf a) scope next h l = evaluates a scope _ h (λ v. (tt, l))
+      evaluates (GetOf k a) scope next h l = evaluates a scope _ h (λ r. gets k r next l)
+
+      evaluates_all : (es : Exprs) (scope : Scope) (next : List Value → Run) → AllCallOthers es → ((vs : List Value) → IsQuiet (next vs)) → IsQuiet (evaluate_all calls es scope next)
+      evaluates_all end scope next h l = l []
+      evaluates_all (also e es) scope next h l = evaluates e scope _ h.0 (λ v. evaluates_all es scope _ h.1 (λ vs. l (v ∷ vs)))
+
+    left : (before : Scope) (next : Scope → Run) → IsQuietAfter next → IsQuietAfter (leave calls before next)
+    left before next l = λ scope. l _
+
+    choice : (n : ℤ) (a b : Run) → IsQuiet a → IsQuiet b → IsQuiet (if is_zero n then b else a)
+    choice n a b ha hb = elim (is_zero n) as (λ z. IsQuiet (if z then b else a)) [ true ↦ hb | false ↦ ha ]
+
+    abbrev AreQuietTurns : (ℤ → Scope → (Scope → Run) → Run) → Type 0
+    AreQuietTurns body = (i : ℤ) (scope : Scope) (next : Scope → Run) → IsQuietAfter next → IsQuiet (body i scope next)
+
+    turn : (n : ℕ) (i : ℤ) (body : ℤ → Scope → (Scope → Run) → Run) (scope : Scope) (next : Scope → Run) → AreQuietTurns body → IsQuietAfter next → IsQuiet (turns calls n i body scope next)
+    turn zero i body scope next f l = l scope
+    turn (suc n) i body scope next f l = f i scope _ (λ after. turn n (i +ℤ pos 1) body after next f l)
+
+    loops : (from to : ℤ) (body : ℤ → Scope → (Scope → Run) → Run) (scope : Scope) (next : Scope → Run) → AreQuietTurns body → IsQuietAfter next → IsQuiet (turns_within calls from to body scope next)
+    loops from to body scope next f l =
+        let n = turn_count (to -ℤ from) in
+        let run = turn n from body scope next f l in
+        elim (nat_lt 10000 n) as (λ b. IsQuiet (if b then Ends (Trapped Loop) else turns calls n from body scope next)) [ true ↦ tt | false ↦ run ]
+
+    -- in a function that may be run
+    module _ (function : Name) (may : MayRun function) where
+      mutual
+        executes : (s : Stmt) (scope : Scope) (next : Scope → Run) (return : Value → Run) → IsApart function s → IsQuietAfter next → IsQuietNext return → IsQuiet (execute calls s scope next return)
+        executes (Let x e) scope next return h l r = evaluates e scope _ h (λ v. l _)
+        executes (Set x e) scope next return h l r = evaluates e scope _ h (λ v. l _)
+        executes (Print e) scope next return h l r = evaluates e scope _ h.1 (λ v. (may h.0, l scope))
+        executes (Return e) scope next return h l r = evaluates e scope return h r
+        executes (If e a b) scope next return h l r =
+            evaluates e scope _ h.0 (λ v. number_runs v _ (λ n. choice n _ _
+            (executes_all a scope _ return h.1 (left scope next l) r)
+            (executes_all b scope _ return h.2 (left scope next l) r)))
+        executes (For x from to body) scope next return h l r =
+            evaluates from scope _ h.0 (λ v. evaluates to scope _ h.1 (λ w.
+            number_runs v _ (λ m. number_runs w _ (λ n. loops m n _ scope next
+            (λ i before k lk. executes_all body (bind before x (Int i)) _ return h.2 (left before k lk) r)
+            l))))
+
+        executes_all : (b : Block) (scope : Scope) (next : Scope → Run) (return : Value → Run) → BlockIsApart function b → IsQuietAfter next → IsQuietNext return → IsQuiet (execute_all calls b scope next return)
+        executes_all done scope next return h l r = l scope
+        executes_all (step s rest) scope next return h l r =
+            executes s scope _ return h.0 (λ after. executes_all rest after next return h.1 l r) r
+
+    entered : (fs : Script) → KeepsMainApart fs → (g : Name) → MayRun g → (vs : List Value) (next : Value → Run) → IsQuietNext next → IsQuiet (enter calls (find fs g) vs next)
+    entered [] h g may vs next l = tt
+    entered (f ∷ fs) h g may vs next l =
+        let others = entered fs h.1 g may vs next l in
+        at_test (λ b. IsQuiet (enter calls (if b then Some f else find fs g) vs next)) (same_name f.name g)
+        (λ e. bound_all f.parameters vs _ (λ scope. executes_all f.name (λ m. may (sym (same_name-true f.name g e) ∙ m)) f.body scope _ next h.0 (λ _. tt) l))
+        (λ _. others)
+
+  module _ (script : Script) (apart : KeepsMainApart script) where
+    calls_quiet : (n : ℕ) → AreQuiet (call_at script n)
+    unfolding call_at
+    calls_quiet zero g may vs next l = tt
+    calls_quiet (suc n) g may vs next l = entered (calls_below script n) (calls_quiet n) script apart g may vs next l
+
+    tasks_quiet : (b : Bool) (ps : List Parameter) (call : List Value → (Value → Run) → Run) (args : List Argument) →
+        ((vs : List Value) (next : Value → Run) → IsQuietNext next → IsQuiet (call vs next)) → IsQuiet (task_by b ps call args)
+    tasks_quiet true ps call args l = tt
+    tasks_quiet false ps call args l = dereferenced ps args _ (λ vs. l vs _ (λ v. tt))
+
+    births_quiet : (b : Birth) → MayMake b → IsQuiet (run_birth script b)
+    births_quiet (Put v) may = tt
+    births_quiet (Task g args depth retries) may = tasks_quiet (nat_lt 32 depth) (parameters_of (find script g)) (call_at script (33 - depth) g) args (calls_quiet (33 - depth) g may)
+
+  born : (run : Run) (base : Id) (answers : List Outcome) → IsQuiet run → AllByRecursion IsNotMains (piece run base answers).births
+  born (Ends c) base answers h = tt
+  born (Prints v next) base answers h = born next base answers h.1
+  born (Bears b made_by next) base answers h = (h.0, born (next (Named base)) (next_id base) answers (h.1 (Named base)))
+  born (Gets t r next) base [] h = tt
+  born (Gets t r next) base (Val v ∷ answers) h = born (next v) base answers (h v)
+  born (Gets t r next) base (Trapped e ∷ answers) h = tt
+
+printed : (run : Run) (base : Id) (answers : List Outcome) → IsQuiet false run → (piece run base answers).prints ≡ []
+printed (Ends c) base answers h = refl
+printed (Prints v next) base answers h = absurd (cc)
+printed (Bears b made_by next) base answers h = printed (next (Named base)) (next_id base) answers (h.1 (Named base))
+printed (Gets t r next) base [] h = refl
+printed (Gets t r next) base (Val v ∷ answers) h = printed (next v) base answers (h v)
+printed (Gets t r next) base (Trapped e ∷ answers) h = refl
+
+where_prints_are_allowed : (b : Birth) → MayMake true b
+where_prints_are_allowed (Put v) = tt
+where_prints_are_allowed (Task g args depth retries) = λ _. refl
+
+where_none_are : (b : Birth) → IsNotMains b → MayMake false b
+where_none_are (Put v) h = tt
+where_none_are (Task g args depth retries) h = λ e. absurd (h e)
+
+pub main_stays_apart : MainStaysApart
+main_stays_apart script apart spec base answers =
+    record {
+      births = born true (run_birth script spec) base answers (births_quiet true script apart spec (where_prints_are_allowed spec));
+      prints = λ n. printed (run_birth script spec) base answers (births_quiet false script apart spec (where_none_are spec n));
+    }

@@ -1,0 +1,73 @@
+// The command `run`.
+
+ghost use Rattle.std.specs.Prelude.{◌≡◌, ℕ, IfOk, IfErr, IfSome, string_bytes};
+ghost use Rattle.std.specs.Io.KnownBytes.{Appends};
+ghost use Rattle.script_check.specs.Trees.{script_of};
+ghost use Rattle.raysim_commands.specs.Scripts.{IsScript, IsUnwritten};
+ghost use Rattle.raysim_commands.specs.RunReports.{IsReportOf, IsRunStop, IsRunReported, IsRunBegun, ExplainsRun};
+
+use crate::refusal::Refusal;
+use crate::script::checked_script;
+use crate::sink::{Sink, put_all};
+use crate::source::{Source, read_all};
+use board::Board;
+use run_core::Core;
+use script_check::Checked;
+use segment::ScriptName;
+use std::alloc::Global;
+use std::marker::Brand;
+
+/// What `run` writes, and the status that it ends with.
+#[derive(Drop)]
+struct RunReport {
+    text: String,
+    status: u8,
+}
+
+/// The report of a script's run.
+fn run_script<S: ScriptName>(alloc: Global, script: &Checked) -> Result<RunReport, Refusal>
+    requires { script_of script.now ≡ S.script }
+    ensures reported { IfOk result (λ report. IsReportOf (script_of script.now) (string_bytes report.text) report.status) }
+    ensures stopped { IfErr result (IsRunStop (script_of script.now)) }
+{
+    let core = Core::<S>::new(alloc, script)?;
+    let mut board = Board::new(core);
+    if let Err(stopped) = board.drive(alloc, script) {
+        return Err(Refusal::Stopped {
+            code: stopped.number(),
+        });
+    }
+    let text = board.report(alloc)?;
+    let status = board.status();
+    Ok(RunReport { text, status })
+}
+
+/// Reads a script's text, runs its remote calls as tasks on one node until no worker is ready, and writes the report of the run, in
+/// the lines that `history::report_text` says: what main prints and how it ends come first. The status is 0 where main ends with a
+/// value, 1 where it ends with a trap, and 2 where it is open or has a fault.
+///
+/// Else the refusal says why: `At` where the text is no script that the rules allow, `NoMemory`, `Stopped` where the run stops before
+/// its end, or `Failed` where a read or a write failed. After a failed write a beginning of the report is out; before any other refusal
+/// nothing is written.
+pub fn run<R: Source, W: Sink>(
+    alloc: Global,
+    reader: &mut R,
+    writer: &mut W,
+) -> Result<u8, Refusal>
+    ensures reported { IfOk result (λ status. IfSome (R.left reader.old) (λ text. IsRunReported text status (W.held writer.old) (W.held writer.new))) }
+    ensures refused { IfErr result (λ refusal. ExplainsRun (R.left reader.old) (R.has_failed reader.new) (W.has_failed writer.new) refusal) }
+    ensures unwritten { IfErr result (λ refusal. IsUnwritten refusal → W.held writer.new ≡ W.held writer.old) }
+    ensures beginning { IfErr result (λ refusal. IfSome (R.left reader.old) (λ text. IsRunBegun text (W.held writer.old) (W.held writer.new))) }
+{
+    let text = read_all(alloc, reader)?;
+    let script = match checked_script(alloc, text.as_slice()) {
+        Ok(script) => script,
+        Err(refusal) => return Err(refusal),
+    };
+    let report = match run_script::<Brand>(alloc, &script) {
+        Ok(report) => report,
+        Err(refusal) => return Err(refusal),
+    };
+    put_all(writer, report.text.as_bytes())?;
+    Ok(report.status)
+}

@@ -1,0 +1,42 @@
+// The command `serial`.
+
+use super::scripts::{rows, script};
+use super::{Broken, refused};
+use crate::{Refusal, Tracked, Watched, serial};
+use std::alloc::{AllocError, Global};
+use std::test::Fail;
+
+/// Whether the script with this body of main is reported so, with this status.
+fn is_reported(alloc: Global, body: &str, report: &str, status: u8) -> Result<bool, AllocError> {
+    let script = script(alloc, body)?;
+    let mut out = Vec::new(alloc);
+    let mut input = Watched::new(script.as_bytes());
+    let answer = serial(alloc, &mut input, &mut Tracked::new(&mut out));
+    Ok(answer == Ok(status) && out.as_slice() == report.as_bytes())
+}
+
+#[test]
+fn serial_runs_are_reported(rt: HostRuntime) -> Result<(), Fail> {
+    let alloc = rt.alloc();
+    for (body, report, status) in rows() {
+        assert!(rt; is_reported(alloc, body, report, status)?);
+    }
+    Ok(())
+}
+
+#[test]
+fn no_serial_run_of_what_is_refused(rt: HostRuntime) -> Result<(), Fail> {
+    let alloc = rt.alloc();
+    let mut out = Vec::new(alloc);
+    let mut sink = Tracked::new(&mut out);
+    let mut empty = Watched::new(b"".as_slice());
+    assert!(rt; serial(alloc, &mut empty, &mut sink) == refused(13, 0, 0));
+    let mut unended = Watched::new(b"fn main() -> int { return 1 }".as_slice());
+    assert!(rt; serial(alloc, &mut unended, &mut sink) == refused(3, 28, 29));
+    let mut reference = Watched::new(b"fn main() -> int { return put 1; }".as_slice());
+    assert!(rt; serial(alloc, &mut reference, &mut sink) == refused(11, 26, 31));
+    let mut broken = Watched::new(Broken);
+    assert!(rt; serial(alloc, &mut broken, &mut sink) == Err(Refusal::Failed));
+    assert!(rt; out.is_empty());
+    Ok(())
+}

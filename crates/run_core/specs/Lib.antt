@@ -1,0 +1,4 @@
+pub mod Events
+pub mod States
+pub mod Views
+pub mod Steps

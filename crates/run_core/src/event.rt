@@ -1,0 +1,28 @@
+// Events.
+
+ghost use Rattle.std.specs.Prelude.{◌≡◌};
+ghost use Rattle.run_core.specs.Events.{logged};
+
+use event_log::Event as Logged;
+use ids::WorkerId;
+
+/// What can happen to a run on one node without messages.
+#[derive(Clone, Copy, PartialEq, Eq, Debug)]
+pub enum Event {
+    /// The worker's next part of its task is given out as a job.
+    Claim(WorkerId),
+    /// What was done on the job is applied. Jobs are numbered from 1.
+    Commit(u64),
+}
+
+impl Event {
+    /// The event as the log has it.
+    pub fn logged(self) -> Logged
+        ensures { result ≡ logged self }
+    {
+        match self {
+            Event::Claim(worker) => Logged::Claim(worker),
+            Event::Commit(job) => Logged::Commit(job),
+        }
+    }
+}

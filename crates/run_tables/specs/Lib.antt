@@ -1,0 +1,4 @@
+pub mod Handed
+pub mod History
+pub mod Logged
+pub mod Views

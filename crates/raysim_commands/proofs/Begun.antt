@@ -1,5 +1,5 @@
 -- Beginnings of reports.
-use Rattle.std.proofs.Common.{◌≡◌, ℕ, List, Option, None, Some, inr, subst, ap, take, Result, Ok, Err, IfErr}
+use Rattle.std.proofs.Common.{◌≡◌, ℕ, List, Option, None, Some, inr, subst, take, Result, Ok, Err, IfErr}
 use Rattle.std.specs.Prelude.{IfSome}
 use Rattle.std.specs.Io.KnownBytes.{Appends}
 use Rattle.meaning.specs.Syntax.{Script}

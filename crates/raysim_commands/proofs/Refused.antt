@@ -1,5 +1,5 @@
 -- Refusals have their causes.
-use Rattle.std.proofs.Common.{◌≡◌, ℕ, Bool, List, Option, None, Some, inl, inr, refl, sym, subst, ◌∙◌}
+use Rattle.std.proofs.Common.{◌≡◌, ℕ, Bool, List, Option, None, Some, inl, inr, sym, subst}
 use Rattle.std.specs.Prelude.{IfSome}
 use Rattle.meaning.specs.Syntax.{Script}
 use Rattle.script_tokens.specs.declared.error.SyntaxError.{SyntaxError}
@@ -13,8 +13,8 @@ use Rattle.script_check.specs.declared.error.CheckError.{CheckError}
 use Rattle.script_check.specs.declared.error.CheckError.TheVariants as faults
 use Rattle.raysim_commands.specs.declared.refusal.Refusal.{Refusal}
 use Rattle.raysim_commands.specs.declared.refusal.Refusal.TheVariants.{At, NoMemory, Stopped, Failed}
-use Rattle.raysim_commands.specs.Scripts.{IsScript, IsNoScript, IsRefusalOf, IsParserError, IsCheckerError, IsNoScriptFor, syntax_refusal, check_refusal, Explains}
-use Rattle.raysim_commands.specs.RunReports.{IsRunStop, ExplainsRun}
+use Rattle.raysim_commands.specs.Scripts.{IsNoScript, IsRefusalOf, IsNoScriptFor, syntax_refusal, check_refusal, Explains}
+use Rattle.raysim_commands.specs.RunReports.{ExplainsRun}
 
 -- the parser's error
 pub refused_by_parser : (text : List ℕ) (e : SyntaxError) (r : Refusal) → IsRefusalOfText text e → ((program : Program) → Reads text program → e ≡ syntax.NoMemory) → r ≡ syntax_refusal e → IsRefusalOf text r
@@ -87,11 +87,3 @@ explains_as_others known a b (At code span) h = h
 explains_as_others known a b NoMemory h = h
 explains_as_others known a b (Stopped code) h = absurd h
 explains_as_others known a b Failed h = h
-
--- what was read, where it is known, is the script whose run stops
-pub explains_stop : (known : Option (List ℕ)) (text : List ℕ) (script : Script) (read_failed write_failed : Bool) (r : Refusal) → IfSome known (λ bytes. text ≡ bytes) → IsScript text script → IsRunStop script r → ExplainsRun known read_failed write_failed r
-explains_stop known text script a b (At code span) h s k = absurd k
-explains_stop known text script a b NoMemory h s k = tt
-explains_stop None text script a b (Stopped code) h s k = tt
-explains_stop (Some bytes) text script a b (Stopped code) h s k = (script, subst (λ t. IsScript t script) h s, k)
-explains_stop known text script a b Failed h s k = absurd k

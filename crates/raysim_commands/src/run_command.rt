@@ -1,9 +1,8 @@
 // The command `run`.
 
-ghost use Rattle.std.specs.Prelude.{◌≡◌, ℕ, IfOk, IfErr, IfSome, string_bytes};
-ghost use Rattle.std.specs.Io.KnownBytes.{Appends};
+ghost use Rattle.std.specs.Prelude.{◌≡◌, IfOk, IfErr, IfSome, string_bytes};
 ghost use Rattle.script_check.specs.Trees.{script_of};
-ghost use Rattle.raysim_commands.specs.Scripts.{IsScript, IsUnwritten};
+ghost use Rattle.raysim_commands.specs.Scripts.{IsUnwritten};
 ghost use Rattle.raysim_commands.specs.RunReports.{IsReportOf, IsRunStop, IsRunReported, IsRunBegun, ExplainsRun};
 
 use crate::refusal::Refusal;
@@ -42,18 +41,14 @@ fn run_script<S: ScriptName>(alloc: Global, script: &Checked) -> Result<RunRepor
     Ok(RunReport { text, status })
 }
 
-/// Reads a script's text, runs its remote calls as tasks on one node until no worker is ready, and writes the report of the run, in
-/// the lines that `history::report_text` says: what main prints and how it ends come first. The status is 0 where main ends with a
-/// value, 1 where it ends with a trap, and 2 where it is open or has a fault.
+/// Reads a script's text, runs its remote calls as tasks on one node until no worker is ready, and writes the report of the run: what
+/// main prints and how it ends, then what became of the other attempts (docs/runs.md, "The report"). The status is 0 where main ends
+/// with a value, 1 where it ends with a trap, and 2 where it is open or has a fault.
 ///
 /// Else the refusal says why: `At` where the text is no script that the rules allow, `NoMemory`, `Stopped` where the run stops before
 /// its end, or `Failed` where a read or a write failed. After a failed write a beginning of the report is out; before any other refusal
 /// nothing is written.
-pub fn run<R: Source, W: Sink>(
-    alloc: Global,
-    reader: &mut R,
-    writer: &mut W,
-) -> Result<u8, Refusal>
+pub fn run<R: Source, W: Sink>(alloc: Global, reader: &mut R, writer: &mut W) -> Result<u8, Refusal>
     ensures reported { IfOk result (λ status. IfSome (R.left reader.old) (λ text. IsRunReported text status (W.held writer.old) (W.held writer.new))) }
     ensures refused { IfErr result (λ refusal. ExplainsRun (R.left reader.old) (R.has_failed reader.new) (W.has_failed writer.new) refusal) }
     ensures unwritten { IfErr result (λ refusal. IsUnwritten refusal → W.held writer.new ≡ W.held writer.old) }

@@ -63,7 +63,11 @@ fn refusals_are_one_line(rt: HostRuntime) -> Result<(), Fail> {
         span: Span { start: 28, end: 29 },
     };
     let stopped = Refusal::Stopped { code: 41 };
-    let text = format!(in alloc; "{refusal}, {}, {stopped}, {}", Refusal::NoMemory, Refusal::Failed)?;
+    let text = format!(in alloc;
+        "{refusal}, {}, {stopped}, {}",
+        Refusal::NoMemory,
+        Refusal::Failed
+    )?;
     assert!(rt; text.as_str() == "refused 3 at 28..29, refused 39, refused 41, refused 50");
     Ok(())
 }

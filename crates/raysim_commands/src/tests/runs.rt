@@ -37,9 +37,15 @@ fn report(alloc: Global, body: &str) -> Result<Vec<u8>, Fail> {
 fn attempts_stand_after_main(rt: HostRuntime) -> Result<(), Fail> {
     let alloc = rt.alloc();
     let got = report(alloc, "let r = remote sq(7); print get r; return 0;")?;
-    assert!(rt; got.as_slice() == b"print 49\nmain value 0\nattempt a1.1#0 w2 accepted\n".as_slice());
+    assert!(rt;
+        got.as_slice() == b"print 49\nmain value 0\nattempt a1.1#0 w2 accepted\n".as_slice()
+    );
     let not_got = report(alloc, "let r = remote div(1, 0); return 5;")?;
-    assert!(rt; not_got.as_slice().ends_with(b"attempt a1.1#0 w2 ended\n".as_slice()));
+    assert!(rt;
+        not_got
+            .as_slice()
+            .ends_with(b"attempt a1.1#0 w2 ended\n".as_slice())
+    );
     Ok(())
 }
 

@@ -14,4 +14,4 @@ pub returns-in_err-put_all-clause-beginning : goal.returns-in_err-put_all-clause
 returns-in_err-put_all-clause-beginning g c =
     always_err c.from_residual-in_err-put_all.result _
     (begun_so _ c.in_ok-text.text.items (script_of c.in-Ok.script) _ _ c.in-Ok-run_script.report.status _ _
-        c.in_ok-text.ensures.ok (subst (λ t. IsScript t (script_of c.in-Ok.script)) c.as_slice.ensures.value c.in-Ok.ensures.found) c.in-Ok-run_script.ensures.reported c.as_bytes.ensures.value c.in_err-put_all.ensures.beginning)
+    c.in_ok-text.ensures.ok (subst (λ t. IsScript t (script_of c.in-Ok.script)) c.as_slice.ensures.value c.in-Ok.ensures.found) c.in-Ok-run_script.ensures.reported c.as_bytes.ensures.value c.in_err-put_all.ensures.beginning)

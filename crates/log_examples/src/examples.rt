@@ -3,9 +3,35 @@
 ghost use Rattle.std.specs.Prelude.{◌++◌};
 ghost use Rattle.event_log.specs.Legal.{BrokenOff, LegalTo, Legal, opening};
 ghost use Rattle.log_examples.specs.Logs.{square_setting, square_log, trap_setting, trap_log, passing_setting, passing_log};
-ghost use Rattle.log_examples.specs.FaultLogs.{unretried_setting, unretried_log, retried_setting, retried_log, put_lost_setting, put_lost_log, owner_died_setting, owner_died_log};
+ghost use Rattle.log_examples.specs.FaultLogs.{
+  unretried_setting,
+  unretried_log,
+  retried_setting,
+  retried_log,
+  put_lost_setting,
+  put_lost_log,
+  owner_died_setting,
+  owner_died_log,
+};
 ghost use Rattle.log_examples.specs.ReleaseLogs.{releasing_setting, releasing_log};
-ghost use Rattle.log_examples.specs.WrongLogs.{IsWrong, two_puts_setting, wrong_content, begun_again, accepted_twice, passed_setting, released_while_held, released_out_of_order, fault_without_cause, print_after_end, skipped_serial, end_of_the_dead, notice_of_the_living, half_a_commit, half_a_commit_and_more, entry_of_a_refused_event};
+ghost use Rattle.log_examples.specs.WrongLogs.{
+  IsWrong,
+  two_puts_setting,
+  wrong_content,
+  begun_again,
+  accepted_twice,
+  passed_setting,
+  released_while_held,
+  released_out_of_order,
+  fault_without_cause,
+  print_after_end,
+  skipped_serial,
+  end_of_the_dead,
+  notice_of_the_living,
+  half_a_commit,
+  half_a_commit_and_more,
+  entry_of_a_refused_event,
+};
 
 /// Logs that are legal.
 pub fn legal_examples()

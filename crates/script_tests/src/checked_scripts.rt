@@ -16,8 +16,10 @@ fn allows_what_the_rules_allow(rt: HostRuntime) -> Result<(), Fail> {
         "fn f(x: int) -> int { return x; } fn main() -> int { let r = put 1; return get remote(10) f(r) + get remote(0) f(2); }",
         "fn main() -> int { return 1; print 2; }",
         "fn main() -> int { if 1 { return 1; } else { return 2; } }",
-        "fn even(n: int) -> int { if n == 0 { return 1; } return odd(n - 1); } fn odd(n: int) -> int { if n == 0 { return 0; } return even(n - 1); } fn main() -> int { print [[1], empty int]; return even(4); }",
-        "fn sum(l: [ref int]) -> int { let t = 0; for i in 0 .. len(l) { set t = t + get l[i]; } return t; } fn sq(x: int) -> int { return x * x; } fn main() -> int { return get remote sum([remote sq(1), remote sq(2)]); }",
+        "fn even(n: int) -> int { if n == 0 { return 1; } return odd(n - 1); } fn odd(n: int) -> int { if n == 0 { return 0; } return even(n - 1);
+            } fn main() -> int { print [[1], empty int]; return even(4); }",
+        "fn sum(l: [ref int]) -> int { let t = 0; for i in 0 .. len(l) { set t = t + get l[i]; } return t; } fn sq(x: int) -> int { return x * x;
+            } fn main() -> int { return get remote sum([remote sq(1), remote sq(2)]); }",
     ];
     for text in cases {
         assert_eq!(rt; refusal(rt.alloc(), text)?, None, "{text}");

@@ -256,9 +256,11 @@ fn prints_the_fewest_parentheses(rt: HostRuntime) -> Result<(), Fail> {
 #[test]
 fn prints_each_statement(rt: HostRuntime) -> Result<(), Fail> {
     let text =
-        "fn sum(l: [ref int]) -> int { let t = 0; for i in 0 .. len(l) { set t = t + get l[i]; } return t; }\nfn main(a: int, b: [int]) -> ref int { if a { print a; } else { } if 1 { } return get remote sum([remote sq(1), remote sq(2)]); }";
+        "fn sum(l: [ref int]) -> int { let t = 0; for i in 0 .. len(l) { set t = t + get l[i]; } return t; }\nfn main(a: int,
+            b: [int]) -> ref int { if a { print a; } else { } if 1 { } return get remote sum([remote sq(1), remote sq(2)]); }";
     let wanted =
-        "fn sum ( l : [ ref int ] ) -> int { let t = 0 ; for i in 0 .. len ( l ) { set t = t + get l [ i ] ; } return t ; }\nfn main ( a : int , b : [ int ] ) -> ref int { if a { print a ; } else { } if 1 { } return get remote sum ( [ remote sq ( 1 ) , remote sq ( 2 ) ] ) ; }\n";
+        "fn sum ( l : [ ref int ] ) -> int { let t = 0 ; for i in 0 .. len ( l ) { set t = t + get l [ i ] ; } return t ; }\nfn main ( a : int ,
+            b : [ int ] ) -> ref int { if a { print a ; } else { } if 1 { } return get remote sum ( [ remote sq ( 1 ) , remote sq ( 2 ) ] ) ; }\n";
     let program = parse(rt.alloc(), text.as_bytes()).ok().ok_or("a program")?;
     let printed = print_program(rt.alloc(), &program)?;
     assert_eq!(rt; printed.as_str(), wanted);

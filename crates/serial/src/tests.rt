@@ -57,7 +57,8 @@ fn prints_what_main_prints_alone(rt: HostRuntime) {
 fn gets_what_remote_calls_give(rt: HostRuntime) {
     let cases = [
         (
-            "fn sq(x: int) -> int { return x * x; } fn sum(l: [ref int]) -> int { let t = 0; for i in 0 .. len(l) { set t = t + get l[i]; } return t; } fn main() -> int { return get remote sum([remote sq(1), remote sq(2), remote sq(3), remote sq(4)]); }",
+            "fn sq(x: int) -> int { return x * x; } fn sum(l: [ref int]) -> int { let t = 0; for i in 0 .. len(l) { set t = t + get l[i]; } return t;
+                } fn main() -> int { return get remote sum([remote sq(1), remote sq(2), remote sq(3), remote sq(4)]); }",
             30,
         ),
         (
@@ -69,7 +70,8 @@ fn gets_what_remote_calls_give(rt: HostRuntime) {
             4,
         ),
         (
-            "fn add(r: ref int) -> int { return 1 + get r; } fn mid(r: ref int) -> int { let c = remote add(r); return 0; } fn main() -> int { let p = put 6; let m = remote mid(p); return get m; }",
+            "fn add(r: ref int) -> int { return 1 + get r; } fn mid(r: ref int) -> int { let c = remote add(r); return 0;
+                } fn main() -> int { let p = put 6; let m = remote mid(p); return get m; }",
             0,
         ),
         (
@@ -102,11 +104,13 @@ fn traps_reach_whoever_gets_them(rt: HostRuntime) {
             Trap::DivZero,
         ),
         (
-            "fn long(n: int) -> [int] { let l = empty int; for i in 0 .. n { set l = push(l, i); } return l; } fn div(a: int, b: int) -> int { return a / b; } fn f(l: [int], x: int) -> int { return len(l) + x; } fn main() -> int { return get remote f(remote long(4097), remote div(1, 0)); }",
+            "fn long(n: int) -> [int] { let l = empty int; for i in 0 .. n { set l = push(l, i); } return l; } fn div(a: int, b: int) -> int { return a / b;
+                } fn f(l: [int], x: int) -> int { return len(l) + x; } fn main() -> int { return get remote f(remote long(4097), remote div(1, 0)); }",
             Trap::TooLong,
         ),
         (
-            "fn long(n: int) -> [int] { let l = empty int; for i in 0 .. n { set l = push(l, i); } return l; } fn div(a: int, b: int) -> int { return a / b; } fn f(l: [int], x: int) -> int { return len(l) + x; } fn main() -> int { return get remote f(remote long(4096), remote div(1, 0)); }",
+            "fn long(n: int) -> [int] { let l = empty int; for i in 0 .. n { set l = push(l, i); } return l; } fn div(a: int, b: int) -> int { return a / b;
+                } fn f(l: [int], x: int) -> int { return len(l) + x; } fn main() -> int { return get remote f(remote long(4096), remote div(1, 0)); }",
             Trap::DivZero,
         ),
     ];
@@ -119,10 +123,12 @@ fn traps_reach_whoever_gets_them(rt: HostRuntime) {
 fn depth_ends_at_32(rt: HostRuntime) {
     let alloc = rt.alloc();
     let mixed =
-        "fn f(n: int) -> int { if n == 0 { return 0; } if n % 2 == 0 { return 1 + f(n - 1); } return 1 + get remote f(n - 1); } fn main() -> int { return f(31); }";
+        "fn f(n: int) -> int { if n == 0 { return 0; } if n % 2 == 0 { return 1 + f(n - 1); } return 1 + get remote f(n - 1);
+            } fn main() -> int { return f(31); }";
     assert_value(&rt, alloc, mixed, 31);
     let deeper =
-        "fn f(n: int) -> int { if n == 0 { return 0; } if n % 2 == 0 { return 1 + f(n - 1); } return 1 + get remote f(n - 1); } fn main() -> int { return f(32); }";
+        "fn f(n: int) -> int { if n == 0 { return 0; } if n % 2 == 0 { return 1 + f(n - 1); } return 1 + get remote f(n - 1);
+            } fn main() -> int { return f(32); }";
     assert_trap(&rt, alloc, deeper, Trap::TooDeep);
     let unused =
         "fn f(n: int) -> int { if n == 0 { return 0; } return 1 + f(n - 1); } fn main() -> int { let r = remote f(32); return 5; }";

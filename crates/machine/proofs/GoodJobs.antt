@@ -14,7 +14,7 @@ use Rattle.machine.specs.Tables.{Phase, Fresh, Out, Waits, Over, Row, Tables, ba
 use Rattle.machine.specs.Claims.{claim_of, claim_by, got, give, given_out, settled, accepts, is_to_accept}
 use Rattle.machine.specs.Knows.{KnowsRow, KnowsPhase}
 use Rattle.machine.specs.Law.{IsSound}
-use Rattle.machine.specs.Given.{GivesGood, ClaimsGiveGoodJobs}
+use Rattle.machine.specs.GoodJobs.{GivesGood, ClaimsGiveGoodJobs}
 use Rattle.machine.proofs.Numbers.{all_at, item-same}
 use Rattle.machine.proofs.Contents.{found}
 

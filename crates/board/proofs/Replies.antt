@@ -1,8 +1,7 @@
 -- A claim is never accepted without a job, and a commit never gives one.
-use Rattle.std.proofs.Common.{◌≡◌, ℕ, Bool, true, false, List, Option, Some, None, refl, sym, subst, inl, inr}
+use Rattle.std.proofs.Common.{◌≡◌, ℕ, Bool, true, false, Option, Some, None, refl, subst, inl, inr}
 use Rattle.std.specs.Prelude.{◌==◌, if◌then◌else◌}
 use Rattle.meaning.specs.Values.{Outcome, Id}
-use Rattle.meaning.proofs.BirthLaws.{at_test}
 use Rattle.ids.specs.declared.worker.WorkerId.{WorkerId}
 use Rattle.segment.specs.Jobs.{JobData, Done}
 use Rattle.machine.specs.Numbered.{item_of}
@@ -10,12 +9,12 @@ use Rattle.machine.specs.Tables.{Phase, Fresh, Out, Waits, Over, Row, Given, Tab
 use Rattle.machine.specs.Jobs as jobs
 use Rattle.machine.specs.Jobs.{Handed, Nothing, OfAnother, OfJob}
 use Rattle.machine.specs.Claims.{claim, claim_of, claim_by, got}
-use Rattle.machine.specs.Commits.{commit, commit_given, commit_by, commit_phase, commit_done, is_too_much, take}
+use Rattle.machine.specs.Commits.{commit_given, commit_by, commit_phase, commit_done, is_too_much, take}
 use Rattle.machine.specs.Claims as claims
-use Rattle.machine.specs.Steps.{Claims, Commits, answer}
+use Rattle.machine.specs.Steps.{answer}
 use Rattle.run_core.specs.declared.event.LocalEvent.TheVariants as events
 use Rattle.run_core.specs.States.{RunState}
-use Rattle.run_core.specs.Steps.{Reply, GivesJob, Accepts, Tells, Answers, Follows}
+use Rattle.run_core.specs.Steps.{GivesJob, Accepts, Tells, Answers, Follows}
 
 -- ---- claims
 

@@ -1,5 +1,5 @@
 -- A run that is driven: turn by turn, the ready worker with the least number goes on.
-use Rattle.std.specs.Prelude.{◌≡◌, ◌<◌, ◌⊎◌, ℕ, zero, suc, Option, Some, None}
+use Rattle.std.specs.Prelude.{◌≡◌, ◌<◌, ◌⊎◌, ℕ, zero, suc, Some, None}
 use Rattle.meaning.specs.Syntax.{Script}
 use Rattle.ids.specs.declared.worker.WorkerId.{WorkerId}
 use Rattle.segment.specs.Jobs.{JobData, Done, IsTrueOf}
@@ -39,11 +39,13 @@ pub record BreaksOff (script : Script) (before after : RunState) (refusal : Refu
   pub ready : least_ready before.tables ≡ Some worker.0
   pub broken :
       Answers before (events.Claim worker) None after (Refuses refusal)
-      ⊎ ((claimed : RunState) × (job : JobData) × Answers before (events.Claim worker) None claimed (GivesJob job) × BreaksAfter script claimed job after refusal)
+      ⊎ ((claimed : RunState) × (job : JobData)
+      × Answers before (events.Claim worker) None claimed (GivesJob job) × BreaksAfter script claimed job after refusal)
 
 -- turns up to the one that breaks off; or 50,000 of them, and there would be more
 abbrev pub StopsSo : Script → RunState → RunState → Stopped → Type 0
-StopsSo script before after (stops.Refused refusal) = (n : ℕ) × (between : RunState) × (n < 50000) × Turns script n before between × BreaksOff script between after refusal
+StopsSo script before after (stops.Refused refusal) =
+    (n : ℕ) × (between : RunState) × (n < 50000) × Turns script n before between × BreaksOff script between after refusal
 StopsSo script before after stops.TooLong = Turns script 50000 before after × (w : ℕ) × (least_ready after.tables ≡ Some w)
 
 -- turns until none is ready

@@ -1,5 +1,4 @@
 use Rattle.std.proofs.Common.{◌≡◌, None, Some, refl, sym, ap, ◌∙◌, subst, inl, inr}
-use Rattle.event_log.specs.declared.refusal.Refusal.{Refusal}
 use Rattle.segment.specs.Jobs.{JobData}
 use Rattle.run_core.specs.declared.event.LocalEvent.TheVariants as events
 use Rattle.run_core.specs.Steps.{Answers, GivesJob, Accepts, Refuses}

@@ -5,7 +5,7 @@ ghost use Rattle.script_check.specs.Trees.{script_of};
 
 use crate::Board;
 use ids::WorkerId;
-use run_core::{Core, Event, Reply};
+use run_core::{Core, LocalEvent, Reply};
 use script_check::{Checked, check};
 use script_syntax::parse;
 use segment::{Done, Job, ScriptName};
@@ -33,7 +33,7 @@ fn claimed<S: ScriptName>(
     board: &mut Board<S>,
     worker: u32,
 ) -> Result<Job<S>, Fail> {
-    match board.apply(alloc, Event::Claim(WorkerId(worker)), None) {
+    match board.apply(alloc, LocalEvent::Claim(WorkerId(worker)), None) {
         Reply::Job(job) => Ok(job),
         _ => Err("the claim gives no job".into()),
     }
@@ -59,7 +59,7 @@ fn number<S: ScriptName>(reply: Reply<S>) -> u16 {
 
 /// The number that the claim of a worker is answered.
 fn claim<S: ScriptName>(alloc: Global, board: &mut Board<S>, worker: u32) -> u16 {
-    number(board.apply(alloc, Event::Claim(WorkerId(worker)), None))
+    number(board.apply(alloc, LocalEvent::Claim(WorkerId(worker)), None))
 }
 
 /// The number that the commit of a job is answered.
@@ -69,7 +69,7 @@ fn commit<S: ScriptName>(
     job: u64,
     done: Option<Done<S>>,
 ) -> u16 {
-    number(board.apply(alloc, Event::Commit(job), done))
+    number(board.apply(alloc, LocalEvent::Commit(job), done))
 }
 
 /// The report, and the status as a last line.

@@ -3,6 +3,8 @@ pub mod Words
 pub mod Events
 pub mod Breaks
 pub mod Holding
+pub mod Settings
+pub mod Causes
 pub mod Rules
 pub mod Legal
 pub mod Serial

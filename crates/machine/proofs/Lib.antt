@@ -4,9 +4,10 @@ mod Chunks
 mod Calm
 mod Contents
 mod Refusing
+mod JobsOut
 mod Claiming
 mod Committing
 mod Committed
 mod Printing
 mod Sound
-mod Given
+mod GoodJobs

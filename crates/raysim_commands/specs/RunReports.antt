@@ -7,7 +7,7 @@ use Rattle.history.specs.Main.{status_of}
 use Rattle.history.specs.Report.{report_text}
 use Rattle.board.specs.declared.stopped.Stopped.{Stopped}
 use Rattle.board.specs.Stops.{stopped_code}
-use Rattle.board.specs.Meant.{IsMeant}
+use Rattle.board.specs.Meant.{IsSoundLog}
 use Rattle.board.specs.Drives.{EndsSo, StopsSo}
 use Rattle.raysim_commands.specs.declared.refusal.Refusal.{Refusal}
 use Rattle.raysim_commands.specs.declared.refusal.Refusal.TheVariants.{At, NoMemory, Stopped as Stops, Failed}
@@ -16,7 +16,7 @@ use Rattle.raysim_commands.specs.Scripts.{IsScript, Explains}
 -- a run of the script ends so: it was driven until no worker was ready, and what its log then means
 pub record IsEndOf (script : Script) (c : RunState) : Type 0 where
   pub ends : EndsSo script first_state c
-  pub meant : IsMeant script c.log
+  pub meant : IsSoundLog script c.log
 
 -- the report of the run of the script, and its status
 abbrev pub IsReportOf : Script → List ℕ → ℕ → Type 0

@@ -1,7 +1,7 @@
-use crate::{Claimed, JobOutcome, Tables};
+use crate::{Claimed, Tables};
 use event_log::{Entry, Refusal};
 use ids::{AttemptId, ObjectId, WorkerId};
-use segment::{JobParts, Stop};
+use segment::{DoneParts, JobParts, Stop};
 use std::alloc::Global;
 use std::rt::HostRuntime;
 use std::test::Fail;
@@ -44,8 +44,8 @@ fn square(alloc: Global) -> Result<Birth, Fail> {
     })
 }
 
-fn outcome(alloc: Global, job: JobParts, stop: Stop) -> JobOutcome {
-    JobOutcome {
+fn outcome(alloc: Global, job: JobParts, stop: Stop) -> DoneParts {
+    DoneParts {
         job,
         births: Vec::new(alloc),
         prints: Vec::new(alloc),
@@ -95,7 +95,7 @@ fn commit(
     tables: &mut Tables,
     alloc: Global,
     job: u64,
-    outcome: JobOutcome,
+    outcome: DoneParts,
 ) -> Result<Vec<Entry>, Fail> {
     match tables.commit(alloc, job, Some(outcome)) {
         Ok(entries) => Ok(entries),
@@ -107,7 +107,7 @@ fn commit_refused(
     tables: &mut Tables,
     alloc: Global,
     job: u64,
-    outcome: Option<JobOutcome>,
+    outcome: Option<DoneParts>,
     why: Refusal,
 ) -> bool {
     match tables.commit(alloc, job, outcome) {

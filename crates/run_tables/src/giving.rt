@@ -21,9 +21,9 @@ use sequence::Seq;
 use std::alloc::{AllocError, Global};
 use values::{Content, RunValue};
 
-/// What answers a get: the object's content, and whether the object's end is accepted with it.
+/// What a get finds: the object's content, and whether the object's end is accepted with it.
 #[derive(Drop)]
-pub struct Answer {
+pub struct Found {
     pub object: ObjectId,
     pub content: Content,
     pub is_accepted: bool,
@@ -110,14 +110,14 @@ fn copy_job(alloc: Global, row: &Row, worker: WorkerId, number: u64) -> Result<J
 }
 
 /// Takes the answer: it is added to the row's, and its object is settled if its end is accepted.
-fn take_answer(row: &mut Row, answer: Answer) -> Result<(), AllocError>
-    ensures { OnOk result (row_of row.new ≡ record (settled answer.is_accepted (id_of answer.object) (row_of row.old)) { answers = (row_of row.old).answers ++ content_of answer.content ∷ [] }) }
+fn take_answer(row: &mut Row, found: Found) -> Result<(), AllocError>
+    ensures { OnOk result (row_of row.new ≡ record (settled found.is_accepted (id_of found.object) (row_of row.old)) { answers = (row_of row.old).answers ++ content_of found.content ∷ [] }) }
 {
-    let Answer {
+    let Found {
         object,
         content,
         is_accepted,
-    } = answer;
+    } = found;
     row.answers.push(content)?;
     if is_accepted {
         settle_at(&mut row.objects, object.serial);
@@ -151,14 +151,14 @@ pub fn give_answered_at(
     place: usize,
     worker: WorkerId,
     number: u64,
-    answer: Answer,
+    found: Found,
 ) -> Result<JobParts, AllocError>
     requires { place < length rows.old }
     ensures as_many { length rows.new ≡ length rows.old }
-    ensures given { IfOk result (λ j. (row : Row) → slice_get rows.old place ≡ Some row → (job_of (data_of j) ≡ jobs.job_of number worker.0 (given_out number ((row_of row).answers ++ content_of answer.content ∷ []) (settled answer.is_accepted (id_of answer.object) (row_of row)))) × (map row_of rows.new ≡ changed 1 (map row_of rows.old) (1 + place) (λ _. given_out number ((row_of row).answers ++ content_of answer.content ∷ []) (settled answer.is_accepted (id_of answer.object) (row_of row))))) }
+    ensures given { IfOk result (λ j. (row : Row) → slice_get rows.old place ≡ Some row → (job_of (data_of j) ≡ jobs.job_of number worker.0 (given_out number ((row_of row).answers ++ content_of found.content ∷ []) (settled found.is_accepted (id_of found.object) (row_of row)))) × (map row_of rows.new ≡ changed 1 (map row_of rows.old) (1 + place) (λ _. given_out number ((row_of row).answers ++ content_of found.content ∷ []) (settled found.is_accepted (id_of found.object) (row_of row))))) }
 {
     let row = &mut rows.items[place];
-    take_answer(row, answer)?;
+    take_answer(row, found)?;
     row.phase = Phase::Out(number);
     let job = copy_job(alloc, rows.get(place), worker, number)?;
     Ok(job)

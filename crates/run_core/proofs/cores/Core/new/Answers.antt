@@ -1,8 +1,8 @@
-use Rattle.std.proofs.Common.{subst, ap}
+use Rattle.std.proofs.Common.{subst}
 use Rattle.script_check.specs.Scripts.{IsWellTyped}
 use Rattle.run_core.specs.Views.{data_of, state_of}
 use Rattle.run_core.proofs.Kept.{kept_first}
-use Rattle.run_core.proofs.run.Core.new.Goals as goal
+use Rattle.run_core.proofs.cores.Core.new.Goals as goal
 
 pub invariant_of-result : goal.invariant_of-result
 invariant_of-result g c =

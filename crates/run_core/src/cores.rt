@@ -6,10 +6,10 @@ ghost use Rattle.event_log.specs.Legal.{Legal};
 ghost use Rattle.event_log.specs.Views.{log_of};
 ghost use Rattle.machine.specs.Ready.{least_ready};
 ghost use Rattle.run_core.specs.States.{setting_of, first_state};
-ghost use Rattle.run_core.specs.Steps.{Answers, told_of};
+ghost use Rattle.run_core.specs.Steps.{Answers, reply_of};
 ghost use Rattle.run_core.specs.Views.{state_of};
 
-use crate::event::Event;
+use crate::event::LocalEvent;
 use crate::reply::Reply;
 use crate::state::State;
 use crate::steps::{claim, commit};
@@ -31,7 +31,7 @@ pub struct Core<S: ScriptName> {
 impl<S: ScriptName> Model for Core<S> {
     ghost use Rattle.std.specs.Coded.{codes};
     ghost use Rattle.values.specs.contracts.value.RunValue as run_values;
-    ghost use Rattle.run_core.specs.States.{IsKept};
+    ghost use Rattle.run_core.specs.States.{IsSoundRun};
     ghost use Rattle.run_core.specs.Views.{RunData, data_of, state_of};
 
     ghost Value = { RunData };
@@ -40,7 +40,7 @@ impl<S: ScriptName> Model for Core<S> {
 
     ghost view = { λ c. data_of c.state };
 
-    ghost invariant = { λ c. IsKept S.script (state_of (data_of c.state)) };
+    ghost invariant = { λ c. IsSoundRun S.script (state_of (data_of c.state)) };
 }
 
 impl<S: ScriptName> Core<S> {
@@ -78,19 +78,19 @@ impl<S: ScriptName> Core<S> {
     /// A claim answers the job that is given out, a commit `Ok`. Refused are `NoWorker` and `NotReady` (claims), `NoJob` and `Limit`
     /// (commits), which change nothing but the log, in which the event and its refusal stand; `NoMemory`, which leaves the log as it was
     /// and halts the run; and `Halted`, which every later event is answered, and which changes nothing.
-    pub fn apply(&mut self, alloc: Global, event: Event, done: Option<Done<S>>) -> Reply<S>
-        ensures answers { Answers (state_of self.old) event done (state_of self.new) (told_of result) }
+    pub fn apply(&mut self, alloc: Global, event: LocalEvent, done: Option<Done<S>>) -> Reply<S>
+        ensures answers { Answers (state_of self.old) event done (state_of self.new) (reply_of result) }
         ensures legal { Legal (setting_of S.script) (log_of self.new.log) }
     {
         if self.state.is_halted {
             return Reply::Refused(Refusal::Halted);
         }
         match event {
-            Event::Claim(worker) => {
+            LocalEvent::Claim(worker) => {
                 discard(done);
                 claim(alloc, &mut self.state, worker)
             }
-            Event::Commit(job) => commit(alloc, &mut self.state, job, done),
+            LocalEvent::Commit(job) => commit(alloc, &mut self.state, job, done),
         }
     }
 }

@@ -4,7 +4,7 @@ use Rattle.machine.specs.Claims.{given_out}
 use Rattle.run_tables.specs.declared.row.Phase.TheVariants as phases
 use Rattle.run_tables.specs.Views.{row_of}
 use Rattle.run_tables.proofs.Places.{same_some, same_read, written_at}
-use Rattle.run_tables.proofs.given.give_at.Goals as goal
+use Rattle.run_tables.proofs.giving.give_at.Goals as goal
 
 pub returns-clause-given : goal.returns-clause-given
 returns-clause-given c = λ row e.

@@ -21,6 +21,3 @@ pub use object::Object;
 pub use outcome::JobOutcome;
 pub use row::{Phase, Row};
 pub use tables::{Given, Tables};
-
-#[cfg(test)]
-mod tests;

@@ -48,11 +48,15 @@ fn outcome_of_command(alloc: Global, case: &Case) -> Result<Option<Outcome>, All
     Ok(Some(outcome))
 }
 
-/// The script as it is printed, and printed again from that text: the same, or "another text".
+/// The program of a text as it is printed, read again and printed once more. Nothing is written where a text is no program.
 fn outcome_of_print(alloc: Global, case: &Case) -> Result<Outcome, AllocError> {
     let mut outcome = Outcome::new(alloc);
-    if let Ok(program) = parse(alloc, case.script.as_bytes()) {
-        outcome.written = print_program(alloc, &program)?;
+    let Ok(program) = parse(alloc, case.script.as_bytes()) else {
+        return Ok(outcome);
+    };
+    let printed = print_program(alloc, &program)?;
+    if let Ok(again) = parse(alloc, printed.as_bytes()) {
+        outcome.written = print_program(alloc, &again)?;
     }
     Ok(outcome)
 }

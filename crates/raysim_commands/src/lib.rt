@@ -15,6 +15,3 @@ pub use run_command::run;
 pub use serial_command::serial;
 pub use sink::{Sink, Tracked, put_all};
 pub use source::{Fault, Source, Watched, read_all};
-
-#[cfg(test)]
-mod tests;

@@ -19,6 +19,3 @@ pub use claims::Claimed;
 pub use object::Object;
 pub use row::{Phase, Row};
 pub use tables::{Given, Tables};
-
-#[cfg(test)]
-mod tests;

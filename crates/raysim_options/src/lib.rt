@@ -7,12 +7,14 @@ ghost use Rattle.raysim_options.specs.App.{raysim_app};
 ghost use Rattle.raysim_options.specs.Reads.{Asks};
 
 mod commands;
+mod missing;
 mod read;
 #[cfg(test)]
 mod tests;
 
 use clap::Error;
 pub use commands::{MOST_NODES, MOST_REFUSAL, MOST_SLOTS, MOST_THREADS};
+pub use missing::{MissingOption, missing_option};
 use std::alloc::Global;
 
 /// What the program was asked to do. Texts are paths of files, as the words have them.

@@ -2,7 +2,7 @@
 
 use super::scripts::{rows, script};
 use super::{Broken, refused};
-use crate::{Refusal, Tracked, Watched, run};
+use crate::{Failure, Refusal, Tracked, run};
 use std::alloc::{AllocError, Global};
 use std::test::Fail;
 
@@ -10,8 +10,8 @@ use std::test::Fail;
 fn is_reported(alloc: Global, body: &str, main: &str, status: u8) -> Result<bool, AllocError> {
     let script = script(alloc, body)?;
     let mut out = Vec::new(alloc);
-    let mut input = Watched::new(script.as_bytes());
-    let answer = run(alloc, &mut input, &mut Tracked::new(&mut out));
+    let mut input = Tracked::reader(script.as_bytes());
+    let answer = run(alloc, &mut input, &mut Tracked::writer(&mut out));
     Ok(answer == Ok(status) && out.as_slice().starts_with(main.as_bytes()))
 }
 
@@ -28,8 +28,8 @@ fn runs_are_reported(rt: HostRuntime) -> Result<(), Fail> {
 fn report(alloc: Global, body: &str) -> Result<Vec<u8>, Fail> {
     let script = script(alloc, body)?;
     let mut out = Vec::new(alloc);
-    let mut input = Watched::new(script.as_bytes());
-    run(alloc, &mut input, &mut Tracked::new(&mut out))?;
+    let mut input = Tracked::reader(script.as_bytes());
+    run(alloc, &mut input, &mut Tracked::writer(&mut out))?;
     Ok(out)
 }
 
@@ -53,15 +53,15 @@ fn attempts_stand_after_main(rt: HostRuntime) -> Result<(), Fail> {
 fn no_run_of_what_is_refused(rt: HostRuntime) -> Result<(), Fail> {
     let alloc = rt.alloc();
     let mut out = Vec::new(alloc);
-    let mut sink = Tracked::new(&mut out);
-    let mut empty = Watched::new(b"".as_slice());
+    let mut sink = Tracked::writer(&mut out);
+    let mut empty = Tracked::reader(b"".as_slice());
     assert!(rt; run(alloc, &mut empty, &mut sink) == refused(13, 0, 0));
-    let mut unended = Watched::new(b"fn main() -> int { return 1 }".as_slice());
+    let mut unended = Tracked::reader(b"fn main() -> int { return 1 }".as_slice());
     assert!(rt; run(alloc, &mut unended, &mut sink) == refused(3, 28, 29));
-    let mut reference = Watched::new(b"fn main() -> int { return put 1; }".as_slice());
+    let mut reference = Tracked::reader(b"fn main() -> int { return put 1; }".as_slice());
     assert!(rt; run(alloc, &mut reference, &mut sink) == refused(11, 26, 31));
-    let mut broken = Watched::new(Broken);
-    assert!(rt; run(alloc, &mut broken, &mut sink) == Err(Refusal::Failed));
+    let mut broken = Tracked::reader(Broken);
+    assert!(rt; run(alloc, &mut broken, &mut sink) == Err(Refusal::Failed(Failure::Read)));
     assert!(rt; out.is_empty());
     Ok(())
 }

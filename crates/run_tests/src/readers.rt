@@ -1,6 +1,6 @@
 // Readers that fail.
 
-use raysim_commands::{Refusal, Tracked, Watched, check, run, serial};
+use raysim_commands::{Failure, Refusal, Tracked, check, run, serial};
 use std::io;
 use std::io::Read;
 use std::test::Fail;
@@ -19,13 +19,13 @@ impl Read for Broken {
 fn a_failed_read_is_no_script(rt: HostRuntime) -> Result<(), Fail> {
     let alloc = rt.alloc();
     let mut out = Vec::new(alloc);
-    let mut sink = Tracked::new(&mut out);
-    let mut input = Watched::new(Broken);
-    assert!(rt; check(alloc, &mut input, &mut sink) == Err(Refusal::Failed));
-    assert!(rt; serial(alloc, &mut input, &mut sink) == Err(Refusal::Failed));
-    assert!(rt; run(alloc, &mut input, &mut sink) == Err(Refusal::Failed));
+    let mut sink = Tracked::writer(&mut out);
+    let mut input = Tracked::reader(Broken);
+    assert!(rt; check(alloc, &mut input, &mut sink) == Err(Refusal::Failed(Failure::Read)));
+    assert!(rt; serial(alloc, &mut input, &mut sink) == Err(Refusal::Failed(Failure::Read)));
+    assert!(rt; run(alloc, &mut input, &mut sink) == Err(Refusal::Failed(Failure::Read)));
     assert!(rt; out.is_empty());
-    let texts = format!(in alloc; "{}, {}", Refusal::NoMemory, Refusal::Failed)?;
+    let texts = format!(in alloc; "{}, {}", Refusal::NoMemory, Refusal::Failed(Failure::Read))?;
     assert!(rt; texts.as_str() == "refused 39, refused 50");
     Ok(())
 }

@@ -1,7 +1,7 @@
 // What comes of a case. The program's commands are called here alone.
 
 use crate::case::{Case, Outcome};
-use raysim_commands::{Refusal, Tracked, Watched, check, run, serial};
+use raysim_commands::{Refusal, Tracked, check, run, serial};
 use script_syntax::{parse, print_program};
 use std::alloc::{AllocError, Global};
 
@@ -12,8 +12,8 @@ fn done(
     script: &[u8],
     written: &mut Vec<u8>,
 ) -> Option<Result<u8, Refusal>> {
-    let mut reader = Watched::new(script);
-    let mut writer = Tracked::new(written);
+    let mut reader = Tracked::reader(script);
+    let mut writer = Tracked::writer(written);
     if command == "check" {
         return Some(check(alloc, &mut reader, &mut writer));
     }

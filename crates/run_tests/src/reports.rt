@@ -61,6 +61,7 @@ fn faults(alloc: Global) -> Result<Vec<Entry>, AllocError> {
         node: NodeId(1),
         object: cause,
     };
+    let printed = vec![in alloc; RunValue::Int(-3), RunValue::Id(object(1, 2))]?;
     let log = vec![in alloc;
         Entry::Opened {
             worker: WorkerId(1),
@@ -74,10 +75,7 @@ fn faults(alloc: Global) -> Result<Vec<Entry>, AllocError> {
             attempt: attempt(1, 0),
             birth: Birth::Put(RunValue::Int(6))
         },
-        Entry::Printed(RunValue::List(vec![in alloc;
-            RunValue::Int(-3),
-            RunValue::Id(object(1, 2))
-        ]?)),
+        Entry::Printed(RunValue::List(printed)),
         begun(attempt(1, 2), 2),
         begun(attempt(1, 3), 3),
         begun(attempt(1, 4), 4),

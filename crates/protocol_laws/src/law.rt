@@ -1,5 +1,7 @@
 // The laws of the whole protocol.
 
+ghost use Rattle.protocol_laws.specs.Given.{ClaimsGiveGoodJobs};
+ghost use Rattle.protocol_laws.specs.Pace.{KeepsPace};
 ghost use Rattle.protocol_laws.specs.Law.{EventsKeepSound, NothingHeldIsReleased, OpeningIsSound, ProtocolStaysLegal, SoundIsLegal};
 
 /// A run begins sound, in a cluster that has a node.
@@ -27,4 +29,16 @@ pub fn protocol_stays_legal()
 /// What a sound run released wasn't held where it was released.
 pub fn nothing_held_is_released()
     ensures { NothingHeldIsReleased }
+{}
+
+/// What an attempt of a legal log bore and printed begins what its task does on its answers, which are of the kinds asked for; where the
+/// script's functions are allowed.
+pub fn attempts_keep_pace()
+    ensures { KeepsPace }
+{}
+
+/// Each job that a claim gives out is one that may be run: its answers are of the kinds asked for, and what it bore and printed so far
+/// begins what its task does on them.
+pub fn claims_give_good_jobs()
+    ensures { ClaimsGiveGoodJobs }
 {}

@@ -51,7 +51,7 @@ events_of_workers s log c b = record {
   dead_node_then = λ e seat n h. worker.still_killed log e seat n h;
 }
 
-said_behind : (s : Setting) (log : List Entry) (c : Whole) (b : Between s log c) (k seat : ℕ) (l : Letter) → item_at c.network k ≡ Some l → Says (past (log ++ In (Deliver k) seat ∷ []) b.asked) l
+pub said_behind : (s : Setting) (log : List Entry) (c : Whole) (b : Between s log c) (k seat : ℕ) (l : Letter) → item_at c.network k ≡ Some l → Says (past (log ++ In (Deliver k) seat ∷ []) b.asked) l
 said_behind s log c b k seat l sent =
     says_grows (past log b.asked) (past (log ++ In (Deliver k) seat ∷ []) b.asked) (grows_silent log (In (Deliver k) seat ∷ []) b.asked (in_says_nothing (Deliver k) seat)) l
     (item_said (Says (past log b.asked)) c.network 1 k l b.knows.told (counted c.network k sent))

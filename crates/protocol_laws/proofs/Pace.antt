@@ -12,7 +12,7 @@ use Rattle.meaning.specs.Kinds.{AnswersFit, IsBirthOf, ScriptChecks}
 use Rattle.meaning.proofs.BirthLaws.{at_test}
 use Rattle.event_log.specs.Entries.{Attempt, Entry, In, Refused, Opened, Begun, Born, Got, Printed, Ended, Accepted, Faulted, Resolved, Released, main_attempt}
 use Rattle.event_log.specs.Words.{answers_of, births, got_in, own_births, own_in, printed_by, printed_in, same_attempt}
-use Rattle.event_log.specs.Rules.{Setting, Allowed, MayBear, MayGet, MayPrint, Stops}
+use Rattle.event_log.specs.Rules.{Setting, Allowed, MayBear, MayGet, MayPrint, Replays, Stops}
 use Rattle.event_log.specs.Legal.{End, LegalFrom, LegalTo, opening}
 use Rattle.event_log.proofs.Extending.{births-more}
 use Rattle.event_log.proofs.WordLaws.{same_attempt-refl, same_attempt-true, word_push}
@@ -123,7 +123,7 @@ module _ (s : Setting) (before : List Entry) (x : Entry) (paces : AllPace s.scri
       fit = subst (AnswersFit (run_birth script spec) base) (sym (same_word (got_in a) answers)) h.fit;
     }
 
-    pub stays : Paces script later a
+    stays : Paces script later a
     stays = elim (paces a) [
       inl h ↦ inl (record { prints = same_word (printed_in a) prints ∙ h.0.prints; answers = same_word (got_in a) answers ∙ h.0.answers }, same_word (own_in a) own ∙ h.1)
       | inr h ↦ inr (record { spec = h.spec; born = births-more before (x ∷ []) a.object h.spec h.born; in_step = λ base bs e. moved h.spec base bs (h.in_step base bs (sym (same_word (own_in a) own) ∙ e)) }) ]
@@ -152,10 +152,11 @@ module _ (s : Setting) (before : List Entry) (paces : AllPace s.script before) w
     in_step = λ base bs e. from base bs (sym own_now ∙ e);
   }
     where
+      r : Replays s before a h.base h.p
       r = h.replays
-      abbrev x : Entry
+      x : Entry
       x = Born o a b
-      abbrev item : Bearing
+      item : Bearing
       item = record { object = o; birth = b }
       own_now : own_births a (before ++ x ∷ []) ≡ own_births a before ++ item ∷ []
       own_now = word_push (own_in a) before x ∙ ap (λ t. own_births a before ++ (if t then item ∷ [] else [])) (same_attempt-refl a)
@@ -203,8 +204,9 @@ module _ (s : Setting) (before : List Entry) (paces : AllPace s.script before) w
     in_step = λ base bs e. from base bs (sym (same_word s before x paces (own_in main_attempt) refl) ∙ e);
   }
     where
+      r : Replays s before main_attempt h.base h.p
       r = h.replays
-      abbrev x : Entry
+      x : Entry
       x = Printed v
       printed_now : printed_by main_attempt (before ++ x ∷ []) ≡ printed_by main_attempt before ++ v ∷ []
       printed_now = word_push (printed_in main_attempt) before x ∙ ap (λ t. printed_by main_attempt before ++ (if t then v ∷ [] else [])) (same_attempt-refl main_attempt)
@@ -228,9 +230,11 @@ module _ (s : Setting) (before : List Entry) (paces : AllPace s.script before) w
     in_step = λ base bs e. from base bs (sym (same_word s before x paces (own_in a) refl) ∙ e);
   }
     where
+      r : Replays s before a h.needs.base h.needs.p
       r = h.needs.replays
+      p : Piece
       p = h.needs.p
-      abbrev x : Entry
+      x : Entry
       x = Got a y c
       got_now : answers_of a (before ++ x ∷ []) ≡ answers_of a before ++ c ∷ []
       got_now = word_push (got_in a) before x ∙ ap (λ t. answers_of a before ++ (if t then c ∷ [] else [])) (same_attempt-refl a)

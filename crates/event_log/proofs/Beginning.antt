@@ -1,5 +1,5 @@
 -- A worker is opened, and runs the first attempt of a task.
-use Rattle.std.proofs.Common.{◌≡◌, ℕ, ◌+◌, Bool, true, List, [], ◌∷◌, ◌++◌, length, Some, refl, sym, ap, ◌∙◌, subst, arith, append-nil, append_assoc}
+use Rattle.std.proofs.Common.{◌≡◌, ℕ, ◌+◌, Bool, true, List, [], ◌∷◌, ◌++◌, length, Option, Some, None, inr, refl, sym, ap, ◌∙◌, subst, arith, append-nil, append_assoc}
 use Rattle.std.specs.Prelude.{◌&&◌}
 use Rattle.std.specs.List.{flat_map}
 use Rattle.std.proofs.lemmas.List.Concat.{flat_map-append}
@@ -7,10 +7,10 @@ use Rattle.sequence.proofs.Places.{and_left, and_right}
 use Rattle.meaning.specs.Values.{Name, Value, Argument, Birth, Task, Id}
 use Rattle.meaning.specs.Runs.{Stop, Needs, Over, next_id}
 use Rattle.meaning.specs.Births.{Bearing, numbered, birth_at}
-use Rattle.event_log.specs.Entries.{Attempt, Commit, Entry, In, Opened, Begun}
+use Rattle.event_log.specs.Entries.{Attempt, Event, Claim, Commit, Deliver, Tick, Notice, NoticeNode, Evict, Lose, Kill, KillNode, Join, Entry, In, Opened, Begun}
 use Rattle.event_log.specs.Words.{attempt, main_bearing, births, born_in, opened, run_in, runs_of, resolved_in, resolves_of, released_in, releases_of}
-use Rattle.event_log.specs.Events.{node_lives}
-use Rattle.event_log.specs.Rules.{Setting, IsOwn}
+use Rattle.event_log.specs.Events.{node_lives, is_live}
+use Rattle.event_log.specs.Rules.{Receiver, ToWorker, ToNode, worker_to, actor, IsHeard, Setting, IsOwn}
 use Rattle.event_log.specs.Legal.{EachAllowed}
 use Rattle.event_log.specs.Commits.{commit_entries}
 use Rattle.event_log.proofs.Extending.{births-more}
@@ -67,13 +67,32 @@ pub record IsNewTask (s : Setting) (before : List Entry) (o : Id) (n : ℕ) : Ty
   pub unbegun : runs_of o before ≡ []
   pub lives : node_lives s.nodes n before ≡ true
 
+to_worker : (r : Option Receiver) (w : ℕ) → worker_to r ≡ Some w → r ≡ Some (ToWorker w)
+to_worker None w h = absurd (cc)
+to_worker (Some (ToWorker v)) w h = cc
+to_worker (Some (ToNode n)) w h = absurd (cc)
+
+-- what is an own event of a live worker is no delivery to the dead
+heard_by : (s : Setting) (before : List Entry) (e : Event) (w : ℕ) → actor s before e ≡ Some w → is_live w before ≡ true → IsHeard s before e
+heard_by s before (Deliver m) w h k = inr (w, to_worker (s.receiver m) w h, k)
+heard_by s before (Claim v) w h k = tt
+heard_by s before (Commit j) w h k = tt
+heard_by s before (Tick v) w h k = tt
+heard_by s before (Notice v x) w h k = tt
+heard_by s before (NoticeNode v x) w h k = tt
+heard_by s before (Evict v x) w h k = tt
+heard_by s before (Lose v x) w h k = tt
+heard_by s before (Kill v) w h k = tt
+heard_by s before (KillNode v) w h k = tt
+heard_by s before Join w h k = tt
+
 -- the next worker may be opened on the node, and run the task's first attempt
 pub opens_and_begins : (s : Setting) (before : List Entry) (o : Id) (n : ℕ) → IsNewTask s before o n →
     EachAllowed s before (Opened (length (opened before) + 1) n ∷ Begun (attempt o 0) (length (opened before) + 1) ∷ [])
 opens_and_begins s before o n h =
     let w = length (opened before) + 1 in
     let x = Opened w n in (
-      record { event = h.own.event; now = h.own.now; next = refl; lives = h.lives },
+      record { event = h.own.event; now = h.own.now; heard = heard_by s before h.own.event o.owner h.own.own h.own.lives; next = refl; lives = h.lives },
       (
         record {
           own = own-plain s before x o.owner refl h.own;

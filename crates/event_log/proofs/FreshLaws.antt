@@ -1,8 +1,8 @@
 -- An object that isn't born yet is nowhere in a legal log.
-use Rattle.std.proofs.Common.{◌≡◌, ℕ, Bool, true, false, List, [], ◌∷◌, ◌++◌, Option, Some, None, ◌⊎◌, inl, inr, refl, subst, arith}
+use Rattle.std.proofs.Common.{◌≡◌, ℕ, Bool, true, false, List, [], ◌∷◌, ◌++◌, Option, Some, None, ◌⊎◌, inl, inr, refl, sym, subst, arith}
 use Rattle.std.specs.Prelude.{if◌then◌else◌, slice_get}
 use Rattle.std.specs.List.{flat_map}
-use Rattle.meaning.specs.Values.{Birth, Id}
+use Rattle.meaning.specs.Values.{Birth, Put, Id}
 use Rattle.meaning.specs.Births.{same_id, birth_at}
 use Rattle.meaning.specs.Readings.{IsBorn}
 use Rattle.meaning.proofs.BirthLaws.{same_id-true}
@@ -41,7 +41,9 @@ born_if_last : (before : List Entry) (o : Id) (number : ℕ) → BegunWell befor
 born_if_last before o number w l = let r = slice_get_below (runs_of o before) 0 (omega (arith, l)) in (w o 0 r.0 r.1).0
 
 born_if_lost : (before : List Entry) (o : Id) (f : Fault) → Cause before f → IsLoss f o → IsBorn (births before) o
-born_if_lost before o f c (inl e) = let h = subst (λ g. Cause before g) e c in (_, h.put)
+born_if_lost before o f c (inl e) =
+    let h = subst (λ g. Cause before g) e c in
+    (_, subst (λ l. birth_at (births l) o ≡ Some (Put h.value)) (sym h.parts) (births-more h.before h.after o (Put h.value) h.put))
 born_if_lost before o f c (inr e) = let h = subst (λ g. Cause before g) e c in (_, h.task)
 
 born_if_resolved : (before : List Entry) (o : Id) (f : Fault) → BegunWell before → Cause before f → (LastFaulted before o f ⊎ IsLoss f o ⊎ LostBelow before o f) → IsBorn (births before) o

@@ -1,19 +1,29 @@
 -- A log stays legal beside a larger network.
-use Rattle.std.proofs.Common.{◌≡◌, ℕ, Bool, true, false, List, [], ◌∷◌, ◌++◌, Option, Some, inl, inr}
+use Rattle.std.proofs.Common.{◌≡◌, ℕ, Bool, true, false, List, [], ◌∷◌, ◌++◌, Option, Some, None, inl, inr, refl, ap, ◌∙◌}
 use Rattle.meaning.specs.Values.{Id}
 use Rattle.meaning.specs.Runs.{Stop, Piece}
 use Rattle.event_log.specs.Entries.{Attempt, Event, Commit, Deliver, Entry, In, Refused, Opened, Begun, Born, Got, Printed, Ended, Accepted, Faulted, Resolved, Released}
 use Rattle.event_log.specs.Events.{refused_next}
-use Rattle.event_log.specs.Rules.{Setting, actor, IsOwn, Replays, Stops, Allowed}
+use Rattle.event_log.specs.Rules.{Receiver, ToWorker, ToNode, worker_to, IsHeard, Setting, actor, IsOwn, Replays, Stops, Allowed}
 use Rattle.event_log.specs.Legal.{BreaksOff, Happens, HappensTo, End, Whole, BrokenOff, of_event, has_event, Unless, Answered, LegalFrom, opening}
 use Rattle.event_log.specs.Laws.{with_receiver, LegalInLargerNetworks}
 
-module _ (s : Setting) (receiver : ℕ → Option ℕ) (larger : (m w : ℕ) → s.receiver m ≡ Some w → receiver m ≡ Some w) where
+module _ (s : Setting) (receiver : ℕ → Option Receiver) (larger : (m : ℕ) (r : Receiver) → s.receiver m ≡ Some r → receiver m ≡ Some r) where
   abbrev t : Setting
   t = with_receiver s receiver
 
+  same_worker : (m w : ℕ) (r : Option Receiver) → s.receiver m ≡ r → worker_to r ≡ Some w → worker_to (receiver m) ≡ Some w
+  same_worker m w None e h = absurd (cc)
+  same_worker m w (Some (ToWorker v)) e h = ap worker_to (larger m (ToWorker v) e) ∙ h
+  same_worker m w (Some (ToNode n)) e h = absurd (cc)
+
+  heard : (before : List Entry) (e : Event) → IsHeard s before e → IsHeard t before e
+  heard before (Deliver m) (inl h) = inl (h.0, larger m (ToNode h.0) h.1)
+  heard before (Deliver m) (inr h) = inr (h.0, larger m (ToWorker h.0) h.1, h.2)
+  heard before e h = h
+
   same_actor : (before : List Entry) (e : Event) (w : ℕ) → actor s before e ≡ Some w → actor t before e ≡ Some w
-  same_actor before (Deliver m) w h = larger m w h
+  same_actor before (Deliver m) w h = same_worker m w (s.receiver m) refl h
   same_actor before e w h = h
 
   own : (before : List Entry) (w : ℕ) → IsOwn s before w → IsOwn t before w
@@ -28,7 +38,7 @@ module _ (s : Setting) (receiver : ℕ → Option ℕ) (larger : (m w : ℕ) →
   allowed : (before : List Entry) (x : Entry) → Allowed s before x → Allowed t before x
   allowed before (In e seat) h = h
   allowed before (Refused code) h = h
-  allowed before (Opened w n) h = record { event = h.event; now = h.now; next = h.next; lives = h.lives }
+  allowed before (Opened w n) h = record { event = h.event; now = h.now; heard = heard before h.event h.heard; next = h.next; lives = h.lives }
   allowed before (Begun a w) h = record {
     own = own before a.object.owner h.own;
     function = h.function;
@@ -55,11 +65,14 @@ module _ (s : Setting) (receiver : ℕ → Option ℕ) (larger : (m w : ℕ) →
 
   happens : (before : List Entry) (e : Event) (es : List Entry) → Happens s before e es → Happens t before e es
   happens before (Commit j) es h = (h.0, h.1, record { base = h.2.base; p = h.2.p; replays = replays before h.0 h.2.base h.2.p h.2.replays; own = h.2.own; prints = h.2.prints; ends = h.2.ends })
+  happens before (Deliver m) es h = (h.0, larger m h.0 h.1)
   happens before e es h = h
 
   breaks_off : (before : List Entry) (e : Event) (es : List Entry) → BreaksOff s before e es → BreaksOff t before e es
   breaks_off before (Commit j) es (inl h) = inl h
   breaks_off before (Commit j) es (inr h) = inr (h.0, h.1, record { base = h.2.base; p = h.2.p; replays = replays before h.0 h.2.base h.2.p h.2.replays; own = h.2.own; prints = h.2.prints; ends = h.2.ends })
+  breaks_off before (Deliver m) es (inl h) = inl h
+  breaks_off before (Deliver m) es (inr h) = inr (h.0, larger m h.0 h.1)
   breaks_off before e es h = h
 
   happens_to : (end : End) (b : Bool) (before : List Entry) (e : Event) (es : List Entry) → HappensTo end b s before e es → HappensTo end b t before e es

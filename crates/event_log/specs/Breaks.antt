@@ -60,13 +60,16 @@ abbrev pub BreakRising : List Entry → Id → ℕ → ℕ → List ℕ → Type
 BreakRising log o number from [] = Unit {0}
 BreakRising log o number from (place ∷ places) = (from ≤ place) × Among place (breaks_of (attempt o number) log) × BreakRising log o (number + 1) (place + 1) places
 
--- it was put, and a loss of it on its owner's node was accepted
+-- it was put, and then a loss of it on its owner's node was accepted
 pub record PutIsLost (log : List Entry) (z : Id) : Type 0 where
+  pub before : List Entry
+  pub after : List Entry
+  pub parts : log ≡ before ++ after
   pub value : Value
-  pub put : birth_at (births log) z ≡ Some (Put value)
+  pub put : birth_at (births before) z ≡ Some (Put value)
   pub node : ℕ
   pub place : node_of z.owner log ≡ Some node
-  pub lost : was_lost node z log ≡ true
+  pub lost : was_lost node z after ≡ true
 
 -- all runs that its task is allowed were begun, and are broken by events at rising places
 pub record RetriesAreUsed (log : List Entry) (z : Id) : Type 0 where

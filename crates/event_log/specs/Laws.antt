@@ -4,7 +4,7 @@ use Rattle.meaning.specs.Values.{Id}
 use Rattle.event_log.specs.Entries.{Attempt, Fault, Event, Claim, Commit, Entry, In, Refused, Faulted, Resolved}
 use Rattle.event_log.specs.Events.{refused_next, claims}
 use Rattle.event_log.specs.Breaks.{Cause}
-use Rattle.event_log.specs.Rules.{Setting, Allowed}
+use Rattle.event_log.specs.Rules.{Receiver, Setting, Allowed}
 use Rattle.event_log.specs.Legal.{End, Whole, BrokenOff, has_event, HappensTo, Answered, EachAllowed, LegalTo, Legal, opening}
 use Rattle.event_log.specs.Books.{Totals, totals}
 
@@ -82,11 +82,11 @@ LawOfTotals = (log : List Entry) → TotalsAreSums log
 -- ---- the network
 
 -- the same, but beside a network that says of more messages to whom they go
-abbrev pub with_receiver : Setting → (ℕ → Option ℕ) → Setting
+abbrev pub with_receiver : Setting → (ℕ → Option Receiver) → Setting
 with_receiver s receiver = record s { receiver = receiver }
 
 -- a legal log stays legal as messages are added to the network
 abbrev pub LegalInLargerNetworks : Type 0
 LegalInLargerNetworks =
-    (end : End) (s : Setting) (receiver : ℕ → Option ℕ) (log : List Entry) →
-    ((m w : ℕ) → s.receiver m ≡ Some w → receiver m ≡ Some w) → LegalTo end s log → LegalTo end (with_receiver s receiver) log
+    (end : End) (s : Setting) (receiver : ℕ → Option Receiver) (log : List Entry) →
+    ((m : ℕ) (r : Receiver) → s.receiver m ≡ Some r → receiver m ≡ Some r) → LegalTo end s log → LegalTo end (with_receiver s receiver) log

@@ -5,10 +5,10 @@ use Rattle.meaning.specs.Lists.{IsFirst}
 use Rattle.meaning.specs.Values.{Outcome, Id}
 use Rattle.meaning.specs.Runs.{Stop, Needs, Over, Piece}
 use Rattle.meaning.specs.Births.{numbered}
-use Rattle.event_log.specs.Entries.{Attempt, Event, Claim, Commit, Notice, NoticeNode, Entry, In, Opened, Begun, Born, Printed, Ended, main_attempt}
+use Rattle.event_log.specs.Entries.{Attempt, Event, Claim, Commit, Deliver, Tick, Notice, NoticeNode, Evict, Lose, Kill, KillNode, Join, Entry, In, Opened, Begun, Born, Printed, Ended, main_attempt}
 use Rattle.event_log.specs.Words.{own_births, worker_of, printed_by, ends_of}
-use Rattle.event_log.specs.Events.{refused_next, worker_of_job, is_committed, node_is_killed, is_killed, is_live}
-use Rattle.event_log.specs.Rules.{Setting, Replays, Allowed}
+use Rattle.event_log.specs.Events.{refused_next, worker_of_job, is_committed, node_is_killed, node_lives, is_killed, is_live}
+use Rattle.event_log.specs.Rules.{Receiver, Setting, Replays, Allowed}
 
 -- ---- what an event needs
 
@@ -55,9 +55,15 @@ pub record CommitsPart (s : Setting) (before : List Entry) (a : Attempt) (es : L
 abbrev pub Happens : Setting → List Entry → Event → List Entry → Type 0
 Happens s before (Claim w) es = is_live w before ≡ true
 Happens s before (Commit j) es = (a : Attempt) × CommitsJob before j a es × CommitsAll s before a es
-Happens s before (Notice w v) es = is_killed v before ≡ true
-Happens s before (NoticeNode w n) es = node_is_killed n before ≡ true
-Happens s before _ es = Unit {0}
+Happens s before (Deliver m) es = (r : Receiver) × (s.receiver m ≡ Some r)
+Happens s before (Tick w) es = is_live w before ≡ true
+Happens s before (Notice w v) es = (is_live w before ≡ true) × (is_killed v before ≡ true)
+Happens s before (NoticeNode w n) es = (is_live w before ≡ true) × (node_is_killed n before ≡ true)
+Happens s before (Evict n o) es = node_lives s.nodes n before ≡ true
+Happens s before (Lose n o) es = node_lives s.nodes n before ≡ true
+Happens s before (Kill w) es = is_live w before ≡ true
+Happens s before (KillNode n) es = node_lives s.nodes n before ≡ true
+Happens s before Join es = Unit {0}
 
 -- an event that was broken off for want of memory: nothing of it was logged, or a part of what an accepted one logs
 abbrev pub BreaksOff : Setting → List Entry → Event → List Entry → Type 0

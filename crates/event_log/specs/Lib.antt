@@ -6,6 +6,7 @@ pub mod Holding
 pub mod Rules
 pub mod Legal
 pub mod Serial
+pub mod Causes
 pub mod Books
 pub mod Laws
 pub mod Extends

@@ -13,20 +13,30 @@ use Rattle.event_log.specs.Events.{under_way, ends_with_in, worker_of_job, node_
 use Rattle.event_log.specs.Breaks.{Among, Broken, AllBroken, Cause}
 use Rattle.event_log.specs.Holding.{is_held}
 
--- what a log is read beside: the script, the number of the cluster's first nodes, and the network, which says to which
--- worker a message goes, if to one
+-- to whom a message goes
+pub data Receiver : Type 0 where
+  ToWorker : (w : ℕ) → Receiver
+  ToNode : (n : ℕ) → Receiver
+
+-- what a log is read beside: the script, the number of the cluster's first nodes, and the network, which says to whom each
+-- message goes that was sent
 pub record Setting : Type 0 where
   pub script : Script
   pub nodes : ℕ
-  pub receiver : ℕ → Option ℕ
+  pub receiver : ℕ → Option Receiver
 
 -- ---- words of the rules
+
+abbrev pub worker_to : Option Receiver → Option ℕ
+worker_to None = None
+worker_to (Some (ToWorker w)) = Some w
+worker_to (Some (ToNode n)) = None
 
 -- the worker whose own event it is: its claims, ticks and notices, the commits of its jobs, and the deliveries to it
 abbrev pub actor : Setting → List Entry → Event → Option ℕ
 actor s log (Claim w) = Some w
 actor s log (Commit j) = worker_of_job j log
-actor s log (Deliver m) = s.receiver m
+actor s log (Deliver m) = worker_to (s.receiver m)
 actor s log (Tick w) = Some w
 actor s log (Notice w v) = Some w
 actor s log (NoticeNode w n) = Some w
@@ -80,10 +90,16 @@ AreSteps before o (p ∷ ps) x = ((b : Birth) × (birth_at (births before) o ≡
 
 -- ---- what each entry needs before it
 
--- a worker gets the next number, on a live node
+-- it is no delivery to a dead worker
+abbrev pub IsHeard : Setting → List Entry → Event → Type 0
+IsHeard s before (Deliver m) = ((n : ℕ) × (s.receiver m ≡ Some (ToNode n))) ⊎ ((w : ℕ) × (s.receiver m ≡ Some (ToWorker w)) × (is_live w before ≡ true))
+IsHeard s before _ = Unit {0}
+
+-- a worker gets the next number, on a live node; the dead do nothing
 pub record MayOpen (s : Setting) (before : List Entry) (w n : ℕ) : Type 0 where
   pub event : Event
   pub now : under_way before ≡ Some event
+  pub heard : IsHeard s before event
   pub next : w ≡ length (opened before) + 1
   pub lives : node_lives s.nodes n before ≡ true
 

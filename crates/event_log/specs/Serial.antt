@@ -8,7 +8,7 @@ use Rattle.meaning.specs.Meaning.{run_birth, serial_run}
 use Rattle.meaning.specs.Births.{birth_at}
 use Rattle.meaning.specs.Readings.{Reading, read, read_outcome, read_birth, den, AllHold, NameEarlier}
 use Rattle.meaning.specs.Law.{gets_of, prints_of}
-use Rattle.event_log.specs.Entries.{Attempt, Fault, Entry, main_attempt}
+use Rattle.event_log.specs.Entries.{Attempt, Entry, Faulted, main_attempt}
 use Rattle.event_log.specs.Words.{Lack, Answer, Content, Lacking, births, answered_of, answers_of, printed_by, ends_of, faults_of}
 use Rattle.event_log.specs.Breaks.{Cause}
 
@@ -53,14 +53,14 @@ pub record ReadsAsSerial (script : Script) (log : List Entry) : Type 0 where
   pub each : (a : Attempt) (spec : Birth) → birth_at (births log) a.object ≡ Some spec → BeginsRun (reading_of script log) log a (run_birth script (read_birth (reading_of script log) spec))
   pub main : BeginsRun (reading_of script log) log main_attempt (serial_run script)
 
--- the fault's cause stands earlier in the log
-pub record IsCaused (log : List Entry) (f : Fault) : Type 0 where
+-- a get of main was answered with the fault, and its cause stands before that
+pub record IsCaused (log : List Entry) (x : Lack) : Type 0 where
   pub before : List Entry
   pub after : List Entry
-  pub parts : log ≡ before ++ after
-  pub cause : Cause before f
+  pub parts : log ≡ before ++ Faulted main_attempt x.object x.fault ∷ after
+  pub cause : Cause before x.fault
 
 -- main begins the serial run of the script, and each fault that it has is caused
 pub record MainBegins (script : Script) (log : List Entry) : Type 0 where
   pub begins : BeginsRun (reading_of script log) log main_attempt (serial_run script)
-  pub faults : (k : ℕ) (x : Lack) → slice_get (faults_of main_attempt log) k ≡ Some x → IsCaused log x.fault
+  pub faults : (k : ℕ) (x : Lack) → slice_get (faults_of main_attempt log) k ≡ Some x → IsCaused log x

@@ -2,6 +2,7 @@
 
 ghost use Rattle.event_log.specs.Laws.{BeginningsAreLegal, LegalLogsGrow, EntriesHaveTheirNeeds, LegalFaultsHaveCauses, LawOfTotals, LegalInLargerNetworks};
 ghost use Rattle.event_log.specs.Claims.{LawOfClaims};
+ghost use Rattle.event_log.specs.Causes.{LawOfCauses};
 ghost use Rattle.event_log.specs.Commits.{LawOfCommits};
 ghost use Rattle.event_log.specs.Extends.{LogsExtend};
 ghost use Rattle.event_log.specs.Fresh.{FreshObjectsAreUnknown};
@@ -62,4 +63,9 @@ pub fn law_of_commits()
 /// A legal log stays legal as messages are added to the network.
 pub fn legal_in_larger_networks()
     ensures { LegalInLargerNetworks }
+{}
+
+/// The causes for which events are refused are what accepted events need.
+pub fn law_of_causes()
+    ensures { LawOfCauses }
 {}

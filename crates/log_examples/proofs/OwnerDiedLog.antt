@@ -1,16 +1,16 @@
 -- The log of a get of a dead owner's object is legal.
-use Rattle.std.proofs.Common.{[], ◌∷◌, ◌++◌, take, inr, refl, arith}
+use Rattle.std.proofs.Common.{inl, [], ◌∷◌, ◌++◌, take, inr, refl, arith}
 use Rattle.std.specs.Prelude.{codes, drop}
 use Rattle.meaning.specs.Values.{main_birth}
 use Rattle.meaning.specs.Births.{same_id}
 use Rattle.meaning.specs.Meaning.{call_at, replay}
 use Rattle.meaning.specs.Examples.{value, object, reference_got}
-use Rattle.event_log.specs.Entries.{Claim, Commit, Deliver, Notice, In, Opened, Begun, Born, Got, Ended, Accepted, Faulted, Released, main_attempt}
+use Rattle.event_log.specs.Entries.{Kill, Claim, Commit, Deliver, Notice, In, Opened, Begun, Born, Got, Ended, Accepted, Faulted, Released, main_attempt}
 use Rattle.event_log.specs.Words.{same_attempt}
 use Rattle.event_log.specs.Events.{accepted_events, under_way_from, ends_with_in, is_committed, node_is_killed, node_lives, is_killed, is_live, was_told, was_lost}
 use Rattle.event_log.specs.Breaks.{breaks_from, breaks_of}
 use Rattle.event_log.specs.Holding.{is_one_of, anchored, is_held}
-use Rattle.event_log.specs.Rules.{Allowed}
+use Rattle.event_log.specs.Rules.{ToWorker, ToNode, Allowed}
 use Rattle.event_log.specs.Legal.{Whole, Answered, Legal, opening}
 use Rattle.log_examples.specs.Logs.{first_of}
 use Rattle.log_examples.specs.FaultLogs.{calling_outer, calling_leaf, reference_to, died, owner_died_setting, owner_died_rest, owner_died_log}
@@ -29,7 +29,7 @@ owner_died_2 = record { job = record { job = 1; now = refl; own = refl; runs = r
 
 owner_died_4 : Allowed owner_died_setting (opening ++ take 4 owner_died_rest) (Opened 2 1)
 unfolding call_at same_id same_attempt accepted_events under_way_from ends_with_in is_committed node_is_killed node_lives is_killed is_live was_told was_lost breaks_from breaks_of is_one_of anchored is_held
-owner_died_4 = record { event = Deliver 1; now = refl; next = refl; lives = refl }
+owner_died_4 = record { event = Deliver 1; now = refl; heard = inl (1, refl); next = refl; lives = refl }
 
 owner_died_6 : Allowed owner_died_setting (opening ++ take 6 owner_died_rest) (Begun (first_of (object 1 1)) 2)
 unfolding call_at same_id same_attempt accepted_events under_way_from ends_with_in is_committed node_is_killed node_lives is_killed is_live was_told was_lost breaks_from breaks_of is_one_of anchored is_held
@@ -53,7 +53,7 @@ owner_died_11 = record { worker = 2; job = record { job = 2; now = refl; own = r
 
 owner_died_13 : Allowed owner_died_setting (opening ++ take 13 owner_died_rest) (Opened 3 1)
 unfolding call_at same_id same_attempt accepted_events under_way_from ends_with_in is_committed node_is_killed node_lives is_killed is_live was_told was_lost breaks_from breaks_of is_one_of anchored is_held
-owner_died_13 = record { event = Deliver 4; now = refl; next = refl; lives = refl }
+owner_died_13 = record { event = Deliver 4; now = refl; heard = inl (1, refl); next = refl; lives = refl }
 
 owner_died_15 : Allowed owner_died_setting (opening ++ take 15 owner_died_rest) (Accepted (first_of (object 1 1)))
 unfolding call_at same_id same_attempt accepted_events under_way_from ends_with_in is_committed node_is_killed node_lives is_killed is_live was_told was_lost breaks_from breaks_of is_one_of anchored is_held
@@ -85,7 +85,7 @@ owner_died_26 = record { own = record { event = Deliver 10; now = refl; own = re
 
 owner_died_30 : Answered owner_died_setting Whole (opening ++ take 30 owner_died_rest) (In (Notice 1 2) 0) (drop 31 owner_died_rest)
 unfolding call_at same_id same_attempt accepted_events under_way_from ends_with_in is_committed node_is_killed node_lives is_killed is_live was_told was_lost breaks_from breaks_of is_one_of anchored is_held
-owner_died_30 = refl
+owner_died_30 = (refl, refl)
 
 owner_died_31 : Answered owner_died_setting Whole (opening ++ take 31 owner_died_rest) (In (Claim 1) 0) (drop 32 owner_died_rest)
 unfolding call_at same_id same_attempt accepted_events under_way_from ends_with_in is_committed node_is_killed node_lives is_killed is_live was_told was_lost breaks_from breaks_of is_one_of anchored is_held
@@ -103,6 +103,10 @@ owner_died_34 : Allowed owner_died_setting (opening ++ take 34 owner_died_rest) 
 unfolding call_at same_id same_attempt accepted_events under_way_from ends_with_in is_committed node_is_killed node_lives is_killed is_live was_told was_lost breaks_from breaks_of is_one_of anchored is_held
 owner_died_34 = record { own = record { event = Commit 4; now = refl; own = refl; lives = refl }; once = refl; settled = inr (inr (0, refl, (0, refl))); bearer = main_attempt; bore = (0, refl); over = inr (record { object = object 2 1; fault = died (object 2 1) }, (0, refl)); unheld = refl }
 
+owner_died_29 : Answered owner_died_setting Whole (opening ++ take 29 owner_died_rest) (In (Kill 2) 0) (drop 30 owner_died_rest)
+unfolding call_at same_id same_attempt accepted_events under_way_from ends_with_in is_committed node_is_killed node_lives is_killed is_live was_told was_lost breaks_from breaks_of is_one_of anchored is_held
+owner_died_29 = refl
+
 pub owner_died_is_legal : Legal owner_died_setting owner_died_log
 unfolding call_at same_id same_attempt accepted_events under_way_from ends_with_in is_committed node_is_killed node_lives is_killed is_live was_told was_lost breaks_from breaks_of is_one_of anchored is_held
-owner_died_is_legal = record { rest = owner_died_rest; begins = refl; each = (tt, owner_died_0, (tt, owner_died_1, (owner_died_2, tt, (tt, tt, (owner_died_4, tt, (tt, tt, (owner_died_6, tt, (tt, tt, (tt, owner_died_8, (tt, owner_died_9, (owner_died_10, tt, (owner_died_11, tt, (tt, tt, (owner_died_13, tt, (tt, tt, (owner_died_15, tt, (owner_died_16, tt, (tt, tt, (owner_died_18, tt, (tt, tt, (tt, tt, (tt, tt, (tt, owner_died_22, (tt, owner_died_23, (owner_died_24, tt, (tt, tt, (owner_died_26, tt, (tt, tt, (tt, tt, (tt, tt, (tt, owner_died_30, (tt, owner_died_31, (tt, owner_died_32, (owner_died_33, tt, (owner_died_34, tt, (tt, tt, (tt, tt, tt))))))))))))))))))))))))))))))))))))) }
+owner_died_is_legal = record { rest = owner_died_rest; begins = refl; each = (tt, owner_died_0, (tt, owner_died_1, (owner_died_2, tt, (tt, (ToNode 1, refl), (owner_died_4, tt, (tt, (ToWorker 1, refl), (owner_died_6, tt, (tt, (ToWorker 2, refl), (tt, owner_died_8, (tt, owner_died_9, (owner_died_10, tt, (owner_died_11, tt, (tt, (ToNode 1, refl), (owner_died_13, tt, (tt, (ToWorker 1, refl), (owner_died_15, tt, (owner_died_16, tt, (tt, (ToWorker 2, refl), (owner_died_18, tt, (tt, (ToWorker 2, refl), (tt, (ToWorker 3, refl), (tt, (ToNode 1, refl), (tt, owner_died_22, (tt, owner_died_23, (owner_died_24, tt, (tt, (ToWorker 2, refl), (owner_died_26, tt, (tt, (ToWorker 3, refl), (tt, (ToNode 1, refl), (tt, owner_died_29, (tt, owner_died_30, (tt, owner_died_31, (tt, owner_died_32, (owner_died_33, tt, (owner_died_34, tt, (tt, (ToWorker 2, refl), (tt, (ToNode 1, refl), tt))))))))))))))))))))))))))))))))))))) }

@@ -10,7 +10,7 @@ use Rattle.event_log.specs.Words.{same_attempt}
 use Rattle.event_log.specs.Events.{accepted_events, under_way_from, ends_with_in, is_committed, node_is_killed, node_lives, is_killed, is_live, was_told, was_lost}
 use Rattle.event_log.specs.Breaks.{breaks_from, breaks_of}
 use Rattle.event_log.specs.Holding.{is_one_of, anchored, is_held}
-use Rattle.event_log.specs.Rules.{Allowed}
+use Rattle.event_log.specs.Rules.{ToWorker, ToNode, Allowed}
 use Rattle.event_log.specs.Legal.{Whole, Answered, Legal, opening}
 use Rattle.log_examples.specs.Logs.{first_of, number, given, calling_mid, calling_add, passing_setting, passing_rest, passing_log}
 
@@ -32,7 +32,7 @@ passing_3 = record { job = record { job = 1; now = refl; own = refl; runs = refl
 
 passing_5 : Allowed passing_setting (opening ++ take 5 passing_rest) (Opened 2 1)
 unfolding call_at same_id same_attempt accepted_events under_way_from ends_with_in is_committed node_is_killed node_lives is_killed is_live was_told was_lost breaks_from breaks_of is_one_of anchored is_held
-passing_5 = record { event = Deliver 1; now = refl; next = refl; lives = refl }
+passing_5 = record { event = Deliver 1; now = refl; heard = inl (1, refl); next = refl; lives = refl }
 
 passing_7 : Allowed passing_setting (opening ++ take 7 passing_rest) (Begun (first_of (object 1 2)) 2)
 unfolding call_at same_id same_attempt accepted_events under_way_from ends_with_in is_committed node_is_killed node_lives is_killed is_live was_told was_lost breaks_from breaks_of is_one_of anchored is_held
@@ -56,7 +56,7 @@ passing_12 = record { worker = 2; job = record { job = 2; now = refl; own = refl
 
 passing_14 : Allowed passing_setting (opening ++ take 14 passing_rest) (Opened 3 1)
 unfolding call_at same_id same_attempt accepted_events under_way_from ends_with_in is_committed node_is_killed node_lives is_killed is_live was_told was_lost breaks_from breaks_of is_one_of anchored is_held
-passing_14 = record { event = Deliver 5; now = refl; next = refl; lives = refl }
+passing_14 = record { event = Deliver 5; now = refl; heard = inl (1, refl); next = refl; lives = refl }
 
 passing_16 : Allowed passing_setting (opening ++ take 16 passing_rest) (Begun (first_of (object 2 1)) 3)
 unfolding call_at same_id same_attempt accepted_events under_way_from ends_with_in is_committed node_is_killed node_lives is_killed is_live was_told was_lost breaks_from breaks_of is_one_of anchored is_held
@@ -92,4 +92,4 @@ passing_27 = record { own = record { event = Deliver 10; now = refl; own = refl;
 
 pub passing_is_legal : Legal passing_setting passing_log
 unfolding call_at same_id same_attempt accepted_events under_way_from ends_with_in is_committed node_is_killed node_lives is_killed is_live was_told was_lost breaks_from breaks_of is_one_of anchored is_held
-passing_is_legal = record { rest = passing_rest; begins = refl; each = (tt, passing_0, (tt, passing_1, (passing_2, tt, (passing_3, tt, (tt, tt, (passing_5, tt, (tt, tt, (passing_7, tt, (tt, tt, (tt, passing_9, (tt, passing_10, (passing_11, tt, (passing_12, tt, (tt, tt, (passing_14, tt, (tt, tt, (passing_16, tt, (tt, tt, (tt, passing_18, (tt, passing_19, (tt, tt, (tt, tt, (passing_22, tt, (tt, passing_23, (tt, passing_24, (passing_25, tt, (tt, tt, (passing_27, tt, tt)))))))))))))))))))))))))))) }
+passing_is_legal = record { rest = passing_rest; begins = refl; each = (tt, passing_0, (tt, passing_1, (passing_2, tt, (passing_3, tt, (tt, (ToNode 1, refl), (passing_5, tt, (tt, (ToWorker 1, refl), (passing_7, tt, (tt, (ToWorker 2, refl), (tt, passing_9, (tt, passing_10, (passing_11, tt, (passing_12, tt, (tt, (ToNode 1, refl), (passing_14, tt, (tt, (ToWorker 2, refl), (passing_16, tt, (tt, (ToWorker 3, refl), (tt, passing_18, (tt, passing_19, (tt, (ToWorker 1, refl), (tt, (ToWorker 3, refl), (passing_22, tt, (tt, passing_23, (tt, passing_24, (passing_25, tt, (tt, (ToWorker 2, refl), (passing_27, tt, tt)))))))))))))))))))))))))))) }

@@ -10,7 +10,7 @@ use Rattle.event_log.specs.Words.{same_attempt}
 use Rattle.event_log.specs.Events.{accepted_events, under_way_from, ends_with_in, is_committed, node_is_killed, node_lives, is_killed, is_live, was_told, was_lost}
 use Rattle.event_log.specs.Breaks.{breaks_from, breaks_of}
 use Rattle.event_log.specs.Holding.{is_one_of, anchored, is_held}
-use Rattle.event_log.specs.Rules.{Allowed}
+use Rattle.event_log.specs.Rules.{ToWorker, ToNode, Allowed}
 use Rattle.event_log.specs.Legal.{Whole, Answered, Legal, opening}
 use Rattle.log_examples.specs.Logs.{first_of, number, given, calling_mid, calling_add}
 use Rattle.log_examples.specs.ReleaseLogs.{releasing_setting, releasing_rest, releasing_log}
@@ -33,7 +33,7 @@ releasing_3 = record { job = record { job = 1; now = refl; own = refl; runs = re
 
 releasing_5 : Allowed releasing_setting (opening ++ take 5 releasing_rest) (Opened 2 1)
 unfolding call_at same_id same_attempt accepted_events under_way_from ends_with_in is_committed node_is_killed node_lives is_killed is_live was_told was_lost breaks_from breaks_of is_one_of anchored is_held
-releasing_5 = record { event = Deliver 1; now = refl; next = refl; lives = refl }
+releasing_5 = record { event = Deliver 1; now = refl; heard = inl (1, refl); next = refl; lives = refl }
 
 releasing_7 : Allowed releasing_setting (opening ++ take 7 releasing_rest) (Begun (first_of (object 1 2)) 2)
 unfolding call_at same_id same_attempt accepted_events under_way_from ends_with_in is_committed node_is_killed node_lives is_killed is_live was_told was_lost breaks_from breaks_of is_one_of anchored is_held
@@ -57,7 +57,7 @@ releasing_12 = record { worker = 2; job = record { job = 2; now = refl; own = re
 
 releasing_14 : Allowed releasing_setting (opening ++ take 14 releasing_rest) (Opened 3 1)
 unfolding call_at same_id same_attempt accepted_events under_way_from ends_with_in is_committed node_is_killed node_lives is_killed is_live was_told was_lost breaks_from breaks_of is_one_of anchored is_held
-releasing_14 = record { event = Deliver 5; now = refl; next = refl; lives = refl }
+releasing_14 = record { event = Deliver 5; now = refl; heard = inl (1, refl); next = refl; lives = refl }
 
 releasing_16 : Allowed releasing_setting (opening ++ take 16 releasing_rest) (Begun (first_of (object 2 1)) 3)
 unfolding call_at same_id same_attempt accepted_events under_way_from ends_with_in is_committed node_is_killed node_lives is_killed is_live was_told was_lost breaks_from breaks_of is_one_of anchored is_held
@@ -125,4 +125,4 @@ releasing_48 = record { own = record { event = Commit 5; now = refl; own = refl;
 
 pub releasing_is_legal : Legal releasing_setting releasing_log
 unfolding call_at same_id same_attempt accepted_events under_way_from ends_with_in is_committed node_is_killed node_lives is_killed is_live was_told was_lost breaks_from breaks_of is_one_of anchored is_held
-releasing_is_legal = record { rest = releasing_rest; begins = refl; each = (tt, releasing_0, (tt, releasing_1, (releasing_2, tt, (releasing_3, tt, (tt, tt, (releasing_5, tt, (tt, tt, (releasing_7, tt, (tt, tt, (tt, releasing_9, (tt, releasing_10, (releasing_11, tt, (releasing_12, tt, (tt, tt, (releasing_14, tt, (tt, tt, (releasing_16, tt, (tt, tt, (tt, releasing_18, (tt, releasing_19, (tt, tt, (tt, tt, (releasing_22, tt, (tt, releasing_23, (tt, releasing_24, (releasing_25, tt, (tt, tt, (releasing_27, tt, (tt, tt, (tt, tt, (tt, tt, (releasing_31, tt, (tt, tt, (tt, tt, (tt, tt, (tt, tt, (tt, tt, (releasing_37, tt, (releasing_38, tt, (tt, tt, (tt, tt, (tt, tt, (tt, tt, (tt, tt, (tt, releasing_44, (tt, releasing_45, (releasing_46, tt, (releasing_47, tt, (releasing_48, tt, (tt, tt, (tt, tt, tt))))))))))))))))))))))))))))))))))))))))))))))))))) }
+releasing_is_legal = record { rest = releasing_rest; begins = refl; each = (tt, releasing_0, (tt, releasing_1, (releasing_2, tt, (releasing_3, tt, (tt, (ToNode 1, refl), (releasing_5, tt, (tt, (ToWorker 1, refl), (releasing_7, tt, (tt, (ToWorker 2, refl), (tt, releasing_9, (tt, releasing_10, (releasing_11, tt, (releasing_12, tt, (tt, (ToNode 1, refl), (releasing_14, tt, (tt, (ToWorker 2, refl), (releasing_16, tt, (tt, (ToWorker 3, refl), (tt, releasing_18, (tt, releasing_19, (tt, (ToWorker 1, refl), (tt, (ToWorker 3, refl), (releasing_22, tt, (tt, releasing_23, (tt, releasing_24, (releasing_25, tt, (tt, (ToWorker 2, refl), (releasing_27, tt, (tt, (ToWorker 1, refl), (tt, (ToWorker 1, refl), (tt, (ToWorker 2, refl), (releasing_31, tt, (tt, (ToWorker 1, refl), (tt, (ToWorker 1, refl), (tt, (ToWorker 3, refl), (tt, (ToWorker 2, refl), (tt, (ToWorker 1, refl), (releasing_37, tt, (releasing_38, tt, (tt, (ToNode 1, refl), (tt, (ToWorker 2, refl), (tt, (ToNode 1, refl), (tt, (ToWorker 2, refl), (tt, (ToNode 1, refl), (tt, releasing_44, (tt, releasing_45, (releasing_46, tt, (releasing_47, tt, (releasing_48, tt, (tt, (ToNode 1, refl), (tt, (ToNode 1, refl), tt))))))))))))))))))))))))))))))))))))))))))))))))))) }

@@ -5,12 +5,12 @@ use Rattle.meaning.specs.Values.{main_birth}
 use Rattle.meaning.specs.Births.{same_id}
 use Rattle.meaning.specs.Meaning.{call_at, replay}
 use Rattle.meaning.specs.Examples.{value, object}
-use Rattle.event_log.specs.Entries.{Claim, Commit, Deliver, Notice, In, Opened, Begun, Born, Got, Ended, Accepted, Released, main_attempt}
+use Rattle.event_log.specs.Entries.{Kill, Claim, Commit, Deliver, Notice, In, Opened, Begun, Born, Got, Ended, Accepted, Released, main_attempt}
 use Rattle.event_log.specs.Words.{same_attempt}
 use Rattle.event_log.specs.Events.{accepted_events, under_way_from, ends_with_in, is_committed, node_is_killed, node_lives, is_killed, is_live, was_told, was_lost}
 use Rattle.event_log.specs.Breaks.{breaks_from, breaks_of}
 use Rattle.event_log.specs.Holding.{is_one_of, anchored, is_held}
-use Rattle.event_log.specs.Rules.{Allowed}
+use Rattle.event_log.specs.Rules.{ToWorker, ToNode, Allowed}
 use Rattle.event_log.specs.Legal.{Whole, Answered, Legal, opening}
 use Rattle.log_examples.specs.Logs.{first_of}
 use Rattle.log_examples.specs.FaultLogs.{calls_one, making_one, second_of, retried_setting, retried_rest, retried_log}
@@ -29,7 +29,7 @@ retried_2 = record { job = record { job = 1; now = refl; own = refl; runs = refl
 
 retried_4 : Allowed retried_setting (opening ++ take 4 retried_rest) (Opened 2 1)
 unfolding call_at same_id same_attempt accepted_events under_way_from ends_with_in is_committed node_is_killed node_lives is_killed is_live was_told was_lost breaks_from breaks_of is_one_of anchored is_held
-retried_4 = record { event = Deliver 1; now = refl; next = refl; lives = refl }
+retried_4 = record { event = Deliver 1; now = refl; heard = inl (1, refl); next = refl; lives = refl }
 
 retried_6 : Allowed retried_setting (opening ++ take 6 retried_rest) (Begun (first_of (object 1 1)) 2)
 unfolding call_at same_id same_attempt accepted_events under_way_from ends_with_in is_committed node_is_killed node_lives is_killed is_live was_told was_lost breaks_from breaks_of is_one_of anchored is_held
@@ -37,11 +37,11 @@ retried_6 = record { own = record { event = Deliver 2; now = refl; own = refl; l
 
 retried_9 : Answered retried_setting Whole (opening ++ take 9 retried_rest) (In (Notice 1 2) 0) (drop 10 retried_rest)
 unfolding call_at same_id same_attempt accepted_events under_way_from ends_with_in is_committed node_is_killed node_lives is_killed is_live was_told was_lost breaks_from breaks_of is_one_of anchored is_held
-retried_9 = refl
+retried_9 = (refl, refl)
 
 retried_11 : Allowed retried_setting (opening ++ take 11 retried_rest) (Opened 3 1)
 unfolding call_at same_id same_attempt accepted_events under_way_from ends_with_in is_committed node_is_killed node_lives is_killed is_live was_told was_lost breaks_from breaks_of is_one_of anchored is_held
-retried_11 = record { event = Deliver 4; now = refl; next = refl; lives = refl }
+retried_11 = record { event = Deliver 4; now = refl; heard = inl (1, refl); next = refl; lives = refl }
 
 retried_13 : Allowed retried_setting (opening ++ take 13 retried_rest) (Begun (second_of (object 1 1)) 3)
 unfolding call_at same_id same_attempt accepted_events under_way_from ends_with_in is_committed node_is_killed node_lives is_killed is_live was_told was_lost breaks_from breaks_of is_one_of anchored is_held
@@ -83,6 +83,10 @@ retried_26 : Allowed retried_setting (opening ++ take 26 retried_rest) (Released
 unfolding call_at same_id same_attempt accepted_events under_way_from ends_with_in is_committed node_is_killed node_lives is_killed is_live was_told was_lost breaks_from breaks_of is_one_of anchored is_held
 retried_26 = record { own = record { event = Commit 3; now = refl; own = refl; lives = refl }; once = refl; settled = inr (inr (1, refl, (0, refl))); bearer = main_attempt; bore = (0, refl); over = inl ((value 1), (0, refl)); unheld = refl }
 
+retried_8 : Answered retried_setting Whole (opening ++ take 8 retried_rest) (In (Kill 2) 0) (drop 9 retried_rest)
+unfolding call_at same_id same_attempt accepted_events under_way_from ends_with_in is_committed node_is_killed node_lives is_killed is_live was_told was_lost breaks_from breaks_of is_one_of anchored is_held
+retried_8 = refl
+
 pub retried_is_legal : Legal retried_setting retried_log
 unfolding call_at same_id same_attempt accepted_events under_way_from ends_with_in is_committed node_is_killed node_lives is_killed is_live was_told was_lost breaks_from breaks_of is_one_of anchored is_held
-retried_is_legal = record { rest = retried_rest; begins = refl; each = (tt, retried_0, (tt, retried_1, (retried_2, tt, (tt, tt, (retried_4, tt, (tt, tt, (retried_6, tt, (tt, tt, (tt, tt, (tt, retried_9, (tt, tt, (retried_11, tt, (tt, tt, (retried_13, tt, (tt, tt, (tt, retried_15, (tt, retried_16, (retried_17, tt, (tt, tt, (retried_19, tt, (retried_20, tt, (tt, tt, (tt, tt, (tt, retried_23, (tt, retried_24, (retried_25, tt, (retried_26, tt, (tt, tt, tt)))))))))))))))))))))))))))) }
+retried_is_legal = record { rest = retried_rest; begins = refl; each = (tt, retried_0, (tt, retried_1, (retried_2, tt, (tt, (ToNode 1, refl), (retried_4, tt, (tt, (ToWorker 1, refl), (retried_6, tt, (tt, (ToWorker 2, refl), (tt, retried_8, (tt, retried_9, (tt, (ToNode 1, refl), (retried_11, tt, (tt, (ToWorker 1, refl), (retried_13, tt, (tt, (ToWorker 3, refl), (tt, retried_15, (tt, retried_16, (retried_17, tt, (tt, (ToWorker 1, refl), (retried_19, tt, (retried_20, tt, (tt, (ToWorker 3, refl), (tt, (ToNode 1, refl), (tt, retried_23, (tt, retried_24, (retried_25, tt, (retried_26, tt, (tt, (ToNode 1, refl), tt)))))))))))))))))))))))))))) }

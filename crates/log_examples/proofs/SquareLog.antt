@@ -10,7 +10,7 @@ use Rattle.event_log.specs.Words.{same_attempt}
 use Rattle.event_log.specs.Events.{accepted_events, under_way_from, ends_with_in, is_committed, node_is_killed, node_lives, is_killed, is_live, was_told, was_lost}
 use Rattle.event_log.specs.Breaks.{breaks_from, breaks_of}
 use Rattle.event_log.specs.Holding.{is_one_of, anchored, is_held}
-use Rattle.event_log.specs.Rules.{Allowed}
+use Rattle.event_log.specs.Rules.{ToWorker, ToNode, Allowed}
 use Rattle.event_log.specs.Legal.{Whole, Answered, Legal, opening}
 use Rattle.log_examples.specs.Logs.{first_of, number, given, square_setting, square_rest, square_log}
 
@@ -28,7 +28,7 @@ square_2 = record { job = record { job = 1; now = refl; own = refl; runs = refl;
 
 square_4 : Allowed square_setting (opening ++ take 4 square_rest) (Opened 2 1)
 unfolding call_at same_id same_attempt accepted_events under_way_from ends_with_in is_committed node_is_killed node_lives is_killed is_live was_told was_lost breaks_from breaks_of is_one_of anchored is_held
-square_4 = record { event = Deliver 1; now = refl; next = refl; lives = refl }
+square_4 = record { event = Deliver 1; now = refl; heard = inl (1, refl); next = refl; lives = refl }
 
 square_6 : Allowed square_setting (opening ++ take 6 square_rest) (Begun (first_of (object 1 1)) 2)
 unfolding call_at same_id same_attempt accepted_events under_way_from ends_with_in is_committed node_is_killed node_lives is_killed is_live was_told was_lost breaks_from breaks_of is_one_of anchored is_held
@@ -76,4 +76,4 @@ square_20 = record { own = record { event = Commit 3; now = refl; own = refl; li
 
 pub square_is_legal : Legal square_setting square_log
 unfolding call_at same_id same_attempt accepted_events under_way_from ends_with_in is_committed node_is_killed node_lives is_killed is_live was_told was_lost breaks_from breaks_of is_one_of anchored is_held
-square_is_legal = record { rest = square_rest; begins = refl; each = (tt, square_0, (tt, square_1, (square_2, tt, (tt, tt, (square_4, tt, (tt, tt, (square_6, tt, (tt, tt, (tt, square_8, (tt, square_9, (square_10, tt, (tt, tt, (square_12, tt, (square_13, tt, (tt, tt, (tt, tt, (tt, square_16, (tt, square_17, (square_18, tt, (square_19, tt, (square_20, tt, tt))))))))))))))))))))) }
+square_is_legal = record { rest = square_rest; begins = refl; each = (tt, square_0, (tt, square_1, (square_2, tt, (tt, (ToNode 1, refl), (square_4, tt, (tt, (ToWorker 1, refl), (square_6, tt, (tt, (ToWorker 2, refl), (tt, square_8, (tt, square_9, (square_10, tt, (tt, (ToWorker 1, refl), (square_12, tt, (square_13, tt, (tt, (ToWorker 2, refl), (tt, (ToNode 1, refl), (tt, square_16, (tt, square_17, (square_18, tt, (square_19, tt, (square_20, tt, tt))))))))))))))))))))) }

@@ -10,7 +10,7 @@ use Rattle.event_log.specs.Words.{same_attempt}
 use Rattle.event_log.specs.Events.{accepted_events, under_way_from, ends_with_in, is_committed, node_is_killed, node_lives, is_killed, is_live, was_told, was_lost}
 use Rattle.event_log.specs.Breaks.{breaks_from, breaks_of}
 use Rattle.event_log.specs.Holding.{is_one_of, anchored, is_held}
-use Rattle.event_log.specs.Rules.{Allowed}
+use Rattle.event_log.specs.Rules.{ToWorker, ToNode, Allowed}
 use Rattle.event_log.specs.Legal.{Whole, Answered, Legal, opening}
 use Rattle.log_examples.specs.Logs.{first_of, number, given, dividing, trap_setting, trap_rest, trap_log}
 
@@ -32,7 +32,7 @@ trap_3 = record { worker = 1; job = record { job = 1; now = refl; own = refl; ru
 
 trap_5 : Allowed trap_setting (opening ++ take 5 trap_rest) (Opened 2 1)
 unfolding call_at same_id same_attempt accepted_events under_way_from ends_with_in is_committed node_is_killed node_lives is_killed is_live was_told was_lost breaks_from breaks_of is_one_of anchored is_held
-trap_5 = record { event = Deliver 1; now = refl; next = refl; lives = refl }
+trap_5 = record { event = Deliver 1; now = refl; heard = inl (1, refl); next = refl; lives = refl }
 
 trap_7 : Allowed trap_setting (opening ++ take 7 trap_rest) (Begun (first_of (object 1 1)) 2)
 unfolding call_at same_id same_attempt accepted_events under_way_from ends_with_in is_committed node_is_killed node_lives is_killed is_live was_told was_lost breaks_from breaks_of is_one_of anchored is_held
@@ -60,4 +60,4 @@ trap_14 = record { own = record { event = Deliver 4; now = refl; own = refl; liv
 
 pub trap_is_legal : Legal trap_setting trap_log
 unfolding call_at same_id same_attempt accepted_events under_way_from ends_with_in is_committed node_is_killed node_lives is_killed is_live was_told was_lost breaks_from breaks_of is_one_of anchored is_held
-trap_is_legal = record { rest = trap_rest; begins = refl; each = (tt, trap_0, (tt, trap_1, (trap_2, tt, (trap_3, tt, (tt, tt, (trap_5, tt, (tt, tt, (trap_7, tt, (tt, tt, (tt, trap_9, (tt, trap_10, (trap_11, tt, (tt, tt, (trap_13, tt, (trap_14, tt, (tt, tt, (tt, tt, (tt, tt, tt)))))))))))))))))) }
+trap_is_legal = record { rest = trap_rest; begins = refl; each = (tt, trap_0, (tt, trap_1, (trap_2, tt, (trap_3, tt, (tt, (ToNode 1, refl), (trap_5, tt, (tt, (ToWorker 1, refl), (trap_7, tt, (tt, (ToWorker 2, refl), (tt, trap_9, (tt, trap_10, (trap_11, tt, (tt, (ToWorker 1, refl), (trap_13, tt, (trap_14, tt, (tt, (ToWorker 2, refl), (tt, (ToNode 1, refl), (tt, (ToNode 1, refl), tt)))))))))))))))))) }

@@ -1,23 +1,25 @@
 -- Logs with one wrong entry are not legal.
-use Rattle.std.proofs.Common.{◌≡◌, ℕ, zero, suc, Bool, true, false, List, [], ◌∷◌, ◌++◌, take, Option, Some, None, inl, inr, refl, sym, ap, ◌∙◌, subst, arith}
-use Rattle.std.specs.Prelude.{slice_get, if◌then◌else◌}
-use Rattle.meaning.specs.Values.{Value, Outcome, Birth, Put, Val, Id, main_birth}
+use Rattle.std.proofs.Common.{◌≡◌, ℕ, zero, suc, ◌+◌, Bool, true, false, List, [], ◌∷◌, ◌++◌, take, length, Option, Some, None, inl, inr, refl, sym, ap, ◌∙◌, subst, arith}
+use Rattle.std.specs.Prelude.{slice_get, drop, if◌then◌else◌}
+use Rattle.std.proofs.Math.Seq.{take-append_seam, drop-append_seam}
+use Rattle.meaning.specs.Values.{Name, Value, Outcome, Argument, Birth, Put, Task, Val, Id, main_birth}
 use Rattle.meaning.specs.Runs.{Piece}
 use Rattle.meaning.specs.Meaning.{replay, call_at}
-use Rattle.meaning.specs.Births.{same_id, numbered}
+use Rattle.meaning.specs.Births.{same_id, numbered, birth_at}
 use Rattle.meaning.proofs.BirthLaws.{same_id-true}
 use Rattle.meaning.specs.Examples.{value, object, square, squaring}
-use Rattle.event_log.specs.Entries.{Attempt, Entry, OwnerDied, Event, Claim, Commit, Tick, Notice, In, Opened, Begun, Born, Got, Printed, Ended, Accepted, Faulted, Released, main_object, main_attempt}
-use Rattle.event_log.specs.Words.{same_attempt, attempt, runs_of}
-use Rattle.event_log.specs.Events.{accepted_events, under_way_from, is_killed, is_live}
-use Rattle.event_log.specs.Breaks.{Among, breaks_from, breaks_of}
+use Rattle.event_log.specs.Entries.{Attempt, Entry, OwnerDied, PutLost, Event, Claim, Commit, Deliver, Tick, Notice, Kill, In, Opened, Begun, Born, Got, Printed, Ended, Accepted, Faulted, Resolved, Released, main_object, main_attempt}
+use Rattle.event_log.specs.Words.{same_attempt, attempt, births, runs_of}
+use Rattle.event_log.specs.Events.{accepted_events, under_way_from, is_killed, is_live, was_told, was_lost}
+use Rattle.event_log.specs.Breaks.{Among, PutIsLost, breaks_from, breaks_of}
 use Rattle.event_log.specs.Holding.{is_one_of, anchored, is_held}
-use Rattle.event_log.specs.Rules.{Setting, Allowed}
+use Rattle.event_log.specs.Rules.{Receiver, ToWorker, ToNode, IsHeard, Setting, Allowed}
 use Rattle.event_log.specs.Legal.{Whole, BrokenOff, Happens, CommitsAll, LegalTo, opening}
 use Rattle.event_log.proofs.Growing.{entries_have_their_needs}
 use Rattle.log_examples.specs.Logs.{first_of, number, square_setting}
+use Rattle.log_examples.specs.FaultLogs.{making_one, used_up, retried_setting, owner_died_setting}
 use Rattle.log_examples.specs.ReleaseLogs.{releasing_setting}
-use Rattle.log_examples.specs.WrongLogs.{IsWrong, two_puts_setting, wrong_content, begun_again, accepted_twice, passed_setting, released_while_held, released_out_of_order, fault_without_cause, print_after_end, skipped_serial, end_of_the_dead, notice_of_the_living, entry_of_a_refused_event, half_a_commit, half_a_commit_and_more}
+use Rattle.log_examples.specs.WrongLogs.{IsWrong, two_puts_setting, wrong_content, begun_again, accepted_twice, passed_setting, released_while_held, released_out_of_order, fault_without_cause, print_after_end, skipped_serial, end_of_the_dead, notice_of_the_living, entry_of_a_refused_event, half_a_commit, half_a_commit_and_more, kill_of_nobody, delivery_of_nothing, opened_by_the_dead, lost_before_its_birth, used_up_too_soon, got_from_the_dead}
 
 -- by an entry that may not stand there
 wrong_by : (s : Setting) (before : List Entry) (x : Entry) (es : List Entry) → (Allowed s (opening ++ before) x → ⊥) → IsWrong s (before ++ x ∷ es)
@@ -96,7 +98,7 @@ wrong_by_event s before e f h BrokenOff legal = h (entries_have_their_needs Brok
 
 pub notice_of_the_living_is_wrong : IsWrong square_setting notice_of_the_living
 unfolding accepted_events is_killed
-notice_of_the_living_is_wrong = wrong_by_event square_setting (take 5 notice_of_the_living) (Notice 1 2) (Claim 1) (λ h. not_so h)
+notice_of_the_living_is_wrong = wrong_by_event square_setting (take 5 notice_of_the_living) (Notice 1 2) (Claim 1) (λ h. not_so h.1)
 
 -- only main runs, and it bears an object
 main_only : (o : Id) (k w : ℕ) → slice_get (runs_of o (opening ++ take 1 half_a_commit)) k ≡ Some w → (main_object ≡ o) × (◌≡◌ {A = ℕ} k 0)
@@ -132,3 +134,79 @@ half_a_commit_and_more_is_wrong = wrong_by_event square_setting (take 1 half_a_c
 pub half_a_commit_is_legal : LegalTo BrokenOff square_setting (opening ++ half_a_commit)
 unfolding accepted_events is_live
 half_a_commit_is_legal = record { rest = half_a_commit; begins = refl; each = (tt, refl, (tt, inl refl, tt)) }
+
+pub kill_of_nobody_is_wrong : IsWrong square_setting kill_of_nobody
+unfolding accepted_events is_live
+kill_of_nobody_is_wrong = wrong_by_event square_setting [] (Kill 2) (Claim 1) (λ h. not_so h)
+
+nobody : (r : Receiver) → ◌≡◌ {A = Option Receiver} None (Some r) → ⊥
+nobody r e = absurd (cc)
+
+pub delivery_of_nothing_is_wrong : IsWrong square_setting delivery_of_nothing
+delivery_of_nothing_is_wrong = wrong_by_event square_setting [] (Deliver 99) (Claim 1) (λ h. nobody h.0 h.1)
+
+to_one : (n : ℕ) → ◌≡◌ {A = Option Receiver} (Some (ToWorker 1)) (Some (ToNode n)) → ⊥
+to_one n e = absurd (cc)
+
+that_one : (w : ℕ) → ◌≡◌ {A = Option Receiver} (Some (ToWorker 1)) (Some (ToWorker w)) → ◌≡◌ {A = ℕ} w 1
+that_one w e = cc
+
+unheard : IsHeard square_setting (opening ++ take 2 opened_by_the_dead) (Deliver 2) → ⊥
+unfolding accepted_events is_live
+unheard (inl h) = to_one h.0 h.1
+unheard (inr h) = not_so (subst (λ w. is_live w (opening ++ take 2 opened_by_the_dead) ≡ true) (that_one h.0 h.1) h.2)
+
+this_event : (e : Event) → ◌≡◌ {A = Option Event} (Some (Deliver 2)) (Some e) → e ≡ Deliver 2
+this_event e h = cc
+
+pub opened_by_the_dead_is_wrong : IsWrong square_setting opened_by_the_dead
+unfolding under_way_from
+opened_by_the_dead_is_wrong = wrong_by square_setting (take 2 opened_by_the_dead) (Opened 2 1) [] (λ h. unheard (subst (λ e. IsHeard square_setting (opening ++ take 2 opened_by_the_dead) e) (this_event h.event h.now) h.heard))
+
+-- what stands before, where the loss comes before the birth
+abbrev early_log : List Entry
+early_log = opening ++ take 5 lost_before_its_birth
+
+not_born : (v : Value) → ◌≡◌ {A = Option Birth} None (Some (Put v)) → ⊥
+not_born v e = absurd (cc)
+
+by_place : (k : ℕ) (v : Value) (n : ℕ) → birth_at (births (take k early_log)) (object 1 1) ≡ Some (Put v) → was_lost n (object 1 1) (drop k early_log) ≡ true → ⊥
+unfolding same_id accepted_events was_lost
+by_place zero v n p l = not_born v p
+by_place (suc zero) v n p l = not_born v p
+by_place (suc (suc zero)) v n p l = not_born v p
+by_place (suc (suc (suc zero))) v n p l = not_born v p
+by_place (suc (suc (suc (suc zero)))) v n p l = not_born v p
+by_place (suc (suc (suc (suc (suc zero))))) v n p l = not_born v p
+by_place (suc (suc (suc (suc (suc (suc zero)))))) v n p l = not_so l
+by_place (suc (suc (suc (suc (suc (suc (suc zero))))))) v n p l = not_so l
+by_place (suc (suc (suc (suc (suc (suc (suc (suc k)))))))) v n p l = not_so l
+
+not_lost : PutIsLost early_log (object 1 1) → ⊥
+not_lost h =
+    let k = length h.before in
+    let f : take k early_log ≡ h.before = ap (λ l. take k l) h.parts ∙ take-append_seam h.before h.after in
+    let g : drop k early_log ≡ h.after = ap (λ l. drop k l) h.parts ∙ drop-append_seam h.before h.after in
+    by_place k h.value h.node
+    (subst (λ l. birth_at (births l) (object 1 1) ≡ Some (Put h.value)) (sym f) h.put)
+    (subst (λ l. was_lost h.node (object 1 1) l ≡ true) (sym g) h.lost)
+
+pub lost_before_its_birth_is_wrong : IsWrong two_puts_setting lost_before_its_birth
+lost_before_its_birth_is_wrong = wrong_by two_puts_setting (take 5 lost_before_its_birth) (Resolved (object 1 1) (record { kind = PutLost; object = object 1 1 })) [] (λ h. not_lost h.cause)
+
+that_task : (g : Name) (args : List Argument) (d k : ℕ) → ◌≡◌ {A = Option Birth} (Some (making_one 1)) (Some (Task g args d k)) → ◌≡◌ {A = ℕ} k 1
+that_task g args d k e = cc
+
+one_of_two : (k : ℕ) → ◌≡◌ {A = ℕ} k 1 → ◌≡◌ {A = ℕ} 1 (k + 1) → ⊥
+one_of_two k e f = absurd (omega (arith, e, f))
+
+pub used_up_too_soon_is_wrong : IsWrong retried_setting used_up_too_soon
+unfolding same_id
+used_up_too_soon_is_wrong = wrong_by retried_setting (take 10 used_up_too_soon) (Resolved (object 1 1) (used_up (object 1 1))) [] (λ h. one_of_two h.cause.retries (that_task h.cause.function h.cause.args h.cause.depth h.cause.retries h.cause.task) h.cause.begun)
+
+first_worker : (w : ℕ) → ◌≡◌ {A = Option ℕ} (Some 1) (Some w) → ◌≡◌ {A = ℕ} w 1
+first_worker w e = cc
+
+pub got_from_the_dead_is_wrong : IsWrong owner_died_setting got_from_the_dead
+unfolding same_id same_attempt accepted_events was_told
+got_from_the_dead_is_wrong = wrong_by owner_died_setting (take 33 got_from_the_dead) (Got main_attempt (object 2 1) (value 4)) [] (λ h. so (subst (λ w. was_told w 2 (opening ++ take 33 got_from_the_dead) ≡ false) (first_worker h.worker h.runs) h.untold))

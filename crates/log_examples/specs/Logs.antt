@@ -1,33 +1,29 @@
 -- Worked logs, written from the rules.
-use Rattle.std.specs.Prelude.{ℕ, zero, suc, List, [], ◌∷◌, ◌++◌, pos, codes, false, slice_get, Option, Some, None}
+use Rattle.std.specs.Prelude.{ℕ, zero, suc, List, [], ◌∷◌, ◌++◌, pos, codes, false, slice_get, Option, None}
 use Rattle.meaning.specs.Values.{Value, Int, Named, Trapped, DivZero, Argument, Birth, Put, Task, Id}
 use Rattle.meaning.specs.Syntax.{Script}
 use Rattle.meaning.specs.Examples.{value, object, squaring, square, trap_not_got, reference_passed}
 use Rattle.event_log.specs.Entries.{Attempt, Claim, Commit, Deliver, Entry, In, Opened, Begun, Born, Got, Printed, Ended, Accepted, Released, main_attempt}
 use Rattle.event_log.specs.Words.{attempt}
-use Rattle.event_log.specs.Rules.{Setting}
+use Rattle.event_log.specs.Rules.{Receiver, ToWorker, ToNode, Setting}
 use Rattle.event_log.specs.Legal.{opening}
 
 -- ---- short forms
 
 -- to whom the messages go, by number from 1 on
-abbrev pub to_worker : Option (Option ℕ) → Option ℕ
-to_worker None = None
-to_worker (Some r) = r
-
-abbrev pub receiver_in : List (Option ℕ) → ℕ → Option ℕ
+abbrev pub receiver_in : List Receiver → ℕ → Option Receiver
 receiver_in rs zero = None
-receiver_in rs (suc k) = to_worker (slice_get rs k)
+receiver_in rs (suc k) = slice_get rs k
 
 -- one node, and these receivers
-abbrev pub beside : Script → List (Option ℕ) → Setting
+abbrev pub beside : Script → List Receiver → Setting
 beside script rs = record { script = script; nodes = 1; receiver = receiver_in rs }
 
-abbrev pub node : Option ℕ
-node = None
+abbrev pub node : Receiver
+node = ToNode 1
 
-abbrev pub worker : ℕ → Option ℕ
-worker w = Some w
+abbrev pub worker : ℕ → Receiver
+worker w = ToWorker w
 
 -- the first attempt of an object
 abbrev pub first_of : Id → Attempt

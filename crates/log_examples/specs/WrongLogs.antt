@@ -4,10 +4,11 @@ use Rattle.meaning.specs.Values.{Put}
 use Rattle.meaning.specs.Syntax.{Script, Add, Var, Binary, PutOf, GetOf, Number, Let, Return}
 use Rattle.meaning.specs.Examples.{value, object, squaring, square, script_of, add, mid, remote}
 use Rattle.meaning.specs.Examples as made
-use Rattle.event_log.specs.Entries.{OwnerDied, Claim, Commit, Deliver, Tick, Notice, Kill, Entry, In, Refused, Opened, Begun, Born, Got, Printed, Ended, Accepted, Faulted, Released, main_attempt}
+use Rattle.event_log.specs.Entries.{OwnerDied, PutLost, Claim, Commit, Deliver, Tick, Notice, Lose, Kill, Entry, In, Refused, Opened, Begun, Born, Got, Printed, Ended, Accepted, Faulted, Resolved, Released, main_attempt}
 use Rattle.event_log.specs.Words.{attempt}
 use Rattle.event_log.specs.Rules.{Setting}
 use Rattle.event_log.specs.Legal.{End, LegalTo, opening}
+use Rattle.log_examples.specs.FaultLogs.{retried_rest, used_up, owner_died_rest}
 use Rattle.log_examples.specs.ReleaseLogs.{releasing_rest}
 use Rattle.log_examples.specs.Logs.{beside, node, worker, first_of, number, calling_mid, square_rest}
 
@@ -100,3 +101,34 @@ half_a_commit_and_more = In (Claim 1) 0 ∷ In (Commit 1) 0 ∷ In (Tick 1) 0 �
 
 abbrev pub two_puts_setting : Setting
 two_puts_setting = beside two_puts []
+
+-- a worker is killed that was never opened
+abbrev pub kill_of_nobody : List Entry
+kill_of_nobody = In (Kill 2) 0 ∷ In (Claim 1) 0 ∷ []
+
+-- a message is delivered that was never sent
+abbrev pub delivery_of_nothing : List Entry
+delivery_of_nothing = In (Deliver 99) 0 ∷ In (Claim 1) 0 ∷ []
+
+-- a worker is opened as a message reaches a dead one
+abbrev pub opened_by_the_dead : List Entry
+opened_by_the_dead = In (Kill 1) 0 ∷ In (Deliver 2) 0 ∷ Opened 2 1 ∷ []
+
+-- a put is said to be lost, but the loss stands before its birth
+abbrev pub lost_before_its_birth : List Entry
+lost_before_its_birth =
+    In (Lose 1 (object 1 1)) 0
+    ∷ In (Claim 1) 0
+    ∷ In (Commit 1) 0
+    ∷ Born (object 1 1) main_attempt (Put (number 1))
+    ∷ Born (object 1 2) main_attempt (Put (number 2))
+    ∷ Resolved (object 1 1) (record { kind = PutLost; object = object 1 1 })
+    ∷ []
+
+-- all runs are said to be used up after the first of two breaks
+abbrev pub used_up_too_soon : List Entry
+used_up_too_soon = take 10 retried_rest ++ (Resolved (object 1 1) (used_up (object 1 1)) ∷ [])
+
+-- a get is answered with a copy that remains, though the worker was told that the owner is dead
+abbrev pub got_from_the_dead : List Entry
+got_from_the_dead = take 33 owner_died_rest ++ (Got main_attempt (object 2 1) (value 4) ∷ [])

@@ -5,7 +5,7 @@ ghost use Rattle.event_log.specs.Legal.{BrokenOff, LegalTo, Legal, opening};
 ghost use Rattle.log_examples.specs.Logs.{square_setting, square_log, trap_setting, trap_log, passing_setting, passing_log};
 ghost use Rattle.log_examples.specs.FaultLogs.{unretried_setting, unretried_log, retried_setting, retried_log, put_lost_setting, put_lost_log, owner_died_setting, owner_died_log};
 ghost use Rattle.log_examples.specs.ReleaseLogs.{releasing_setting, releasing_log};
-ghost use Rattle.log_examples.specs.WrongLogs.{IsWrong, two_puts_setting, wrong_content, begun_again, accepted_twice, passed_setting, released_while_held, released_out_of_order, fault_without_cause, print_after_end, skipped_serial, end_of_the_dead, notice_of_the_living, half_a_commit, half_a_commit_and_more, entry_of_a_refused_event};
+ghost use Rattle.log_examples.specs.WrongLogs.{IsWrong, two_puts_setting, wrong_content, begun_again, accepted_twice, passed_setting, released_while_held, released_out_of_order, fault_without_cause, print_after_end, skipped_serial, end_of_the_dead, notice_of_the_living, half_a_commit, half_a_commit_and_more, entry_of_a_refused_event, kill_of_nobody, delivery_of_nothing, opened_by_the_dead, lost_before_its_birth, used_up_too_soon, got_from_the_dead};
 
 /// Logs that are legal.
 pub fn legal_examples()
@@ -32,6 +32,12 @@ pub fn wrong_examples()
     ensures end_of_the_dead { IsWrong square_setting end_of_the_dead }
     ensures notice_of_the_living { IsWrong square_setting notice_of_the_living }
     ensures half_a_commit { IsWrong square_setting half_a_commit_and_more }
+    ensures kill_of_nobody { IsWrong square_setting kill_of_nobody }
+    ensures delivery_of_nothing { IsWrong square_setting delivery_of_nothing }
+    ensures opened_by_the_dead { IsWrong square_setting opened_by_the_dead }
+    ensures lost_before_its_birth { IsWrong two_puts_setting lost_before_its_birth }
+    ensures used_up_too_soon { IsWrong retried_setting used_up_too_soon }
+    ensures got_from_the_dead { IsWrong owner_died_setting got_from_the_dead }
     ensures entry_of_a_refused_event { IsWrong square_setting entry_of_a_refused_event }
 {}
 

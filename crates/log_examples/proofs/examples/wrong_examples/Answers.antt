@@ -1,4 +1,4 @@
-use Rattle.log_examples.proofs.Wrong.{wrong_content_is_wrong, begun_again_is_wrong, accepted_twice_is_wrong, released_while_held_is_wrong, released_out_of_order_is_wrong, fault_without_cause_is_wrong, print_after_end_is_wrong, skipped_serial_is_wrong, end_of_the_dead_is_wrong, entry_of_a_refused_event_is_wrong, notice_of_the_living_is_wrong, half_a_commit_and_more_is_wrong}
+use Rattle.log_examples.proofs.Wrong.{wrong_content_is_wrong, begun_again_is_wrong, accepted_twice_is_wrong, released_while_held_is_wrong, released_out_of_order_is_wrong, fault_without_cause_is_wrong, print_after_end_is_wrong, skipped_serial_is_wrong, end_of_the_dead_is_wrong, entry_of_a_refused_event_is_wrong, notice_of_the_living_is_wrong, half_a_commit_and_more_is_wrong, kill_of_nobody_is_wrong, delivery_of_nothing_is_wrong, opened_by_the_dead_is_wrong, lost_before_its_birth_is_wrong, used_up_too_soon_is_wrong, got_from_the_dead_is_wrong}
 use Rattle.log_examples.proofs.examples.wrong_examples.Goals as goal
 
 pub returns-clause-wrong_content : goal.returns-clause-wrong_content
@@ -36,3 +36,21 @@ returns-clause-half_a_commit c = half_a_commit_and_more_is_wrong
 
 pub returns-clause-released_out_of_order : goal.returns-clause-released_out_of_order
 returns-clause-released_out_of_order c = released_out_of_order_is_wrong
+
+pub returns-clause-kill_of_nobody : goal.returns-clause-kill_of_nobody
+returns-clause-kill_of_nobody c = kill_of_nobody_is_wrong
+
+pub returns-clause-delivery_of_nothing : goal.returns-clause-delivery_of_nothing
+returns-clause-delivery_of_nothing c = delivery_of_nothing_is_wrong
+
+pub returns-clause-opened_by_the_dead : goal.returns-clause-opened_by_the_dead
+returns-clause-opened_by_the_dead c = opened_by_the_dead_is_wrong
+
+pub returns-clause-lost_before_its_birth : goal.returns-clause-lost_before_its_birth
+returns-clause-lost_before_its_birth c = lost_before_its_birth_is_wrong
+
+pub returns-clause-used_up_too_soon : goal.returns-clause-used_up_too_soon
+returns-clause-used_up_too_soon c = used_up_too_soon_is_wrong
+
+pub returns-clause-got_from_the_dead : goal.returns-clause-got_from_the_dead
+returns-clause-got_from_the_dead c = got_from_the_dead_is_wrong

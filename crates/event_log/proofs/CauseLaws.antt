@@ -1,11 +1,16 @@
 -- The causes of refusals are what accepted events need.
-use Rattle.std.proofs.Common.{◌≡◌, ℕ, Bool, true, false, List, Option, Some, None, refl, ap, ◌∙◌}
+use Rattle.std.proofs.Common.{◌≡◌, ℕ, ◌<◌, Bool, true, false, List, Option, Some, None, refl, sym, ap, ◌∙◌, subst, arith}
 use Rattle.std.specs.Prelude.{not}
-use Rattle.event_log.specs.Entries.{Event, Claim, Commit, Deliver, Tick, Notice, NoticeNode, Evict, Lose, Kill, KillNode, Join, Entry}
-use Rattle.event_log.specs.Events.{is_committed}
+use Rattle.meaning.specs.Values.{Id}
+use Rattle.meaning.specs.Births.{same_id}
+use Rattle.meaning.proofs.BirthLaws.{at_test, same_id-true}
+use Rattle.event_log.specs.Breaks.{Among}
+use Rattle.event_log.specs.Entries.{Event, Claim, Commit, Deliver, Tick, Notice, NoticeNode, Evict, Lose, Kill, KillNode, Join, Entry, main_object}
+use Rattle.event_log.specs.Events.{worker_of_job, is_committed, has_job_out, is_live}
 use Rattle.event_log.specs.Rules.{Setting}
 use Rattle.event_log.specs.Legal.{Happens}
-use Rattle.event_log.specs.Causes.{unless, is_there, worker_lives, shown, is_commit, LawOfCauses}
+use Rattle.event_log.specs.Causes.{unless, is_there, worker_lives, shown, unseen, IsNumberOf, IsRefusal}
+use Rattle.event_log.specs.Laws.{is_commit, LawOfCauses}
 
 none_shown : (b : Bool) (code : ℕ) (o : Option ℕ) → unless b code o ≡ None → (b ≡ true) × (o ≡ None)
 none_shown true code o h = (refl, h)
@@ -23,8 +28,12 @@ not_false : (b : Bool) → b ≡ false → not b ≡ true
 not_false true h = absurd (cc)
 not_false false h = refl
 
+not_true : (b : Bool) → not b ≡ true → b ≡ false
+not_true true h = absurd (cc)
+not_true false h = refl
+
 accepted : (s : Setting) (log : List Entry) (e : Event) (es : List Entry) (handed : Bool) → is_commit e ≡ false → shown s log handed e ≡ None → Happens s log e es
-accepted s log (Claim w) es handed c h = (none_shown _ 30 None h).0
+accepted s log (Claim w) es handed c h = let k = none_shown _ 30 _ h in (k.0, not_true (has_job_out w log) (none_shown _ 31 None k.1).0)
 accepted s log (Commit j) es handed c h = absurd (cc)
 accepted s log (Deliver m) es handed c h = there (s.receiver m) (none_shown _ 34 None h).0
 accepted s log (Tick w) es handed c h = (none_shown _ 30 None h).0
@@ -37,7 +46,7 @@ accepted s log (KillNode n) es handed c h = (none_shown _ 36 None h).0
 accepted s log Join es handed c h = tt
 
 unrefused : (s : Setting) (log : List Entry) (e : Event) (es : List Entry) → Happens s log e es → shown s log true e ≡ None
-unrefused s log (Claim w) es h = shows_none _ 30 None h refl
+unrefused s log (Claim w) es h = shows_none _ 30 _ h.0 (shows_none _ 31 None (not_false (has_job_out w log) h.1) refl)
 unrefused s log (Commit j) es h =
     let k = h.1 in
     shows_none _ 32 _ (ap is_there k.claimed) (shows_none _ 32 _ (not_false (is_committed j log) k.once)
@@ -54,3 +63,35 @@ unrefused s log Join es h = refl
 
 pub law_of_causes : LawOfCauses
 law_of_causes s log e es = record { accepted = accepted s log e es; unrefused = unrefused s log e es }
+
+-- ---- numbers of refusals
+
+-- the cause that an event shows, or one that it doesn't
+pub as_shown : (s : Setting) (log : List Entry) (e : Event) (code : ℕ) (handed : Bool) → shown s log handed e ≡ Some code → IsRefusal s log e code
+as_shown s log e code handed h = (handed, subst (λ o. IsNumberOf o e code) (sym h) refl)
+
+pub as_unseen : (s : Setting) (log : List Entry) (e : Event) (code : ℕ) (handed : Bool) → shown s log handed e ≡ None → Among code (unseen e) → IsRefusal s log e code
+as_unseen s log e code handed h k = (handed, subst (λ o. IsNumberOf o e code) (sym h) k)
+
+pub no_worker : (s : Setting) (log : List Entry) (w : ℕ) → is_live w log ≡ false → IsRefusal s log (Claim w) 30
+no_worker s log w h = as_shown s log (Claim w) 30 false (ap (λ b. unless b 30 (unless (not (has_job_out w log)) 31 None)) h)
+
+pub not_ready : (s : Setting) (log : List Entry) (w : ℕ) → is_live w log ≡ true → IsRefusal s log (Claim w) 31
+not_ready s log w h = (false, subst (λ b. IsNumberOf (unless b 30 (unless (not (has_job_out w log)) 31 None)) (Claim w) 31) (sym h) (by_job (has_job_out w log)))
+  where
+    by_job : (b : Bool) → IsNumberOf (unless (not b) 31 None) (Claim w) 31
+    by_job true = refl
+    by_job false = (0, refl)
+
+-- the log doesn't show what was handed in
+pub no_job : (s : Setting) (log : List Entry) (j : ℕ) → IsRefusal s log (Commit j) 32
+no_job s log j = as_shown s log (Commit j) 32 false (first (is_there (worker_of_job j log)) (not (is_committed j log)) (worker_lives (worker_of_job j log) log))
+  where
+    first : (b c d : Bool) → unless b 32 (unless c 32 (unless false 32 (unless d 33 None))) ≡ Some 32
+    first true true d = refl
+    first true false d = refl
+    first false c d = refl
+
+-- main's object is the one of serial 0
+pub not_main : (o : Id) → 0 < o.serial → same_id o main_object ≡ false
+not_main o h = at_test (λ q. q ≡ false) (same_id o main_object) (λ e. let f : o.serial ≡ 0 = ap (λ (x : Id). x.serial) (same_id-true o main_object e) in absurd (omega (arith, f, h))) (λ e. refl)

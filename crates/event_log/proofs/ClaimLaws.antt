@@ -37,6 +37,7 @@ can_accept-in log w seat b h =
     let i = In (Claim w) seat in
     record {
       owner = h.owner;
+      not_main = h.not_main;
       content = h.content;
       ended = (h.ended.0, word-more (ended_in b) log (i ∷ []) h.ended.0 h.content h.ended.1);
       last = ap (λ ws. length ws) (unchanged (run_in b.object) log i refl) ∙ h.last;
@@ -45,23 +46,23 @@ can_accept-in log w seat b h =
     }
 
 pub may_accept : (s : Setting) (before : List Entry) (w : ℕ) (b : Attempt) → IsOwn s before w → CanAccept before w b → MayAccept s before b
-may_accept s before w b o h = record { own = subst (λ v. IsOwn s before v) (sym h.owner) o; content = h.content; ended = h.ended; last = h.last; unresolved = h.unresolved; once = h.once }
+may_accept s before w b o h = record { own = subst (λ v. IsOwn s before v) (sym h.owner) o; not_main = h.not_main; content = h.content; ended = h.ended; last = h.last; unresolved = h.unresolved; once = h.once }
 
 pub law_of_claims : LawOfClaims
-law_of_claims s log w seat h =
+law_of_claims s log w seat h none =
     let i = In (Claim w) seat in
     let o = own_claim s log seat w h in
     let get = λ (a : Attempt) (y : Id) (c : Outcome) (g : CanGet s log w a y c). can_get-more s log w a y c i refl refl refl refl refl (told-in log (Claim w) seat w y.owner refl) g in
     record {
-      alone = record { no_event = refl; unrefused = refl; happens = h; each = tt };
-      got = λ a y c g. record { no_event = refl; unrefused = refl; happens = h; each = (may_get s (log ++ i ∷ []) w a y c o (get a y c g), tt) };
+      alone = record { no_event = refl; unrefused = refl; happens = (h, none); each = tt };
+      got = λ a y c g. record { no_event = refl; unrefused = refl; happens = (h, none); each = (may_get s (log ++ i ∷ []) w a y c o (get a y c g), tt) };
       accepted = λ b a y c k g.
           let x = Accepted b in
           let before = log ++ i ∷ [] in
           record {
             no_event = refl;
             unrefused = refl;
-            happens = h;
+            happens = (h, none);
             each = (
               may_accept s before w b o (can_accept-in log w seat b k),
               (may_get s (before ++ x ∷ []) w a y c (own-plain s before x w refl o) (can_get-more s before w a y c x refl refl refl refl refl (told-plain before x w y.owner refl) (get a y c g)), tt),

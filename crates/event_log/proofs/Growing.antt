@@ -3,6 +3,7 @@ use Rattle.std.proofs.Common.{◌≡◌, ℕ, Bool, true, false, List, [], ◌�
 use Rattle.event_log.specs.Entries.{Event, Entry, In, Refused}
 use Rattle.event_log.specs.Events.{refused_next, ends_with_in}
 use Rattle.event_log.specs.Rules.{Setting}
+use Rattle.event_log.specs.Causes.{MayRefuse}
 use Rattle.event_log.specs.Legal.{End, Whole, BrokenOff, of_event, has_event, Unless, Happens, HappensTo, Answered, EachAllowed, LegalFrom, LegalTo, Legal, opening}
 use Rattle.event_log.specs.Laws.{BeginningsAreLegal, MayAdd, LegalLogsGrow, HasItsNeeds, EntriesHaveTheirNeeds}
 
@@ -105,15 +106,19 @@ module _ (s : Setting) where
       let h2 = subst (λ b. HappensTo end b s log e (of_event es)) (sym h.no_event) h1 in
       subst (λ b. Unless b (HappensTo end (has_event es) s log e (of_event es))) (sym h.unrefused) h2
 
+-- a refusal stands directly behind an event
 in_last : (log : List Entry) (e : Event) (seat : ℕ) → ends_with_in (log ++ In e seat ∷ []) ≡ true
 unfolding ends_with_in
 in_last [] e seat = refl
 in_last (x ∷ []) e seat = refl
 in_last (x ∷ y ∷ log) e seat = in_last (y ∷ log) e seat
 
+pub refusal_ends : (s : Setting) (before : List Entry) (code : ℕ) → MayRefuse s before code → ends_with_in before ≡ true
+refusal_ends s before code h = ap ends_with_in h.parts ∙ in_last h.log h.event h.seat
+
 pub legal_logs_grow : LegalLogsGrow
 legal_logs_grow end s log e seat h = record {
-  refused = λ code. grows s end log e seat (Refused code ∷ []) h (tt, tt, (in_last log e seat, tt, tt));
+  refused = λ code cause. grows s end log e seat (Refused code ∷ []) h (tt, tt, (record { log = log; event = e; seat = seat; parts = refl; cause = cause }, tt, tt));
   added = λ es k. grows s end log e seat es h (tt, happens_added s end log e seat es k, each_legal s end (log ++ In e seat ∷ []) es k.no_event k.each);
 }
 

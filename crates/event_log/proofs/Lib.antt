@@ -13,4 +13,4 @@ pub mod Networks
 pub mod ClaimLaws
 pub mod FreshLaws
 pub mod Beginning
-mod CauseLaws
+pub mod CauseLaws

@@ -1,10 +1,11 @@
 -- A log stays legal beside a larger network.
-use Rattle.std.proofs.Common.{◌≡◌, ℕ, Bool, true, false, List, [], ◌∷◌, ◌++◌, Option, Some, None, inl, inr, refl, ap, ◌∙◌}
+use Rattle.std.proofs.Common.{◌≡◌, ℕ, Bool, true, false, List, [], ◌∷◌, ◌++◌, Option, Some, None, inl, inr, refl, sym, ap, ◌∙◌, subst}
 use Rattle.meaning.specs.Values.{Id}
 use Rattle.meaning.specs.Runs.{Stop, Piece}
 use Rattle.event_log.specs.Entries.{Attempt, Event, Commit, Deliver, Entry, In, Refused, Opened, Begun, Born, Got, Printed, Ended, Accepted, Faulted, Resolved, Released}
 use Rattle.event_log.specs.Events.{refused_next}
 use Rattle.event_log.specs.Rules.{Receiver, ToWorker, ToNode, worker_to, IsHeard, Setting, actor, IsOwn, Replays, Stops, Allowed}
+use Rattle.event_log.specs.Causes.{unless, is_there, IsNumberOf, IsRefusal}
 use Rattle.event_log.specs.Legal.{BreaksOff, Happens, HappensTo, End, Whole, BrokenOff, of_event, has_event, Unless, Answered, LegalFrom, opening}
 use Rattle.event_log.specs.Laws.{with_receiver, LegalInLargerNetworks}
 
@@ -35,9 +36,22 @@ module _ (s : Setting) (receiver : ℕ → Option Receiver) (larger : (m : ℕ) 
   stops : (before : List Entry) (a : Attempt) (stop : Stop) → Stops s before a stop → Stops t before a stop
   stops before a stop h = record { base = h.base; p = h.p; replays = replays before a h.base h.p h.replays; own = h.own; prints = h.prints; stopped = h.stopped }
 
+  -- the number of a refusal, where the network knows of more
+  delivers : (m code : ℕ) (handed : Bool) (o : Option Receiver) → s.receiver m ≡ o → IsNumberOf (unless (is_there o) 34 None) (Deliver m) code → IsNumberOf (unless (is_there (receiver m)) 34 None) (Deliver m) code
+  delivers m code handed (Some r) e h = subst (λ o. IsNumberOf (unless (is_there o) 34 None) (Deliver m) code) (sym (larger m r e)) h
+  delivers m code handed None e h = go (receiver m)
+    where
+      go : (o : Option Receiver) → IsNumberOf (unless (is_there o) 34 None) (Deliver m) code
+      go None = h
+      go (Some r) = (0, ap Some (sym h))
+
+  refusal : (log : List Entry) (e : Event) (code : ℕ) → IsRefusal s log e code → IsRefusal t log e code
+  refusal log (Deliver m) code h = (h.0, delivers m code h.0 (s.receiver m) refl h.1)
+  refusal log e code h = h
+
   allowed : (before : List Entry) (x : Entry) → Allowed s before x → Allowed t before x
   allowed before (In e seat) h = h
-  allowed before (Refused code) h = h
+  allowed before (Refused code) h = record { log = h.log; event = h.event; seat = h.seat; parts = h.parts; cause = refusal h.log h.event code h.cause }
   allowed before (Opened w n) h = record { event = h.event; now = h.now; heard = heard before h.event h.heard; next = h.next; lives = h.lives }
   allowed before (Begun a w) h = record {
     own = own before a.object.owner h.own;
@@ -58,9 +72,9 @@ module _ (s : Setting) (receiver : ℕ → Option Receiver) (larger : (m : ℕ) 
   allowed before (Got a y c) h = record { worker = h.worker; runs = h.runs; own = own before h.worker h.own; needs = stops before a _ h.needs; content = h.content; untold = h.untold }
   allowed before (Printed v) h = record { worker = h.worker; job = h.job; base = h.base; p = h.p; replays = replays before _ h.base h.p h.replays; own = h.own; prints = h.prints }
   allowed before (Ended a c) h = record { worker = h.worker; job = h.job; stops = stops before a _ h.stops }
-  allowed before (Accepted a) h = record { own = own before a.object.owner h.own; content = h.content; ended = h.ended; last = h.last; unresolved = h.unresolved; once = h.once }
+  allowed before (Accepted a) h = record { own = own before a.object.owner h.own; not_main = h.not_main; content = h.content; ended = h.ended; last = h.last; unresolved = h.unresolved; once = h.once }
   allowed before (Faulted a y f) h = record { worker = h.worker; runs = h.runs; own = own before h.worker h.own; needs = stops before a _ h.needs; reason = h.reason; cause = h.cause }
-  allowed before (Resolved o f) h = record { own = own before o.owner h.own; once = h.once; reason = h.reason; cause = h.cause }
+  allowed before (Resolved o f) h = record { own = own before o.owner h.own; not_main = h.not_main; once = h.once; reason = h.reason; cause = h.cause }
   allowed before (Released o) h = record { own = own before o.owner h.own; once = h.once; settled = h.settled; bearer = h.bearer; bore = h.bore; over = h.over; unheld = h.unheld }
 
   happens : (before : List Entry) (e : Event) (es : List Entry) → Happens s before e es → Happens t before e es

@@ -2,9 +2,10 @@
 use Rattle.std.specs.Prelude.{◌≡◌, ℕ, true, false, List, [], ◌∷◌, Some}
 use Rattle.meaning.specs.Values.{Outcome, Id, Named}
 use Rattle.meaning.specs.Runs.{Needs}
-use Rattle.event_log.specs.Entries.{Attempt, Claim, Entry, Got, Accepted}
+use Rattle.meaning.specs.Births.{same_id}
+use Rattle.event_log.specs.Entries.{Attempt, Claim, Entry, Got, Accepted, main_object}
 use Rattle.event_log.specs.Words.{worker_of, ends_of, accepts_of, resolves_of}
-use Rattle.event_log.specs.Events.{is_live, was_told}
+use Rattle.event_log.specs.Events.{has_job_out, is_live, was_told}
 use Rattle.event_log.specs.Breaks.{Among}
 use Rattle.event_log.specs.Rules.{Setting, Stops, HasContent, IsLast}
 use Rattle.event_log.specs.Legal.{Whole}
@@ -17,20 +18,21 @@ pub record CanGet (s : Setting) (log : List Entry) (w : ℕ) (a : Attempt) (y : 
   pub content : HasContent log y c
   pub untold : was_told w y.owner log ≡ false
 
--- the attempt of an object of the worker has ended, is the last one, and its end isn't known yet
+-- the attempt of an object of the worker, not main's, has ended, is the last one, and its end isn't known yet
 pub record CanAccept (log : List Entry) (w : ℕ) (b : Attempt) : Type 0 where
   pub owner : b.object.owner ≡ w
+  pub not_main : same_id b.object main_object ≡ false
   pub content : Outcome
   pub ended : Among content (ends_of b log)
   pub last : IsLast log b
   pub unresolved : resolves_of b.object log ≡ []
   pub once : accepts_of b log ≡ []
 
--- the claim of a live worker may stand alone, with an answer, or with what is accepted and an answer
+-- the claim of a live worker of which no job is out may stand alone, with an answer, or with what is accepted and an answer
 pub record ClaimsMayAdd (s : Setting) (log : List Entry) (w seat : ℕ) : Type 0 where
   pub alone : MayAdd Whole s log (Claim w) seat []
   pub got : (a : Attempt) (y : Id) (c : Outcome) → CanGet s log w a y c → MayAdd Whole s log (Claim w) seat (Got a y c ∷ [])
   pub accepted : (b a : Attempt) (y : Id) (c : Outcome) → CanAccept log w b → CanGet s log w a y c → MayAdd Whole s log (Claim w) seat (Accepted b ∷ Got a y c ∷ [])
 
 abbrev pub LawOfClaims : Type 0
-LawOfClaims = (s : Setting) (log : List Entry) (w seat : ℕ) → is_live w log ≡ true → ClaimsMayAdd s log w seat
+LawOfClaims = (s : Setting) (log : List Entry) (w seat : ℕ) → is_live w log ≡ true → has_job_out w log ≡ false → ClaimsMayAdd s log w seat

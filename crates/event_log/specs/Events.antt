@@ -1,5 +1,5 @@
 -- Which events were accepted, and what they say of workers, nodes and jobs.
-use Rattle.std.specs.Prelude.{ℕ, zero, suc, ◌+◌, Bool, true, false, ◌&&◌, ◌==◌, if◌then◌else◌, List, [], ◌∷◌, ◌++◌, length, Option, Some, None, slice_get, not, nat_lt}
+use Rattle.std.specs.Prelude.{ℕ, zero, suc, ◌+◌, Bool, true, false, ◌&&◌, ◌||◌, ◌==◌, if◌then◌else◌, List, [], ◌∷◌, ◌++◌, length, Option, Some, None, slice_get, not, nat_lt}
 use Rattle.std.specs.List.{flat_map, list_any}
 use Rattle.meaning.specs.Values.{Id}
 use Rattle.meaning.specs.Births.{same_id}
@@ -68,6 +68,15 @@ commits log = flat_map commit_in (accepted_events log)
 
 unfoldable pub is_committed : ℕ → List Entry → Bool
 is_committed j log = list_any (λ i. i == j) (commits log)
+
+-- the jobs of these claims have that number and the next ones; one of the worker's isn't committed
+abbrev pub is_out_from : List Entry → ℕ → ℕ → List ℕ → Bool
+is_out_from log w j [] = false
+is_out_from log w j (v ∷ vs) = ((v == w) && not (is_committed j log)) || is_out_from log w (j + 1) vs
+
+-- a job that was given to the worker isn't committed
+unfoldable pub has_job_out : ℕ → List Entry → Bool
+has_job_out w log = is_out_from log w 1 (claims log)
 
 -- ---- nodes and workers
 

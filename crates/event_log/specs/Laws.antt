@@ -1,11 +1,12 @@
 -- Laws of legal logs.
-use Rattle.std.specs.Prelude.{◌≡◌, ℕ, ◌+◌, Bool, true, false, List, [], ◌∷◌, ◌++◌, length, Option, Some}
+use Rattle.std.specs.Prelude.{◌≡◌, ℕ, ◌+◌, Bool, true, false, List, [], ◌∷◌, ◌++◌, length, Option, Some, None}
 use Rattle.meaning.specs.Values.{Id}
 use Rattle.event_log.specs.Entries.{Attempt, Fault, Event, Claim, Commit, Entry, In, Refused, Faulted, Resolved}
 use Rattle.event_log.specs.Events.{refused_next, claims}
 use Rattle.event_log.specs.Breaks.{Cause}
 use Rattle.event_log.specs.Rules.{Receiver, Setting, Allowed}
-use Rattle.event_log.specs.Legal.{End, Whole, BrokenOff, has_event, HappensTo, Answered, EachAllowed, LegalTo, Legal, opening}
+use Rattle.event_log.specs.Legal.{End, Whole, BrokenOff, has_event, Happens, HappensTo, Answered, EachAllowed, LegalTo, Legal, opening}
+use Rattle.event_log.specs.Causes.{shown, IsRefusal}
 use Rattle.event_log.specs.Books.{Totals, totals}
 
 -- ---- beginnings and more events
@@ -21,9 +22,9 @@ pub record MayAdd (end : End) (s : Setting) (log : List Entry) (e : Event) (seat
   pub happens : HappensTo end false s log e es
   pub each : EachAllowed s (log ++ In e seat ∷ []) es
 
--- a legal log stays legal with one more event: refused, or with what it may add
+-- a legal log stays legal with one more event: refused for its cause, or with what it may add
 pub record StaysLegal (end : End) (s : Setting) (log : List Entry) (e : Event) (seat : ℕ) : Type 0 where
-  pub refused : (code : ℕ) → LegalTo end s (log ++ In e seat ∷ Refused code ∷ [])
+  pub refused : (code : ℕ) → IsRefusal s log e code → LegalTo end s (log ++ In e seat ∷ Refused code ∷ [])
   pub added : (es : List Entry) → MayAdd end s log e seat es → LegalTo end s (log ++ In e seat ∷ es)
 
 abbrev pub LegalLogsGrow : Type 0
@@ -78,6 +79,21 @@ pub record TotalsAreSums (log : List Entry) : Type 0 where
 
 abbrev pub LawOfTotals : Type 0
 LawOfTotals = (log : List Entry) → TotalsAreSums log
+
+-- ---- refusals
+
+abbrev pub is_commit : Event → Bool
+is_commit (Commit j) = true
+is_commit _ = false
+
+-- where an event shows no cause it may be accepted, but that a commit also needs its entries; and where it may be accepted, it
+-- shows no cause
+pub record CausesAreNeeds (s : Setting) (log : List Entry) (e : Event) (es : List Entry) : Type 0 where
+  pub accepted : (handed : Bool) → is_commit e ≡ false → shown s log handed e ≡ None → Happens s log e es
+  pub unrefused : Happens s log e es → shown s log true e ≡ None
+
+abbrev pub LawOfCauses : Type 0
+LawOfCauses = (s : Setting) (log : List Entry) (e : Event) (es : List Entry) → CausesAreNeeds s log e es
 
 -- ---- the network
 

@@ -7,7 +7,7 @@ use Rattle.meaning.specs.Runs.{Stop, Needs, Over, Piece}
 use Rattle.meaning.specs.Births.{numbered}
 use Rattle.event_log.specs.Entries.{Attempt, Event, Claim, Commit, Deliver, Tick, Notice, NoticeNode, Evict, Lose, Kill, KillNode, Join, Entry, In, Opened, Begun, Born, Printed, Ended, main_attempt}
 use Rattle.event_log.specs.Words.{own_births, worker_of, printed_by, ends_of}
-use Rattle.event_log.specs.Events.{refused_next, worker_of_job, is_committed, node_is_killed, node_lives, is_killed, is_live}
+use Rattle.event_log.specs.Events.{refused_next, worker_of_job, is_committed, has_job_out, node_is_killed, node_lives, is_killed, is_live}
 use Rattle.event_log.specs.Rules.{Receiver, Setting, Replays, Allowed}
 
 -- ---- what an event needs
@@ -53,7 +53,7 @@ pub record CommitsPart (s : Setting) (before : List Entry) (a : Attempt) (es : L
 
 -- what an event needs to be accepted, with all the entries that it adds
 abbrev pub Happens : Setting → List Entry → Event → List Entry → Type 0
-Happens s before (Claim w) es = is_live w before ≡ true
+Happens s before (Claim w) es = (is_live w before ≡ true) × (has_job_out w before ≡ false)
 Happens s before (Commit j) es = (a : Attempt) × CommitsJob before j a es × CommitsAll s before a es
 Happens s before (Deliver m) es = (r : Receiver) × (s.receiver m ≡ Some r)
 Happens s before (Tick w) es = is_live w before ≡ true

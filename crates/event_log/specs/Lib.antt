@@ -3,10 +3,11 @@ pub mod Words
 pub mod Events
 pub mod Breaks
 pub mod Holding
+pub mod Settings
+pub mod Causes
 pub mod Rules
 pub mod Legal
 pub mod Serial
-pub mod Causes
 pub mod Books
 pub mod Laws
 pub mod Extends

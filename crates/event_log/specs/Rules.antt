@@ -2,28 +2,17 @@
 use Rattle.std.specs.Prelude.{◌≡◌, ℕ, ◌+◌, ◌≤◌, true, false, List, [], ◌∷◌, ◌++◌, ◌⊎◌, length, slice_get, Option, Some, None}
 use Rattle.meaning.specs.Lists.{IsFirst}
 use Rattle.meaning.specs.Values.{Name, Value, Outcome, Val, Argument, Birth, Put, Task, Id, Named}
-use Rattle.meaning.specs.Syntax.{Script}
 use Rattle.meaning.specs.Runs.{Stop, Needs, Over, Piece}
-use Rattle.meaning.specs.Births.{numbered, birth_at}
+use Rattle.meaning.specs.Births.{same_id, numbered, birth_at}
 use Rattle.meaning.specs.Meaning.{replay}
 use Rattle.task_spec.specs.Dereferenced.{dereferenced_in}
-use Rattle.event_log.specs.Entries.{Attempt, OwnerDied, PutLost, RetriesUsed, Fault, Event, Claim, Commit, Deliver, Tick, Notice, NoticeNode, Entry, In, Refused, Opened, Begun, Born, Got, Printed, Ended, Accepted, Faulted, Resolved, Released, main_attempt}
+use Rattle.event_log.specs.Entries.{Attempt, OwnerDied, PutLost, RetriesUsed, Fault, Event, Claim, Commit, Deliver, Tick, Notice, NoticeNode, Entry, In, Refused, Opened, Begun, Born, Got, Printed, Ended, Accepted, Faulted, Resolved, Released, main_object, main_attempt}
 use Rattle.event_log.specs.Words.{attempt, births, next_serial, own_births, bearers_of, runs_of, worker_of, answers_of, printed_by, ends_of, Lack, faults_of, accepts_of, resolves_of, releases_of, opened}
-use Rattle.event_log.specs.Events.{under_way, ends_with_in, worker_of_job, node_lives, node_of, is_live, was_told}
+use Rattle.event_log.specs.Events.{under_way, worker_of_job, node_lives, node_of, is_live, was_told}
 use Rattle.event_log.specs.Breaks.{Among, Broken, AllBroken, Cause}
 use Rattle.event_log.specs.Holding.{is_held}
-
--- to whom a message goes
-pub data Receiver : Type 0 where
-  ToWorker : (w : ℕ) → Receiver
-  ToNode : (n : ℕ) → Receiver
-
--- what a log is read beside: the script, the number of the cluster's first nodes, and the network, which says to whom each
--- message goes that was sent
-pub record Setting : Type 0 where
-  pub script : Script
-  pub nodes : ℕ
-  pub receiver : ℕ → Option Receiver
+pub use Rattle.event_log.specs.Settings.{Receiver, ToWorker, ToNode, Setting}
+use Rattle.event_log.specs.Causes.{MayRefuse}
 
 -- ---- words of the rules
 
@@ -155,9 +144,10 @@ pub record MayGet (s : Setting) (before : List Entry) (a : Attempt) (y : Id) (c 
   pub content : HasContent before y c
   pub untold : was_told worker y.owner before ≡ false
 
--- in an own event of the owner, once: the attempt ended, is the last one begun, and its object isn't resolved
+-- in an own event of the owner, once: the attempt, which isn't main's, ended, is the last one begun, and its object isn't resolved
 pub record MayAccept (s : Setting) (before : List Entry) (a : Attempt) : Type 0 where
   pub own : IsOwn s before a.object.owner
+  pub not_main : same_id a.object main_object ≡ false
   pub content : Outcome
   pub ended : Among content (ends_of a before)
   pub last : IsLast before a
@@ -199,9 +189,10 @@ pub record LostBelow (before : List Entry) (o : Id) (f : Fault) : Type 0 where
   pub reached : AreSteps before o steps below
   pub loss : IsLoss f below
 
--- in an own event of the owner, once, with a cause
+-- in an own event of the owner, once, with a cause; main's object has no owner that could be asked for it
 pub record MayResolve (s : Setting) (before : List Entry) (o : Id) (f : Fault) : Type 0 where
   pub own : IsOwn s before o.owner
+  pub not_main : same_id o main_object ≡ false
   pub once : resolves_of o before ≡ []
   pub reason : LastFaulted before o f ⊎ IsLoss f o ⊎ LostBelow before o f
   pub cause : Cause before f
@@ -227,7 +218,7 @@ pub record MayRelease (s : Setting) (before : List Entry) (o : Id) : Type 0 wher
 -- the entry may stand behind those before; for an event see below
 abbrev pub Allowed : Setting → List Entry → Entry → Type 0
 Allowed s before (In e seat) = Unit {0}
-Allowed s before (Refused code) = ends_with_in before ≡ true
+Allowed s before (Refused code) = MayRefuse s before code
 Allowed s before (Opened w n) = MayOpen s before w n
 Allowed s before (Begun a w) = MayBegin s before a w
 Allowed s before (Born o a b) = MayBear s before o a b

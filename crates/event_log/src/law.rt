@@ -1,8 +1,7 @@
 // The laws of legal logs.
 
-ghost use Rattle.event_log.specs.Laws.{BeginningsAreLegal, LegalLogsGrow, EntriesHaveTheirNeeds, LegalFaultsHaveCauses, LawOfTotals, LegalInLargerNetworks};
+ghost use Rattle.event_log.specs.Laws.{BeginningsAreLegal, LegalLogsGrow, EntriesHaveTheirNeeds, LegalFaultsHaveCauses, LawOfTotals, LegalInLargerNetworks, LawOfCauses};
 ghost use Rattle.event_log.specs.Claims.{LawOfClaims};
-ghost use Rattle.event_log.specs.Causes.{LawOfCauses};
 ghost use Rattle.event_log.specs.Commits.{LawOfCommits};
 ghost use Rattle.event_log.specs.Extends.{LogsExtend};
 ghost use Rattle.event_log.specs.Fresh.{FreshObjectsAreUnknown};
@@ -13,7 +12,7 @@ pub fn beginnings_are_legal()
     ensures { BeginningsAreLegal }
 {}
 
-/// A legal log stays legal with one more event, which is refused, or adds entries that may stand there.
+/// A legal log stays legal with one more event, which is refused for its cause, or adds entries that may stand there.
 pub fn legal_logs_grow()
     ensures { LegalLogsGrow }
 {}
@@ -49,7 +48,7 @@ pub fn fresh_objects_are_unknown()
     ensures { FreshObjectsAreUnknown }
 {}
 
-/// The claim of a live worker may add nothing, or the answer that its attempt needs, before which an attempt of its own object may
+/// The claim of a live worker of which no job is out may add nothing, or the answer that its attempt needs, before which an attempt of its own object may
 /// be accepted.
 pub fn law_of_claims()
     ensures { LawOfClaims }
@@ -65,7 +64,7 @@ pub fn legal_in_larger_networks()
     ensures { LegalInLargerNetworks }
 {}
 
-/// The causes for which events are refused are what accepted events need.
+/// An event shows no cause for which it is refused exactly where it may be accepted; a commit also needs its entries.
 pub fn law_of_causes()
     ensures { LawOfCauses }
 {}

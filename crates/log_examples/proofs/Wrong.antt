@@ -1,5 +1,5 @@
 -- Logs with one wrong entry are not legal.
-use Rattle.std.proofs.Common.{◌≡◌, ℕ, zero, suc, ◌+◌, Bool, true, false, List, [], ◌∷◌, ◌++◌, take, length, Option, Some, None, inl, inr, refl, sym, ap, ◌∙◌, subst, arith}
+use Rattle.std.proofs.Common.{◌≡◌, ℕ, zero, suc, ◌+◌, Bool, true, false, List, [], ◌∷◌, ◌++◌, take, length, Option, Some, None, inl, inr, refl, sym, ap, ◌∙◌, subst, arith, append_assoc}
 use Rattle.std.specs.Prelude.{slice_get, drop, if◌then◌else◌}
 use Rattle.std.proofs.Math.Seq.{take-append_seam, drop-append_seam}
 use Rattle.meaning.specs.Values.{Name, Value, Outcome, Argument, Birth, Put, Task, Val, Id, main_birth}
@@ -8,18 +8,20 @@ use Rattle.meaning.specs.Meaning.{replay, call_at}
 use Rattle.meaning.specs.Births.{same_id, numbered, birth_at}
 use Rattle.meaning.proofs.BirthLaws.{same_id-true}
 use Rattle.meaning.specs.Examples.{value, object, square, squaring}
-use Rattle.event_log.specs.Entries.{Attempt, Entry, OwnerDied, PutLost, Event, Claim, Commit, Deliver, Tick, Notice, Kill, In, Opened, Begun, Born, Got, Printed, Ended, Accepted, Faulted, Resolved, Released, main_object, main_attempt}
+use Rattle.event_log.specs.Entries.{Attempt, Entry, OwnerDied, PutLost, Event, Claim, Commit, Deliver, Tick, Notice, Kill, In, Refused, Opened, Begun, Born, Got, Printed, Ended, Accepted, Faulted, Resolved, Released, main_object, main_attempt}
 use Rattle.event_log.specs.Words.{same_attempt, attempt, births, runs_of}
-use Rattle.event_log.specs.Events.{accepted_events, under_way_from, is_killed, is_live, was_told, was_lost}
+use Rattle.event_log.specs.Events.{accepted_events, under_way_from, is_committed, has_job_out, is_killed, is_live, was_told, was_lost}
 use Rattle.event_log.specs.Breaks.{Among, PutIsLost, breaks_from, breaks_of}
 use Rattle.event_log.specs.Holding.{is_one_of, anchored, is_held}
 use Rattle.event_log.specs.Rules.{Receiver, ToWorker, ToNode, IsHeard, Setting, Allowed}
+use Rattle.event_log.specs.Causes.{IsRefusal}
+use Rattle.event_log.specs.Serial.{MainBegins}
 use Rattle.event_log.specs.Legal.{Whole, BrokenOff, Happens, CommitsAll, LegalTo, opening}
 use Rattle.event_log.proofs.Growing.{entries_have_their_needs}
 use Rattle.log_examples.specs.Logs.{first_of, number, square_setting}
 use Rattle.log_examples.specs.FaultLogs.{making_one, used_up, retried_setting, owner_died_setting}
 use Rattle.log_examples.specs.ReleaseLogs.{releasing_setting}
-use Rattle.log_examples.specs.WrongLogs.{IsWrong, two_puts_setting, wrong_content, begun_again, accepted_twice, passed_setting, released_while_held, released_out_of_order, fault_without_cause, print_after_end, skipped_serial, end_of_the_dead, notice_of_the_living, entry_of_a_refused_event, half_a_commit, half_a_commit_and_more, kill_of_nobody, delivery_of_nothing, opened_by_the_dead, lost_before_its_birth, used_up_too_soon, got_from_the_dead}
+use Rattle.log_examples.specs.WrongLogs.{IsWrong, two_puts, two_puts_setting, owner_died, wrong_content, begun_again, accepted_twice, passed_setting, released_while_held, released_out_of_order, fault_without_cause, print_after_end, skipped_serial, end_of_the_dead, notice_of_the_living, entry_of_a_refused_event, half_a_commit, half_a_commit_and_more, kill_of_nobody, delivery_of_nothing, opened_by_the_dead, lost_before_its_birth, used_up_too_soon, got_from_the_dead, main_resolved, main_accepted, given_out_twice, refused_for_nothing, refused_for_less, cause_comes_later}
 
 -- by an entry that may not stand there
 wrong_by : (s : Setting) (before : List Entry) (x : Entry) (es : List Entry) → (Allowed s (opening ++ before) x → ⊥) → IsWrong s (before ++ x ∷ es)
@@ -132,8 +134,8 @@ half_a_commit_and_more_is_wrong = wrong_by_event square_setting (take 1 half_a_c
 
 -- where it was broken off for want of memory, it is legal
 pub half_a_commit_is_legal : LegalTo BrokenOff square_setting (opening ++ half_a_commit)
-unfolding accepted_events is_live
-half_a_commit_is_legal = record { rest = half_a_commit; begins = refl; each = (tt, refl, (tt, inl refl, tt)) }
+unfolding accepted_events is_live has_job_out
+half_a_commit_is_legal = record { rest = half_a_commit; begins = refl; each = (tt, (refl, refl), (tt, inl refl, tt)) }
 
 pub kill_of_nobody_is_wrong : IsWrong square_setting kill_of_nobody
 unfolding accepted_events is_live
@@ -210,3 +212,99 @@ first_worker w e = cc
 pub got_from_the_dead_is_wrong : IsWrong owner_died_setting got_from_the_dead
 unfolding same_id same_attempt accepted_events was_told
 got_from_the_dead_is_wrong = wrong_by owner_died_setting (take 33 got_from_the_dead) (Got main_attempt (object 2 1) (value 4)) [] (λ h. so (subst (λ w. was_told w 2 (opening ++ take 33 got_from_the_dead) ≡ false) (first_worker h.worker h.runs) h.untold))
+
+-- main's own object is settled by main's end alone
+pub main_resolved_is_wrong : IsWrong two_puts_setting main_resolved
+unfolding same_id
+main_resolved_is_wrong = wrong_by two_puts_setting (take 6 main_resolved) (Resolved main_object (record { kind = PutLost; object = object 1 1 })) [] (λ h. so h.not_main)
+
+pub main_accepted_is_wrong : IsWrong square_setting main_accepted
+unfolding same_id
+main_accepted_is_wrong = wrong_by square_setting (take 20 main_accepted) (Accepted main_attempt) [] (λ h. so h.not_main)
+
+pub given_out_twice_is_wrong : IsWrong two_puts_setting given_out_twice
+unfolding accepted_events has_job_out is_committed
+given_out_twice_is_wrong = wrong_by_event two_puts_setting (take 1 given_out_twice) (Claim 1) (Commit 2) (λ h. so h.1)
+
+-- a refusal of that number, directly behind the event
+wrong_number : (s : Setting) (before : List Entry) (e : Event) (code : ℕ) (es : List Entry) → (IsRefusal s (opening ++ before) e code → ⊥) → IsWrong s (before ++ In e 0 ∷ Refused code ∷ es)
+wrong_number s before e code es h end legal =
+    let k = (entries_have_their_needs end s (opening ++ (before ++ In e 0 ∷ Refused code ∷ es)) legal (before ++ In e 0 ∷ []) (Refused code) es (ap (λ l. opening ++ l) (sym (append_assoc before (In e 0 ∷ []) (Refused code ∷ es))))).allowed in
+    let l = last_parts (opening ++ before) k.log e k.event 0 k.seat (append_assoc opening before (In e 0 ∷ []) ∙ k.parts) in
+    h (subst (λ f. IsRefusal s (opening ++ before) f code) (sym l.1) (subst (λ x. IsRefusal s x k.event code) (sym l.0) k.cause))
+  where
+    same_event : (f g : Event) (m n : ℕ) → In f m ≡ In g n → f ≡ g
+    same_event f g m n e = cc
+
+    one_only : (x : Entry) (y : Entry) (ys : List Entry) (z : Entry) → ◌≡◌ {A = List Entry} (x ∷ []) (y ∷ (ys ++ z ∷ [])) → ⊥
+    one_only x y [] z e = absurd (cc)
+    one_only x y (v ∷ ys) z e = absurd (cc)
+
+    heads : (x y : Entry) (xs ys : List Entry) → ◌≡◌ {A = List Entry} (x ∷ xs) (y ∷ ys) → (x ≡ y) × (xs ≡ ys)
+    heads x y xs ys e = (cc, cc)
+
+    -- two logs that end with an event
+    last_parts : (xs ys : List Entry) (f g : Event) (m n : ℕ) → xs ++ In f m ∷ [] ≡ ys ++ In g n ∷ [] → (xs ≡ ys) × (f ≡ g)
+    last_parts [] [] f g m n e = (refl, same_event f g m n (heads (In f m) (In g n) [] [] e).0)
+    last_parts [] (y ∷ ys) f g m n e = absurd (one_only (In f m) y ys (In g n) e)
+    last_parts (x ∷ xs) [] f g m n e = absurd (one_only (In g n) x xs (In f m) (sym e))
+    last_parts (x ∷ xs) (y ∷ ys) f g m n e =
+        let p = heads x y (xs ++ In f m ∷ []) (ys ++ In g n ∷ []) e in
+        let q = last_parts xs ys f g m n p.1 in
+        (ap (λ z. z ∷ xs) p.0 ∙ ap (λ zs. y ∷ zs) q.0, q.1)
+
+-- a claim that can be taken, or is refused 31 or 37
+never_seven : (k : ℕ) → ◌≡◌ {A = Option ℕ} (slice_get (31 ∷ 37 ∷ []) k) (Some 7) → ⊥
+never_seven zero e = absurd (cc)
+never_seven (suc zero) e = absurd (cc)
+never_seven (suc (suc k)) e = absurd (cc)
+
+pub refused_for_nothing_is_wrong : IsWrong square_setting refused_for_nothing
+unfolding accepted_events is_live has_job_out
+refused_for_nothing_is_wrong = wrong_number square_setting [] (Claim 1) 7 (In (Tick 1) 0 ∷ []) (λ h. never_seven h.1.0 h.1.1)
+
+-- a worker that isn't there
+thirty_one : ◌≡◌ {A = ℕ} 31 30 → ⊥
+thirty_one e = absurd (omega (arith, e))
+
+pub refused_for_less_is_wrong : IsWrong square_setting refused_for_less
+unfolding accepted_events is_live has_job_out
+refused_for_less_is_wrong = wrong_number square_setting [] (Claim 2) 31 [] (λ h. thirty_one h.1)
+
+-- ---- a cause that comes later
+
+pub cause_comes_later_is_wrong : IsWrong two_puts_setting cause_comes_later
+unfolding accepted_events is_killed
+cause_comes_later_is_wrong = wrong_by two_puts_setting (take 4 cause_comes_later) (Faulted main_attempt (object 1 1) owner_died) (In (Kill 1) 0 ∷ []) (λ h. not_so h.cause)
+
+abbrev late_log : List Entry
+late_log = opening ++ cause_comes_later
+
+fault_first : List Entry → Bool
+fault_first [] = false
+fault_first (Faulted a y f ∷ xs) = true
+fault_first (x ∷ xs) = false
+
+-- the fault's entry stands in one place, and the cause isn't before it
+not_before : (k : ℕ) (after : List Entry) → drop k late_log ≡ Faulted main_attempt (object 1 1) owner_died ∷ after → is_killed 1 (take k late_log) ≡ true → ⊥
+unfolding accepted_events is_killed fault_first
+not_before zero after e h = not_so (ap fault_first e)
+not_before (suc zero) after e h = not_so (ap fault_first e)
+not_before (suc (suc zero)) after e h = not_so (ap fault_first e)
+not_before (suc (suc (suc zero))) after e h = not_so (ap fault_first e)
+not_before (suc (suc (suc (suc zero)))) after e h = not_so (ap fault_first e)
+not_before (suc (suc (suc (suc (suc zero))))) after e h = not_so (ap fault_first e)
+not_before (suc (suc (suc (suc (suc (suc zero)))))) after e h = not_so h
+not_before (suc (suc (suc (suc (suc (suc (suc zero))))))) after e h = not_so (ap fault_first e)
+not_before (suc (suc (suc (suc (suc (suc (suc (suc zero)))))))) after e h = not_so (ap fault_first e)
+not_before (suc (suc (suc (suc (suc (suc (suc (suc (suc k))))))))) after e h = not_so (ap fault_first e)
+
+-- nor is it a beginning of the serial run
+pub late_cause_is_none : MainBegins two_puts late_log → ⊥
+unfolding same_id same_attempt
+late_cause_is_none h =
+    let c = h.faults 0 (record { object = object 1 1; fault = owner_died }) refl in
+    let k = length c.before in
+    let f : take k late_log ≡ c.before = ap (λ l. take k l) c.parts ∙ take-append_seam c.before _ in
+    let g : drop k late_log ≡ Faulted main_attempt (object 1 1) owner_died ∷ c.after = ap (λ l. drop k l) c.parts ∙ drop-append_seam c.before _ in
+    not_before k c.after g (subst (λ l. is_killed 1 l ≡ true) (sym f) c.cause)

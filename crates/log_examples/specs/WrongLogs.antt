@@ -4,7 +4,7 @@ use Rattle.meaning.specs.Values.{Put}
 use Rattle.meaning.specs.Syntax.{Script, Add, Var, Binary, PutOf, GetOf, Number, Let, Return}
 use Rattle.meaning.specs.Examples.{value, object, squaring, square, script_of, add, mid, remote}
 use Rattle.meaning.specs.Examples as made
-use Rattle.event_log.specs.Entries.{OwnerDied, PutLost, Claim, Commit, Deliver, Tick, Notice, Lose, Kill, Entry, In, Refused, Opened, Begun, Born, Got, Printed, Ended, Accepted, Faulted, Resolved, Released, main_attempt}
+use Rattle.event_log.specs.Entries.{OwnerDied, PutLost, Fault, Claim, Commit, Deliver, Tick, Notice, Lose, Kill, Entry, In, Refused, Opened, Begun, Born, Got, Printed, Ended, Accepted, Faulted, Resolved, Released, main_object, main_attempt}
 use Rattle.event_log.specs.Words.{attempt}
 use Rattle.event_log.specs.Rules.{Setting}
 use Rattle.event_log.specs.Legal.{End, LegalTo, opening}
@@ -132,3 +132,48 @@ used_up_too_soon = take 10 retried_rest ++ (Resolved (object 1 1) (used_up (obje
 -- a get is answered with a copy that remains, though the worker was told that the owner is dead
 abbrev pub got_from_the_dead : List Entry
 got_from_the_dead = take 33 owner_died_rest ++ (Got main_attempt (object 2 1) (value 4) ∷ [])
+
+abbrev pub owner_died : Fault
+owner_died = record { kind = OwnerDied; object = object 1 1 }
+
+abbrev pub lost_put : Fault
+lost_put = record { kind = PutLost; object = object 1 1 }
+
+-- main's own object is said to have no content
+abbrev pub main_resolved : List Entry
+main_resolved =
+    In (Claim 1) 0
+    ∷ In (Commit 1) 0
+    ∷ Born (object 1 1) main_attempt (Put (number 1))
+    ∷ Born (object 1 2) main_attempt (Put (number 2))
+    ∷ In (Lose 1 (object 1 1)) 0
+    ∷ In (Tick 1) 0
+    ∷ Resolved main_object lost_put
+    ∷ []
+
+-- main's own end is accepted
+abbrev pub main_accepted : List Entry
+main_accepted = take 20 square_rest ++ (Accepted main_attempt ∷ [])
+
+-- main is given out while a job of it is out
+abbrev pub given_out_twice : List Entry
+given_out_twice = In (Claim 1) 0 ∷ In (Claim 1) 0 ∷ In (Commit 2) 0 ∷ []
+
+-- an event is refused with a number that is none of a claim's
+abbrev pub refused_for_nothing : List Entry
+refused_for_nothing = In (Claim 1) 0 ∷ Refused 7 ∷ In (Tick 1) 0 ∷ []
+
+-- the claim of a worker that was never opened is refused as if it weren't ready
+abbrev pub refused_for_less : List Entry
+refused_for_less = In (Claim 2) 0 ∷ Refused 31 ∷ []
+
+-- main has a fault, and its cause stands behind it
+abbrev pub cause_comes_later : List Entry
+cause_comes_later =
+    In (Claim 1) 0
+    ∷ In (Commit 1) 0
+    ∷ Born (object 1 1) main_attempt (Put (number 1))
+    ∷ Born (object 1 2) main_attempt (Put (number 2))
+    ∷ Faulted main_attempt (object 1 1) owner_died
+    ∷ In (Kill 1) 0
+    ∷ []

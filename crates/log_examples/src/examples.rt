@@ -1,11 +1,12 @@
 // Worked logs.
 
 ghost use Rattle.std.specs.Prelude.{◌++◌};
+ghost use Rattle.event_log.specs.Serial.{MainBegins};
 ghost use Rattle.event_log.specs.Legal.{BrokenOff, LegalTo, Legal, opening};
 ghost use Rattle.log_examples.specs.Logs.{square_setting, square_log, trap_setting, trap_log, passing_setting, passing_log};
 ghost use Rattle.log_examples.specs.FaultLogs.{unretried_setting, unretried_log, retried_setting, retried_log, put_lost_setting, put_lost_log, owner_died_setting, owner_died_log};
 ghost use Rattle.log_examples.specs.ReleaseLogs.{releasing_setting, releasing_log};
-ghost use Rattle.log_examples.specs.WrongLogs.{IsWrong, two_puts_setting, wrong_content, begun_again, accepted_twice, passed_setting, released_while_held, released_out_of_order, fault_without_cause, print_after_end, skipped_serial, end_of_the_dead, notice_of_the_living, half_a_commit, half_a_commit_and_more, entry_of_a_refused_event, kill_of_nobody, delivery_of_nothing, opened_by_the_dead, lost_before_its_birth, used_up_too_soon, got_from_the_dead};
+ghost use Rattle.log_examples.specs.WrongLogs.{IsWrong, two_puts_setting, wrong_content, begun_again, accepted_twice, passed_setting, released_while_held, released_out_of_order, fault_without_cause, print_after_end, skipped_serial, end_of_the_dead, notice_of_the_living, half_a_commit, half_a_commit_and_more, entry_of_a_refused_event, kill_of_nobody, delivery_of_nothing, opened_by_the_dead, lost_before_its_birth, used_up_too_soon, got_from_the_dead, main_resolved, main_accepted, given_out_twice, refused_for_nothing, refused_for_less, two_puts, cause_comes_later};
 
 /// Logs that are legal.
 pub fn legal_examples()
@@ -39,6 +40,13 @@ pub fn wrong_examples()
     ensures used_up_too_soon { IsWrong retried_setting used_up_too_soon }
     ensures got_from_the_dead { IsWrong owner_died_setting got_from_the_dead }
     ensures entry_of_a_refused_event { IsWrong square_setting entry_of_a_refused_event }
+    ensures main_resolved { IsWrong two_puts_setting main_resolved }
+    ensures main_accepted { IsWrong square_setting main_accepted }
+    ensures given_out_twice { IsWrong two_puts_setting given_out_twice }
+    ensures refused_for_nothing { IsWrong square_setting refused_for_nothing }
+    ensures refused_for_less { IsWrong square_setting refused_for_less }
+    ensures cause_comes_later { IsWrong two_puts_setting cause_comes_later }
+    ensures late_cause { MainBegins two_puts (opening ++ cause_comes_later) → ⊥ }
 {}
 
 /// A log that ends within an event that found no memory is legal with any part of the event's entries.

@@ -1,5 +1,5 @@
 -- What follows where all accepted events are claims and commits.
-use Rattle.std.proofs.Common.{◌≡◌, ℕ, ◌+◌, ◌<◌, Bool, true, false, List, [], ◌∷◌, ◌++◌, length, map, Some, refl, sym, ap, ◌∙◌, subst, append-nil, arith}
+use Rattle.std.proofs.Common.{◌≡◌, ℕ, ◌+◌, ◌<◌, Bool, true, false, List, [], ◌∷◌, ◌++◌, length, map, Some, None, refl, sym, ap, ◌∙◌, subst, append-nil, arith}
 use Rattle.std.specs.Prelude.{◌==◌, ◌&&◌, ◌||◌, not, nat_lt, if◌then◌else◌}
 use Rattle.std.specs.List.{flat_map, list_any}
 use Rattle.std.proofs.lemmas.List.Concat.{flat_map-append}
@@ -77,6 +77,19 @@ item-map f k [] n x e = absurd (cc)
 item-map f k (y ∷ ys) n x e =
     at_test (λ b. (if b then Some y else item_of (k + 1) ys n) ≡ Some x → (if b then Some (f y) else item_of (k + 1) (map f ys) n) ≡ Some (f x)) (k == n)
     (λ _ e'. let same : y ≡ x = cc in ap (λ z. Some (f z)) same) (λ _ e'. item-map f (k + 1) ys n x e') e
+
+item-map-none : {X Y : Type 0} (f : X → Y) (k : ℕ) (xs : List X) (n : ℕ) → item_of k xs n ≡ None → item_of k (map f xs) n ≡ None
+item-map-none f k [] n e = refl
+item-map-none f k (y ∷ ys) n e =
+    at_test (λ b. (if b then Some y else item_of (k + 1) ys n) ≡ None → (if b then Some (f y) else item_of (k + 1) (map f ys) n) ≡ None) (k == n)
+    (λ _ e'. absurd (cc)) (λ _ e'. item-map-none f (k + 1) ys n e') e
+
+-- a worker without a row isn't there
+pub no_row_no_worker : (log : List Entry) (rows : List Row) (w : ℕ) → opened log ≡ map (λ _. 1) rows → item_of 1 rows w ≡ None → is_live w log ≡ false
+unfolding is_live
+no_row_no_worker log rows w o e =
+    let none : node_of w log ≡ None = ap (λ ns. Rattle.event_log.specs.Events.from_one ns w) o ∙ sym (item-from_one (map (λ _. 1) rows) w) ∙ item-map-none (λ _. 1) 1 rows w e in
+    ap (λ n. on_node n false (λ m. not (list_any (kills w m) (accepted_events log)))) none
 
 pub node_of_row : (log : List Entry) (rows : List Row) (w : ℕ) (row : Row) → opened log ≡ map (λ _. 1) rows → item_of 1 rows w ≡ Some row → node_of w log ≡ Some 1
 node_of_row log rows w row o e = ap (λ ns. Rattle.event_log.specs.Events.from_one ns w) o ∙ sym (item-from_one (map (λ _. 1) rows) w) ∙ item-map (λ _. 1) 1 rows w row e

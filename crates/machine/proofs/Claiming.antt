@@ -17,13 +17,15 @@ use Rattle.event_log.specs.Rules.{Setting, IsOwn, HasContent, MayAccept, MayGet}
 use Rattle.event_log.specs.Legal.{Whole, Legal, has_event, EachAllowed}
 use Rattle.event_log.proofs.WordLaws.{same_attempt-true, same_attempt-refl}
 use Rattle.event_log.proofs.Growing.{legal_logs_grow}
+use Rattle.event_log.proofs.CauseLaws.{not_main}
 use Rattle.event_log.proofs.OwnLaws.{own_claim, own-plain}
 use Rattle.machine.specs.Numbered.{item_of, changed, AllNumbered}
 use Rattle.machine.specs.Tables.{Object, Fresh, Out, Row, Given, Tables, base_of, births_in}
 use Rattle.machine.specs.Claims.{accepts, settle, settled, given_out}
-use Rattle.machine.specs.Knows.{listed, once, IsTask, IsUntouched, KnowsTask, KnowsBirth, KnowsObject, KnowsPhase, KnowsRow, committed_in, replay_of}
+use Rattle.machine.specs.Knows.{listed, once, IsTask, IsUntouched, KnowsTask, KnowsBirth, KnowsObject, KnowsPhase, KnowsRow, KnowsJob, committed_in, replay_of}
 use Rattle.machine.specs.Law.{IsSound}
-use Rattle.machine.proofs.Numbers.{same_number, all_map, all_changed, all_at, all_items, changed-length, map-changed, item-append, item-last}
+use Rattle.machine.proofs.Numbers.{same_number, all_map, all_changed, all_at, all_append, all_items, changed-length, map-changed, item-append, item-last, item-same, item-bounds}
+use Rattle.machine.proofs.JobsOut.{IsIn, no_job_out, elsewhere, other_kept}
 use Rattle.machine.proofs.Growth.{births_grow, prints_grow}
 use Rattle.machine.proofs.Chunks.{word_kept, Passes, PassesTask, object_kept, untouched_kept, row_kept}
 use Rattle.machine.proofs.Calm.{calm_event, accepted_word, committed_same, lives, untold, node_of_row}
@@ -46,7 +48,7 @@ map_push : {X Y : Type 0} (f : X → Y) (xs : List X) (x : X) → map f (xs ++ x
 map_push f [] x = refl
 map_push f (y ∷ ys) x = ap (λ zs. f y ∷ zs) (map_push f ys x)
 
-module _ (s : Setting) (log : List Entry) (t : Tables) (w : ℕ) (row : Row) (at_w : item_of 1 t.rows w ≡ Some row) (sound : IsSound s log t) where
+module _ (s : Setting) (log : List Entry) (t : Tables) (w : ℕ) (row : Row) (at_w : item_of 1 t.rows w ≡ Some row) (is_in : IsIn row) (sound : IsSound s log t) where
   abbrev known : KnowsRow s log t.jobs w row
   known = all_at (KnowsRow s log t.jobs) 1 t.rows w row sound.knows.rows at_w
 
@@ -162,6 +164,7 @@ module _ (s : Setting) (log : List Entry) (t : Tables) (w : ℕ) (row : Row) (at
       let xs : List Entry = In (Claim w) 0 ∷ [] in
       record {
         own = subst (λ v. IsOwn s (log ++ xs) v) (sym h.mine) (own_claim s log 0 w live);
+        not_main = not_main y (let b = (item-bounds 1 row.objects y.serial h.object h.there).0 in omega (arith, b));
         content = c;
         ended = (0, ap (λ cs. slice_get cs 0) (word_kept (ended_in (attempt y 0)) log xs refl ∙ k.ended ∙ ap listed h.content));
         last = ap length (word_kept (run_in y) log xs refl ∙ k.begun);
@@ -191,7 +194,7 @@ module _ (s : Setting) (log : List Entry) (t : Tables) (w : ℕ) (row : Row) (at
   legal : (y : Option Id) (accepted : Bool) (c : Outcome) → StandsOn y accepted c → Legal s (log ++ es y accepted c)
   legal y accepted c h =
       (legal_logs_grow Whole s log (Claim w) 0 sound.legal).added (claim_entries a y accepted c)
-      (record { no_event = no_events y accepted c; unrefused = not_refused y accepted c; happens = live; each = each_allowed y accepted c h })
+      (record { no_event = no_events y accepted c; unrefused = not_refused y accepted c; happens = (live, no_job_out s log t sound.knows w row at_w is_in); each = each_allowed y accepted c h })
 
   -- ---- the tables
 
@@ -417,6 +420,17 @@ module _ (s : Setting) (log : List Entry) (t : Tables) (w : ℕ) (row : Row) (at
   committed_push k (x ∷ xs) j =
       at_test (λ q. committed_in (if q then Some x else item_of (k + 1) (xs ++ job ∷ []) j) ≡ committed_in (if q then Some x else item_of (k + 1) xs j)) (k == j) (λ _. refl) (λ _. committed_push (k + 1) xs j)
 
+  abbrev rows_after : Option Id → Bool → Outcome → List Row
+  rows_after y accepted c = changed 1 t.rows w (λ _. out y accepted c)
+
+  jobs_after : (y : Option Id) (accepted : Bool) (c : Outcome) → AllNumbered (KnowsJob (rows_after y accepted c)) 1 jobs
+  jobs_after y accepted c =
+      let e : ◌≡◌ {A = ℕ} number (1 + length t.jobs) = omega arith in
+      let new : KnowsJob (rows_after y accepted c) (1 + length t.jobs) job = λ _. (out y accepted c, item-same 1 t.rows w (λ _. out y accepted c) row at_w, ap Out e) in
+      all_append (KnowsJob (rows_after y accepted c)) 1 t.jobs (job ∷ [])
+      (all_map (KnowsJob t.rows) (KnowsJob (rows_after y accepted c)) 1 t.jobs sound.knows.jobs
+      (λ i g h. other_kept t.rows w i (λ _. out y accepted c) g h (elsewhere s log t sound.knows w row at_w i g (is_in i) h))) (new, tt)
+
   pub claimed_sound : (y : Option Id) (accepted : Bool) (c : Outcome) → StandsOn y accepted c → IsSound s (later y accepted c) (record { rows = changed 1 t.rows w (λ _. out y accepted c); jobs = jobs; made = t.made })
   claimed_sound y accepted c h =
       let k = sound.knows in
@@ -426,6 +440,7 @@ module _ (s : Setting) (log : List Entry) (t : Tables) (w : ℕ) (row : Row) (at
           rows = all_changed (KnowsRow s log t.jobs) (KnowsRow s (later y accepted c) jobs) (λ _. out y accepted c) w 1 t.rows k.rows
               (λ v r x. at_test (λ q. KnowsRow s (later y accepted c) jobs v (if q then out y accepted c else r)) (v == w)
               (λ e. subst (λ n. KnowsRow s (later y accepted c) jobs n (out y accepted c)) (sym (same_number v w e)) (own_row y accepted c h)) (λ e. other_row y accepted c h v r e x));
+          jobs = jobs_after y accepted c;
           opened = word_kept opened_in log (es y accepted c) (no_word opened_in refl (λ _. refl) (λ _ _. refl) y accepted c) ∙ k.opened ∙ sym (ones_same t.rows (λ _. out y accepted c));
           claims = accepted_word claim_in log (Claim w) (claim_entries a y accepted c) (no_events y accepted c) (not_refused y accepted c) ∙ ap (λ ws. ws ++ w ∷ []) k.claims ∙ sym (map_push (λ (g : Given). g.worker) t.jobs job);
           commits = λ j. committed_same log (later y accepted c) j (accepted_word commit_in log (Claim w) (claim_entries a y accepted c) (no_events y accepted c) (not_refused y accepted c) ∙ append-nil _) ∙ k.commits j ∙ sym (committed_push 1 t.jobs j);

@@ -27,9 +27,10 @@ use Rattle.machine.specs.Numbered.{item_of, changed, AllNumbered}
 use Rattle.machine.specs.Tables.{Object, Out, Row, Given, Tables, base_of, births_in, fresh_row, with_object}
 use Rattle.machine.specs.Jobs.{Stopped, AtGet, AtEnd, stop_of, Outcomes, job_of}
 use Rattle.machine.specs.Commits.{begin, new_rows, new_object, phase_after, fill, filled, row_after, committed}
-use Rattle.machine.specs.Knows.{IsTask, IsUntouched, KnowsTask, KnowsBirth, KnowsObject, KnowsPhase, KnowsRow, KnowsRowBy, committed_in, is_other}
+use Rattle.machine.specs.Knows.{IsTask, IsUntouched, KnowsTask, KnowsBirth, KnowsObject, KnowsPhase, KnowsRow, KnowsRowBy, KnowsJob, committed_in, is_other}
 use Rattle.machine.specs.Law.{IsSound, IsTrue}
-use Rattle.machine.proofs.Numbers.{same_number, all_map, all_changed, all_at, all_append, changed-length, map-changed, item-other, item-same, item-elsewhere, item-bounds}
+use Rattle.machine.proofs.Numbers.{same_number, all_map, all_changed, all_at, all_append, changed-length, map-changed, item-append, item-other, item-same, item-elsewhere, item-bounds}
+use Rattle.machine.proofs.JobsOut.{elsewhere, other_kept}
 use Rattle.machine.proofs.Chunks.{word_kept, Passes, object_kept, untouched_kept, row_kept, row_with}
 use Rattle.machine.proofs.Calm.{calm_event, accepted_word, committed_more, lives, node_of_row, worker_of_given, first_node_lives}
 use Rattle.machine.proofs.Committing.{of_serial, numbered_append, serial_apart, no_outcome_word, no_silent_word, no_begin_word, own_of_commit, printed_of_main, end_of, ended_of_commit, serial_more, AreBorn, new_born, begins_no_event, begins_unrefused, AreUnbegun, begins_allowed}
@@ -552,6 +553,33 @@ module _ (s : Setting) (nodes : 0 < s.nodes) (log : List Entry) (t : Tables) (j 
   rows_after (AtGet y) h = h
   rows_after (AtEnd c) h = all_changed (λ v r. KnowsRowBy s later jobs (ThenBy (AtEnd c) v) v r) (KnowsRow s later jobs) (with_object a.object.serial (fill c)) a.object.owner 1 rows_before h (λ v r x. fill_row c v r x)
 
+  -- ---- the jobs that are out
+
+  filled_row : (stop : Stopped) (rows : List Row) (v : ℕ) (r : Row) → item_of 1 rows v ≡ Some r → (z : Row) × (item_of 1 (filled rows a.object stop) v ≡ Some z) × (z.phase ≡ r.phase)
+  filled_row (AtGet y) rows v r e = (r, e, refl)
+  filled_row (AtEnd c) rows v r e =
+      let o = a.object.owner in
+      let f = with_object a.object.serial (fill c) in
+      at_test (λ q. (v == o) ≡ q → (z : Row) × (item_of 1 (changed 1 rows o f) v ≡ Some z) × (z.phase ≡ r.phase)) (v == o)
+      (λ x _. let n = same_number v o x in (f r, ap (item_of 1 (changed 1 rows o f)) n ∙ item-same 1 rows o f r (ap (item_of 1 rows) (sym n) ∙ e), refl))
+      (λ x _. (r, item-other 1 rows v o f r e x, refl)) refl
+
+  job_then : (i : ℕ) (g : Given) → KnowsJob t.rows i g → KnowsJob (filled rows_before a.object d.stop) i (if i == j then committed g else g)
+  job_then i g h = at_test (λ q. (i == j) ≡ q → KnowsJob (filled rows_before a.object d.stop) i (if q then committed g else g)) (i == j) (λ e _ unback. absurd (cc)) (λ e _. still e) refl
+    where
+      still : (i == j) ≡ false → KnowsJob (filled rows_before a.object d.stop) i g
+      still e unback =
+          let other : row.phase ≡ Out i → ⊥ = λ x. apart e (out_same (sym back.out ∙ x)) in
+          let x = other_kept t.rows w i (λ _. after_row) g h (elsewhere s log t sound.knows w row back.at_w i g other h) unback in
+          let z = filled_row d.stop rows_before g.worker x.0 (item-append 1 (changed 1 t.rows w (λ _. after_row)) (new_rows w serial d.births) g.worker x.0 x.1) in
+          (z.0, z.1, z.2 ∙ x.2)
+        where
+          out_same : Out j ≡ Out i → j ≡ i
+          out_same x = cc
+
+          apart : (i == j) ≡ false → j ≡ i → ⊥
+          apart x y = let q : (i == j) ≡ true = grind (arith, nat_tests, y) in absurd (cc)
+
   -- ---- the rest
 
   filled-map : (stop : Stopped) (rows : List Row) → map {B = ℕ} (λ _. 1) (filled rows a.object stop) ≡ map {B = ℕ} (λ _. 1) rows
@@ -636,6 +664,7 @@ module _ (s : Setting) (nodes : 0 < s.nodes) (log : List Entry) (t : Tables) (j 
     legal = legal;
     knows = record {
       rows = rows_after d.stop all_rows;
+      jobs = all_changed (KnowsJob t.rows) (KnowsJob (filled rows_before a.object d.stop)) committed j 1 t.jobs sound.knows.jobs job_then;
       opened = opened_later;
       claims = accepted_word claim_in log (Commit j) (outcome ++ begins) no_event unrefused ∙ append-nil _ ∙ sound.knows.claims ∙ sym (map-changed (λ (g : Given). g.worker) 1 t.jobs j committed (λ _. refl));
       commits = commits_later;

@@ -1,5 +1,5 @@
 -- The contents of the tables are those of the log.
-use Rattle.std.proofs.Common.{◌≡◌, ℕ, List, Option, Some, None, sym, ap, ◌∙◌, inl, inr}
+use Rattle.std.proofs.Common.{◌≡◌, List, Option, Some, None, sym, ap, ◌∙◌, inl, inr}
 use Rattle.std.specs.Prelude.{slice_get}
 use Rattle.meaning.specs.Values.{Outcome, Val, Birth, Put, Task, Id}
 use Rattle.meaning.specs.Births.{birth_at}

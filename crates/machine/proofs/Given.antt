@@ -1,24 +1,20 @@
 -- Claims give good jobs.
 use Rattle.std.proofs.Common.{◌≡◌, ℕ, ◌+◌, Bool, true, false, List, [], ◌∷◌, ◌++◌, length, Option, Some, None, refl, sym, ap, ◌∙◌, subst}
-use Rattle.meaning.specs.Values.{Named, Outcome, Birth, Id, main_birth}
+use Rattle.meaning.specs.Values.{Named, Outcome, Id, main_birth}
 use Rattle.meaning.specs.Syntax.{Number}
 use Rattle.meaning.specs.Runs.{Run, Ends, Prints, Bears, Gets, Needs as NeedsOf, Piece, next_id}
 use Rattle.meaning.specs.Meaning.{run_birth, replay}
-use Rattle.meaning.specs.Births.{numbered}
 use Rattle.meaning.specs.Kinds.{ScriptChecks, IsBirthOf, AnswersFit}
-use Rattle.kind_laws.specs.Law.{KeepsKinds}
 use Rattle.kind_laws.proofs.Laws.{legal_logs_keep}
 use Rattle.event_log.specs.Entries.{Entry, Got}
-use Rattle.event_log.specs.Words.{ends_of}
 use Rattle.event_log.specs.Rules.{Setting, Stops, HasContent}
 use Rattle.event_log.specs.Legal.{Whole}
 use Rattle.machine.specs.Numbered.{item_of, changed}
 use Rattle.machine.specs.Tables.{Phase, Fresh, Out, Waits, Over, Row, Tables, base_of, births_in, object_at, content_at}
-use Rattle.machine.specs.Jobs.{job_of}
 use Rattle.machine.specs.Claims.{claim_of, claim_by, got, give, given_out, settled, accepts, is_to_accept}
-use Rattle.machine.specs.Knows.{KnowsRow, KnowsPhase, replay_of}
+use Rattle.machine.specs.Knows.{KnowsRow, KnowsPhase}
 use Rattle.machine.specs.Law.{IsSound}
-use Rattle.machine.specs.Given.{IsGood, GivesGood, ClaimsGiveGoodJobs}
+use Rattle.machine.specs.Given.{GivesGood, ClaimsGiveGoodJobs}
 use Rattle.machine.proofs.Numbers.{all_at, item-same}
 use Rattle.machine.proofs.Contents.{found}
 

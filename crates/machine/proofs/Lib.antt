@@ -4,6 +4,7 @@ mod Chunks
 mod Calm
 mod Contents
 mod Refusing
+mod JobsOut
 mod Claiming
 mod Committing
 mod Committed

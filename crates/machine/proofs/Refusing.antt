@@ -7,6 +7,7 @@ use Rattle.event_log.specs.Entries.{Attempt, Event, Entry, In, Refused}
 use Rattle.event_log.specs.Words.{attempt, births, born_in, main_bearing, next_serial, opened_in, resolved_in, released_in}
 use Rattle.event_log.specs.Events.{claim_in, commit_in}
 use Rattle.event_log.specs.Rules.{Setting}
+use Rattle.event_log.specs.Causes.{IsRefusal}
 use Rattle.event_log.specs.Legal.{Whole}
 use Rattle.event_log.proofs.Growing.{legal_logs_grow}
 use Rattle.machine.specs.Tables.{Row, Tables}
@@ -37,13 +38,14 @@ module _ (s : Setting) (log : List Entry) (t : Tables) (e : Event) (code : ℕ) 
       row_kept s log es t.jobs t.jobs (KnowsObject (log ++ es) w) w r r.objects (passes r.attempt) (ap (next_serial w) same) (λ j k. k) refl refl
       (all_map (KnowsObject log w) (KnowsObject (log ++ es) w) 1 r.objects h.objects (λ k x o. object_kept log es w k x (passes_task (record { owner = w; serial = k })) o)) h
 
-  pub refused_sound : is_other e ≡ false → IsSound s log t → IsSound s (log ++ es) t
-  refused_sound o h =
+  pub refused_sound : is_other e ≡ false → IsRefusal s log e code → IsSound s log t → IsSound s (log ++ es) t
+  refused_sound o cause h =
       let k = h.knows in
       record {
-        legal = (legal_logs_grow Whole s log e 0 h.legal).refused code;
+        legal = (legal_logs_grow Whole s log e 0 h.legal).refused code cause;
         knows = record {
           rows = all_map (KnowsRow s log t.jobs) (KnowsRow s (log ++ es) t.jobs) 1 t.rows k.rows row;
+          jobs = k.jobs;
           opened = word_kept opened_in log es refl ∙ k.opened;
           claims = refused_word claim_in log e (Refused code ∷ []) refl refl ∙ k.claims;
           commits = λ j. committed_same log (log ++ es) j (refused_word commit_in log e (Refused code ∷ []) refl refl) ∙ k.commits j;

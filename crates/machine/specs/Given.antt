@@ -1,7 +1,7 @@
 -- The jobs that claims give.
 use Rattle.std.specs.Prelude.{ℕ, List, Option, Some, None}
 use Rattle.meaning.specs.Lists.{IsFirst}
-use Rattle.meaning.specs.Values.{Birth, main_birth}
+use Rattle.meaning.specs.Values.{main_birth}
 use Rattle.meaning.specs.Syntax.{Number, Script}
 use Rattle.meaning.specs.Meaning.{run_birth, replay}
 use Rattle.meaning.specs.Kinds.{ScriptChecks, IsBirthOf, AnswersFit}

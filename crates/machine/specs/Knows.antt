@@ -90,8 +90,13 @@ abbrev pub committed_in : Option Given → Bool
 committed_in None = false
 committed_in (Some g) = g.is_committed
 
+-- a job that isn't committed is out on its worker
+abbrev pub KnowsJob : List Row → ℕ → Given → Type 0
+KnowsJob rows j g = g.is_committed ≡ false → (row : Row) × (item_of 1 rows g.worker ≡ Some row) × (row.phase ≡ Out j)
+
 pub record Knows (s : Setting) (log : List Entry) (t : Tables) : Type 0 where
   pub rows : AllNumbered (KnowsRow s log t.jobs) 1 t.rows
+  pub jobs : AllNumbered (KnowsJob t.rows) 1 t.jobs
   pub opened : opened log ≡ map (λ _. 1) t.rows
   pub claims : claims log ≡ map (λ (g : Given). g.worker) t.jobs
   pub commits : (j : ℕ) → is_committed j log ≡ committed_in (item_of 1 t.jobs j)

@@ -1,5 +1,5 @@
 -- The laws of the whole protocol.
-use Rattle.std.proofs.Common.{◌≡◌, ℕ, false, List, [], ◌∷◌, ◌++◌}
+use Rattle.std.proofs.Common.{◌≡◌, ℕ, false, List, [], ◌∷◌, ◌++◌, Some, None}
 use Rattle.meaning.specs.Mains.{KeepsMainApart}
 use Rattle.event_log.specs.Entries.{Entry, Released, main_attempt}
 use Rattle.event_log.specs.Legal.{Whole as WholeLog}
@@ -11,13 +11,20 @@ use Rattle.holding.specs.Past.{Begun}
 use Rattle.holding_steps.proofs.Keeping.{steps_keep}
 use Rattle.protocol_legal.specs.Whole.{setting_of}
 use Rattle.protocol_legal.proofs.FrameHolds.{steps_stay_legal}
-use Rattle.protocol_laws.specs.Sound.{IsSound}
+use Rattle.numbered.proofs.Places.{counted}
+use Rattle.protocol.specs.Jobs.{Given}
+use Rattle.protocol_laws.specs.Sound.{IsSound, JobsAreOut}
 use Rattle.protocol_laws.specs.Coming.{AllRight, Coming, all_after, log_after}
 use Rattle.protocol_laws.specs.Law.{EventsKeepSound, NothingHeldIsReleased, OpeningIsSound, ProtocolStaysLegal, SoundIsLegal}
 use Rattle.protocol_laws.proofs.Events.{event_stays}
 
 pub opening_is_sound : OpeningIsSound
-opening_is_sound s slots some = record { between = steps_stay_legal.opens s slots some; past = Begun main_attempt 1 ∷ []; held = steps_keep.first s.nodes slots }
+opening_is_sound s slots some = record { between = steps_stay_legal.opens s slots some; past = Begun main_attempt 1 ∷ []; held = steps_keep.first s.nodes slots; jobs = none_out }
+  where
+    nothing : (g : Given) → None ≡ Some g → ⊥
+    nothing g e = cc
+    none_out : JobsAreOut (first_whole s.nodes slots)
+    none_out = record { given = λ j g at. absurd (nothing g (counted [] j at)); out = λ j g x at fresh there live. absurd (nothing g (counted [] j at)) }
 
 pub event_keeps_sound : EventsKeepSound
 event_keeps_sound s apart log c e seat handed sound right = event_stays s apart log c sound e seat handed right

@@ -1,5 +1,8 @@
 pub mod Premises
 pub mod Tests
+pub mod StaysOut
+pub mod JobsOut
+pub mod Refusals
 pub mod Events
 pub mod Laws
 pub mod Pace

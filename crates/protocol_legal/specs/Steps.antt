@@ -2,10 +2,11 @@
 use Rattle.std.specs.Prelude.{◌≡◌, ◌<◌, ℕ, true, false, Bool, List, [], ◌∷◌, ◌++◌, Some}
 use Rattle.meaning.specs.Values.{Id}
 use Rattle.event_log.specs.Entries.{Claim, Commit, Deliver, Entry, Event, Evict, In, Join, Kill, KillNode, Lose, Notice, Refused, Released}
-use Rattle.event_log.specs.Events.{claim_in, commit_in, is_committed, is_killed, node_is_killed, tells, worker_of_job}
+use Rattle.event_log.specs.Events.{claim_in, commit_in, is_committed, is_killed, node_is_killed, node_lives, tells, worker_of_job}
 use Rattle.event_log.specs.Holding.{is_held}
 use Rattle.event_log.specs.Legal.{Happens, opening}
-use Rattle.event_log.specs.Rules.{Setting}
+use Rattle.event_log.specs.Causes.{IsRefusal}
+use Rattle.event_log.specs.Rules.{Receiver, Setting}
 use Rattle.protocol.specs.Commits.{claim_step, commit_step}
 use Rattle.protocol.specs.Deliveries.{reached}
 use Rattle.protocol.specs.Events.{happens, killed, node_killed, with_committed}
@@ -121,13 +122,14 @@ pub record EventsOfOthers (s : Setting) (log : List Entry) (c : Whole) : Type 0 
   -- a message reaches a live node, or one that is dead, or a dead worker
   pub node_reached : (k seat n : ℕ) (node : Node) (l : Letter) → item_at c.network k ≡ Some l → l.receiver ≡ TheNode n →
       node_at c n ≡ Some node → node.is_live ≡ true → (delivered : List Bool) → Follows s log (Deliver k) seat (after_reached c delivered n node l)
-  pub passes_by : (k seat : ℕ) (delivered : List Bool) → Between s (log ++ In (Deliver k) seat ∷ []) (record c { delivered = delivered })
+  pub passes_by : (k seat : ℕ) (delivered : List Bool) → (r : Receiver) × ((setting_of s c).receiver k ≡ Some r) →
+      Between s (log ++ In (Deliver k) seat ∷ []) (record c { delivered = delivered })
   -- a live worker dies, a live node, a copy is lost or evicted, a node comes
   pub killed : (w seat : ℕ) (x : Worker) → worker_at c w ≡ Some x → x.is_live ≡ true → Follows s log (Kill w) seat (killed c w)
   pub node_killed : (n seat : ℕ) (node : Node) → node_at c n ≡ Some node → node.is_live ≡ true →
       Between s (log ++ In (KillNode n) seat ∷ []) (node_killed c n).whole
-  pub lost : (n seat : ℕ) (o : Id) → Between s (log ++ In (Lose n o) seat ∷ []) (happens c (Lose n o) Nothing).whole
-  pub evicted : (n seat : ℕ) (o : Id) → Between s (log ++ In (Evict n o) seat ∷ []) (happens c (Evict n o) Nothing).whole
+  pub lost : (n seat : ℕ) (o : Id) → node_lives s.nodes n log ≡ true → Between s (log ++ In (Lose n o) seat ∷ []) (happens c (Lose n o) Nothing).whole
+  pub evicted : (n seat : ℕ) (o : Id) → node_lives s.nodes n log ≡ true → Between s (log ++ In (Evict n o) seat ∷ []) (happens c (Evict n o) Nothing).whole
   pub joined : (seat : ℕ) → Between s (log ++ In Join seat ∷ []) (happens c Join Nothing).whole
-  -- an event is refused
-  pub refused : (e : Event) (seat code : ℕ) → Between s (log ++ In e seat ∷ Refused code ∷ []) c
+  -- an event is refused for its cause
+  pub refused : (e : Event) (seat code : ℕ) → IsRefusal (setting_of s c) log e code → Between s (log ++ In e seat ∷ Refused code ∷ []) c

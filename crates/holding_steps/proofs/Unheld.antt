@@ -24,16 +24,16 @@ push_parts [] (z ∷ []) back x y h = absurd (cc)
 push_parts [] (z ∷ v ∷ front) back x y h = absurd (cc)
 push_parts (e ∷ es) [] back x y h = let k : e ≡ y = cc in inr (es, ap (λ z. z ∷ es) k)
 push_parts (e ∷ es) (z ∷ front) back x y h = elim (push_parts es front back x y (cc)) [
-    | inl k ↦ let a : e ≡ z = cc in let b = k.0 in inl (cc, k.1)
-    | inr k ↦ let a : e ≡ z = cc in let b = k.1 in inr (k.0, cc)
-  ]
+  | inl k ↦ let a : e ≡ z = cc in let b = k.0 in inl (cc, k.1)
+  | inr k ↦ let a : e ≡ z = cc in let b = k.1 in inr (k.0, cc)
+]
 
 -- one entry more, which releases what isn't held
 unheld_push : (d : During) (es : List Entry) (o : Id) → NoneGoesHeld d es → is_held o (so_far d es) ≡ false → NoneGoesHeld d (es ++ Released o ∷ [])
 unheld_push d es o u h = λ front back p e. elim (push_parts es front back (Released o) (Released p) e) [
-    | inl k ↦ subst (λ l. is_held p (so_far d l) ≡ false) k.0 (subst (λ q. is_held q (so_far d es) ≡ false) (same o p k.1) h)
-    | inr k ↦ u front k.0 p k.1
-  ]
+  | inl k ↦ subst (λ l. is_held p (so_far d l) ≡ false) k.0 (subst (λ q. is_held q (so_far d es) ≡ false) (same o p k.1) h)
+  | inr k ↦ u front k.0 p k.1
+]
   where
     same : (q p : Id) → Released q ≡ Released p → q ≡ p
     same q p e = cc

@@ -232,7 +232,7 @@ module _ (s : Setting) (apart : KeepsMainApart s.script) (log : List Entry) (c :
           (steps_land.reaches_adds _ l.sender l.message)
           (λ u lands. steps_land.reaches _ S facts _ l.sender l.message u true_there (untouched s log c b facts t w x.worker (b.knows.housed w x.worker x.at x.lives).0 x.at x.lives l.message true_there) lands)
           (own_stay c sound.jobs w x.worker x.at x.lives _ (λ i p. out_at_release i (reached (here c w x.worker (b.knows.housed w x.worker x.at x.lives).0) l.sender l.message)
-            (out_at_message i (here c w x.worker (b.knows.housed w x.worker x.at x.lives).0) l.sender l.message (λ run is. ((b.knows.workers w x.worker x.at x.lives).run run is).over) p)))
+          (out_at_message i (here c w x.worker (b.knows.housed w x.worker x.at x.lives).0) l.sender l.message (λ run is. ((b.knows.workers w x.worker x.at x.lives).run run is).over) p)))
   deliver_to k seat l sent (TheNode n) to = at_test (λ i. Follows s log (Deliver k) seat (if i then node_does (with_delivered c k) n (λ g. node_reached g l.sender l.message) else moved (with_delivered c k)))
       (is_live_node (node_at c n)) lives passes
     where
@@ -248,13 +248,15 @@ module _ (s : Setting) (apart : KeepsMainApart s.script) (log : List Entry) (c :
           (subst (λ (m : Moved). Between s (log ++ In (Deliver k) seat ∷ m.out.entries) m.whole) (ap (node_does_by (with_delivered c k) n (λ g. node_reached g l.sender l.message)) (sym x.at)) (on_others.node_reached k seat n x.node l sent to x.at x.lives (with_delivered c k).delivered))
           (subst (λ (m : Moved). StillTrue log (Deliver k) seat m) (to_node live) (steps_land.delivers log facts S c (Deliver k) seat k t (λ i w y node j p q r. absurd (other i w j p))))
           (subst (λ (m : Moved). JobsAreOut m.whole) (ap (node_does_by (with_delivered c k) n (λ g. node_reached g l.sender l.message)) (sym x.at))
-            (let u = node_reached (there (with_delivered c k) n x.node) l.sender l.message in
-              jobs_kept c (after_node (with_delivered c k) n u).whole refl u.opened (long_opened c c.workers u.opened n refl) (from_opened c c.workers u.opened n refl (from_same c)) sound.jobs))
+          (let u = node_reached (there (with_delivered c k) n x.node) l.sender l.message in
+          jobs_kept c (after_node (with_delivered c k) n u).whole refl u.opened (long_opened c c.workers u.opened n refl) (from_opened c c.workers u.opened n refl (from_same c)) sound.jobs))
         where
           clash : (w : ℕ) → TheNode n ≡ TheWorker w → ⊥
           clash w e = cc
+
           other : (i : Letter) (w : ℕ) → item_at c.network k ≡ Some i → i.receiver ≡ TheWorker w → ⊥
           other i w j p = clash w (sym to ∙ ap (λ (v : Letter). v.receiver) (some_is l i (sym sent ∙ j)) ∙ p)
+
           to_node : is_live_node (node_at c n) ≡ true → delivered_by c k (item_at c.network k) ≡ node_does (with_delivered c k) n (λ g. node_reached g l.sender l.message)
           to_node i = ap (delivered_by c k) sent ∙ ap (delivered_to (with_delivered c k) l) to ∙ ap (λ v. if v then node_does (with_delivered c k) n (λ g. node_reached g l.sender l.message) else moved (with_delivered c k)) i
 
@@ -272,8 +274,10 @@ module _ (s : Setting) (apart : KeepsMainApart s.script) (log : List Entry) (c :
     where
       never : false ≡ true → ⊥
       never q = cc
+
       nothing : (g : Given) → not g.is_committed && false ≡ true → ⊥
       nothing g q = never (and_parts (not g.is_committed) false q).1
+
       go : (handed : Handed) (o : Option Given) → item_at c.jobs j ≡ o → commit_refusal c j handed o ≡ None → IsRight s c (Commit j) handed → Follows s log (Commit j) seat (committed_by c j handed o)
       go handed None e h right = absurd (cc)
       go Nothing (Some g) e h right = absurd (nothing g (and_parts (not g.is_committed && false) (is_out_by (worker_at c g.worker) j) (unless_none _ 32 (or_none _ _ h).0)).0)
@@ -289,7 +293,9 @@ module _ (s : Setting) (apart : KeepsMainApart s.script) (log : List Entry) (c :
           worker_event (Commit j) seat g.worker l.worker l.at l.lives (record { own = claimed; spares = λ v n. refl; spares_nodes = λ n. refl; brings_none = refl })
           (with_committed c j (length o.births)).jobs (with_committed c j (length o.births)).made c.delivered (on_workers.job_committed j g e) (λ k. commit_step k o)
           (λ arrived. steps_stay_legal.steps.commits _ _ j run.0 o refl arrived (on_workers.knows_at_once _ _ _ _ _ arrived (λ u. refl)) (record {
-            is = run.1; out = run.2; claimed = claimed;
+            is = run.1;
+            out = run.2;
+            claimed = claimed;
             once = b.knows.commits j ∙ ap committed_in e ∙ fresh;
             done = record { replayed = done; of_main = only_main_prints S apart log g.worker l.worker run.0 o b.legal ((b.knows.workers g.worker l.worker l.at l.lives).run run.0 run.1) done };
           }))
@@ -338,7 +344,9 @@ module _ (s : Setting) (apart : KeepsMainApart s.script) (log : List Entry) (c :
   happens_to (KillNode n) seat handed r right =
       let l = live_node c n (unless_none (is_live_node (node_at c n)) 36 r) in
       record {
-        between = on_others.node_killed n seat l.node l.at l.lives; past = _; jobs = jobs_kept c (happens c (KillNode n) handed).whole refl 0 (let e = mapped_length (dies_with n) c.workers in omega (arith, e)) (from_dead_node c n) sound.jobs;
+        between = on_others.node_killed n seat l.node l.at l.lives;
+        past = _;
+        jobs = jobs_kept c (happens c (KillNode n) handed).whole refl 0 (let e = mapped_length (dies_with n) c.workers in omega (arith, e)) (from_dead_node c n) sound.jobs;
         held = steps_land.node_dies (log ++ In (KillNode n) seat ∷ []) facts c n (steps_land.comes log facts c (KillNode n) seat t) (λ w x at i. worker_killed_in s log c b (KillNode n) seat w x at (flipped n x.node i));
       }
     where

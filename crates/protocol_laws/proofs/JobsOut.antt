@@ -33,8 +33,9 @@ pub jobs_kept : (c d : Whole) → d.jobs ≡ c.jobs → (i : ℕ) → length d.w
 jobs_kept c d same more long from o = record {
   given = λ j g at. let h = o.given j g (was j g at) in omega (arith, h, long);
   out = λ j g x at fresh there live. elim (from g.worker x there live) [
-    inl k ↦ o.out j g x (was j g at) fresh k live
-    | inr k ↦ let h = o.given j g (was j g at) in absurd (omega (arith, h, k)) ];
+    | inl k ↦ o.out j g x (was j g at) fresh k live
+    | inr k ↦ let h = o.given j g (was j g at) in absurd (omega (arith, h, k))
+  ];
 }
   where
     was : (j : ℕ) (g : Given) → item_at d.jobs j ≡ Some g → item_at c.jobs j ≡ Some g
@@ -47,8 +48,9 @@ long_repeated (suc n) z = ap (λ i. suc i) (long_repeated n z)
 -- with workers that were opened behind those that are there
 pub from_opened : (c : Whole) (front : List Worker) (n at : ℕ) → length front ≡ length c.workers → CameFrom c front → CameFrom c (front ++ repeated n (new_worker at))
 from_opened c front n at long from v y h live = elim (joined_cases front (repeated n (new_worker at)) v y h) [
-  inl k ↦ from v y k live
-  | inr k ↦ inr (let i = (repeated_at n (new_worker at) (1 + length front) v y k).1 in omega (arith, i, long)) ]
+  | inl k ↦ from v y k live
+  | inr k ↦ inr (let i = (repeated_at n (new_worker at) (1 + length front) v y k).1 in omega (arith, i, long))
+]
 
 pub long_opened : (c : Whole) (front : List Worker) (n at : ℕ) → length front ≡ length c.workers → length (front ++ repeated n (new_worker at)) ≡ length c.workers + n
 long_opened c front n at long = let a : length (front ++ repeated n (new_worker at)) ≡ length front + length (repeated n (new_worker at)) = length_join front (repeated n (new_worker at)) in let b : length (repeated n (new_worker at)) ≡ n = long_repeated n (new_worker at) in omega (arith, a, b, long)
@@ -58,8 +60,9 @@ from_same c v y h live = inl h
 
 pub from_killed : (c : Whole) (w : ℕ) → CameFrom c (changed_at c.workers w dead)
 from_killed c w v y h live = elim (changed_cases c.workers w dead v y h) [
-  inl k ↦ absurd (clash (sym live ∙ ap (λ (z : Worker). z.is_live) (sym k.1.2)))
-  | inr k ↦ inl k.1 ]
+  | inl k ↦ absurd (clash (sym live ∙ ap (λ (z : Worker). z.is_live) (sym k.1.2)))
+  | inr k ↦ inl k.1
+]
 
 pub from_dead_node : (c : Whole) (n : ℕ) → CameFrom c (map (dies_with n) c.workers)
 from_dead_node c n v y h live = let r = mapped_cases (dies_with n) c.workers v y h in by_test r.0 (r.0.node == n) r.1 r.2
@@ -80,10 +83,12 @@ pub jobs_after : (c d : Whole) (w : ℕ) (after : Worker) (opened at : ℕ) → 
 jobs_after c d w after opened at is own o = record {
   given = λ j g i. let h = own.given j g i in let l = long in omega (arith, h, l);
   out = λ j g x i fresh there live. elim (joined_cases front (repeated opened (new_worker at)) g.worker x (ap (λ xs. item_at xs g.worker) (sym is) ∙ there)) [
-    inl k ↦ elim (changed_cases c.workers w (λ _. after) g.worker x k) [
-      inl m ↦ subst (IsOutAs j) m.1.2 (own.own j g i fresh m.0)
-      | inr m ↦ o.out j g x (own.others j g i fresh m.0) fresh m.1 live ]
-    | inr k ↦ let r = (repeated_at opened (new_worker at) (1 + length front) g.worker x k).1 in let h = own.given j g i in let l : length front ≡ length c.workers = changed_length c.workers w (λ _. after) in absurd (omega (arith, r, h, l)) ];
+    | inl k ↦ elim (changed_cases c.workers w (λ _. after) g.worker x k) [
+      | inl m ↦ subst (IsOutAs j) m.1.2 (own.own j g i fresh m.0)
+      | inr m ↦ o.out j g x (own.others j g i fresh m.0) fresh m.1 live
+    ]
+    | inr k ↦ let r = (repeated_at opened (new_worker at) (1 + length front) g.worker x k).1 in let h = own.given j g i in let l : length front ≡ length c.workers = changed_length c.workers w (λ _. after) in absurd (omega (arith, r, h, l))
+  ];
 }
   where
     front : List Worker
@@ -115,32 +120,39 @@ module _ (c : Whole) (o : JobsAreOut c) (w : ℕ) (x : Worker) (at : worker_at c
   pub own_given : (run : Run) → x.run ≡ Some run → run.phase ≡ Ready → w < length c.workers + 1 → (after : Worker) → IsOutAs (length c.jobs + 1) after → OwnJobs c w (c.jobs ++ record { worker = w; is_committed = false } ∷ []) after
   own_given run is ready within after out = record {
     given = λ j g i. elim (pushed_cases c.jobs (record { worker = w; is_committed = false }) j g i) [
-      inl k ↦ o.given j g k
-      | inr k ↦ subst (λ (y : Given). y.worker < length c.workers + 1) k.1 within ];
+      | inl k ↦ o.given j g k
+      | inr k ↦ subst (λ (y : Given). y.worker < length c.workers + 1) k.1 within
+    ];
     own = λ j g i fresh e. elim (pushed_cases c.jobs (record { worker = w; is_committed = false }) j g i) [
-      inl k ↦ absurd (ready_alone run is ready j (o.out j g x k fresh (there g e) live))
-      | inr k ↦ let n : length c.jobs + 1 ≡ j = (let m = k.0 in omega (arith, m)) in subst (λ i. IsOutAs i after) n out ];
+      | inl k ↦ absurd (ready_alone run is ready j (o.out j g x k fresh (there g e) live))
+      | inr k ↦ let n : length c.jobs + 1 ≡ j = (let m = k.0 in omega (arith, m)) in subst (λ i. IsOutAs i after) n out
+    ];
     others = λ j g i fresh e. elim (pushed_cases c.jobs (record { worker = w; is_committed = false }) j g i) [
-      inl k ↦ k
-      | inr k ↦ absurd (e (ap (λ (y : Given). y.worker) (sym k.1))) ];
+      | inl k ↦ k
+      | inr k ↦ absurd (e (ap (λ (y : Given). y.worker) (sym k.1)))
+    ];
   }
 
   -- a commit
   pub own_committed : (j : ℕ) (run : Run) → x.run ≡ Some run → run.phase ≡ Out j → (after : Worker) → OwnJobs c w (changed_at c.jobs j as_committed) after
   own_committed j run is out after = record {
     given = λ i g k. elim (changed_cases c.jobs j as_committed i g k) [
-      inl m ↦ subst (λ (y : Given). y.worker < length c.workers + 1) m.1.2 (o.given i m.1.0 m.1.1)
-      | inr m ↦ o.given i g m.1 ];
+      | inl m ↦ subst (λ (y : Given). y.worker < length c.workers + 1) m.1.2 (o.given i m.1.0 m.1.1)
+      | inr m ↦ o.given i g m.1
+    ];
     own = λ i g k fresh e. elim (changed_cases c.jobs j as_committed i g k) [
-      inl m ↦ absurd (clash (ap (λ (y : Given). y.is_committed) m.1.2 ∙ fresh))
-      | inr m ↦ absurd (m.0 (same i (o.out i g x m.1 fresh (there g e) live))) ];
+      | inl m ↦ absurd (clash (ap (λ (y : Given). y.is_committed) m.1.2 ∙ fresh))
+      | inr m ↦ absurd (m.0 (same i (o.out i g x m.1 fresh (there g e) live)))
+    ];
     others = λ i g k fresh e. elim (changed_cases c.jobs j as_committed i g k) [
-      inl m ↦ absurd (clash (ap (λ (y : Given). y.is_committed) m.1.2 ∙ fresh))
-      | inr m ↦ m.1 ];
+      | inl m ↦ absurd (clash (ap (λ (y : Given). y.is_committed) m.1.2 ∙ fresh))
+      | inr m ↦ m.1
+    ];
   }
     where
       number : (i : ℕ) → Out i ≡ Out j → i ≡ j
       number i e = cc
+
       same : (i : ℕ) → IsOutAs i x → i ≡ j
       same i p = number i (sym p.2 ∙ ap (λ (r : Run). r.phase) (some_is p.0 run (sym p.1 ∙ is)) ∙ out)
 
@@ -162,5 +174,6 @@ module _ (c : Whole) (o : JobsAreOut c) (w : ℕ) (x : Worker) (at : worker_at c
       by_commit : (i : ℕ) (g : Given) (b : Bool) → g.is_committed ≡ b → item_at c.jobs i ≡ Some g → g.worker ≡ w → g.is_committed ≡ true
       by_commit i g true e k m = e
       by_commit i g false e k m = absurd (ready_alone run is ready i (o.out i g x k e (there g m) live))
+
       done : (i : ℕ) (g : Given) → item_of 1 c.jobs i ≡ Some g → g.worker ≡ w → is_committed i log ≡ true
       done i g k m = commits i g (placed c.jobs i k) ∙ by_commit i g g.is_committed refl (placed c.jobs i k) m

@@ -23,6 +23,7 @@ opening_is_sound s slots some = record { between = steps_stay_legal.opens s slot
   where
     nothing : (g : Given) → None ≡ Some g → ⊥
     nothing g e = cc
+
     none_out : JobsAreOut (first_whole s.nodes slots)
     none_out = record { given = λ j g at. absurd (nothing g (counted [] j at)); out = λ j g x at fresh there live. absurd (nothing g (counted [] j at)) }
 

@@ -125,8 +125,9 @@ module _ (s : Setting) (before : List Entry) (x : Entry) (paces : AllPace s.scri
 
     stays : Paces script later a
     stays = elim (paces a) [
-      inl h ↦ inl (record { prints = same_word (printed_in a) prints ∙ h.0.prints; answers = same_word (got_in a) answers ∙ h.0.answers }, same_word (own_in a) own ∙ h.1)
-      | inr h ↦ inr (record { spec = h.spec; born = births-more before (x ∷ []) a.object h.spec h.born; in_step = λ base bs e. moved h.spec base bs (h.in_step base bs (sym (same_word (own_in a) own) ∙ e)) }) ]
+      | inl h ↦ inl (record { prints = same_word (printed_in a) prints ∙ h.0.prints; answers = same_word (got_in a) answers ∙ h.0.answers }, same_word (own_in a) own ∙ h.1)
+      | inr h ↦ inr (record { spec = h.spec; born = births-more before (x ∷ []) a.object h.spec h.born; in_step = λ base bs e. moved h.spec base bs (h.in_step base bs (sym (same_word (own_in a) own) ∙ e)) })
+    ]
 
   -- what was so before, of an attempt whose birth is known
   record WasInStep (a : Attempt) (spec : Birth) (base : Id) : Type 0 where
@@ -135,12 +136,13 @@ module _ (s : Setting) (before : List Entry) (x : Entry) (paces : AllPace s.scri
 
   was : (a : Attempt) (spec : Birth) (base : Id) (bs : List Birth) → birth_at (births before) a.object ≡ Some spec → own_births a before ≡ numbered base bs → WasInStep a spec base
   was a spec base bs born own = elim (paces a) [
-    inl h ↦ record {
+    | inl h ↦ record {
       prints = subst (λ vs. IsFirst vs (replay script spec base (answers_of a before)).prints) (sym h.0.prints) tt;
       fit = subst (AnswersFit (run_birth script spec) base) (sym h.0.answers) (none_fit (run_birth script spec) base);
     }
     | inr h ↦ let same : h.spec ≡ spec = some_is h.spec spec (sym h.born ∙ born) in let k = h.in_step base bs own in
-      subst (λ i. WasInStep a i base) same (record { prints = k.prints; fit = k.fit }) ]
+        subst (λ i. WasInStep a i base) same (record { prints = k.prints; fit = k.fit })
+  ]
 
 -- ---- the entries that an attempt's deeds are
 
@@ -154,21 +156,29 @@ module _ (s : Setting) (before : List Entry) (paces : AllPace s.script before) w
     where
       r : Replays s before a h.base h.p
       r = h.replays
+
       x : Entry
       x = Born o a b
+
       item : Bearing
       item = record { object = o; birth = b }
+
       own_now : own_births a (before ++ x ∷ []) ≡ own_births a before ++ item ∷ []
       own_now = word_push (own_in a) before x ∙ ap (λ t. own_births a before ++ (if t then item ∷ [] else [])) (same_attempt-refl a)
+
       none_got : answers_of a (before ++ x ∷ []) ≡ answers_of a before
       none_got = same_word s before x paces (got_in a) refl
+
       none_printed : printed_by a (before ++ x ∷ []) ≡ printed_by a before
       none_printed = same_word s before x paces (printed_in a) refl
+
       not_empty : (xs : List Bearing) (bs : List Birth) (base : Id) → xs ++ item ∷ [] ≡ numbered base bs → bs ≡ [] → ⊥
       not_empty [] bs base e n = let k = subst (λ cs. item ∷ [] ≡ numbered base cs) n e in absurd (cc)
       not_empty (y ∷ ys) bs base e n = let k = subst (λ cs. y ∷ (ys ++ item ∷ []) ≡ numbered base cs) n e in absurd (cc)
+
       own_first : IsFirst (own_births a before ++ item ∷ []) (numbered h.base (replay s.script r.spec h.base (answers_of a before)).births)
       own_first = subst (λ (q : Piece). IsFirst (own_births a before ++ item ∷ []) (numbered h.base q.births)) r.replayed h.own
+
       at_base : (bs : List Birth) → IsFirst bs (replay s.script r.spec h.base (answers_of a before)).births → IsInStep s.script (before ++ x ∷ []) a r.spec h.base bs
       at_base bs f =
           let k = was s before x paces a r.spec h.base (births_in (own_births a before)) r.born (numbered_first (own_births a before) item h.base _ own_first).0 in
@@ -177,6 +187,7 @@ module _ (s : Setting) (before : List Entry) (paces : AllPace s.script before) w
             prints = subst (λ cs. IsFirst (printed_by a (before ++ x ∷ [])) (replay s.script r.spec h.base cs).prints) (sym none_got) (subst (λ vs. IsFirst vs (replay s.script r.spec h.base (answers_of a before)).prints) (sym none_printed) k.prints);
             fit = subst (AnswersFit (run_birth s.script r.spec) h.base) (sym none_got) k.fit;
           }
+
       from : (base : Id) (bs : List Birth) → own_births a before ++ item ∷ [] ≡ numbered base bs → IsInStep s.script (before ++ x ∷ []) a r.spec base bs
       from base bs e =
           let k = numbered_begins base h.base bs (replay s.script r.spec h.base (answers_of a before)).births (subst (λ xs. IsFirst xs (numbered h.base (replay s.script r.spec h.base (answers_of a before)).births)) e own_first) in
@@ -192,8 +203,9 @@ module _ (s : Setting) (before : List Entry) (paces : AllPace s.script before) w
       let k = numbered_same base other bs p.births (sym own_too ∙ own) in
       record {
         replayed = elim k.1 [
-          inl n ↦ e ∙ sym (same_piece (run_birth s.script spec) base other (answers_of a before) (sym (ap (λ (q : Piece). q.births) e) ∙ n))
-          | inr i ↦ e ∙ ap (λ j. replay s.script spec j (answers_of a before)) (sym i) ];
+          | inl n ↦ e ∙ sym (same_piece (run_birth s.script spec) base other (answers_of a before) (sym (ap (λ (q : Piece). q.births) e) ∙ n))
+          | inr i ↦ e ∙ ap (λ j. replay s.script spec j (answers_of a before)) (sym i)
+        ];
         births = k.0;
       }
 
@@ -206,12 +218,16 @@ module _ (s : Setting) (before : List Entry) (paces : AllPace s.script before) w
     where
       r : Replays s before main_attempt h.base h.p
       r = h.replays
+
       x : Entry
       x = Printed v
+
       printed_now : printed_by main_attempt (before ++ x ∷ []) ≡ printed_by main_attempt before ++ v ∷ []
       printed_now = word_push (printed_in main_attempt) before x ∙ ap (λ t. printed_by main_attempt before ++ (if t then v ∷ [] else [])) (same_attempt-refl main_attempt)
+
       none_got : answers_of main_attempt (before ++ x ∷ []) ≡ answers_of main_attempt before
       none_got = same_word s before x paces (got_in main_attempt) refl
+
       from : (base : Id) (bs : List Birth) → own_births main_attempt before ≡ numbered base bs → IsInStep s.script (before ++ x ∷ []) main_attempt r.spec base bs
       from base bs e =
           let k = all_born main_attempt r.spec h.p h.base base bs r.replayed h.own e in
@@ -232,14 +248,19 @@ module _ (s : Setting) (before : List Entry) (paces : AllPace s.script before) w
     where
       r : Replays s before a h.needs.base h.needs.p
       r = h.needs.replays
+
       p : Piece
       p = h.needs.p
+
       x : Entry
       x = Got a y c
+
       got_now : answers_of a (before ++ x ∷ []) ≡ answers_of a before ++ c ∷ []
       got_now = word_push (got_in a) before x ∙ ap (λ t. answers_of a before ++ (if t then c ∷ [] else [])) (same_attempt-refl a)
+
       none_printed : printed_by a (before ++ x ∷ []) ≡ printed_by a before
       none_printed = same_word s before x paces (printed_in a) refl
+
       from : (base : Id) (bs : List Birth) → own_births a before ≡ numbered base bs → IsInStep s.script (before ++ x ∷ []) a r.spec base bs
       from base bs e =
           let run = run_birth s.script r.spec in
@@ -247,9 +268,12 @@ module _ (s : Setting) (before : List Entry) (paces : AllPace s.script before) w
           let k = all_born a r.spec p h.needs.base base bs r.replayed h.needs.own e in
           let now : piece run base answers ≡ p = sym k.replayed in
           let stops : Stops s before a (Needs (Named y)) = record {
-            base = base; p = p;
+            base = base;
+            p = p;
             replays = record { spec = r.spec; born = r.born; ended = r.ended; faulted = r.faulted; replayed = k.replayed };
-            own = e ∙ ap (numbered base) k.births; prints = h.needs.prints; stopped = h.needs.stopped;
+            own = e ∙ ap (numbered base) k.births;
+            prints = h.needs.prints;
+            stopped = h.needs.stopped;
           } in
           record {
             births = subst (λ cs. IsFirst bs (replay s.script r.spec base cs).births) (sym got_now) (subst (λ cs. IsFirst cs (piece run base (answers ++ c ∷ [])).births) (ap (λ (q : Piece). q.births) now ∙ sym k.births) (births_grow run base answers c));
@@ -288,17 +312,20 @@ pace_steps s end checks before (x ∷ es) g t p h =
 
 pub attempts_keep_pace : KeepsPace
 attempts_keep_pace end s log checks main h a spec base bs born own = elim all [
-    inl k ↦ record {
-      births = subst (λ cs. IsFirst cs (replay s.script spec base (answers_of a log)).births) (sym (empty bs (sym own ∙ k.1))) tt;
-      prints = subst (λ vs. IsFirst vs (replay s.script spec base (answers_of a log)).prints) (sym k.0.prints) tt;
-      fit = subst (AnswersFit (run_birth s.script spec) base) (sym k.0.answers) (none_fit (run_birth s.script spec) base);
-    }
-    | inr k ↦ subst (λ i. IsInStep s.script log a i base bs) (some_is k.spec spec (sym k.born ∙ born)) (k.in_step base bs own) ]
+  | inl k ↦ record {
+    births = subst (λ cs. IsFirst cs (replay s.script spec base (answers_of a log)).births) (sym (empty bs (sym own ∙ k.1))) tt;
+    prints = subst (λ vs. IsFirst vs (replay s.script spec base (answers_of a log)).prints) (sym k.0.prints) tt;
+    fit = subst (AnswersFit (run_birth s.script spec) base) (sym k.0.answers) (none_fit (run_birth s.script spec) base);
+  }
+  | inr k ↦ subst (λ i. IsInStep s.script log a i base bs) (some_is k.spec spec (sym k.born ∙ born)) (k.in_step base bs own)
+]
   where
     idle : AllPace s.script opening
     idle b = inl (record { prints = refl; answers = refl }, refl)
+
     empty : (cs : List Birth) → numbered base cs ≡ [] → cs ≡ []
     empty [] e = refl
     empty (c ∷ cs) e = absurd (cc)
+
     all : Paces s.script log a
     all = subst (λ l. AllPace s.script l) (sym h.begins) (pace_steps s end checks opening h.rest (good_opening s.script) (typed_opening s.script main) idle h.each) a

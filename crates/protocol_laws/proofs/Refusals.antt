@@ -108,6 +108,7 @@ module _ (s : Setting) (log : List Entry) (c : Whole) (b : Between s log c) wher
       by_life : (x : Worker) → worker_at c v ≡ Some x → (t : Bool) → x.is_live ≡ t → is_killed v log ≡ not t
       by_life x e true l = live_unkilled log v x.node (home_of_worker s log c b v x e) (b.knows.lives v x e ∙ l)
       by_life x e false l = killed_if_dead log v x.node (home_of_worker s log c b v x e) (b.knows.lives v x e ∙ l)
+
       go : (o : Option Worker) → worker_at c v ≡ o → is_killed v log ≡ is_dead_worker o
       go (Some x) e = by_life x e x.is_live refl
       go None e = false_if (is_killed v log) (λ h. let k = killed_home log v h in there_by_log v k.0 k.1 e)
@@ -118,8 +119,10 @@ module _ (s : Setting) (log : List Entry) (c : Whole) (b : Between s log c) wher
       by_life : (x : Node) → node_at c n ≡ Some x → (t : Bool) → x.is_live ≡ t → node_lives s.nodes n log ≡ t
       by_life x e true l = node_lives_log s log c b Join 0 n x e l
       by_life x e false l = dead_if_killed s.nodes n log (b.knows.node_lives n x e ∙ ap not l)
+
       clash : (x : Node) → Some x ≡ None → ⊥
       clash x e = cc
+
       go : (o : Option Node) → node_at c n ≡ o → node_lives s.nodes n log ≡ is_live_node o
       go (Some x) e = by_life x e x.is_live refl
       go None e = no_node_there s.nodes n (length c.nodes) log b.knows.nodes (λ low high. let r = item_some c.nodes n low high in clash r.0 (sym r.1 ∙ e))
@@ -129,18 +132,21 @@ module _ (s : Setting) (log : List Entry) (c : Whole) (b : Between s log c) wher
     where
       clash : (x : Node) → Some x ≡ None → ⊥
       clash x e = cc
+
       absent : (m : ℕ) → node_at c m ≡ None → (nat_lt m (length c.nodes + 1) ≡ true → node_is_killed m log ≡ false) → node_is_killed m log ≡ false
       absent m e inside = at_test (λ t. nat_lt m (length c.nodes + 1) ≡ t → node_is_killed m log ≡ false) (nat_lt m (length c.nodes + 1)) (λ t i. inside i)
           (λ t i. b.knows.unkilled m (far m (length c.nodes) i)) refl
         where
           far : (m k : ℕ) → nat_lt m (k + 1) ≡ false → k < m
           far m k h = grind (arith, nat_tests)
+
       none : (m : ℕ) → node_at c m ≡ None → node_is_killed m log ≡ false
       none zero e = b.knows.no_zero
       none (suc i) e = absent (suc i) e (λ t. let r = item_some c.nodes (suc i) (omega arith) (near (suc i) (length c.nodes + 1) t) in absurd (clash r.0 (sym r.1 ∙ e)))
         where
           near : (m k : ℕ) → nat_lt m k ≡ true → m < k
           near m k h = grind (arith, nat_tests)
+
       go : (o : Option Node) → node_at c n ≡ o → node_is_killed n log ≡ is_dead_node o
       go (Some x) e = b.knows.node_lives n x e
       go None e = none n e
@@ -170,8 +176,9 @@ module _ (s : Setting) (log : List Entry) (c : Whole) (b : Between s log c) wher
 
   claim_refused : (w code : ℕ) → or_code (tables.no_worker c w) (tables.unless (is_ready c w) 31) ≡ Some code → IsRefusal S log (Claim w) code
   claim_refused w code h = elim (first (is_live_worker (worker_at c w)) 30 code (tables.unless (is_ready c w) 31) h) [
-    inl k ↦ is_code (Claim w) 30 code k.1 (no_worker S log w (lives_as w ∙ k.0))
-    | inr k ↦ is_code (Claim w) 31 code (one (is_ready c w) 31 code k.1).1 (not_ready S log w (lives_as w ∙ k.0)) ]
+    | inl k ↦ is_code (Claim w) 30 code k.1 (no_worker S log w (lives_as w ∙ k.0))
+    | inr k ↦ is_code (Claim w) 31 code (one (is_ready c w) 31 code k.1).1 (not_ready S log w (lives_as w ∙ k.0))
+  ]
 
   tick_refused : (w code : ℕ) → tables.no_worker c w ≡ Some code → IsRefusal S log (Tick w) code
   tick_refused w code h = let k = one (is_live_worker (worker_at c w)) 30 code h in is_code (Tick w) 30 code k.1 (no_live (Tick w) w None refl k.0)
@@ -181,15 +188,17 @@ module _ (s : Setting) (log : List Entry) (c : Whole) (b : Between s log c) wher
 
   notice_refused : (w v code : ℕ) → or_code (tables.no_worker c w) (tables.unless (is_dead_worker (worker_at c v)) 35) ≡ Some code → IsRefusal S log (Notice w v) code
   notice_refused w v code h = elim (first (is_live_worker (worker_at c w)) 30 code (tables.unless (is_dead_worker (worker_at c v)) 35) h) [
-    inl k ↦ is_code (Notice w v) 30 code k.1 (no_live (Notice w v) w (causes.unless (is_killed v log) 35 None) refl k.0)
+    | inl k ↦ is_code (Notice w v) 30 code k.1 (no_live (Notice w v) w (causes.unless (is_killed v log) 35 None) refl k.0)
     | inr k ↦ let r = one (is_dead_worker (worker_at c v)) 35 code k.1 in
-        is_code (Notice w v) 35 code r.1 (as_shown S log (Notice w v) 35 false (then_shown w (causes.unless (is_killed v log) 35 None) k.0 ∙ ap (λ t. causes.unless t 35 None) (killed_as v ∙ r.0))) ]
+        is_code (Notice w v) 35 code r.1 (as_shown S log (Notice w v) 35 false (then_shown w (causes.unless (is_killed v log) 35 None) k.0 ∙ ap (λ t. causes.unless t 35 None) (killed_as v ∙ r.0)))
+  ]
 
   node_notice_refused : (w n code : ℕ) → or_code (tables.no_worker c w) (tables.unless (is_dead_node (node_at c n)) 35) ≡ Some code → IsRefusal S log (NoticeNode w n) code
   node_notice_refused w n code h = elim (first (is_live_worker (worker_at c w)) 30 code (tables.unless (is_dead_node (node_at c n)) 35) h) [
-    inl k ↦ is_code (NoticeNode w n) 30 code k.1 (no_live (NoticeNode w n) w (causes.unless (node_is_killed n log) 35 None) refl k.0)
+    | inl k ↦ is_code (NoticeNode w n) 30 code k.1 (no_live (NoticeNode w n) w (causes.unless (node_is_killed n log) 35 None) refl k.0)
     | inr k ↦ let r = one (is_dead_node (node_at c n)) 35 code k.1 in
-        is_code (NoticeNode w n) 35 code r.1 (as_shown S log (NoticeNode w n) 35 false (then_shown w (causes.unless (node_is_killed n log) 35 None) k.0 ∙ ap (λ t. causes.unless t 35 None) (node_killed_as n ∙ r.0))) ]
+        is_code (NoticeNode w n) 35 code r.1 (as_shown S log (NoticeNode w n) 35 false (then_shown w (causes.unless (node_is_killed n log) 35 None) k.0 ∙ ap (λ t. causes.unless t 35 None) (node_killed_as n ∙ r.0)))
+  ]
 
   deliver_refused : (m code : ℕ) → tables.unless (is_some (item_at c.network m)) 34 ≡ Some code → IsRefusal S log (Deliver m) code
   deliver_refused m code h = let k = one (is_some (item_at c.network m)) 34 code h in
@@ -225,11 +234,14 @@ module _ (s : Setting) (log : List Entry) (c : Whole) (b : Between s log c) wher
     where
       dead : is_live_node (node_at c n) ≡ false → IsRefusal S log e 36
       dead d = as_shown S log e 36 false (is ∙ ap (λ t. causes.unless t 36 None) (node_lives_as n ∙ d))
+
       number : Some 36 ≡ Some code → code ≡ 36
       number i = cc
+
       by_life : (x : Node) → node_at c n ≡ Some x → (t : Bool) → x.is_live ≡ t → (if t then f x.store else Some 36) ≡ Some code → IsRefusal S log e code
       by_life x i true l k = as_unseen S log e code false (is ∙ ap (λ t. causes.unless t 36 None) (node_lives_as n ∙ ap is_live_node i ∙ l)) (codes x.store k)
       by_life x i false l k = is_code e 36 code (number k) (dead (ap is_live_node i ∙ l))
+
       go : (o : Option Node) → node_at c n ≡ o → store_refusal f o ≡ Some code → IsRefusal S log e code
       go None i k = is_code e 36 code (number k) (dead (ap is_live_node i))
       go (Some x) i k = by_life x i x.is_live refl k
@@ -253,12 +265,13 @@ module _ (s : Setting) (log : List Entry) (c : Whole) (b : Between s log c) wher
       number i = cc
   commit_refused j code handed (Some g) e h =
       elim (first (not g.is_committed && is_of_job handed && is_out_by (worker_at c g.worker) j) 32 code (tables.unless (is_live_worker (worker_at c g.worker)) 33) h) [
-        inl k ↦ is_code (Commit j) 32 code k.1 (no_job S log j)
+        | inl k ↦ is_code (Commit j) 32 code k.1 (no_job S log j)
         | inr k ↦
             let a = and_parts (not g.is_committed && is_of_job handed) (is_out_by (worker_at c g.worker) j) k.0 in
             let fresh = not_true g.is_committed (and_parts (not g.is_committed) (is_of_job handed) a.0).0 in
             let r = one (is_live_worker (worker_at c g.worker)) 33 code k.1 in
-            is_code (Commit j) 33 code r.1 (as_shown S log (Commit j) 33 true (shown_job j g e fresh ∙ ap (λ t. causes.unless t 33 None) r.0)) ]
+            is_code (Commit j) 33 code r.1 (as_shown S log (Commit j) 33 true (shown_job j g e fresh ∙ ap (λ t. causes.unless t 33 None) r.0))
+      ]
 
   -- ---- any event
 
@@ -294,6 +307,7 @@ module _ (s : Setting) (log : List Entry) (c : Whole) (b : Between s log c) wher
       by_life : (x : Node) (t : Bool) → x.is_live ≡ t → (if t then f x.store else Some 36) ≡ None → x.is_live ≡ true
       by_life x true l k = l
       by_life x false l k = absurd (cc)
+
       go : (o : Option Node) → store_refusal f o ≡ None → is_live_node o ≡ true
       go None k = absurd (cc)
       go (Some x) k = by_life x x.is_live refl k

@@ -86,6 +86,7 @@ module _ (j : ℕ) where
       going : (b : Bool) → p.0.is_over ≡ b → p.0.is_over ≡ false
       going true e = absurd (clash (sym (ap has_stopped p.2) ∙ over p.0 p.1 e))
       going false e = e
+
       busy : is_free h.worker.run ≡ false
       busy = ap is_free p.1 ∙ going p.0.is_over refl
 

@@ -2,18 +2,17 @@
 -- so the releases are allowed too.
 use Rattle.std.proofs.Common.{arith, ◌<◌, ◌≡◌, ℕ, ◌+◌, Bool, true, false, List, [], ◌∷◌, ◌++◌, length, Option, Some, None, refl, sym, ap, ◌∙◌, subst}
 use Rattle.std.specs.Prelude.{◌&&◌, if◌then◌else◌, is_some, not, ◌==◌}
-use Rattle.meaning.specs.Values.{Id}
 use Rattle.meaning.specs.Mains.{KeepsMainApart}
 use Rattle.meaning.proofs.BirthLaws.{at_test}
-use Rattle.event_log.specs.Entries.{Event, Claim, Commit, Deliver, Tick, Notice, NoticeNode, Evict, Lose, Kill, KillNode, Join, Entry, In, Refused, Released}
-use Rattle.event_log.specs.Events.{commit_in, claim_in, from_one, has_job_out, is_killed, node_is_killed, worker_of_job}
+use Rattle.event_log.specs.Entries.{Event, Claim, Commit, Deliver, Tick, Notice, NoticeNode, Evict, Lose, Kill, KillNode, Join, Entry, In, Refused}
+use Rattle.event_log.specs.Events.{from_one, has_job_out, is_killed, node_is_killed, worker_of_job}
 use Rattle.event_log.specs.Words.{births, next_serial}
 use Rattle.event_log.specs.Causes.{IsRefusal}
 use Rattle.event_log.specs.Rules.{Setting, ToWorker, worker_to}
 use Rattle.event_log.specs.Legal.{Whole as WholeLog}
 use Rattle.protocol.specs.Numbered.{changed_at, item_at}
 use Rattle.protocol.specs.Messages.{Letter, Party, TheWorker, TheNode, goes_to_by, receiver_of}
-use Rattle.protocol.specs.Jobs.{Given, Handed, Nothing, OfAnother, OfJob, Outcomes}
+use Rattle.protocol.specs.Jobs.{Given, Handed, Nothing, OfAnother, OfJob}
 use Rattle.protocol.specs.Nodes.{Node}
 use Rattle.protocol.specs.Slots.{forgets, node_reached}
 use Rattle.protocol.specs.Stores.{evict_refusal, lose_refusal}
@@ -26,7 +25,7 @@ use Rattle.protocol.specs.Deliveries.{reached}
 use Rattle.protocol.specs.Releases.{release_step}
 use Rattle.protocol.specs.Whole.{Whole, Moved, moved, node_at, worker_at, here, there, after_node, after_worker, worker_does, worker_does_by, worker_does_at, node_does, node_does_by}
 use Rattle.protocol.specs.Events.{is_live_worker, is_live_node, with_committed, with_delivered, delivered_to, delivered_by, committed_by, dead, dies_with, killed, killed_by, happens}
-use Rattle.protocol.specs.Refusals.{no_worker, is_ready_run, has_slot, is_ready_on, commit_refusal, is_out_by, is_job, job_in_run, is_dead_worker, is_dead_node, refusal, is_within_limits, unless}
+use Rattle.protocol.specs.Refusals.{no_worker, is_ready_run, has_slot, is_ready_on, commit_refusal, is_out_by, is_dead_worker, is_dead_node, refusal, is_within_limits, unless}
 use Rattle.protocol.specs.Answers.{Answer, Refuses, answer, decided, takes, given_out, whole_after, logged}
 use Rattle.holding.specs.Past.{Fact}
 use Rattle.holding_steps.specs.Clauses.{During, Goes, HereTrue, MessageTrue}
@@ -40,8 +39,7 @@ use Rattle.holding_steps.proofs.Living.{worker_event_walk}
 use Rattle.protocol_legal.specs.Past.{past}
 use Rattle.protocol_legal.specs.During.{Frame, SoundHere}
 use Rattle.protocol_legal.specs.Frame.{Arrives, ComesTo, IsOwnEvent, JobsFollow}
-use Rattle.protocol_legal.specs.Knows.{KnowsWorker}
-use Rattle.protocol_legal.specs.Says.{Says, SaysBetween}
+use Rattle.protocol_legal.specs.Says.{SaysBetween}
 use Rattle.protocol_legal.specs.Steps.{EventsOfOthers, EventsOfWorkers, frame_of}
 use Rattle.protocol_legal.specs.Whole.{Between, committed_in, setting_of}
 use Rattle.protocol_legal.proofs.FrameHolds.{said_behind, steps_stay_legal}
@@ -55,7 +53,7 @@ use Rattle.protocol_laws.proofs.Refusals.{limited_for_cause, refused_for_cause, 
 use Rattle.protocol_laws.proofs.StaysOut.{out_at_message, out_at_node_notice, out_at_notice, out_at_release, out_at_tick}
 use Rattle.protocol_laws.specs.Coming.{IsRight}
 use Rattle.protocol_laws.proofs.Premises.{births_in, dead_on, refused_true, runs_begun, untouched, worker_killed_in}
-use Rattle.protocol_laws.proofs.Tests.{WorkerThere, NodeThere, and_parts, dead_node, dead_worker, live_node, live_worker, not_true, or_none, out_run, ready_run, unless_none}
+use Rattle.protocol_laws.proofs.Tests.{WorkerThere, and_parts, dead_node, dead_worker, live_node, live_worker, not_true, or_none, out_run, ready_run, unless_none}
 
 -- after the event, which made this of the whole, the run is sound
 abbrev pub Follows : Setting → List Entry → Event → ℕ → Moved → Type 0

@@ -1,5 +1,5 @@
 -- Claims give jobs that may be run.
-use Rattle.std.proofs.Common.{◌≡◌, ℕ, ◌+◌, Bool, true, false, List, [], ◌∷◌, ◌++◌, length, Option, Some, None, ◌⊎◌, inl, inr, refl, sym, ap, ◌∙◌, subst, append-nil}
+use Rattle.std.proofs.Common.{◌≡◌, ℕ, ◌+◌, true, List, [], ◌∷◌, ◌++◌, length, Option, Some, None, inl, inr, refl, sym, ap, ◌∙◌, subst, append-nil}
 use Rattle.std.specs.Prelude.{◌&&◌, if◌then◌else◌, slice_get}
 use Rattle.meaning.specs.Values.{Birth, Id, main_birth}
 use Rattle.meaning.specs.Syntax.{Number}
@@ -11,18 +11,16 @@ use Rattle.meaning.proofs.BirthLaws.{at_test, same_id-refl, same_id-true}
 use Rattle.event_log.specs.Entries.{Claim, Entry, Begun, main_attempt}
 use Rattle.event_log.specs.Words.{answers_of, births, run_in, runs_of}
 use Rattle.event_log.specs.Rules.{Setting, Allowed}
-use Rattle.event_log.specs.Legal.{End, LegalTo, Whole as WholeLog, opening}
+use Rattle.event_log.specs.Legal.{Whole as WholeLog, opening}
 use Rattle.event_log.proofs.Extending.{births-more}
 use Rattle.event_log.proofs.SaneLaws.{always, none_at, one_at, word_last}
 use Rattle.kind_laws.proofs.Laws.{legal_logs_keep}
 use Rattle.protocol.specs.Jobs.{Handed}
-use Rattle.protocol.specs.Nodes.{Node}
 use Rattle.protocol.specs.Tables.{Run, Worker}
 use Rattle.protocol.specs.Whole.{Whole, node_at, worker_at}
 use Rattle.protocol.specs.Events.{happens, is_live_worker}
 use Rattle.protocol.specs.Refusals.{has_slot, is_ready_on, is_ready_run, is_within_limits, no_worker, refusal, unless}
 use Rattle.protocol.specs.Answers.{Refuses, decided, given_out, job_at, job_by, job_of, takes}
-use Rattle.protocol_legal.specs.Past.{past}
 use Rattle.protocol_legal.specs.Knows.{IsTask, KnowsRun}
 use Rattle.protocol_legal.specs.Whole.{setting_of}
 use Rattle.protocol_laws.specs.Sound.{IsSound}

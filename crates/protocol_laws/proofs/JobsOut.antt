@@ -1,5 +1,5 @@
 -- Who has a job is busy with it: each event keeps that so.
-use Rattle.std.proofs.Common.{◌≡◌, ℕ, zero, suc, ◌+◌, ◌<◌, Bool, true, false, List, [], ◌∷◌, ◌++◌, ◌⊎◌, inl, inr, Some, None, refl, sym, ap, ◌∙◌, subst, length, map, arith}
+use Rattle.std.proofs.Common.{◌≡◌, ℕ, zero, suc, ◌+◌, ◌<◌, Bool, true, false, List, [], ◌∷◌, ◌++◌, ◌⊎◌, inl, inr, Some, refl, sym, ap, ◌∙◌, subst, length, map, arith}
 use Rattle.std.specs.Prelude.{◌==◌, ◌&&◌, ◌||◌, if◌then◌else◌, not}
 use Rattle.event_log.specs.Entries.{Entry}
 use Rattle.event_log.specs.Events.{claims, has_job_out, is_committed, is_out_from}
@@ -11,9 +11,9 @@ use Rattle.protocol.specs.Jobs.{Given}
 use Rattle.protocol.specs.Tables.{Out, Ready, Run, Worker, new_worker}
 use Rattle.protocol.specs.Whole.{Whole, worker_at}
 use Rattle.protocol.specs.Events.{as_committed, dead, dies_with}
-use Rattle.holding_steps.proofs.Lists.{changed_cases, changed_length, eq_same, eq_true, pushed_cases}
+use Rattle.holding_steps.proofs.Lists.{changed_cases, changed_length, eq_true, pushed_cases}
 use Rattle.holding_steps.proofs.Happening.{item_first, item_later}
-use Rattle.holding_steps.proofs.NodeNotices.{mapped_cases, mapped_length}
+use Rattle.holding_steps.proofs.NodeNotices.{mapped_cases}
 use Rattle.holding_steps.proofs.Wholes.{joined_cases, length_join, repeated_at}
 use Rattle.protocol_laws.specs.Sound.{IsOutAs, JobsAreOut}
 

@@ -1,5 +1,5 @@
 -- The laws of the whole protocol.
-use Rattle.std.proofs.Common.{◌≡◌, ℕ, false, List, [], ◌∷◌, ◌++◌, Some, None}
+use Rattle.std.proofs.Common.{◌≡◌, List, [], ◌∷◌, ◌++◌, Some, None}
 use Rattle.meaning.specs.Mains.{KeepsMainApart}
 use Rattle.event_log.specs.Entries.{Entry, Released, main_attempt}
 use Rattle.event_log.specs.Legal.{Whole as WholeLog}

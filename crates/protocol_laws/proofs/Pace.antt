@@ -1,19 +1,19 @@
 -- What an attempt of a legal log bore and printed begins what its task does on its answers, which are of the kinds that it asks for.
-use Rattle.std.proofs.Common.{◌≡◌, Bool, true, false, List, [], ◌∷◌, ◌++◌, ◌⊎◌, inl, inr, Some, refl, sym, ap, ◌∙◌, subst, append-nil, append_assoc}
+use Rattle.std.proofs.Common.{◌≡◌, List, [], ◌∷◌, ◌++◌, ◌⊎◌, inl, inr, Some, refl, sym, ap, ◌∙◌, subst, append-nil, append_assoc}
 use Rattle.std.specs.Prelude.{if◌then◌else◌}
 use Rattle.std.specs.List.{flat_map}
 use Rattle.meaning.specs.Lists.{IsFirst}
-use Rattle.meaning.specs.Values.{Named, Outcome, Val, Trapped, Birth, Id, Value, main_birth}
-use Rattle.meaning.specs.Syntax.{Number, Script}
+use Rattle.meaning.specs.Values.{Named, Outcome, Val, Trapped, Birth, Id, Value}
+use Rattle.meaning.specs.Syntax.{Script}
 use Rattle.meaning.specs.Runs.{Run, Ends, Prints, Bears, Gets, Needs, Piece, next_id, piece, with_print}
 use Rattle.meaning.specs.Births.{Bearing, birth_at, numbered}
 use Rattle.meaning.specs.Meaning.{run_birth, replay}
-use Rattle.meaning.specs.Kinds.{AnswersFit, IsBirthOf, ScriptChecks}
+use Rattle.meaning.specs.Kinds.{AnswersFit, ScriptChecks}
 use Rattle.meaning.proofs.BirthLaws.{at_test}
 use Rattle.event_log.specs.Entries.{Attempt, Entry, In, Refused, Opened, Begun, Born, Got, Printed, Ended, Accepted, Faulted, Resolved, Released, main_attempt}
 use Rattle.event_log.specs.Words.{answers_of, births, got_in, own_births, own_in, printed_by, printed_in, same_attempt}
 use Rattle.event_log.specs.Rules.{Setting, Allowed, MayBear, MayGet, MayPrint, Replays, Stops}
-use Rattle.event_log.specs.Legal.{End, LegalFrom, LegalTo, opening}
+use Rattle.event_log.specs.Legal.{End, LegalFrom, opening}
 use Rattle.event_log.proofs.Extending.{births-more}
 use Rattle.event_log.proofs.WordLaws.{same_attempt-refl, same_attempt-true, word_push}
 use Rattle.meaning_laws.proofs.Good.{GoodLog}

@@ -1,10 +1,9 @@
 -- What the laws of holding ask of an event beside its past follows of what the tables know of the log.
-use Rattle.std.proofs.Common.{◌≡◌, ℕ, ◌+◌, Bool, true, false, List, [], ◌∷◌, ◌++◌, Option, Some, None, refl, sym, ap, ◌∙◌, subst, append-nil}
-use Rattle.std.specs.Prelude.{◌||◌, slice_get, ◌==◌}
+use Rattle.std.proofs.Common.{◌≡◌, ℕ, Bool, true, false, List, [], ◌∷◌, ◌++◌, Option, Some, None, refl, sym, ap, ◌∙◌, subst, append-nil}
+use Rattle.std.specs.Prelude.{◌||◌, slice_get}
 use Rattle.std.specs.List.{list_any}
-use Rattle.meaning.specs.Values.{Id}
-use Rattle.event_log.specs.Entries.{Attempt, Entry, Event, In, Refused}
-use Rattle.event_log.specs.Words.{attempt, births, next_serial, same_attempt, worker_of}
+use Rattle.event_log.specs.Entries.{Entry, Event, In, Refused}
+use Rattle.event_log.specs.Words.{attempt, births, worker_of}
 use Rattle.event_log.specs.Events.{accepted_events, from_one, is_killed, kills, node_of, on_node}
 use Rattle.event_log.specs.Rules.{Setting}
 use Rattle.event_log.proofs.Extending.{node_of-more}
@@ -12,14 +11,14 @@ use Rattle.event_log.proofs.WordLaws.{births_push}
 use Rattle.holding.proofs.Growth.{past_grows}
 use Rattle.protocol.specs.Numbered.{item_at}
 use Rattle.protocol.specs.Sets.{object_id}
-use Rattle.protocol.specs.Messages.{Message, Push, Letter, TheWorker}
+use Rattle.protocol.specs.Messages.{Message, Push, TheWorker}
 use Rattle.protocol.specs.Nodes.{Node}
 use Rattle.protocol.specs.Tables.{RunsOn, Maker, WasPut, ByTask, Object, OwnTask, Worker, task_in, task_of}
 use Rattle.protocol.specs.Steps.{Here, own_object}
 use Rattle.protocol.specs.Whole.{Whole, here, node_at, worker_at}
-use Rattle.holding.specs.Past.{Fact, Begun, Killed, Has, Puts}
+use Rattle.holding.specs.Past.{Fact, Killed, Has}
 use Rattle.holding_steps.specs.Clauses.{MessageTrue}
-use Rattle.holding_steps.specs.Landing.{DeadOn, IsUntouched, RunsBegun, RunsIn}
+use Rattle.holding_steps.specs.Landing.{DeadOn, IsUntouched, RunsBegun}
 use Rattle.holding_steps.specs.Whole.{WholeTrue}
 use Rattle.holding_steps.proofs.Answering.{untouched_idle}
 use Rattle.protocol_legal.specs.Past.{past}

@@ -1,6 +1,6 @@
 -- Each refusal of the protocol has its cause in the log, or is of what only tables, stores and limits know.
 use Rattle.std.proofs.Common.{◌≡◌, ℕ, zero, suc, ◌+◌, ◌<◌, Bool, true, false, List, [], ◌∷◌, ◌++◌, ◌⊎◌, inl, inr, Option, Some, None, refl, sym, ap, ◌∙◌, subst, length, arith}
-use Rattle.std.specs.Prelude.{◌&&◌, not, nat_lt, is_some, if◌then◌else◌, ◌==◌}
+use Rattle.std.specs.Prelude.{◌&&◌, not, nat_lt, is_some, if◌then◌else◌}
 use Rattle.std.specs.List.{list_any}
 use Rattle.std.proofs.lemmas.Bool.Decides.{nat_tests}
 use Rattle.meaning.specs.Values.{Id}
@@ -12,7 +12,7 @@ use Rattle.event_log.specs.Entries.{Event, Claim, Commit, Deliver, Tick, Notice,
 use Rattle.event_log.specs.Events.{accepted_events, from_one, has_job_out, is_committed, is_killed, is_live, joins, kills, node_is_killed, node_lives, node_of, on_node, worker_of_job}
 use Rattle.event_log.specs.Rules.{Setting}
 use Rattle.event_log.proofs.CauseLaws.{as_shown, as_unseen, no_job, no_worker, not_ready}
-use Rattle.protocol.specs.Jobs.{Given, Handed, Nothing, OfAnother, OfJob}
+use Rattle.protocol.specs.Jobs.{Given, Handed}
 use Rattle.protocol.specs.Messages.{Letter, goes_to_by}
 use Rattle.protocol.specs.Nodes.{Node}
 use Rattle.protocol.specs.Numbered.{item_at}

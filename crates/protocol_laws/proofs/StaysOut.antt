@@ -1,5 +1,5 @@
 -- An attempt that was given out stays so until its job is committed: no other step of its worker changes how far it is.
-use Rattle.std.proofs.Common.{◌≡◌, ℕ, Bool, true, false, List, Option, Some, None, refl, sym, ap, ◌∙◌, subst}
+use Rattle.std.proofs.Common.{◌≡◌, ℕ, Bool, true, false, Option, Some, refl, sym, ap, ◌∙◌, subst}
 use Rattle.std.specs.Prelude.{◌&&◌, if◌then◌else◌, not}
 use Rattle.std.specs.List.{list_any}
 use Rattle.meaning.specs.Values.{Birth, Id}
@@ -14,7 +14,7 @@ use Rattle.protocol.specs.Notices.{notice_node_step, notice_step}
 use Rattle.protocol.specs.Releases.{release_step}
 use Rattle.protocol.specs.Ticks.{tick_step}
 use Rattle.protocol_owed.specs.Courses.{IsOut}
-use Rattle.protocol_owed.proofs.RunMoves.{Alike, IsHeard, IsHeardFrom, IsKept, pace_in_phase, notice_node_step-kept, notice_step-kept, reached-kept, release_step-kept, tick_step-kept}
+use Rattle.protocol_owed.proofs.RunMoves.{IsHeard, IsHeardFrom, IsKept, pace_in_phase, notice_node_step-kept, notice_step-kept, reached-kept, release_step-kept, tick_step-kept}
 use Rattle.protocol_laws.specs.Sound.{IsOutAs}
 
 some_is : {X : Type 0} (x y : X) → Some x ≡ Some y → x ≡ y

@@ -1,5 +1,5 @@
 -- The jobs that claims give out.
-use Rattle.std.specs.Prelude.{◌≡◌, List, None, Option, Some, ℕ}
+use Rattle.std.specs.Prelude.{List, None, Option, Some, ℕ}
 use Rattle.event_log.specs.Entries.{Claim, Entry}
 use Rattle.event_log.specs.Rules.{Setting}
 use Rattle.kind_laws.specs.Law.{HasKind}

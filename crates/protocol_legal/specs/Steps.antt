@@ -1,10 +1,10 @@
 -- What the steps of the protocol keep: the families of a worker's steps within its event, and how an event begins and ends on the whole.
-use Rattle.std.specs.Prelude.{◌≡◌, ◌<◌, ℕ, true, false, Bool, List, [], ◌∷◌, ◌++◌, Some}
+use Rattle.std.specs.Prelude.{◌≡◌, ℕ, true, false, Bool, List, [], ◌∷◌, ◌++◌, Some}
 use Rattle.meaning.specs.Values.{Id}
 use Rattle.event_log.specs.Entries.{Claim, Commit, Deliver, Entry, Event, Evict, In, Join, Kill, KillNode, Lose, Notice, Refused, Released}
 use Rattle.event_log.specs.Events.{claim_in, commit_in, is_committed, is_killed, node_is_killed, node_lives, tells, worker_of_job}
 use Rattle.event_log.specs.Holding.{is_held}
-use Rattle.event_log.specs.Legal.{Happens, opening}
+use Rattle.event_log.specs.Legal.{Happens}
 use Rattle.event_log.specs.Causes.{IsRefusal}
 use Rattle.event_log.specs.Rules.{Receiver, Setting}
 use Rattle.protocol.specs.Commits.{claim_step, commit_step}
@@ -20,7 +20,7 @@ use Rattle.protocol.specs.Slots.{node_reached}
 use Rattle.protocol.specs.Steps.{Here}
 use Rattle.protocol.specs.Tables.{Out, Ready, Run, Worker}
 use Rattle.protocol.specs.Ticks.{tick_step}
-use Rattle.protocol.specs.Whole.{Moved, Whole, after_node, after_worker, first_whole, here, node_at, there, worker_at}
+use Rattle.protocol.specs.Whole.{Moved, Whole, after_node, after_worker, here, node_at, there, worker_at}
 use Rattle.protocol_legal.specs.Done.{IsDone}
 use Rattle.protocol_legal.specs.During.{Frame, HearsNoDeath, SoundHere, past_of, so_far}
 use Rattle.protocol_legal.specs.Frame.{Arrives, ComesTo, IsOwnEvent, JobsFollow, in_event}

@@ -6,7 +6,7 @@ use Rattle.event_log.specs.Legal.{Legal}
 use Rattle.event_log.specs.Serial.{ReadsAsSerial, MainBegins}
 use Rattle.run_core.specs.States.{setting_of}
 
-pub record IsMeant (script : Script) (log : List Entry) : Type 0 where
+pub record IsSoundLog (script : Script) (log : List Entry) : Type 0 where
   -- each entry has what it needs before it
   pub legal : Legal (setting_of script) log
   -- what every attempt was answered and has printed begins the serial run of its own call

@@ -3,17 +3,17 @@
 ghost use Rattle.std.specs.Prelude.{◌≡◌, IfOk, MatchOption, None, Some, string_bytes};
 ghost use Rattle.event_log.specs.Views.{log_of};
 ghost use Rattle.machine.specs.Ready.{least_ready};
-ghost use Rattle.run_core.specs.Steps.{Answers, told_of};
+ghost use Rattle.run_core.specs.Steps.{Answers, reply_of};
 ghost use Rattle.run_core.specs.Views.{state_of};
 ghost use Rattle.history.specs.Main.{status_of};
 ghost use Rattle.history.specs.Report.{report_text};
-ghost use Rattle.board.specs.Meant.{IsMeant};
+ghost use Rattle.board.specs.Meant.{IsSoundLog};
 
 use event_log::Entry;
 use history::{report_text, status_of};
 use ids::WorkerId;
 use meaning_laws::law::{legal_logs_read_as_serial, main_begins_the_serial_run};
-use run_core::{Core, Event, Reply};
+use run_core::{Core, LocalEvent, Reply};
 use segment::{Done, ScriptName};
 use std::alloc::{AllocError, Global};
 use std::marker::Model;
@@ -31,7 +31,7 @@ impl<S: ScriptName> Model for Board<S> {
     ghost use Rattle.values.specs.contracts.value.RunValue as run_values;
     ghost use Rattle.event_log.specs.Views.{log_of};
     ghost use Rattle.run_core.specs.Views.{RunData};
-    ghost use Rattle.board.specs.Meant.{IsMeant};
+    ghost use Rattle.board.specs.Meant.{IsSoundLog};
 
     ghost Value = { RunData };
 
@@ -39,7 +39,7 @@ impl<S: ScriptName> Model for Board<S> {
 
     ghost view = { λ b. b.core };
 
-    ghost invariant = { λ b. IsMeant S.script (log_of b.core.log) };
+    ghost invariant = { λ b. IsSoundLog S.script (log_of b.core.log) };
 }
 
 impl<S: ScriptName> Board<S> {
@@ -54,9 +54,9 @@ impl<S: ScriptName> Board<S> {
     }
 
     /// One event, as the core takes it: see `Core::apply`.
-    pub fn apply(&mut self, alloc: Global, event: Event, done: Option<Done<S>>) -> Reply<S>
-        ensures answers { Answers (state_of self.old) event done (state_of self.new) (told_of result) }
-        ensures meant { IsMeant S.script (log_of self.new.log) }
+    pub fn apply(&mut self, alloc: Global, event: LocalEvent, done: Option<Done<S>>) -> Reply<S>
+        ensures answers { Answers (state_of self.old) event done (state_of self.new) (reply_of result) }
+        ensures meant { IsSoundLog S.script (log_of self.new.log) }
     {
         legal_logs_read_as_serial();
         main_begins_the_serial_run();
@@ -73,7 +73,7 @@ impl<S: ScriptName> Board<S> {
     /// The entries so far, oldest first.
     pub fn log(&self) -> &[Entry]
         ensures log { result.now ≡ self.now.log }
-        ensures meant { IsMeant S.script (log_of self.now.log) }
+        ensures meant { IsSoundLog S.script (log_of self.now.log) }
     {
         self.core.log()
     }
@@ -81,7 +81,7 @@ impl<S: ScriptName> Board<S> {
     /// The report of the log: see docs/log.md for its lines. Where memory runs out there is none.
     pub fn report(&self, alloc: Global) -> Result<String, AllocError>
         ensures text { IfOk result (λ text. string_bytes text ≡ report_text (log_of self.now.log)) }
-        ensures meant { IsMeant S.script (log_of self.now.log) }
+        ensures meant { IsSoundLog S.script (log_of self.now.log) }
     {
         report_text(alloc, self.log())
     }

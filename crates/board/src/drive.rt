@@ -10,7 +10,7 @@ use crate::board::Board;
 use crate::stopped::Stopped;
 use event_log::Refusal;
 use ids::WorkerId;
-use run_core::{Event, Reply};
+use run_core::{LocalEvent, Reply};
 use script_check::Checked;
 use segment::ScriptName;
 use std::alloc::Global;
@@ -53,7 +53,7 @@ impl<S: ScriptName> Board<S> {
         ensures taken { OnOk result (Turn S.script (state_of self.old) (state_of self.new)) }
         ensures broken { IfErr result (λ refusal. BreaksOff S.script (state_of self.old) (state_of self.new) refusal) }
     {
-        let job = match self.apply(alloc, Event::Claim(worker), None) {
+        let job = match self.apply(alloc, LocalEvent::Claim(worker), None) {
             Reply::Job(job) => job,
             Reply::Ok => unreachable!(),
             Reply::Refused(refusal) => return Err(refusal),
@@ -62,7 +62,7 @@ impl<S: ScriptName> Board<S> {
         let Ok(done) = job.run(alloc, script) else {
             return Err(Refusal::NoMemory);
         };
-        match self.apply(alloc, Event::Commit(number), Some(done)) {
+        match self.apply(alloc, LocalEvent::Commit(number), Some(done)) {
             Reply::Ok => Ok(()),
             Reply::Job(_) => unreachable!(),
             Reply::Refused(refusal) => Err(refusal),

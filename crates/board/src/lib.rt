@@ -7,6 +7,3 @@ mod stopped;
 
 pub use crate::board::Board;
 pub use stopped::Stopped;
-
-#[cfg(test)]
-mod tests;

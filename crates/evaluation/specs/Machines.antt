@@ -88,7 +88,8 @@ Stops old new run h = IsTrue (is_told h) → rest old run ≡ halted new h
 -- statements: what follows in the scope after it, or what follows a return
 abbrev pub Flows : Machine → Machine → Scope → ((Scope → Run) → (meant.Value → Run) → Run) → Flow → Type 0
 Flows old new scope run flows.Next = (next : Scope → Run) (return : meant.Value → Run) → rest old (run next return) ≡ rest new (next scope)
-Flows old new scope run (flows.Return v) = (next : Scope → Run) (return : meant.Value → Run) → rest old (run next return) ≡ rest new (return (value_of v))
+Flows old new scope run (flows.Return v) = (next : Scope → Run) (return : meant.Value → Run) →
+    rest old (run next return) ≡ rest new (return (value_of v))
 
 abbrev pub HaltsIn : Machine → Machine → ((Scope → Run) → (meant.Value → Run) → Run) → Halt → Type 0
 HaltsIn old new run h = IsTrue (is_told h) → (next : Scope → Run) (return : meant.Value → Run) → rest old (run next return) ≡ halted new h

@@ -1,6 +1,32 @@
 -- How large syntax is, for measures.
 use Rattle.std.specs.Prelude.{ℕ, ◌+◌, max, [], ◌∷◌}
-use Rattle.meaning.specs.Syntax.{Expr, Num, Var, Unary, Binary, ListOf, Empty, Call, Remote, PutOf, GetOf, Exprs, end, also, Stmt, Let, Set, Print, Return, If, For, Block, done, step, Script}
+use Rattle.meaning.specs.Syntax.{
+  Expr,
+  Num,
+  Var,
+  Unary,
+  Binary,
+  ListOf,
+  Empty,
+  Call,
+  Remote,
+  PutOf,
+  GetOf,
+  Exprs,
+  end,
+  also,
+  Stmt,
+  Let,
+  Set,
+  Print,
+  Return,
+  If,
+  For,
+  Block,
+  done,
+  step,
+  Script,
+}
 
 abbrev mutual
   pub size_of : Expr → ℕ

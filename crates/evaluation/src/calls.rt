@@ -15,7 +15,8 @@ use std::alloc::{AllocError, Global};
 
 /// The function of a name.
 pub(crate) fn find<'a>(script: &'a [CheckedFunction], name: &str) -> Option<&'a CheckedFunction>
-    ensures found { MatchOption result (find (script_of script.now) name.now ≡ None) (λ f. find (script_of script.now) name.now ≡ Some (function_of f.now)) }
+    ensures found { MatchOption result (find (script_of script.now) name.now ≡ None) (λ f. find (script_of script.now) name.now
+        ≡ Some (function_of f.now)) }
     ensures small { IfSome result (λ f. block_size (block_of f.now.body) < weight (script_of script.now)) }
 {
     for function in script {

@@ -96,8 +96,10 @@ pub(crate) fn to_stop(alloc: Global, ended: Result<Value, Halt>) -> Result<Stop,
 /// What a machine did up to where it stopped, as tasks have it.
 fn to_piece(machine: &Machine, ended: Result<Value, Halt>) -> Result<Piece, ConversionError>
     ensures value { IfOk result (λ p. (q : runs.Piece) → CameTo (InPieces q) machine.now ended → piece_of p ≡ q) }
-    ensures broken { IfErr result (λ e. e ≡ ConversionError.Broken → (q : runs.Piece) → CameTo (InPieces q) machine.now ended → q.stop ≡ Over (Trapped Broken)) }
-    ensures plain { IfErr result (λ e. e ≡ ConversionError.HasOutcome → (q : runs.Piece) → CameTo (InPieces q) machine.now ended → IsTaskPiece q → ⊥) }
+    ensures broken { IfErr result (λ e. e ≡ ConversionError.Broken → (q : runs.Piece) → CameTo (InPieces q) machine.now ended →
+        q.stop ≡ Over (Trapped Broken)) }
+    ensures plain { IfErr result (λ e. e ≡ ConversionError.HasOutcome → (q : runs.Piece) → CameTo (InPieces q) machine.now ended →
+        IsTaskPiece q → ⊥) }
 {
     let stop = to_stop(machine.alloc, ended)?;
     let births = to_births(machine.alloc, &machine.births)?;
@@ -120,7 +122,8 @@ pub fn run_piece(
     // What is given is the task's replay.
     ensures replayed { IfOk result (λ p. piece_of p ≡ replay (script_of script.now) (birth_of spec.now) (id_of base) (map content_of answers.now)) }
     // It is broken only where the replay is.
-    ensures broken { IfErr result (λ e. e ≡ PieceError.Broken → (replay (script_of script.now) (birth_of spec.now) (id_of base) (map content_of answers.now)).stop ≡ Over (Trapped Broken)) }
+    ensures broken { IfErr result (λ e. e ≡ PieceError.Broken →
+        (replay (script_of script.now) (birth_of spec.now) (id_of base) (map content_of answers.now)).stop ≡ Over (Trapped Broken)) }
 {
     let answers = from_contents(alloc, answers)?;
     let mut machine = Machine::in_pieces(alloc, base, answers);

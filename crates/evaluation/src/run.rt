@@ -38,7 +38,8 @@ fn evaluate(
     expr: &CheckedExpr,
     scope: &[Variable<'_>],
 ) -> Result<Value, Halt>
-    ensures value { IfOk result (GoesOn machine.old machine.new (evaluate (calls_below (script_of script.now) levels) (expr_of expr.now) (scope_of scope.now))) }
+    ensures value { IfOk result (GoesOn machine.old machine.new
+        (evaluate (calls_below (script_of script.now) levels) (expr_of expr.now) (scope_of scope.now))) }
     ensures halt { IfErr result (Halts machine.old machine.new (evaluate (calls_below (script_of script.now) levels) (expr_of expr.now) (scope_of scope.now))) }
 {
     match expr {
@@ -90,8 +91,10 @@ fn evaluate_all(
     exprs: &[CheckedExpr],
     scope: &[Variable<'_>],
 ) -> Result<Vec<Value>, Halt>
-    ensures values { IfOk result (GoesOnAll machine.old machine.new (evaluate_all (calls_below (script_of script.now) levels) (exprs_of exprs.now) (scope_of scope.now))) }
-    ensures halt { IfErr result (HaltsAll machine.old machine.new (evaluate_all (calls_below (script_of script.now) levels) (exprs_of exprs.now) (scope_of scope.now))) }
+    ensures values { IfOk result (GoesOnAll machine.old machine.new
+        (evaluate_all (calls_below (script_of script.now) levels) (exprs_of exprs.now) (scope_of scope.now))) }
+    ensures halt { IfErr result (HaltsAll machine.old machine.new
+        (evaluate_all (calls_below (script_of script.now) levels) (exprs_of exprs.now) (scope_of scope.now))) }
 {
     let mut values = Vec::new(machine.alloc);
     for expr in exprs {
@@ -145,8 +148,12 @@ fn remote(
     name: &String,
     arguments: Vec<Argument>,
 ) -> Result<Value, Halt>
-    ensures value { IfOk result (GoesOn machine.old machine.new (λ next. Bears (Task (string_bytes name.now) (map argument_of arguments.items) (33 - levels) retries) ((calls_below (script_of script.now) levels).task (string_bytes name.now) (map argument_of arguments.items)) next)) }
-    ensures halt { IfErr result (Halts machine.old machine.new (λ next. Bears (Task (string_bytes name.now) (map argument_of arguments.items) (33 - levels) retries) ((calls_below (script_of script.now) levels).task (string_bytes name.now) (map argument_of arguments.items)) next)) }
+    ensures value { IfOk result (GoesOn machine.old machine.new (λ next.
+        Bears (Task (string_bytes name.now) (map argument_of arguments.items) (33 - levels) retries)
+        ((calls_below (script_of script.now) levels).task (string_bytes name.now) (map argument_of arguments.items)) next)) }
+    ensures halt { IfErr result (Halts machine.old machine.new (λ next.
+        Bears (Task (string_bytes name.now) (map argument_of arguments.items) (33 - levels) retries)
+        ((calls_below (script_of script.now) levels).task (string_bytes name.now) (map argument_of arguments.items)) next)) }
 {
     match machine.mode {
         Mode::InPieces => {
@@ -200,8 +207,10 @@ fn execute<'a>(
     statement: &'a CheckedStatement,
     scope: &mut Vec<Variable<'a>>,
 ) -> Result<Flow, Halt>
-    ensures value { IfOk result (Flows machine.old machine.new (scope_of scope.new.items) (execute (calls_below (script_of script.now) levels) (statement_of statement.now) (scope_of scope.old.items))) }
-    ensures halt { IfErr result (HaltsIn machine.old machine.new (execute (calls_below (script_of script.now) levels) (statement_of statement.now) (scope_of scope.old.items))) }
+    ensures value { IfOk result (Flows machine.old machine.new (scope_of scope.new.items)
+        (execute (calls_below (script_of script.now) levels) (statement_of statement.now) (scope_of scope.old.items))) }
+    ensures halt { IfErr result (HaltsIn machine.old machine.new
+        (execute (calls_below (script_of script.now) levels) (statement_of statement.now) (scope_of scope.old.items))) }
 {
     match statement {
         CheckedStatement::Let(name, expr) => {
@@ -260,8 +269,12 @@ fn execute_block<'a>(
     statements: &'a [CheckedStatement],
     scope: &mut Vec<Variable<'a>>,
 ) -> Result<Flow, Halt>
-    ensures value { IfOk result (Flows machine.old machine.new (scope_of scope.new.items) (λ next. execute_all (calls_below (script_of script.now) levels) (statements_of statements.now) (scope_of scope.old.items) (leave (calls_below (script_of script.now) levels) (scope_of scope.old.items) next))) }
-    ensures halt { IfErr result (HaltsIn machine.old machine.new (λ next. execute_all (calls_below (script_of script.now) levels) (statements_of statements.now) (scope_of scope.old.items) (leave (calls_below (script_of script.now) levels) (scope_of scope.old.items) next))) }
+    ensures value { IfOk result (Flows machine.old machine.new (scope_of scope.new.items) (λ next.
+        execute_all (calls_below (script_of script.now) levels) (statements_of statements.now) (scope_of scope.old.items)
+        (leave (calls_below (script_of script.now) levels) (scope_of scope.old.items) next))) }
+    ensures halt { IfErr result (HaltsIn machine.old machine.new (λ next.
+        execute_all (calls_below (script_of script.now) levels) (statements_of statements.now) (scope_of scope.old.items)
+        (leave (calls_below (script_of script.now) levels) (scope_of scope.old.items) next))) }
 {
     let outer = scope.len();
     let flow = execute_all(machine, script, levels, statements, scope)?;
@@ -278,8 +291,10 @@ fn execute_all<'a>(
     statements: &'a [CheckedStatement],
     scope: &mut Vec<Variable<'a>>,
 ) -> Result<Flow, Halt>
-    ensures value { IfOk result (Flows machine.old machine.new (scope_of scope.new.items) (execute_all (calls_below (script_of script.now) levels) (statements_of statements.now) (scope_of scope.old.items))) }
-    ensures halt { IfErr result (HaltsIn machine.old machine.new (execute_all (calls_below (script_of script.now) levels) (statements_of statements.now) (scope_of scope.old.items))) }
+    ensures value { IfOk result (Flows machine.old machine.new (scope_of scope.new.items)
+        (execute_all (calls_below (script_of script.now) levels) (statements_of statements.now) (scope_of scope.old.items))) }
+    ensures halt { IfErr result (HaltsIn machine.old machine.new
+        (execute_all (calls_below (script_of script.now) levels) (statements_of statements.now) (scope_of scope.old.items))) }
 {
     for statement in statements {
         match execute(machine, script, levels, statement, scope)? {
@@ -315,8 +330,12 @@ fn repeat<'a>(
     body: &'a [CheckedStatement],
     scope: &mut Vec<Variable<'a>>,
 ) -> Result<Flow, Halt>
-    ensures value { IfOk result (Flows machine.old machine.new (scope_of scope.new.items) (λ next return. turns_within (calls_below (script_of script.now) levels) from to (turn (calls_below (script_of script.now) levels) name.now (statements_of body.now) return) (scope_of scope.old.items) next)) }
-    ensures halt { IfErr result (HaltsIn machine.old machine.new (λ next return. turns_within (calls_below (script_of script.now) levels) from to (turn (calls_below (script_of script.now) levels) name.now (statements_of body.now) return) (scope_of scope.old.items) next)) }
+    ensures value { IfOk result (Flows machine.old machine.new (scope_of scope.new.items) (λ next return.
+        turns_within (calls_below (script_of script.now) levels) from to
+        (turn (calls_below (script_of script.now) levels) name.now (statements_of body.now) return) (scope_of scope.old.items) next)) }
+    ensures halt { IfErr result (HaltsIn machine.old machine.new (λ next return.
+        turns_within (calls_below (script_of script.now) levels) from to
+        (turn (calls_below (script_of script.now) levels) name.now (statements_of body.now) return) (scope_of scope.old.items) next)) }
 {
     if is_too_long(from, to) {
         return Err(Halt::Trap(Trap::Loop));

@@ -22,7 +22,8 @@ pub(crate) struct Variable<'a> {
 
 /// The value of a variable.
 pub(crate) fn look_up<'s>(scope: &'s [Variable<'_>], name: &str) -> Option<&'s Value>
-    ensures { MatchOption result (value_in (scope_of scope.now) name.now ≡ Trapped Broken) (λ v. value_in (scope_of scope.now) name.now ≡ Val (value_of v.now)) }
+    ensures { MatchOption result (value_in (scope_of scope.now) name.now ≡ Trapped Broken) (λ v. value_in (scope_of scope.now) name.now
+        ≡ Val (value_of v.now)) }
 {
     for variable in scope {
         if variable.name == name {
@@ -77,7 +78,8 @@ pub(crate) fn bind_all<'a>(
     mut values: Vec<Value>,
 ) -> Result<Vec<Variable<'a>>, AllocError>
     requires { length parameters.now ≡ vec_len values }
-    ensures { IfOk result (λ scope. (next : Scope → Run) → bind_all broken (map parameter_of parameters.now) (map value_of values.items) next ≡ next (scope_of scope.items)) }
+    ensures { IfOk result (λ scope. (next : Scope → Run) → bind_all broken (map parameter_of parameters.now) (map value_of values.items) next
+        ≡ next (scope_of scope.items)) }
 {
     let mut scope = Vec::new(alloc);
     for parameter in parameters {

@@ -40,10 +40,14 @@ pub enum SerialError {
 
 /// What a machine printed, and how it ended, as tasks have it.
 fn to_serial(machine: &Machine, ended: Result<Value, Halt>) -> Result<SerialRun, ConversionError>
-    ensures prints { IfOk result (λ r. (printed : List meant.Value) (c : meant.Outcome) → CameTo (Serially printed c) machine.now ended → map value_of r.prints.items ≡ printed) }
-    ensures end { IfOk result (λ r. (printed : List meant.Value) (c : meant.Outcome) → CameTo (Serially printed c) machine.now ended → content_of r.end ≡ c) }
-    ensures broken { IfErr result (λ e. e ≡ ConversionError.Broken → (printed : List meant.Value) (c : meant.Outcome) → CameTo (Serially printed c) machine.now ended → c ≡ Trapped Broken) }
-    ensures plain { IfErr result (λ e. e ≡ ConversionError.HasOutcome → (printed : List meant.Value) (c : meant.Outcome) → CameTo (Serially printed c) machine.now ended → EachTaskValue printed → IsTaskOutcome c → ⊥) }
+    ensures prints { IfOk result (λ r. (printed : List meant.Value) (c : meant.Outcome) → CameTo (Serially printed c) machine.now ended →
+        map value_of r.prints.items ≡ printed) }
+    ensures end { IfOk result (λ r. (printed : List meant.Value) (c : meant.Outcome) → CameTo (Serially printed c) machine.now ended →
+        content_of r.end ≡ c) }
+    ensures broken { IfErr result (λ e. e ≡ ConversionError.Broken → (printed : List meant.Value) (c : meant.Outcome) →
+        CameTo (Serially printed c) machine.now ended → c ≡ Trapped Broken) }
+    ensures plain { IfErr result (λ e. e ≡ ConversionError.HasOutcome → (printed : List meant.Value) (c : meant.Outcome) →
+        CameTo (Serially printed c) machine.now ended → EachTaskValue printed → IsTaskOutcome c → ⊥) }
 {
     let stop = to_stop(machine.alloc, ended)?;
     let Stop::Ends(end) = stop else {
@@ -61,7 +65,8 @@ pub fn run_serially(alloc: Global, script: &Checked) -> Result<SerialRun, Serial
     // It is broken only where the meaning is.
     ensures broken { IfErr result (λ e. e ≡ SerialError.Broken → serial_end (serial_run (script_of script.now)) ≡ Trapped Broken) }
     // It has a reference only where the meaning has one.
-    ensures plain { IfErr result (λ e. e ≡ SerialError.HasReference → EachTaskValue (prints_of (serial_trace (serial_run (script_of script.now)))) → IsTaskOutcome (serial_end (serial_run (script_of script.now))) → ⊥) }
+    ensures plain { IfErr result (λ e. e ≡ SerialError.HasReference → EachTaskValue (prints_of (serial_trace (serial_run (script_of script.now)))) →
+        IsTaskOutcome (serial_end (serial_run (script_of script.now))) → ⊥) }
 {
     let mut machine = Machine::serial(alloc);
     let ended = run_main(&mut machine, script.functions());

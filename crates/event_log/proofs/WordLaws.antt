@@ -8,7 +8,7 @@ use Rattle.meaning.specs.Values.{Value, Outcome, Id}
 use Rattle.meaning.specs.Births.{same_id, Bearing}
 use Rattle.meaning.proofs.BirthLaws.{same_id-true, same_id-refl}
 use Rattle.event_log.specs.Entries.{Attempt, Entry}
-use Rattle.event_log.specs.Words.{same_attempt, main_bearing, born_in, births, next_serial, Lack, Answer, got_in, answers_of, answered_in, answered_of, printed_in, printed_by, ended_in, ends_of, faulted_in, faults_of}
+use Rattle.event_log.specs.Words.{same_attempt, main_bearing, born_in, births, next_serial, Lack, Received, got_in, answers_of, answered_in, answered_of, printed_in, printed_by, ended_in, ends_of, faulted_in, faults_of}
 
 pub word_push : {X : Type 0} (f : Entry → List X) (log : List Entry) (e : Entry) → flat_map f (log ++ e ∷ []) ≡ flat_map f log ++ f e
 word_push f log e = flat_map-append f log (e ∷ []) ∙ ap (λ ys. flat_map f log ++ ys) (append-nil (f e))
@@ -16,7 +16,7 @@ word_push f log e = flat_map-append f log (e ∷ []) ∙ ap (λ ys. flat_map f l
 -- what an attempt did, by the log
 pub record Deeds : Type 0 where
   pub answers : List Outcome
-  pub answered : List Answer
+  pub answered : List Received
   pub prints : List Value
   pub ends : List Outcome
   pub faults : List Lack
@@ -33,7 +33,7 @@ join d x = record { answers = d.answers ++ x.answers; answered = d.answered ++ x
 abbrev pub nothing_done : Deeds
 nothing_done = record { answers = []; answered = []; prints = []; ends = []; faults = [] }
 
-pub deeds_parts : (a a' : List Outcome) (b b' : List Answer) (c c' : List Value) (d d' : List Outcome) (e e' : List Lack) → a ≡ a' → b ≡ b' → c ≡ c' → d ≡ d' → e ≡ e' →
+pub deeds_parts : (a a' : List Outcome) (b b' : List Received) (c c' : List Value) (d d' : List Outcome) (e e' : List Lack) → a ≡ a' → b ≡ b' → c ≡ c' → d ≡ d' → e ≡ e' →
     ◌≡◌ {A = Deeds} (record { answers = a; answered = b; prints = c; ends = d; faults = e }) (record { answers = a'; answered = b'; prints = c'; ends = d'; faults = e' })
 deeds_parts a a' b b' c c' d d' e e' ea eb ec ed ee = cc
 

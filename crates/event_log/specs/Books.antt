@@ -26,7 +26,8 @@ numbers_from n [] = []
 numbers_from n (w ∷ ws) = n ∷ numbers_from (n + 1) ws
 
 abbrev pub totals_of : List Entry → Totals
-totals_of log = record { events = length (events log); given = sum (numbers_from 1 (claims log)); commits = length (commits log); committed = sum (commits log) }
+totals_of log =
+    record { events = length (events log); given = sum (numbers_from 1 (claims log)); commits = length (commits log); committed = sum (commits log) }
 
 -- the log up to its last event, without it
 abbrev pub without_last : List Entry → List Entry

@@ -1,5 +1,6 @@
 -- What breaks an attempt, and what causes a fault.
-use Rattle.std.specs.Prelude.{◌≡◌, ℕ, zero, suc, ◌+◌, ◌≤◌, Bool, true, false, ◌&&◌, ◌||◌, if◌then◌else◌, List, [], ◌∷◌, ◌++◌, length, Option, Some, None, slice_get, not}
+use Rattle.std.specs.Prelude.{◌≡◌, ℕ, zero, suc, ◌+◌, ◌≤◌, Bool, true, false, ◌&&◌, ◌||◌, if◌then◌else◌, List, [], ◌∷◌, ◌++◌, length, Option, Some}
+use Rattle.std.specs.Prelude.{None, slice_get, not}
 use Rattle.meaning.specs.Values.{Value, Argument, Put, Task, Id}
 use Rattle.meaning.specs.Births.{birth_at}
 use Rattle.event_log.specs.Entries.{Attempt, FaultKind, OwnerDied, PutLost, RetriesUsed, Fault, Event, Entry, In, Ended}
@@ -58,7 +59,8 @@ AllBroken log o (suc number) = AllBroken log o number × Broken log (attempt o n
 -- from that attempt and place on, the object's attempts are broken at these places, each behind the one before
 abbrev pub BreakRising : List Entry → Id → ℕ → ℕ → List ℕ → Type 0
 BreakRising log o number from [] = Unit {0}
-BreakRising log o number from (place ∷ places) = (from ≤ place) × Among place (breaks_of (attempt o number) log) × BreakRising log o (number + 1) (place + 1) places
+BreakRising log o number from (place ∷ places) =
+    (from ≤ place) × Among place (breaks_of (attempt o number) log) × BreakRising log o (number + 1) (place + 1) places
 
 -- it was put, and then a loss of it on its owner's node was accepted
 pub record PutIsLost (log : List Entry) (z : Id) : Type 0 where

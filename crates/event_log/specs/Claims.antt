@@ -32,7 +32,8 @@ pub record CanAccept (log : List Entry) (w : ℕ) (b : Attempt) : Type 0 where
 pub record ClaimsMayAdd (s : Setting) (log : List Entry) (w seat : ℕ) : Type 0 where
   pub alone : MayAdd Whole s log (Claim w) seat []
   pub got : (a : Attempt) (y : Id) (c : Outcome) → CanGet s log w a y c → MayAdd Whole s log (Claim w) seat (Got a y c ∷ [])
-  pub accepted : (b a : Attempt) (y : Id) (c : Outcome) → CanAccept log w b → CanGet s log w a y c → MayAdd Whole s log (Claim w) seat (Accepted b ∷ Got a y c ∷ [])
+  pub accepted :
+      (b a : Attempt) (y : Id) (c : Outcome) → CanAccept log w b → CanGet s log w a y c → MayAdd Whole s log (Claim w) seat (Accepted b ∷ Got a y c ∷ [])
 
 abbrev pub LawOfClaims : Type 0
 LawOfClaims = (s : Setting) (log : List Entry) (w seat : ℕ) → is_live w log ≡ true → has_job_out w log ≡ false → ClaimsMayAdd s log w seat

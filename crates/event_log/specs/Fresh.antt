@@ -14,4 +14,5 @@ pub record FreshIsUnknown (log : List Entry) (o : Id) : Type 0 where
 
 -- of the object that a worker makes next, a legal log says nothing yet
 abbrev pub FreshObjectsAreUnknown : Type 0
-FreshObjectsAreUnknown = (end : End) (s : Setting) (log : List Entry) → LegalTo end s log → (o : Id) → o.serial ≡ next_serial o.owner (births log) → FreshIsUnknown log o
+FreshObjectsAreUnknown =
+    (end : End) (s : Setting) (log : List Entry) → LegalTo end s log → (o : Id) → o.serial ≡ next_serial o.owner (births log) → FreshIsUnknown log o

@@ -5,7 +5,8 @@ use Rattle.meaning.specs.Values.{Outcome, Argument, Birth, Put, Task, Id}
 use Rattle.meaning.specs.Births.{same_id, Bearing, birth_at}
 use Rattle.values.specs.Listed.{ids_listed, ids_in_outcome}
 use Rattle.event_log.specs.Entries.{Attempt, Entry, main_object}
-use Rattle.event_log.specs.Words.{births, own_births, Lineage, lines, worker_of, Running, begun, answers_of, ends_of, Ending, endings, faults_of, accepts_of, releases_of}
+use Rattle.event_log.specs.Words.{births, own_births, Lineage, lines, worker_of, Running, begun, answers_of, ends_of, Ending, endings, faults_of}
+use Rattle.event_log.specs.Words.{accepts_of, releases_of}
 use Rattle.event_log.specs.Events.{is_live}
 use Rattle.event_log.specs.Breaks.{is_some}
 
@@ -17,7 +18,8 @@ is_one_of os z = list_any (λ o. same_id o z) os
 -- with those found so far, in birth order
 abbrev pub anchored_from : List Entry → List Id → List Lineage → List Id
 anchored_from log found [] = found
-anchored_from log found (x ∷ xs) = anchored_from log (if is_live x.object.owner log && is_one_of found x.bearer.object then found ++ x.object ∷ [] else found) xs
+anchored_from log found (x ∷ xs) =
+    anchored_from log (if is_live x.object.owner log && is_one_of found x.bearer.object then found ++ x.object ∷ [] else found) xs
 
 -- the objects whose owner lives and that are main's own or of which the object of the attempt that bore them is anchored
 unfoldable pub anchored : List Entry → List Id
@@ -82,4 +84,5 @@ holds_as_content z log x =
     && ((is_some (accepts_of x.attempt log) || lives_on (worker_of x.attempt log) log) && is_one_of (ids_in_outcome x.content) z)
 
 unfoldable pub is_held : Id → List Entry → Bool
-is_held z log = list_any (holds_as_attempt z log) (begun log) || (list_any (holds_as_birth z log) (births log) || list_any (holds_as_content z log) (endings log))
+is_held z log =
+    list_any (holds_as_attempt z log) (begun log) || (list_any (holds_as_birth z log) (births log) || list_any (holds_as_content z log) (endings log))

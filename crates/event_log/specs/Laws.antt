@@ -13,7 +13,8 @@ use Rattle.event_log.specs.Books.{Totals, totals}
 
 -- what stands before an event of a legal log is legal
 abbrev pub BeginningsAreLegal : Type 0
-BeginningsAreLegal = (end : End) (s : Setting) (log : List Entry) (e : Event) (seat : ℕ) (rest : List Entry) → LegalTo end s (log ++ In e seat ∷ rest) → Legal s log
+BeginningsAreLegal =
+    (end : End) (s : Setting) (log : List Entry) (e : Event) (seat : ℕ) (rest : List Entry) → LegalTo end s (log ++ In e seat ∷ rest) → Legal s log
 
 -- an event that isn't refused may add these entries to the log, which then ends so
 pub record MayAdd (end : End) (s : Setting) (log : List Entry) (e : Event) (seat : ℕ) (es : List Entry) : Type 0 where
@@ -74,7 +75,9 @@ event_totals claims e es = record (answered_totals (refused_next es) claims e) {
 -- the totals are sums over the events: each adds its own, but for one that was broken off
 pub record TotalsAreSums (log : List Entry) : Type 0 where
   pub none : totals Whole [] ≡ nothing
-  pub more : (e : Event) (seat : ℕ) (es : List Entry) → has_event es ≡ false → totals Whole (log ++ In e seat ∷ es) ≡ plus (totals Whole log) (event_totals (length (claims log)) e es)
+  pub more :
+      (e : Event) (seat : ℕ) (es : List Entry) → has_event es ≡ false →
+      totals Whole (log ++ In e seat ∷ es) ≡ plus (totals Whole log) (event_totals (length (claims log)) e es)
   pub broken_off : (e : Event) (seat : ℕ) (es : List Entry) → has_event es ≡ false → totals BrokenOff (log ++ In e seat ∷ es) ≡ totals Whole log
 
 abbrev pub LawOfTotals : Type 0

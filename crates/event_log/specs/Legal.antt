@@ -5,7 +5,8 @@ use Rattle.meaning.specs.Lists.{IsFirst}
 use Rattle.meaning.specs.Values.{Outcome, Id}
 use Rattle.meaning.specs.Runs.{Stop, Needs, Over, Piece}
 use Rattle.meaning.specs.Births.{numbered}
-use Rattle.event_log.specs.Entries.{Attempt, Event, Claim, Commit, Deliver, Tick, Notice, NoticeNode, Evict, Lose, Kill, KillNode, Join, Entry, In, Opened, Begun, Born, Printed, Ended, main_attempt}
+use Rattle.event_log.specs.Entries.{Attempt, Event, Claim, Commit, Deliver, Tick, Notice, NoticeNode, Evict, Lose, Kill, KillNode, Join, Entry, In}
+use Rattle.event_log.specs.Entries.{Opened, Begun, Born, Printed, Ended, main_attempt}
 use Rattle.event_log.specs.Words.{own_births, worker_of, printed_by, ends_of}
 use Rattle.event_log.specs.Events.{refused_next, worker_of_job, is_committed, has_job_out, node_is_killed, node_lives, is_killed, is_live}
 use Rattle.event_log.specs.Rules.{Receiver, Setting, Replays, Allowed}

@@ -6,8 +6,11 @@ use Rattle.meaning.specs.Runs.{Stop, Needs, Over, Piece}
 use Rattle.meaning.specs.Births.{same_id, numbered, birth_at}
 use Rattle.meaning.specs.Meaning.{replay}
 use Rattle.task_spec.specs.Dereferenced.{dereferenced_in}
-use Rattle.event_log.specs.Entries.{Attempt, OwnerDied, PutLost, RetriesUsed, Fault, Event, Claim, Commit, Deliver, Tick, Notice, NoticeNode, Entry, In, Refused, Opened, Begun, Born, Got, Printed, Ended, Accepted, Faulted, Resolved, Released, main_object, main_attempt}
-use Rattle.event_log.specs.Words.{attempt, births, next_serial, own_births, bearers_of, runs_of, worker_of, answers_of, printed_by, ends_of, Lack, faults_of, accepts_of, resolves_of, releases_of, opened}
+use Rattle.event_log.specs.Entries.{Attempt, OwnerDied, PutLost, RetriesUsed, Fault, Event, Claim, Commit, Deliver, Tick, Notice, NoticeNode, Entry}
+use Rattle.event_log.specs.Entries.{In, Refused, Opened, Begun, Born, Got, Printed, Ended, Accepted, Faulted, Resolved, Released, main_object}
+use Rattle.event_log.specs.Entries.{main_attempt}
+use Rattle.event_log.specs.Words.{attempt, births, next_serial, own_births, bearers_of, runs_of, worker_of, answers_of, printed_by, ends_of, Lack}
+use Rattle.event_log.specs.Words.{faults_of, accepts_of, resolves_of, releases_of, opened}
 use Rattle.event_log.specs.Events.{under_way, worker_of_job, node_lives, node_of, is_live, was_told}
 use Rattle.event_log.specs.Breaks.{Among, Broken, AllBroken, Cause}
 use Rattle.event_log.specs.Holding.{is_held}

@@ -9,7 +9,7 @@ use Rattle.meaning.specs.Births.{birth_at}
 use Rattle.meaning.specs.Readings.{Reading, read, read_outcome, read_birth, den, AllHold, NameEarlier}
 use Rattle.meaning.specs.Law.{gets_of, prints_of}
 use Rattle.event_log.specs.Entries.{Attempt, Entry, Faulted, main_attempt}
-use Rattle.event_log.specs.Words.{Lack, Answer, Content, Lacking, births, answered_of, answers_of, printed_by, ends_of, faults_of}
+use Rattle.event_log.specs.Words.{Lack, Received, Content, Lacking, births, answered_of, answers_of, printed_by, ends_of, faults_of}
 use Rattle.event_log.specs.Breaks.{Cause}
 
 -- the reading of a log: each id stands for the outcome of the call that made it, or for what was put
@@ -18,14 +18,14 @@ reading_of script log = den script (births log)
 
 -- what an attempt was answered, in order, its fault last, and what it has printed
 pub record Observed : Type 0 where
-  pub answers : List Answer
+  pub answers : List Received
   pub prints : List Value
 
 abbrev pub observed : Attempt → List Entry → Observed
 observed a log = record { answers = answered_of a log; prints = printed_by a log }
 
 -- the answers as read are a beginning of what the run gets; only a last one may differ, a fault for what the run gets there
-abbrev pub AnswersBegin : Reading → List Answer → List Outcome → Type 0
+abbrev pub AnswersBegin : Reading → List Received → List Outcome → Type 0
 AnswersBegin reading [] ds = Unit {0}
 AnswersBegin reading (x ∷ xs) [] = ⊥
 AnswersBegin reading (Content c ∷ xs) (d ∷ ds) = (d ≡ read_outcome reading c) × AnswersBegin reading xs ds
@@ -50,7 +50,9 @@ pub record BeginsRun (reading : Reading) (log : List Entry) (a : Attempt) (run :
 pub record ReadsAsSerial (script : Script) (log : List Entry) : Type 0 where
   pub earlier : NameEarlier [] (births log)
   pub hold : AllHold script (reading_of script log) (births log)
-  pub each : (a : Attempt) (spec : Birth) → birth_at (births log) a.object ≡ Some spec → BeginsRun (reading_of script log) log a (run_birth script (read_birth (reading_of script log) spec))
+  pub each :
+      (a : Attempt) (spec : Birth) → birth_at (births log) a.object ≡ Some spec →
+      BeginsRun (reading_of script log) log a (run_birth script (read_birth (reading_of script log) spec))
   pub main : BeginsRun (reading_of script log) log main_attempt (serial_run script)
 
 -- a get of main was answered with the fault, and its cause stands before that

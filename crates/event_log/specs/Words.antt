@@ -3,7 +3,8 @@ use Rattle.std.specs.Prelude.{ℕ, ◌+◌, Bool, ◌&&◌, ◌==◌, if◌then�
 use Rattle.std.specs.List.{flat_map}
 use Rattle.meaning.specs.Values.{Value, Outcome, Id, main_birth}
 use Rattle.meaning.specs.Births.{Bearing, same_id}
-use Rattle.event_log.specs.Entries.{Attempt, Fault, Event, Entry, In, Opened, Begun, Born, Got, Printed, Ended, Accepted, Faulted, Resolved, Released, main_object, main_attempt}
+use Rattle.event_log.specs.Entries.{Attempt, Fault, Event, Entry, In, Opened, Begun, Born, Got, Printed, Ended, Accepted, Faulted, Resolved}
+use Rattle.event_log.specs.Entries.{Released, main_object, main_attempt}
 
 unfoldable pub same_attempt : Attempt → Attempt → Bool
 same_attempt a b = same_id a.object b.object && (a.number == b.number)
@@ -131,17 +132,17 @@ faulted_in a _ = []
 abbrev pub faults_of : Attempt → List Entry → List Lack
 faults_of a log = flat_map (faulted_in a) log
 
--- what its gets were answered, in order
-pub data Answer : Type 0 where
-  Content : (c : Outcome) → Answer
-  Lacking : (x : Lack) → Answer
+-- what it received for a get: a content, or a fault in its place
+pub data Received : Type 0 where
+  Content : (c : Outcome) → Received
+  Lacking : (x : Lack) → Received
 
-abbrev pub answered_in : Attempt → Entry → List Answer
+abbrev pub answered_in : Attempt → Entry → List Received
 answered_in a (Got b y c) = if same_attempt b a then Content c ∷ [] else []
 answered_in a (Faulted b y f) = if same_attempt b a then Lacking (record { object = y; fault = f }) ∷ [] else []
 answered_in a _ = []
 
-abbrev pub answered_of : Attempt → List Entry → List Answer
+abbrev pub answered_of : Attempt → List Entry → List Received
 answered_of a log = flat_map (answered_in a) log
 
 -- the acceptances of the attempt

@@ -1,6 +1,7 @@
 // The laws of legal logs.
 
-ghost use Rattle.event_log.specs.Laws.{BeginningsAreLegal, LegalLogsGrow, EntriesHaveTheirNeeds, LegalFaultsHaveCauses, LawOfTotals, LegalInLargerNetworks, LawOfCauses};
+ghost use Rattle.event_log.specs.Laws.{BeginningsAreLegal, LegalLogsGrow, EntriesHaveTheirNeeds, LegalFaultsHaveCauses, LawOfTotals};
+ghost use Rattle.event_log.specs.Laws.{LegalInLargerNetworks, LawOfCauses};
 ghost use Rattle.event_log.specs.Claims.{LawOfClaims};
 ghost use Rattle.event_log.specs.Commits.{LawOfCommits};
 ghost use Rattle.event_log.specs.Extends.{LogsExtend};

@@ -9,6 +9,3 @@ mod refusal;
 pub use entry::Entry;
 pub use event::Event;
 pub use refusal::Refusal;
-
-#[cfg(test)]
-mod tests;

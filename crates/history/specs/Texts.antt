@@ -2,7 +2,8 @@
 use Rattle.std.specs.Prelude.{ℕ, List, ◌++◌, codes}
 use Rattle.std.specs.Fmt.{decimal}
 use Rattle.report.specs.Values.{id_text}
-use Rattle.event_log.specs.Entries.{Attempt, FaultKind, OwnerDied, PutLost, RetriesUsed, Fault, Event, Claim, Commit, Deliver, Tick, Notice, NoticeNode, Evict, Lose, Kill, KillNode, Join}
+use Rattle.event_log.specs.Entries.{Attempt, FaultKind, OwnerDied, PutLost, RetriesUsed, Fault, Event, Claim, Commit, Deliver, Tick, Notice}
+use Rattle.event_log.specs.Entries.{NoticeNode, Evict, Lose, Kill, KillNode, Join}
 
 -- a1.2#0
 abbrev pub attempt_text : Attempt → List ℕ

@@ -12,6 +12,3 @@ mod text;
 
 pub use main_end::status_of;
 pub use text::report_text;
-
-#[cfg(test)]
-mod tests;

@@ -25,4 +25,5 @@ pub record KeepsKinds (s : Setting) (log : List Entry) : Type 0 where
 -- every legal log of a script whose functions are allowed, and whose main has no parameters and gives a number
 abbrev pub LegalLogsKeepKinds : Type 0
 LegalLogsKeepKinds =
-    (end : End) (s : Setting) (log : List Entry) → ScriptChecks s.script s.script → IsBirthOf s.script main_birth Number → LegalTo end s log → KeepsKinds s log
+    (end : End) (s : Setting) (log : List Entry) → ScriptChecks s.script s.script → IsBirthOf s.script main_birth Number → LegalTo end s log →
+    KeepsKinds s log

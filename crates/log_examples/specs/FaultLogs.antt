@@ -4,7 +4,8 @@ use Rattle.meaning.specs.Values.{Value, Named, Items, Outcome, Val, Argument, Bi
 use Rattle.meaning.specs.Syntax.{Script, Function, Number, ListKind, Var, ItemAt, Binary, ListOf, PutOf, GetOf, Remote, end, Let, Return}
 use Rattle.meaning.specs.Examples.{value, object, parameter, function, script_of, each, remote_got, reference_got}
 use Rattle.meaning.specs.Examples as made
-use Rattle.event_log.specs.Entries.{Attempt, OwnerDied, PutLost, RetriesUsed, Fault, Claim, Commit, Deliver, Notice, Evict, Lose, Kill, Entry, In, Refused, Opened, Begun, Born, Got, Ended, Accepted, Faulted, Resolved, Released, main_attempt}
+use Rattle.event_log.specs.Entries.{Attempt, OwnerDied, PutLost, RetriesUsed, Fault, Claim, Commit, Deliver, Notice, Evict, Lose, Kill, Entry, In}
+use Rattle.event_log.specs.Entries.{Refused, Opened, Begun, Born, Got, Ended, Accepted, Faulted, Resolved, Released, main_attempt}
 use Rattle.event_log.specs.Words.{attempt}
 use Rattle.event_log.specs.Rules.{Setting}
 use Rattle.event_log.specs.Legal.{opening}

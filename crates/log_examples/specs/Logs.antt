@@ -115,7 +115,8 @@ calling_add = Task (codes "add") (given (Named (object 1 1)) ∷ []) 2 3
 
 -- let p = put 6; let m = remote mid(p); return get m;
 abbrev pub passing_setting : Setting
-passing_setting = beside reference_passed (node ∷ worker 1 ∷ worker 2 ∷ worker 1 ∷ node ∷ worker 2 ∷ worker 3 ∷ worker 1 ∷ worker 3 ∷ worker 2 ∷ worker 3 ∷ [])
+passing_setting = beside reference_passed (node ∷ worker 1 ∷ worker 2 ∷ worker 1 ∷ node ∷ worker 2 ∷ worker 3 ∷ worker 1 ∷ worker 3
+    ∷ worker 2 ∷ worker 3 ∷ [])
 
 abbrev pub passing_rest : List Entry
 passing_rest =

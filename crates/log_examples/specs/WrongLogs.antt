@@ -4,7 +4,8 @@ use Rattle.meaning.specs.Values.{Put}
 use Rattle.meaning.specs.Syntax.{Script, Add, Var, Binary, PutOf, GetOf, Number, Let, Return}
 use Rattle.meaning.specs.Examples.{value, object, squaring, square, script_of, add, mid, remote}
 use Rattle.meaning.specs.Examples as made
-use Rattle.event_log.specs.Entries.{OwnerDied, PutLost, Fault, Claim, Commit, Deliver, Tick, Notice, Lose, Kill, Entry, In, Refused, Opened, Begun, Born, Got, Printed, Ended, Accepted, Faulted, Resolved, Released, main_object, main_attempt}
+use Rattle.event_log.specs.Entries.{OwnerDied, PutLost, Fault, Claim, Commit, Deliver, Tick, Notice, Lose, Kill, Entry, In, Refused, Opened, Begun}
+use Rattle.event_log.specs.Entries.{Born, Got, Printed, Ended, Accepted, Faulted, Resolved, Released, main_object, main_attempt}
 use Rattle.event_log.specs.Words.{attempt}
 use Rattle.event_log.specs.Rules.{Setting}
 use Rattle.event_log.specs.Legal.{End, LegalTo, opening}

@@ -4,9 +4,15 @@ ghost use Rattle.std.specs.Prelude.{◌++◌};
 ghost use Rattle.event_log.specs.Serial.{MainBegins};
 ghost use Rattle.event_log.specs.Legal.{BrokenOff, LegalTo, Legal, opening};
 ghost use Rattle.log_examples.specs.Logs.{square_setting, square_log, trap_setting, trap_log, passing_setting, passing_log};
-ghost use Rattle.log_examples.specs.FaultLogs.{unretried_setting, unretried_log, retried_setting, retried_log, put_lost_setting, put_lost_log, owner_died_setting, owner_died_log};
+ghost use Rattle.log_examples.specs.FaultLogs.{unretried_setting, unretried_log, retried_setting, retried_log, put_lost_setting, put_lost_log};
+ghost use Rattle.log_examples.specs.FaultLogs.{owner_died_setting, owner_died_log};
 ghost use Rattle.log_examples.specs.ReleaseLogs.{releasing_setting, releasing_log};
-ghost use Rattle.log_examples.specs.WrongLogs.{IsWrong, two_puts_setting, wrong_content, begun_again, accepted_twice, passed_setting, released_while_held, released_out_of_order, fault_without_cause, print_after_end, skipped_serial, end_of_the_dead, notice_of_the_living, half_a_commit, half_a_commit_and_more, entry_of_a_refused_event, kill_of_nobody, delivery_of_nothing, opened_by_the_dead, lost_before_its_birth, used_up_too_soon, got_from_the_dead, main_resolved, main_accepted, given_out_twice, refused_for_nothing, refused_for_less, two_puts, cause_comes_later};
+ghost use Rattle.log_examples.specs.WrongLogs.{IsWrong, two_puts_setting, wrong_content, begun_again, accepted_twice, passed_setting};
+ghost use Rattle.log_examples.specs.WrongLogs.{released_while_held, released_out_of_order, fault_without_cause, print_after_end, skipped_serial};
+ghost use Rattle.log_examples.specs.WrongLogs.{end_of_the_dead, notice_of_the_living, half_a_commit, half_a_commit_and_more};
+ghost use Rattle.log_examples.specs.WrongLogs.{entry_of_a_refused_event, kill_of_nobody, delivery_of_nothing, opened_by_the_dead};
+ghost use Rattle.log_examples.specs.WrongLogs.{lost_before_its_birth, used_up_too_soon, got_from_the_dead, main_resolved, main_accepted};
+ghost use Rattle.log_examples.specs.WrongLogs.{given_out_twice, refused_for_nothing, refused_for_less, two_puts, cause_comes_later};
 
 /// Logs that are legal.
 pub fn legal_examples()

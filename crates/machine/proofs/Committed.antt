@@ -25,7 +25,7 @@ use Rattle.event_log.proofs.OwnLaws.{own_commit, own_by_commit}
 use Rattle.event_log.proofs.Beginning.{own-more, commits_plain, births_of_commit}
 use Rattle.machine.specs.Numbered.{item_of, changed, AllNumbered}
 use Rattle.machine.specs.Tables.{Object, Out, Row, Given, Tables, base_of, births_in, fresh_row, with_object}
-use Rattle.machine.specs.Jobs.{Stopped, AtGet, AtEnd, stop_of, Outcomes, job_of}
+use Rattle.machine.specs.Jobs.{Stopped, AtGet, AtEnd, stop_of, Done, job_of}
 use Rattle.machine.specs.Commits.{begin, new_rows, new_object, phase_after, fill, filled, row_after, committed}
 use Rattle.machine.specs.Knows.{IsTask, IsUntouched, KnowsTask, KnowsBirth, KnowsObject, KnowsPhase, KnowsRow, KnowsRowBy, KnowsJob, committed_in, is_other}
 use Rattle.machine.specs.Law.{IsSound, IsTrue}
@@ -36,7 +36,7 @@ use Rattle.machine.proofs.Calm.{calm_event, accepted_word, committed_more, lives
 use Rattle.machine.proofs.Committing.{of_serial, numbered_append, serial_apart, no_outcome_word, no_silent_word, no_begin_word, own_of_commit, printed_of_main, end_of, ended_of_commit, serial_more, AreBorn, new_born, begins_no_event, begins_unrefused, AreUnbegun, begins_allowed}
 
 -- the job is out on the worker, whose row that is; what was done is true of the job, and prints in main alone
-pub record Returns (s : Setting) (t : Tables) (j w : ℕ) (row : Row) (d : Outcomes) : Type 0 where
+pub record Returns (s : Setting) (t : Tables) (j w : ℕ) (row : Row) (d : Done) : Type 0 where
   pub at_w : item_of 1 t.rows w ≡ Some row
   pub out : row.phase ≡ Out j
   pub done : IsTrue s (job_of j w row) d
@@ -47,7 +47,7 @@ abbrev number_after : Birth → ℕ → ℕ
 number_after (Put v) n = n
 number_after (Task g args e r) n = n + 1
 
-module _ (s : Setting) (nodes : 0 < s.nodes) (log : List Entry) (t : Tables) (j w : ℕ) (row : Row) (d : Outcomes) (back : Returns s t j w row d) (sound : IsSound s log t) where
+module _ (s : Setting) (nodes : 0 < s.nodes) (log : List Entry) (t : Tables) (j w : ℕ) (row : Row) (d : Done) (back : Returns s t j w row d) (sound : IsSound s log t) where
   abbrev known : KnowsRow s log t.jobs w row
   known = all_at (KnowsRow s log t.jobs) 1 t.rows w row sound.knows.rows back.at_w
 

@@ -10,4 +10,4 @@ mod Committing
 mod Committed
 mod Printing
 mod Sound
-mod Given
+mod GoodJobs

@@ -9,7 +9,7 @@ use Rattle.event_log.specs.Rules.{Setting}
 use Rattle.event_log.specs.Legal.{Whole, Legal}
 use Rattle.kind_laws.proofs.Mains.{legal_logs_keep_main_apart}
 use Rattle.machine.specs.Tables.{Row, Given, base_of}
-use Rattle.machine.specs.Jobs.{Outcomes, job_of}
+use Rattle.machine.specs.Jobs.{Done, job_of}
 use Rattle.machine.specs.Knows.{KnowsRow}
 use Rattle.machine.specs.Law.{IsTrue}
 
@@ -21,7 +21,7 @@ attempt_parts : (o p : Id) (m n : ℕ) → o ≡ p → m ≡ n → ◌≡◌ {A 
 attempt_parts o p m n e f = cc
 
 -- what is true of a job of another attempt than main's has no prints
-pub only_main_prints : (s : Setting) → KeepsMainApart s.script → (log : List Entry) (jobs : List Given) (j w : ℕ) (row : Row) (d : Outcomes) → Legal s log → KnowsRow s log jobs w row → IsTrue s (job_of j w row) d →
+pub only_main_prints : (s : Setting) → KeepsMainApart s.script → (log : List Entry) (jobs : List Given) (j w : ℕ) (row : Row) (d : Done) → Legal s log → KnowsRow s log jobs w row → IsTrue s (job_of j w row) d →
     (d.prints ≡ []) ⊎ (row.attempt ≡ main_attempt)
 only_main_prints s apart log jobs j w row d legal known done =
     go ((legal_logs_keep_main_apart Whole s log apart legal).births row.attempt.object row.spec known.spec)

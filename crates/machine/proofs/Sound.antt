@@ -7,7 +7,7 @@ use Rattle.meaning.specs.Mains.{KeepsMainApart}
 use Rattle.std.specs.List.{list_any}
 use Rattle.std.proofs.lemmas.Bool.Decides.{nat_tests}
 use Rattle.meaning.proofs.BirthLaws.{at_test, same_id-refl}
-use Rattle.event_log.specs.Entries.{Entry, Claim, Commit, Got, main_object, main_attempt}
+use Rattle.event_log.specs.Entries.{Entry, Claim, Commit, Got, main_object}
 use Rattle.event_log.specs.Words.{births, next_serial}
 use Rattle.event_log.specs.Events.{accepted_events, claims, is_committed, is_live}
 use Rattle.event_log.specs.Rules.{Setting, HasContent}
@@ -15,8 +15,8 @@ use Rattle.event_log.specs.Causes.{unless, is_there, worker_lives, shown_of_job}
 use Rattle.event_log.specs.Legal.{opening}
 use Rattle.event_log.proofs.CauseLaws.{as_unseen, no_worker, not_ready, no_job}
 use Rattle.machine.specs.Numbered.{item_of}
-use Rattle.machine.specs.Tables.{Object, Phase, Fresh, Out, Waits, Over, Row, Given, Tables, first_tables, objects_of, object_at, content_in, content_at, settled_in}
-use Rattle.machine.specs.Jobs.{Outcomes, Handed, Nothing, OfAnother, OfJob}
+use Rattle.machine.specs.Tables.{Object, Phase, Fresh, Out, Waits, Over, Row, Given, Tables, main_row, first_tables, objects_of, object_at, content_in, content_at, settled_in}
+use Rattle.machine.specs.Jobs.{Done, Handed, Nothing, OfAnother, OfJob}
 use Rattle.machine.specs.Claims.{Answer, Takes, Refuses, accepts, settled, give, claim_of, claim_by, got, is_to_accept}
 use Rattle.machine.specs.Commits.{take, commit_given, commit_by, commit_phase, commit_done, is_too_much}
 use Rattle.machine.specs.Steps.{Request, Claims, Commits, answer, tables_after, logged}
@@ -53,7 +53,7 @@ module _ (s : Setting) (nodes : 0 < s.nodes) (apart : KeepsMainApart s.script) (
   refuses_commit j d = refused_sound s log t (Commit j) 32 refl (no_job s log j) sound
 
   -- a commit that would pass a limit
-  refuses_limit : (j w : ℕ) (row : Row) (d : Outcomes) → Returns s t j w row d → AfterCommit j (OfJob d) (Refuses 37)
+  refuses_limit : (j w : ℕ) (row : Row) (d : Done) → Returns s t j w row d → AfterCommit j (OfJob d) (Refuses 37)
   refuses_limit j w row d back =
       let known : KnowsRow s log t.jobs w row = all_at (KnowsRow s log t.jobs) 1 t.rows w row sound.knows.rows back.at_w in
       let out = subst (λ p. KnowsPhase s log t.jobs w row p) back.out known.phase in
@@ -120,7 +120,7 @@ module _ (s : Setting) (nodes : 0 < s.nodes) (apart : KeepsMainApart s.script) (
 
   -- ---- commits
 
-  commit_taken : (j w : ℕ) (row : Row) (d : Outcomes) → Returns s t j w row d → (q : Bool) → AfterCommit j (OfJob d) (if q then Refuses 37 else Takes (take t j w row d))
+  commit_taken : (j w : ℕ) (row : Row) (d : Done) → Returns s t j w row d → (q : Bool) → AfterCommit j (OfJob d) (if q then Refuses 37 else Takes (take t j w row d))
   commit_taken j w row d back true = refuses_limit j w row d back
   commit_taken j w row d back false = committed_sound s nodes log t j w row d back sound
 
@@ -155,9 +155,6 @@ module _ (s : Setting) (nodes : 0 < s.nodes) (apart : KeepsMainApart s.script) (
 -- ---- the opening
 
 module _ (s : Setting) where
-  abbrev main_row : Row
-  main_row = record { attempt = main_attempt; spec = main_birth; objects = []; prints = []; answers = []; phase = Fresh }
-
   first_row : KnowsRow s opening [] 1 main_row
   first_row = record {
     first = refl;

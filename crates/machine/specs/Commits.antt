@@ -6,7 +6,7 @@ use Rattle.event_log.specs.Words.{attempt}
 use Rattle.event_log.specs.Commits.{commit_entries}
 use Rattle.machine.specs.Numbered.{item_of, changed}
 use Rattle.machine.specs.Tables.{Object, Phase, Out, Waits, Over, Row, Given, Tables, fresh_row, change_object}
-use Rattle.machine.specs.Jobs.{Stopped, AtGet, AtEnd, stop_of, Outcomes, Handed, OfJob}
+use Rattle.machine.specs.Jobs.{Stopped, AtGet, AtEnd, stop_of, Done, Handed, OfJob}
 use Rattle.machine.specs.Claims.{Step, Answer, Takes, Refuses}
 
 -- ---- births
@@ -46,7 +46,7 @@ filled rows o (AtEnd c) = change_object rows o (fill c)
 -- ---- the commit
 
 -- the row of a worker whose job was done
-abbrev pub row_after : Outcomes → Row → Row
+abbrev pub row_after : Done → Row → Row
 row_after d row =
     record row {
       objects = row.objects ++ map new_object d.births;
@@ -57,7 +57,7 @@ row_after d row =
 abbrev pub committed : Given → Given
 committed g = record g { is_committed = true }
 
-abbrev pub take : Tables → ℕ → ℕ → Row → Outcomes → Step
+abbrev pub take : Tables → ℕ → ℕ → Row → Done → Step
 take t j w row d =
     let serial = length row.objects + 1 in
     let next = length t.rows + 1 in
@@ -72,7 +72,7 @@ take t j w row d =
     }
 
 -- object 1,000,001 or worker 1,025 would come
-abbrev pub is_too_much : Tables → ℕ → Outcomes → Bool
+abbrev pub is_too_much : Tables → ℕ → Done → Bool
 is_too_much t w d = nat_lt 1000000 (t.made + length d.births) || nat_lt 1024 (length t.rows + length (new_rows w 1 d.births))
 
 abbrev pub commit_done : Tables → ℕ → ℕ → Row → Handed → Answer

@@ -25,7 +25,7 @@ stop_of (AtGet y) = NeedsOf (Named y)
 stop_of (AtEnd c) = EndsWith c
 
 -- what was done on a job: what more was born and printed, and where it stopped
-pub record Outcomes : Type 0 where
+pub record Done : Type 0 where
   pub births : List Birth
   pub prints : List Value
   pub stop : Stopped
@@ -34,7 +34,7 @@ pub record Outcomes : Type 0 where
 pub data Handed : Type 0 where
   Nothing : Handed
   OfAnother : Handed
-  OfJob : (d : Outcomes) → Handed
+  OfJob : (d : Done) → Handed
 
 -- the job of a worker's row
 abbrev pub job_of : ℕ → ℕ → Row → Job

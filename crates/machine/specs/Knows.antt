@@ -7,7 +7,8 @@ use Rattle.meaning.specs.Runs.{Piece, Needs as NeedsOf}
 use Rattle.meaning.specs.Births.{numbered, birth_at}
 use Rattle.meaning.specs.Meaning.{replay}
 use Rattle.event_log.specs.Entries.{Event, Claim, Commit, Entry}
-use Rattle.event_log.specs.Words.{attempt, births, own_births, next_serial, runs_of, answers_of, printed_by, ends_of, faults_of, accepts_of, resolves_of, releases_of, opened}
+use Rattle.event_log.specs.Words.{attempt, births, own_births, next_serial, runs_of, answers_of, printed_by, ends_of, faults_of, accepts_of}
+use Rattle.event_log.specs.Words.{resolves_of, releases_of, opened}
 use Rattle.event_log.specs.Events.{accepted_events, claims, is_committed}
 use Rattle.event_log.specs.Rules.{Setting}
 use Rattle.machine.specs.Numbered.{item_of, AllNumbered}

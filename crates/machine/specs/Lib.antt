@@ -7,4 +7,4 @@ pub mod Ready
 pub mod Steps
 pub mod Knows
 pub mod Law
-pub mod Given
+pub mod GoodJobs

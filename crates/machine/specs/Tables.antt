@@ -53,9 +53,12 @@ births_in objects = map (λ (x : Object). x.birth) objects
 abbrev pub fresh_row : Id → Birth → Row
 fresh_row o spec = record { attempt = attempt o 0; spec = spec; objects = []; prints = []; answers = []; phase = Fresh }
 
+abbrev pub main_row : Row
+main_row = record { attempt = main_attempt; spec = main_birth; objects = []; prints = []; answers = []; phase = Fresh }
+
 -- worker 1 runs main
 abbrev pub first_tables : Tables
-first_tables = record { rows = record { attempt = main_attempt; spec = main_birth; objects = []; prints = []; answers = []; phase = Fresh } ∷ []; jobs = []; made = 1 }
+first_tables = record { rows = main_row ∷ []; jobs = []; made = 1 }
 
 abbrev pub objects_of : Option Row → List Object
 objects_of None = []

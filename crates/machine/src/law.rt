@@ -1,6 +1,6 @@
 // The laws of the tables.
 
-ghost use Rattle.machine.specs.Given.{ClaimsGiveGoodJobs};
+ghost use Rattle.machine.specs.GoodJobs.{ClaimsGiveGoodJobs};
 ghost use Rattle.machine.specs.Law.{EventsStaySound};
 
 /// The log of a run on one node stays legal, whatever events come: claims and commits of any workers and jobs in any order and number,

@@ -1,7 +1,48 @@
 -- Worked examples of scripts, and what main prints and how it ends.
 use Rattle.std.specs.Prelude.{◌≡◌, ℕ, true, false, List, [], ◌∷◌, ◌++◌, pos, codes, map}
 use Rattle.meaning.specs.Values.{Name, Value, Int, Outcome, Val, Birth, Task, Id}
-use Rattle.meaning.specs.Syntax.{Kind, Number, ListKind, RefKind, Add, Sub, Mul, Div, Rem, Equal, ItemAt, Push, Len, Expr, Num, Var, Unary, Binary, ListOf, Empty, Call, Remote, PutOf, GetOf, Exprs, end, also, Stmt, Let, Set, Print, Return, If, For, Block, done, step, Parameter, Function, Script}
+use Rattle.meaning.specs.Syntax.{
+  Kind,
+  Number,
+  ListKind,
+  RefKind,
+  Add,
+  Sub,
+  Mul,
+  Div,
+  Rem,
+  Equal,
+  ItemAt,
+  Push,
+  Len,
+  Expr,
+  Num,
+  Var,
+  Unary,
+  Binary,
+  ListOf,
+  Empty,
+  Call,
+  Remote,
+  PutOf,
+  GetOf,
+  Exprs,
+  end,
+  also,
+  Stmt,
+  Let,
+  Set,
+  Print,
+  Return,
+  If,
+  For,
+  Block,
+  done,
+  step,
+  Parameter,
+  Function,
+  Script,
+}
 use Rattle.meaning.specs.Runs.{serial_end, serial_trace, Stop, Piece}
 use Rattle.meaning.specs.Meaning.{serial_run}
 use Rattle.meaning.specs.Law.{prints_of}
@@ -53,13 +94,15 @@ sq = function (codes "sq") (parameter (codes "x") Number ∷ []) Number (Return 
 
 -- fn div(a: int, b: int) -> int { return a / b; }
 abbrev pub div : Function
-div = function (codes "div") (parameter (codes "a") Number ∷ parameter (codes "b") Number ∷ []) Number (Return (Binary Div (Var (codes "a")) (Var (codes "b"))) ∷ [])
+div = function (codes "div") (parameter (codes "a") Number ∷ parameter (codes "b") Number
+    ∷ []) Number (Return (Binary Div (Var (codes "a")) (Var (codes "b"))) ∷ [])
 
 -- fn sum(l: [ref int]) -> int { let t = 0; for i in 0 .. len(l) { set t = t + get l[i]; } return t; }
 abbrev pub sum : Function
 sum = function (codes "sum") (parameter (codes "l") (ListKind (RefKind Number)) ∷ []) Number
     (Let (codes "t") (number 0)
-    ∷ For (codes "i") (number 0) (Unary Len (Var (codes "l"))) (block (Set (codes "t") (Binary Add (Var (codes "t")) (GetOf Number (Binary ItemAt (Var (codes "l")) (Var (codes "i"))))) ∷ []))
+    ∷ For (codes "i") (number 0) (Unary Len (Var (codes "l")))
+    (block (Set (codes "t") (Binary Add (Var (codes "t")) (GetOf Number (Binary ItemAt (Var (codes "l")) (Var (codes "i"))))) ∷ []))
     ∷ Return (Var (codes "t")) ∷ [])
 
 -- fn long(n: int) -> [int] { let l = empty int; for i in 0 .. n { set l = push(l, i); } return l; }
@@ -98,7 +141,8 @@ add = function (codes "add") (parameter (codes "r") (RefKind Number) ∷ []) Num
 
 -- fn mid(r: ref int) -> int { let c = remote add(r); return 0; }
 abbrev pub mid : Function
-mid = function (codes "mid") (parameter (codes "r") (RefKind Number) ∷ []) Number (Let (codes "c") (remote (codes "add") (Var (codes "r") ∷ [])) ∷ Return (number 0) ∷ [])
+mid = function (codes "mid") (parameter (codes "r") (RefKind Number) ∷ []) Number (Let (codes "c") (remote (codes "add") (Var (codes "r") ∷ []))
+    ∷ Return (number 0) ∷ [])
 
 -- ---- scripts
 
@@ -110,7 +154,8 @@ square = script_of (sq ∷ []) (Let (codes "r") (remote (codes "sq") (number 7 �
 abbrev pub sum_of_squares : Script
 sum_of_squares =
     let squared = λ (n : ℕ). remote (codes "sq") (number n ∷ []) in
-    script_of (sq ∷ sum ∷ []) (Return (GetOf Number (remote (codes "sum") (ListOf (each (squared 1 ∷ squared 2 ∷ squared 3 ∷ squared 4 ∷ [])) ∷ []))) ∷ [])
+    script_of (sq ∷ sum ∷ []) (Return (GetOf Number (remote (codes "sum") (ListOf (each (squared 1 ∷ squared 2 ∷ squared 3 ∷ squared 4 ∷ []))
+    ∷ []))) ∷ [])
 
 -- let r = remote div(1, 0); return 5;
 abbrev pub trap_not_got : Script
@@ -124,7 +169,8 @@ trap_got = script_of (div ∷ []) (Let (codes "r") (remote (codes "div") (number
 abbrev pub first_trap : ℕ → Script
 first_trap n =
     script_of (div ∷ long ∷ long_plus ∷ [])
-    (Return (GetOf Number (remote_got (codes "f") (remote (codes "long") (number n ∷ []) ∷ remote (codes "div") (number 1 ∷ number 0 ∷ []) ∷ []))) ∷ [])
+    (Return (GetOf Number (remote_got (codes "f") (remote (codes "long") (number n ∷ []) ∷ remote (codes "div") (number 1 ∷ number 0 ∷ []) ∷ [])))
+    ∷ [])
 
 -- return f(n);
 abbrev pub deep : ℕ → Script
@@ -132,15 +178,18 @@ deep n = script_of (by_turns ∷ []) (Return (Call (codes "f") (each (number n �
 
 -- let r = get remote outer(); return get r;
 abbrev pub reference_got : Script
-reference_got = script_of (leaf ∷ outer ∷ []) (Let (codes "r") (GetOf (RefKind Number) (remote (codes "outer") [])) ∷ Return (GetOf Number (Var (codes "r"))) ∷ [])
+reference_got = script_of (leaf ∷ outer ∷ []) (Let (codes "r") (GetOf (RefKind Number) (remote (codes "outer") []))
+    ∷ Return (GetOf Number (Var (codes "r"))) ∷ [])
 
 -- let p = put 6; let m = remote mid(p); return get m;
 abbrev pub reference_passed : Script
-reference_passed = script_of (add ∷ mid ∷ []) (Let (codes "p") (PutOf (number 6)) ∷ Let (codes "m") (remote (codes "mid") (Var (codes "p") ∷ [])) ∷ Return (GetOf Number (Var (codes "m"))) ∷ [])
+reference_passed = script_of (add ∷ mid ∷ []) (Let (codes "p") (PutOf (number 6)) ∷ Let (codes "m") (remote (codes "mid") (Var (codes "p") ∷ []))
+    ∷ Return (GetOf Number (Var (codes "m"))) ∷ [])
 
 -- let s = 0; for i in 0 .. n { set s = s + 1; } return s;
 abbrev pub loop : ℕ → Script
-loop n = script_of [] (Let (codes "s") (number 0) ∷ For (codes "i") (number 0) (number n) (block (Set (codes "s") (Binary Add (Var (codes "s")) (number 1)) ∷ [])) ∷ Return (Var (codes "s")) ∷ [])
+loop n = script_of [] (Let (codes "s") (number 0) ∷ For (codes "i") (number 0) (number n) (block (Set (codes "s") (Binary Add (Var (codes "s")) (number 1))
+    ∷ [])) ∷ Return (Var (codes "s")) ∷ [])
 
 -- return E;
 abbrev pub just : Expr → Script
@@ -154,7 +203,8 @@ least = Binary Sub (Binary Sub (number 0) (number 9223372036854775807)) (number 
 abbrev pub loop_name_set : Script
 loop_name_set = script_of []
     (Let (codes "s") (number 0)
-    ∷ For (codes "i") (number 0) (number 3) (block (Set (codes "i") (Binary Mul (Var (codes "i")) (number 10)) ∷ Set (codes "s") (Binary Add (Var (codes "s")) (Var (codes "i"))) ∷ []))
+    ∷ For (codes "i") (number 0) (number 3) (block (Set (codes "i") (Binary Mul (Var (codes "i")) (number 10))
+    ∷ Set (codes "s") (Binary Add (Var (codes "s")) (Var (codes "i"))) ∷ []))
     ∷ Return (Var (codes "s")) ∷ [])
 
 -- ---- such as no checker allows: main is not apart

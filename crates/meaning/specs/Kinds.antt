@@ -1,7 +1,71 @@
 -- What the checker allows, and what has which kind.
 use Rattle.std.specs.Prelude.{◌≡◌, ℕ, Bool, true, false, List, [], ◌∷◌, ◌++◌, ◌⊎◌, Option, Some, None, if◌then◌else◌}
-use Rattle.meaning.specs.Values.{Name, Trap, Overflow, DivZero, Index, TooLong, Loop, TooDeep, Broken, Value, Int, Items, Named, Known, Values, none, more, Outcome, Val, Trapped, Argument, Birth, Put, Task, Id}
-use Rattle.meaning.specs.Syntax.{Kind, Number, ListKind, RefKind, Operator, ItemAt, Push, Prefix, Negate, Len, Expr, Num, Var, Unary, Binary, ListOf, Empty, Call, Remote, PutOf, GetOf, Exprs, end, also, Stmt, Let, Set, Print, Return, If, For, Block, done, step, Parameter, Function, Script}
+use Rattle.meaning.specs.Values.{
+  Name,
+  Trap,
+  Overflow,
+  DivZero,
+  Index,
+  TooLong,
+  Loop,
+  TooDeep,
+  Broken,
+  Value,
+  Int,
+  Items,
+  Named,
+  Known,
+  Values,
+  none,
+  more,
+  Outcome,
+  Val,
+  Trapped,
+  Argument,
+  Birth,
+  Put,
+  Task,
+  Id,
+}
+use Rattle.meaning.specs.Syntax.{
+  Kind,
+  Number,
+  ListKind,
+  RefKind,
+  Operator,
+  ItemAt,
+  Push,
+  Prefix,
+  Negate,
+  Len,
+  Expr,
+  Num,
+  Var,
+  Unary,
+  Binary,
+  ListOf,
+  Empty,
+  Call,
+  Remote,
+  PutOf,
+  GetOf,
+  Exprs,
+  end,
+  also,
+  Stmt,
+  Let,
+  Set,
+  Print,
+  Return,
+  If,
+  For,
+  Block,
+  done,
+  step,
+  Parameter,
+  Function,
+  Script,
+}
 use Rattle.meaning.specs.Meaning.{same_name, find, Scope, run_task}
 use Rattle.meaning.specs.Runs.{Run, Ends, Prints, Bears, Gets, Stop, Needs, Over, piece, next_id, serial_end, serial_trace}
 use Rattle.meaning.specs.Law.{prints_of}
@@ -129,9 +193,11 @@ abbrev mutual
   StmtChecks (Set x e) script result context after = (t : Kind) × (kind_in context x ≡ Some t) × Checks script context e t × (after ≡ context)
   StmtChecks (Print e) script result context after = (t : Kind) × Checks script context e t × (has_reference t ≡ false) × (after ≡ context)
   StmtChecks (Return e) script result context after = Checks script context e result × (after ≡ context)
-  StmtChecks (If e a b) script result context after = Checks script context e Number × BlockChecks a script result context × BlockChecks b script result context × (after ≡ context)
+  StmtChecks (If e a b) script result context after = Checks script context e Number × BlockChecks a script result context
+      × BlockChecks b script result context × (after ≡ context)
   StmtChecks (For x from to body) script result context after =
-      Checks script context from Number × Checks script context to Number × BlockChecks body script result (context ++ record { name = x; kind = Number } ∷ []) × (after ≡ context)
+      Checks script context from Number × Checks script context to Number
+      × BlockChecks body script result (context ++ record { name = x; kind = Number } ∷ []) × (after ≡ context)
 
   pub BlockChecks : Block → Script → Kind → Context → Type 0
   BlockChecks done script result context = Unit {0}

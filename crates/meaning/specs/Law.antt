@@ -72,7 +72,8 @@ IsGiven spec objects answers z = StandsInBirth z spec ⊎ IsObjectOf z objects �
 
 -- a replay gives only such ids: a birth those that it was given or bore before, what it prints, needs and ends with also its own
 pub record GivesOnlyGiven (script : Script) (spec : Birth) (base : Id) (answers : List Outcome) : Type 0 where
-  pub births : (earlier : List Bearing) (x : Bearing) → IsFirst (earlier ++ x ∷ []) (numbered base (replay script spec base answers).births) → BirthIn (IsGiven spec earlier answers) x.birth
+  pub births : (earlier : List Bearing) (x : Bearing) → IsFirst (earlier ++ x ∷ []) (numbered base (replay script spec base answers).births) →
+      BirthIn (IsGiven spec earlier answers) x.birth
   pub prints : ValuesIn (IsGiven spec (numbered base (replay script spec base answers).births) answers) (replay script spec base answers).prints
   pub stop : StopIn (IsGiven spec (numbered base (replay script spec base answers).births) answers) (replay script spec base answers).stop
 

@@ -2,7 +2,34 @@
 use Rattle.std.specs.Prelude.{◌≡◌, ◌≢◌, List, []}
 use Rattle.std.specs.List.{AllByRecursion}
 use Rattle.meaning.specs.Values.{Name, Outcome, Birth, Put, Task, Id, main_name}
-use Rattle.meaning.specs.Syntax.{Expr, Num, Var, Unary, Binary, ListOf, Empty, Call, Remote, PutOf, GetOf, Exprs, end, also, Stmt, Let, Set, Print, Return, If, For, Block, done, step, Function, Script}
+use Rattle.meaning.specs.Syntax.{
+  Expr,
+  Num,
+  Var,
+  Unary,
+  Binary,
+  ListOf,
+  Empty,
+  Call,
+  Remote,
+  PutOf,
+  GetOf,
+  Exprs,
+  end,
+  also,
+  Stmt,
+  Let,
+  Set,
+  Print,
+  Return,
+  If,
+  For,
+  Block,
+  done,
+  step,
+  Function,
+  Script,
+}
 use Rattle.meaning.specs.Meaning.{replay}
 
 -- Scripts

@@ -6,7 +6,31 @@ ghost use Rattle.meaning.specs.Syntax.{Binary, Div, Rem, Unary, Negate};
 ghost use Rattle.meaning.specs.Runs.{Needs, Over};
 ghost use Rattle.meaning.specs.Meaning.{replay};
 ghost use Rattle.meaning.specs.Mains.{KeepsMainApart};
-ghost use Rattle.meaning.specs.Examples.{MainGives, value, number, least, just, square, sum_of_squares, trap_not_got, trap_got, first_trap, deep, reference_got, reference_passed, loop, loop_name_set, got_twice, object, squaring, prints_elsewhere, calls_main, bears_main, louder, this_piece};
+ghost use Rattle.meaning.specs.Examples.{
+  MainGives,
+  value,
+  number,
+  least,
+  just,
+  square,
+  sum_of_squares,
+  trap_not_got,
+  trap_got,
+  first_trap,
+  deep,
+  reference_got,
+  reference_passed,
+  loop,
+  loop_name_set,
+  got_twice,
+  object,
+  squaring,
+  prints_elsewhere,
+  calls_main,
+  bears_main,
+  louder,
+  this_piece,
+};
 
 /// What main prints and how it ends where every remote call is a plain call.
 pub fn serial_examples()

@@ -1,10 +1,19 @@
 // From the words to the exit status.
 
-use raysim_commands::{Refusal, Tracked, Watched};
-use raysim_options::{Request, RunOptions, options};
+use raysim_commands::{Failure, Refusal, Tracked, check, exit_status, read_script, run, serial};
+use raysim_explain::{Reason, Shown};
+use raysim_options::{Request, RunOptions, ScriptOptions, missing_option, options};
 use std::process::ExitCode;
 use std::rt::Files;
 use std::{fs, io};
+
+/// A command over a script.
+#[derive(Clone, Copy)]
+enum Command {
+    Check,
+    Serial,
+    Run,
+}
 
 /// Does what the words ask, and says with which status the program ends.
 pub fn answer<R: Files + Print + Eprint + AllocGlobal>(
@@ -19,86 +28,104 @@ pub fn answer<R: Files + Print + Eprint + AllocGlobal>(
         }
     };
     match request {
-        Request::Check(path) => ended(rt, check(rt, path)),
-        Request::Serial(path) => ended(rt, serial(rt, path)),
-        Request::Sim(_) => not_there(rt, "raysim sim is"),
-        Request::Run(options) => {
-            if let Some(missing) = missing_option(&options) {
-                return not_there(rt, missing);
-            }
-            ended(rt, run(rt, options.script))
-        }
-    }
-}
-
-/// The status of a command that has ended, and its refusal on standard error where it has one.
-fn ended<R: Eprint>(rt: &R, done: Result<u8, Refusal>) -> io::Result<ExitCode> {
-    match done {
-        Ok(status) => Ok(ExitCode::from(status)),
-        Err(refusal) => {
-            eprintln!(rt; "{refusal}")?;
-            Ok(ExitCode::from(1))
-        }
+        Request::Check(options) => over_script(rt, Command::Check, options),
+        Request::Serial(options) => over_script(rt, Command::Serial, options),
+        Request::Sim(_) => not_there(rt, "raysim sim"),
+        Request::Run(options) => over_run(rt, &options),
+        Request::Explain(number) => explain(rt, number),
     }
 }
 
 /// Says that something is still to come.
 fn not_there<R: Eprint>(rt: &R, what: &str) -> io::Result<ExitCode> {
-    eprintln!(rt; "{what} not there yet")?;
+    eprintln!(rt; "{what} is not there yet")?;
     Ok(ExitCode::from(1))
 }
 
-/// An option of `run` that is still to come, if there is one among them.
-fn missing_option(options: &RunOptions<'_>) -> Option<&'static str> {
-    if options.threads != 2 {
-        return Some("raysim run --threads with a number other than 2 is");
+fn over_run<R: Files + Print + Eprint + AllocGlobal>(
+    rt: &R,
+    options: &RunOptions<'_>,
+) -> io::Result<ExitCode> {
+    if let Some(missing) = missing_option(options) {
+        return not_there(rt, missing.text());
     }
-    if options.nodes != 1 {
-        return Some("raysim run --nodes with a number other than 1 is");
-    }
-    if options.slots != 4 {
-        return Some("raysim run --slots with a number other than 4 is");
-    }
-    missing_file(options)
-}
-
-/// An option of `run` about files and forms that is still to come, if there is one among them.
-fn missing_file(options: &RunOptions<'_>) -> Option<&'static str> {
-    if options.plan.is_some() {
-        return Some("raysim run --plan is");
-    }
-    if options.history.is_some() {
-        return Some("raysim run --history is");
-    }
-    if options.json {
-        return Some("raysim run --json is");
-    }
-    None
-}
-
-fn check<R: Files + Print + AllocGlobal>(rt: &R, path: &str) -> Result<u8, Refusal> {
-    let Ok(file) = fs::open(rt, path) else {
-        return Err(Refusal::Failed);
+    let script = ScriptOptions {
+        script: options.script,
+        explain: options.explain,
     };
-    let mut reader = Watched::new(file);
-    let mut writer = Tracked::new(io::writer(rt));
-    raysim_commands::check(rt.alloc(), &mut reader, &mut writer)
+    over_script(rt, Command::Run, script)
 }
 
-fn serial<R: Files + Print + AllocGlobal>(rt: &R, path: &str) -> Result<u8, Refusal> {
-    let Ok(file) = fs::open(rt, path) else {
-        return Err(Refusal::Failed);
-    };
-    let mut reader = Watched::new(file);
-    let mut writer = Tracked::new(io::writer(rt));
-    raysim_commands::serial(rt.alloc(), &mut reader, &mut writer)
+/// Does a command, and tells its refusal on standard error where it has one.
+fn over_script<R: Files + Print + Eprint + AllocGlobal>(
+    rt: &R,
+    command: Command,
+    options: ScriptOptions<'_>,
+) -> io::Result<ExitCode> {
+    let mut text = Vec::new(rt.alloc());
+    let done = done(rt, command, options.script, &mut text);
+    if let Err(refusal) = &done {
+        tell(rt, *refusal, &options, text.as_slice())?;
+    }
+    Ok(ExitCode::from(exit_status(&done)))
 }
 
-fn run<R: Files + Print + AllocGlobal>(rt: &R, path: &str) -> Result<u8, Refusal> {
+/// Does a command. The script's text is left in `text` as far as it was read.
+fn done<R: Files + Print + AllocGlobal>(
+    rt: &R,
+    command: Command,
+    path: &str,
+    text: &mut Vec<u8>,
+) -> Result<u8, Refusal> {
     let Ok(file) = fs::open(rt, path) else {
-        return Err(Refusal::Failed);
+        return Err(Refusal::Failed(Failure::Read));
     };
-    let mut reader = Watched::new(file);
-    let mut writer = Tracked::new(io::writer(rt));
-    raysim_commands::run(rt.alloc(), &mut reader, &mut writer)
+    *text = read_script(rt.alloc(), &mut Tracked::reader(file))?;
+    let mut reader = Tracked::reader(text.as_slice());
+    let mut writer = Tracked::writer(io::writer(rt));
+    match command {
+        Command::Check => check(rt.alloc(), &mut reader, &mut writer),
+        Command::Serial => serial(rt.alloc(), &mut reader, &mut writer),
+        Command::Run => run(rt.alloc(), &mut reader, &mut writer),
+    }
+}
+
+/// Tells a refusal on standard error; where nobody reads the output any more, nothing is told.
+fn tell<R: Eprint>(
+    rt: &R,
+    refusal: Refusal,
+    options: &ScriptOptions<'_>,
+    text: &[u8],
+) -> io::Result<()> {
+    match refusal {
+        Refusal::Failed(Failure::Closed) => Ok(()),
+        Refusal::Failed(Failure::Read) => {
+            let file = options.script;
+            eprintln!(rt; "{refusal}\nreading {file} failed")
+        }
+        Refusal::Failed(Failure::Write) => {
+            eprintln!(rt; "{refusal}\nwriting the standard output failed")
+        }
+        Refusal::At { code, span } if options.explain => {
+            let shown = Shown {
+                file: options.script,
+                code,
+                text,
+                start: span.start,
+                end: span.end,
+            };
+            eprintln!(rt; "{refusal}\n{shown}")
+        }
+        _ => eprintln!(rt; "{refusal}"),
+    }
+}
+
+/// Tells what the refusals of this number are.
+fn explain<R: Print + Eprint>(rt: &R, number: u8) -> io::Result<ExitCode> {
+    let Some(reason) = Reason::of(number) else {
+        eprintln!(rt; "nothing is refused {number}")?;
+        return Ok(ExitCode::from(1));
+    };
+    println!(rt; "{reason}")?;
+    Ok(ExitCode::SUCCESS)
 }

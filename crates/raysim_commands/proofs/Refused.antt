@@ -11,8 +11,8 @@ use Rattle.script_syntax.specs.Refusals.{IsRefusalOfText}
 use Rattle.script_check.specs.Rules.{IsCheckedOf}
 use Rattle.script_check.specs.declared.error.CheckError.{CheckError}
 use Rattle.script_check.specs.declared.error.CheckError.TheVariants as faults
-use Rattle.raysim_commands.specs.declared.refusal.Refusal.{Refusal}
-use Rattle.raysim_commands.specs.declared.refusal.Refusal.TheVariants.{At, NoMemory, Stopped, Failed}
+use Rattle.raysim_streams.specs.declared.Refusal.{Refusal}
+use Rattle.raysim_streams.specs.declared.Refusal.TheVariants.{At, NoMemory, Stopped, Failed}
 use Rattle.raysim_commands.specs.Scripts.{IsNoScript, IsRefusalOf, IsNoScriptFor, syntax_refusal, check_refusal, Explains}
 use Rattle.raysim_commands.specs.RunReports.{ExplainsRun}
 
@@ -30,7 +30,7 @@ abbrev pub HasPlace : Refusal → Type 0
 HasPlace (At code span) = Unit {0}
 HasPlace NoMemory = ⊥
 HasPlace (Stopped code) = ⊥
-HasPlace Failed = ⊥
+HasPlace (Failed failure) = ⊥
 
 placed_syntax : (e : SyntaxError) → HasPlace (syntax_refusal e) → e ≡ syntax.NoMemory → ⊥
 placed_syntax e p same = subst (λ x. HasPlace (syntax_refusal x)) same p
@@ -48,7 +48,7 @@ abbrev pub IsOfText : Refusal → Type 0
 IsOfText (At code span) = Unit {0}
 IsOfText NoMemory = Unit {0}
 IsOfText (Stopped code) = ⊥
-IsOfText Failed = ⊥
+IsOfText (Failed failure) = ⊥
 
 of_text_syntax : (e : SyntaxError) → IsOfText (syntax_refusal e)
 of_text_syntax (syntax.NotAscii span) = tt
@@ -79,11 +79,11 @@ explains_read None text a b (At code span) h k = tt
 explains_read (Some bytes) text a b (At code span) h k = subst (λ t. IsNoScriptFor t (At code span)) h (record { none = no_script text code span k; told = k })
 explains_read known text a b NoMemory h k = tt
 explains_read known text a b (Stopped code) h k = absurd (of_text text (Stopped code) k)
-explains_read known text a b Failed h k = absurd (of_text text Failed k)
+explains_read known text a b (Failed failure) h k = absurd (of_text text (Failed failure) k)
 
 -- `run` refuses for the other commands' causes
 pub explains_as_others : (known : Option (List ℕ)) (read_failed write_failed : Bool) (r : Refusal) → Explains known read_failed write_failed r → ExplainsRun known read_failed write_failed r
 explains_as_others known a b (At code span) h = h
 explains_as_others known a b NoMemory h = h
 explains_as_others known a b (Stopped code) h = absurd h
-explains_as_others known a b Failed h = h
+explains_as_others known a b (Failed failure) h = h

@@ -1,4 +1,3 @@
-pub mod Refusals
 pub mod RunReports
 pub mod Scripts
 pub mod SerialReports

@@ -1,5 +1,5 @@
 -- What a command says of a script's text.
-use Rattle.std.specs.Prelude.{◌≡◌, ◌⊎◌, ℕ, Bool, true, List, Option, IfSome}
+use Rattle.std.specs.Prelude.{◌≡◌, ◌⊎◌, ℕ, Bool, true, List, Option, IfSome, Result, Ok, Err}
 use Rattle.meaning.specs.Syntax.{Script}
 use Rattle.script_tokens.specs.declared.error.SyntaxError.{SyntaxError}
 use Rattle.script_tokens.specs.declared.error.SyntaxError.TheVariants as syntax
@@ -9,8 +9,10 @@ use Rattle.script_syntax.specs.Refusals.{IsRefusalOfText}
 use Rattle.script_check.specs.Rules.{IsCheckedOf}
 use Rattle.script_check.specs.declared.error.CheckError.{CheckError}
 use Rattle.script_check.specs.declared.error.CheckError.TheVariants as faults
-use Rattle.raysim_commands.specs.declared.refusal.Refusal.{Refusal}
-use Rattle.raysim_commands.specs.declared.refusal.Refusal.TheVariants.{At, NoMemory, Stopped, Failed}
+use Rattle.raysim_streams.specs.declared.Failure.{Failure}
+use Rattle.raysim_streams.specs.declared.Failure.TheVariants.{Read, Write, Closed}
+use Rattle.raysim_streams.specs.declared.Refusal.{Refusal}
+use Rattle.raysim_streams.specs.declared.Refusal.TheVariants.{At, NoMemory, Stopped, Failed}
 
 -- the text reads as a program that the rules allow, and that becomes the script
 abbrev pub IsScript : List ℕ → Script → Type 0
@@ -64,16 +66,29 @@ pub record IsNoScriptFor (text : List ℕ) (r : Refusal) : Type 0 where
   pub none : IsNoScript text
   pub told : IsRefusalOf text r
 
+-- the stream that a failure names has failed
+abbrev pub HasFailed : Bool → Bool → Failure → Type 0
+HasFailed read_failed write_failed Read = read_failed ≡ true
+HasFailed read_failed write_failed Write = write_failed ≡ true
+HasFailed read_failed write_failed Closed = write_failed ≡ true
+
 -- why a command refuses: what was read, where it is known, is no script; or a read or a write failed
 abbrev pub Explains : Option (List ℕ) → Bool → Bool → Refusal → Type 0
 Explains text read_failed write_failed (At code span) = IfSome text (λ bytes. IsNoScriptFor bytes (At code span))
 Explains text read_failed write_failed NoMemory = Unit {0}
 Explains text read_failed write_failed (Stopped code) = ⊥
-Explains text read_failed write_failed Failed = (read_failed ≡ true) ⊎ (write_failed ≡ true)
+Explains text read_failed write_failed (Failed failure) = HasFailed read_failed write_failed failure
 
 -- a refusal before anything was written
 abbrev pub IsUnwritten : Refusal → Type 0
 IsUnwritten (At code span) = Unit {0}
 IsUnwritten NoMemory = Unit {0}
 IsUnwritten (Stopped code) = Unit {0}
-IsUnwritten Failed = ⊥
+IsUnwritten (Failed Read) = Unit {0}
+IsUnwritten (Failed Write) = ⊥
+IsUnwritten (Failed Closed) = ⊥
+
+-- the status of a command: its own, and 1 where it is refused
+abbrev pub exit_status : Result ℕ Refusal → ℕ
+exit_status (Ok status) = status
+exit_status (Err refusal) = 1

@@ -23,8 +23,10 @@ serial_status script = status_of (serial_end (serial_run script))
 
 -- the text is a script, and its report was written
 abbrev pub IsReported : List ℕ → ℕ → Option (List ℕ) → Option (List ℕ) → Type 0
-IsReported text status before after = (script : Script) × IsScript text script × (status ≡ serial_status script) × Appends before after (serial_report script)
+IsReported text status before after =
+    (script : Script) × IsScript text script × (status ≡ serial_status script) × Appends before after (serial_report script)
 
 -- nothing was written, or the text is a script, and a beginning of its report was written
 abbrev pub IsBegun : List ℕ → Option (List ℕ) → Option (List ℕ) → Type 0
-IsBegun text before after = (after ≡ before) ⊎ ((script : Script) × (k : ℕ) × IsScript text script × Appends before after (take k (serial_report script)))
+IsBegun text before after = (after ≡ before) ⊎
+    ((script : Script) × (k : ℕ) × IsScript text script × Appends before after (take k (serial_report script)))

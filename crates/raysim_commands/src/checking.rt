@@ -4,10 +4,8 @@ ghost use Rattle.std.specs.Prelude.{◌≡◌, ◌⊎◌, ℕ, List, codes, true
 ghost use Rattle.std.specs.Io.KnownBytes.{Appends};
 ghost use Rattle.raysim_commands.specs.Scripts.{IsAllowed, Explains, IsUnwritten};
 
-use crate::refusal::Refusal;
-use crate::script::checked_script;
-use crate::sink::{Sink, put_all};
-use crate::source::{Source, read_all};
+use crate::script::{checked_script, read_script};
+use raysim_streams::{Refusal, Sink, Source, put_all};
 use std::alloc::Global;
 
 /// Reads a script's text, and writes `ok` where the text is a script that the rules allow. The status is then 0.
@@ -26,7 +24,7 @@ pub fn check<R: Source, W: Sink>(
     ensures unwritten { IfErr result (λ refusal. IsUnwritten refusal → W.held writer.new ≡ W.held writer.old) }
     ensures beginning { IfErr result (λ refusal. (k : ℕ) × Appends (W.held writer.old) (W.held writer.new) (take k (codes "ok\n"))) }
 {
-    let text = read_all(alloc, reader)?;
+    let text = read_script(alloc, reader)?;
     if let Err(refusal) = checked_script(alloc, text.as_slice()) {
         return Err(refusal);
     }

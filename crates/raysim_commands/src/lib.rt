@@ -2,19 +2,14 @@
 #![tactic(auto)]
 
 mod checking;
-mod refusal;
 mod run_command;
 mod script;
 mod serial_command;
-mod sink;
-mod source;
+mod status;
 
 pub use checking::check;
-pub use refusal::Refusal;
+pub use raysim_streams::{Failure, Refusal, Sink, Source, Tracked, put_all, read_at_most};
 pub use run_command::run;
+pub use script::{MOST_BYTES, read_script};
 pub use serial_command::serial;
-pub use sink::{Sink, Tracked, put_all};
-pub use source::{Fault, Source, Watched, read_all};
-
-#[cfg(test)]
-mod tests;
+pub use status::exit_status;

@@ -5,11 +5,9 @@ ghost use Rattle.script_check.specs.Trees.{script_of};
 ghost use Rattle.raysim_commands.specs.Scripts.{IsUnwritten};
 ghost use Rattle.raysim_commands.specs.RunReports.{IsReportOf, IsRunStop, IsRunReported, IsRunBegun, ExplainsRun};
 
-use crate::refusal::Refusal;
-use crate::script::checked_script;
-use crate::sink::{Sink, put_all};
-use crate::source::{Source, read_all};
+use crate::script::{checked_script, read_script};
 use board::Board;
+use raysim_streams::{Refusal, Sink, Source, put_all};
 use run_core::Core;
 use script_check::Checked;
 use segment::ScriptName;
@@ -54,7 +52,7 @@ pub fn run<R: Source, W: Sink>(alloc: Global, reader: &mut R, writer: &mut W) ->
     ensures unwritten { IfErr result (λ refusal. IsUnwritten refusal → W.held writer.new ≡ W.held writer.old) }
     ensures beginning { IfErr result (λ refusal. IfSome (R.left reader.old) (λ text. IsRunBegun text (W.held writer.old) (W.held writer.new))) }
 {
-    let text = read_all(alloc, reader)?;
+    let text = read_script(alloc, reader)?;
     let script = match checked_script(alloc, text.as_slice()) {
         Ok(script) => script,
         Err(refusal) => return Err(refusal),

@@ -1,13 +1,32 @@
 // A script, from its text.
 
-ghost use Rattle.std.specs.Prelude.{◌≡◌, IfOk, IfErr};
+ghost use Rattle.std.specs.Prelude.{◌≡◌, Bool, IfOk, IfErr, IfSome};
 ghost use Rattle.script_check.specs.Trees.{script_of};
-ghost use Rattle.raysim_commands.specs.Scripts.{IsScript, IsRefusalOf, syntax_refusal, check_refusal};
+ghost use Rattle.raysim_commands.specs.Scripts.{IsScript, IsRefusalOf, IsUnwritten, Explains, syntax_refusal, check_refusal};
 
-use crate::refusal::Refusal;
+use raysim_streams::{Refusal, Source, read_at_most};
 use script_check::{CheckError, Checked, check};
 use script_syntax::{Span, SyntaxError, parse};
 use std::alloc::Global;
+
+/// How many bytes the text of a script may have.
+pub const MOST_BYTES: usize = 65_536;
+
+/// The text of a script. One of more than 65,536 bytes is refused 4 at 0..0, and all but one byte of the rest stays unread.
+pub fn read_script<R: Source>(alloc: Global, reader: &mut R) -> Result<Vec<u8>, Refusal>
+    ensures ok { IfOk result (λ all. IfSome (R.left reader.old) (λ bytes. all.items ≡ bytes)) }
+    ensures refused { (written : Bool) → IfErr result (λ refusal. Explains (R.left reader.old) (R.has_failed reader.new) written refusal) }
+    ensures unwritten { IfErr result IsUnwritten }
+{
+    let text = read_at_most(alloc, reader, MOST_BYTES + 1)?;
+    if text.len() > MOST_BYTES {
+        return Err(Refusal::At {
+            code: 4,
+            span: Span { start: 0, end: 0 },
+        });
+    }
+    Ok(text)
+}
 
 fn syntax_refusal(error: SyntaxError) -> Refusal
     ensures { result ≡ syntax_refusal error }

@@ -7,10 +7,8 @@ ghost use Rattle.values.specs.Values.{content_of};
 ghost use Rattle.raysim_commands.specs.Scripts.{IsScript, Explains, IsUnwritten};
 ghost use Rattle.raysim_commands.specs.SerialReports.{serial_report, serial_status, status_of, IsReported, IsBegun};
 
-use crate::refusal::Refusal;
-use crate::script::checked_script;
-use crate::sink::{Sink, put_all};
-use crate::source::{Source, read_all};
+use crate::script::{checked_script, read_script};
+use raysim_streams::{Refusal, Sink, Source, put_all};
 use report::write_main_lines;
 use script_check::Checked;
 use serial::run_serial;
@@ -63,7 +61,7 @@ pub fn serial<R: Source, W: Sink>(
     ensures unwritten { IfErr result (λ refusal. IsUnwritten refusal → W.held writer.new ≡ W.held writer.old) }
     ensures beginning { IfErr result (λ refusal. IfSome (R.left reader.old) (λ text. IsBegun text (W.held writer.old) (W.held writer.new))) }
 {
-    let text = read_all(alloc, reader)?;
+    let text = read_script(alloc, reader)?;
     let script = match checked_script(alloc, text.as_slice()) {
         Ok(script) => script,
         Err(refusal) => return Err(refusal),

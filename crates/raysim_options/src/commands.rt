@@ -1,8 +1,9 @@
 // The command and its subcommands.
 
-ghost use Rattle.std.specs.Prelude.{◌≡◌, ◌≤ℤ◌, IfOk, pos, false};
+ghost use Rattle.std.specs.Prelude.{◌≡◌, ◌≤ℤ◌, IfOk, codes, pos, false};
 ghost use Rattle.clap.specs.Words.{app_of, rule_of, with_rule, with_subcommand};
-ghost use Rattle.raysim_options.specs.App.{raysim_app, needed_app, sim_app, run_app, needed, number, text, flag, first_app, with_cluster, with_files, HasNoGlobals};
+ghost use Rattle.raysim_options.specs.App.{raysim_app, script_app, explained_app, explain_app, sim_app, run_app, needed};
+ghost use Rattle.raysim_options.specs.App.{place, number, text, flag, first_app, with_cluster, with_files, HasNoGlobals};
 
 use clap::{Arg, ArgAction, Command};
 use std::alloc::{AllocError, Global};
@@ -16,46 +17,57 @@ pub const MOST_SLOTS: u8 = 64;
 /// How many threads may run a script.
 pub const MOST_THREADS: u8 = 8;
 
+/// The greatest number of a refusal.
+pub const MOST_REFUSAL: u8 = 50;
+
 /// A word that has to be there.
-fn needed<'a>(alloc: Global, name: &'a str) -> Arg<'a>
+fn needed<'a>(alloc: Global, name: &'a str, help: &'a str) -> Arg<'a>
     ensures rule { rule_of result ≡ needed name.entry.now }
     ensures local { result.global ≡ false }
 {
-    Arg::new(alloc, name).required(true)
+    Arg::new(alloc, name).required(true).help(help)
+}
+
+/// A number from 1 to `most` that has to be there.
+fn place<'a>(alloc: Global, name: &'a str, most: u8, help: &'a str) -> Arg<'a>
+    ensures rule { rule_of result ≡ place name.entry.now most }
+    ensures local { result.global ≡ false }
+{
+    needed(alloc, name, help).value_parser(clap::value_parser!(u8).range(1..=i64::from(most)))
 }
 
 /// An option with a number from 1 to `most`.
-fn number<'a>(alloc: Global, name: &'a str, most: u8) -> Arg<'a>
+fn number<'a>(alloc: Global, name: &'a str, most: u8, help: &'a str) -> Arg<'a>
     ensures rule { rule_of result ≡ number name.entry.now most }
     ensures local { result.global ≡ false }
 {
     Arg::new(alloc, name)
         .long(name)
+        .value_name("N")
+        .help(help)
         .value_parser(clap::value_parser!(u8).range(1..=i64::from(most)))
 }
 
-/// An option with a text.
-fn text<'a>(alloc: Global, name: &'a str) -> Arg<'a>
+/// An option with a file's path.
+fn text<'a>(alloc: Global, name: &'a str, help: &'a str) -> Arg<'a>
     ensures rule { rule_of result ≡ text name.entry.now }
     ensures local { result.global ≡ false }
 {
-    Arg::new(alloc, name).long(name)
+    Arg::new(alloc, name)
+        .long(name)
+        .value_name("FILE")
+        .help(help)
 }
 
 /// An option that is there or not.
-fn flag<'a>(alloc: Global, name: &'a str) -> Arg<'a>
+fn flag<'a>(alloc: Global, name: &'a str, help: &'a str) -> Arg<'a>
     ensures rule { rule_of result ≡ flag name.entry.now }
     ensures local { result.global ≡ false }
 {
-    Arg::new(alloc, name).long(name).action(ArgAction::SetTrue)
-}
-
-/// A subcommand with a script.
-fn start<'a>(alloc: Global, name: &'a str) -> Result<Command<'a>, AllocError>
-    ensures app { IfOk result (λ c. app_of c ≡ needed_app name.entry.now) }
-    ensures local { IfOk result HasNoGlobals }
-{
-    Command::new(alloc, name).arg(needed(alloc, "script"))
+    Arg::new(alloc, name)
+        .long(name)
+        .action(ArgAction::SetTrue)
+        .help(help)
 }
 
 fn add<'a>(command: Command<'a>, arg: Arg<'a>) -> Result<Command<'a>, AllocError>
@@ -67,22 +79,55 @@ fn add<'a>(command: Command<'a>, arg: Arg<'a>) -> Result<Command<'a>, AllocError
     command.arg(arg)
 }
 
+/// A subcommand with a script.
+fn start<'a>(alloc: Global, name: &'a str, about: &'a str) -> Result<Command<'a>, AllocError>
+    ensures app { IfOk result (λ c. app_of c ≡ script_app name.entry.now) }
+    ensures local { IfOk result HasNoGlobals }
+{
+    let command = Command::new(alloc, name).about(about);
+    add(command, needed(alloc, "script", "The script's file"))
+}
+
+/// A subcommand with a script, whose refusals it can explain.
+fn explained<'a>(alloc: Global, name: &'a str, about: &'a str) -> Result<Command<'a>, AllocError>
+    ensures app { IfOk result (λ c. app_of c ≡ explained_app name.entry.now) }
+    ensures local { IfOk result HasNoGlobals }
+{
+    let command = start(alloc, name, about)?;
+    let help = "Shows the place of a refusal: file, line, column and the line itself";
+    add(command, flag(alloc, "explain", help))
+}
+
 fn add_cluster<'a>(alloc: Global, command: Command<'a>) -> Result<Command<'a>, AllocError>
     requires none { HasNoGlobals command }
     ensures app { IfOk result (λ c. app_of c ≡ with_cluster (app_of command.entry)) }
     ensures local { IfOk result HasNoGlobals }
 {
-    let command = add(command, number(alloc, "nodes", MOST_NODES))?;
-    add(command, number(alloc, "slots", MOST_SLOTS))
+    let nodes = "How many nodes the cluster begins with, from 1 to 64 (1 if left out)";
+    let command = add(command, number(alloc, "nodes", MOST_NODES, nodes))?;
+    let slots = "How many workers may run at once on each node, from 1 to 64 (4 if left out)";
+    add(command, number(alloc, "slots", MOST_SLOTS, slots))
+}
+
+fn add_json<'a>(alloc: Global, command: Command<'a>) -> Result<Command<'a>, AllocError>
+    requires none { HasNoGlobals command }
+    ensures app { IfOk result (λ c. app_of c ≡ with_rule (app_of command.entry) (flag (codes "json"))) }
+    ensures local { IfOk result HasNoGlobals }
+{
+    let help = "Writes the report as one line of JSON";
+    add(command, flag(alloc, "json", help))
 }
 
 fn sim<'a>(alloc: Global) -> Result<Command<'a>, AllocError>
     ensures app { IfOk result (λ c. app_of c ≡ sim_app) }
     ensures local { IfOk result HasNoGlobals }
 {
-    let command = add(start(alloc, "sim")?, needed(alloc, "events"))?;
+    let about = "Runs a script by a list of events, and writes the run's report";
+    let command = start(alloc, "sim", about)?;
+    let events = "The file of events, one in each line";
+    let command = add(command, needed(alloc, "events", events))?;
     let command = add_cluster(alloc, command)?;
-    add(command, flag(alloc, "json"))
+    add_json(alloc, command)
 }
 
 fn add_files<'a>(alloc: Global, command: Command<'a>) -> Result<Command<'a>, AllocError>
@@ -90,19 +135,33 @@ fn add_files<'a>(alloc: Global, command: Command<'a>) -> Result<Command<'a>, All
     ensures app { IfOk result (λ c. app_of c ≡ with_files (app_of command.entry)) }
     ensures local { IfOk result HasNoGlobals }
 {
-    let command = add(command, text(alloc, "plan"))?;
-    let command = add(command, text(alloc, "history"))?;
-    add(command, flag(alloc, "json"))
+    let plan = "A file of events to apply at given times of the run (none if left out)";
+    let command = add(command, text(alloc, "plan", plan))?;
+    let history = "Where the events of the run are written, for sim to read (nowhere if left out)";
+    let command = add(command, text(alloc, "history", history))?;
+    add_json(alloc, command)
 }
 
 fn run<'a>(alloc: Global) -> Result<Command<'a>, AllocError>
     ensures app { IfOk result (λ c. app_of c ≡ run_app) }
     ensures local { IfOk result HasNoGlobals }
 {
-    let command = start(alloc, "run")?;
-    let command = add(command, number(alloc, "threads", MOST_THREADS))?;
+    let about = "Runs a script, each remote call as a task, and writes the run's report";
+    let command = explained(alloc, "run", about)?;
+    let threads = "How many threads run the tasks, from 1 to 8 (2 if left out)";
+    let command = add(command, number(alloc, "threads", MOST_THREADS, threads))?;
     let command = add_cluster(alloc, command)?;
     add_files(alloc, command)
+}
+
+fn explain<'a>(alloc: Global) -> Result<Command<'a>, AllocError>
+    ensures app { IfOk result (λ c. app_of c ≡ explain_app) }
+    ensures local { IfOk result HasNoGlobals }
+{
+    let about = "Tells in words what a refusal's number means, with an example";
+    let command = Command::new(alloc, "explain").about(about);
+    let number = "The number after the word refused, from 1 to 50";
+    add(command, place(alloc, "number", MOST_REFUSAL, number))
 }
 
 fn add_below<'a>(above: Command<'a>, below: Command<'a>) -> Result<Command<'a>, AllocError>
@@ -116,15 +175,20 @@ fn first<'a>(alloc: Global) -> Result<Command<'a>, AllocError>
     ensures { IfOk result (λ c. app_of c ≡ first_app) }
 {
     let command = Command::new(alloc, "raysim")
-        .about("Runs scripts of tasks, and simulates their runs")
+        .about("Checks scripts of tasks, runs them, and simulates their runs")
+        .version("0.2.0")
         .subcommand_required(true);
-    let command = add_below(command, start(alloc, "check")?)?;
-    add_below(command, start(alloc, "serial")?)
+    let check = "Says ok where a script may be run, and else why not";
+    let command = add_below(command, explained(alloc, "check", check)?)?;
+    let serial = "Runs a script with each remote call as a plain call: what it prints and returns";
+    add_below(command, explained(alloc, "serial", serial)?)
 }
 
+/// The command `raysim` with its subcommands.
 pub fn raysim<'a>(alloc: Global) -> Result<Command<'a>, AllocError>
     ensures { IfOk result (λ c. app_of c ≡ raysim_app) }
 {
     let command = add_below(first(alloc)?, sim(alloc)?)?;
-    add_below(command, run(alloc)?)
+    let command = add_below(command, run(alloc)?)?;
+    add_below(command, explain(alloc)?)
 }

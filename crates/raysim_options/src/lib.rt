@@ -1,27 +1,42 @@
 //! The words of the command line, read with `clap`.
 #![tactic(auto)]
 
-ghost use Rattle.std.specs.Prelude.{◌≡◌, ◌≤◌, IfOk, IfSome, None, Some, map, string_bytes, codes, List, ℕ};
-ghost use Rattle.clap.specs.Words.{app_of, found_of, first_value, one_text, subcommand_of, ReadsOne};
+ghost use Rattle.std.specs.Prelude.{IfOk, map, string_bytes};
+ghost use Rattle.clap.specs.Words.{subcommand_of};
 ghost use Rattle.raysim_options.specs.App.{raysim_app};
-ghost use Rattle.raysim_options.specs.Reads.{IsWithinLimits, KeepsDefaults};
+ghost use Rattle.raysim_options.specs.Reads.{Asks};
 
 mod commands;
+mod missing;
 mod read;
 #[cfg(test)]
 mod tests;
 
 use clap::Error;
-pub use commands::{MOST_NODES, MOST_SLOTS, MOST_THREADS};
+pub use commands::{MOST_NODES, MOST_REFUSAL, MOST_SLOTS, MOST_THREADS};
+pub use missing::{MissingOption, missing_option};
 use std::alloc::Global;
 
 /// What the program was asked to do. Texts are paths of files, as the words have them.
 #[derive(Debug, Drop)]
 pub enum Request<'a> {
-    Check(&'a str),
-    Serial(&'a str),
+    /// Check a script.
+    Check(ScriptOptions<'a>),
+    /// Run a script with each remote call as a plain call.
+    Serial(ScriptOptions<'a>),
+    /// Run a script by a list of events.
     Sim(SimOptions<'a>),
+    /// Run a script.
     Run(RunOptions<'a>),
+    /// Tell what the refusals of this number (from 1 to 50) are.
+    Explain(u8),
+}
+
+/// The options of `check` and `serial`: the script, and whether a refusal's place is shown.
+#[derive(Debug, Drop)]
+pub struct ScriptOptions<'a> {
+    pub script: &'a str,
+    pub explain: bool,
 }
 
 /// The options of `sim`: the script, the list of events, how many nodes there are and how many slots each has (both from 1
@@ -36,7 +51,7 @@ pub struct SimOptions<'a> {
 }
 
 /// The options of `run`: the script, how many threads run it (from 1 to 8, by default 2), nodes and slots as for `sim`, a plan of
-/// events to apply, where the events applied are recorded, and whether the report is JSON.
+/// events to apply, where the events applied are recorded, whether the report is JSON, and whether a refusal's place is shown.
 #[derive(Debug, Drop)]
 pub struct RunOptions<'a> {
     pub script: &'a str,
@@ -46,13 +61,14 @@ pub struct RunOptions<'a> {
     pub plan: Option<&'a str>,
     pub history: Option<&'a str>,
     pub json: bool,
+    pub explain: bool,
 }
 
-/// Reads the words of the command line, of which the first is the program's name. Where the words are at fault, ask for help, or
-/// memory runs out, the error displays the text for standard error.
+/// Reads the words of the command line, of which the first is the program's name. Where the words are at fault, ask for help or the
+/// version, or memory runs out, the error displays the text for standard error.
 pub fn options<'a>(alloc: Global, words: &'a [String]) -> Result<Request<'a>, Error>
-    ensures limits { IfOk result IsWithinLimits }
-    ensures defaults { IfOk result (λ o. IfSome (subcommand_of raysim_app (map string_bytes words.entry.now)) (λ p. KeepsDefaults p.1 o)) }
+    // The request is the one that the words name, with the values that they give; what they leave out has its default.
+    ensures asked { IfOk result (Asks (subcommand_of raysim_app (map string_bytes words.entry.now))) }
 {
     let command = commands::raysim(alloc)?;
     let matches = command.try_get_matches_from(words)?;

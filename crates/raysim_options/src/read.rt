@@ -1,26 +1,39 @@
 // What the matches of a subcommand say.
 
-ghost use Rattle.std.specs.Prelude.{◌≡◌, ◌≤◌, IfOk, IfSome, OnOk, IsErr, None, Some, ℕ, List, codes};
-ghost use Rattle.clap.specs.Words.{found_of, one_text, rows_of, ReadsOne};
-ghost use Rattle.raysim_options.specs.Reads.{IsWithinLimits, KeepsDefaults};
+ghost use Rattle.std.specs.Prelude.{◌≡◌, ◌≤◌, IfOk, IfSome, IsErr, option_map};
+ghost use Rattle.clap.specs.Words.{first_of, found_of, rows_of};
+ghost use Rattle.raysim_options.specs.Reads.{IsFlag, IsNumber, IsScriptOptions, IsSimOptions, IsRunOptions, IsRequest};
 
-use crate::commands::{MOST_NODES, MOST_SLOTS, MOST_THREADS};
-use crate::{Request, RunOptions, SimOptions, commands};
+use crate::commands::{MOST_NODES, MOST_REFUSAL, MOST_SLOTS, MOST_THREADS};
+use crate::{Request, RunOptions, ScriptOptions, SimOptions, commands};
 use clap::error::ErrorKind;
 use clap::{ArgMatches, Error};
 use std::alloc::Global;
 
 /// A number from 1 to `most`, or the default where the words leave it out.
-pub fn number(matches: &ArgMatches<'_>, id: &str, most: u8, default: u8) -> Option<u8>
+fn number(matches: &ArgMatches<'_>, id: &str, most: u8, default: u8) -> Option<u8>
     requires { (1 ≤ default) × (default ≤ most) }
-    ensures limits { IfSome result (λ n. (1 ≤ n) × (n ≤ most)) }
-    ensures default { one_text (found_of matches.now) id.now ≡ None → result ≡ Some default }
+    ensures { IfSome result (IsNumber (rows_of (found_of matches.now)) id.now most default) }
 {
-    match matches.get_one::<u8>(id) {
-        None => Some(default),
-        Some(n) if n >= 1 && n <= most => Some(n),
-        Some(_) => None,
+    match matches.try_get_one::<u8>(id) {
+        Ok(None) => Some(default),
+        Ok(Some(n)) if n >= 1 && n <= most => Some(n),
+        _ => None,
     }
+}
+
+/// A text, where the words have it.
+fn text<'a>(matches: &ArgMatches<'a>, id: &str) -> Option<&'a str>
+    ensures { option_map (λ s. s.now) result ≡ first_of id.now (rows_of (found_of matches.now)) }
+{
+    matches.get_str(id)
+}
+
+/// Whether the words have a flag.
+fn flag(matches: &ArgMatches<'_>, id: &str) -> bool
+    ensures { IsFlag (rows_of (found_of matches.now)) id.now result }
+{
+    matches.get_flag(id)
 }
 
 /// The error of words that `clap` let through and this program does not take.
@@ -32,57 +45,61 @@ pub fn missing<'a>(alloc: Global) -> Result<Request<'a>, Error>
     Err(error)
 }
 
+fn script<'a>(matches: &ArgMatches<'a>) -> Option<ScriptOptions<'a>>
+    ensures { IfSome result (IsScriptOptions (rows_of (found_of matches.now))) }
+{
+    Some(ScriptOptions {
+        script: text(matches, "script")?,
+        explain: flag(matches, "explain"),
+    })
+}
+
 fn sim<'a>(matches: &ArgMatches<'a>) -> Option<SimOptions<'a>>
-    ensures limits { IfSome result (λ o. (1 ≤ o.nodes) × (o.nodes ≤ 64) × (1 ≤ o.slots) × (o.slots ≤ 64)) }
-    ensures nodes { IfSome result (λ o. one_text (found_of matches.now) (codes "nodes") ≡ None → o.nodes ≡ 1) }
-    ensures slots { IfSome result (λ o. one_text (found_of matches.now) (codes "slots") ≡ None → o.slots ≡ 4) }
+    ensures { IfSome result (IsSimOptions (rows_of (found_of matches.now))) }
 {
     Some(SimOptions {
-        script: matches.get_str("script")?,
-        events: matches.get_str("events")?,
+        script: text(matches, "script")?,
+        events: text(matches, "events")?,
         nodes: number(matches, "nodes", MOST_NODES, 1)?,
         slots: number(matches, "slots", MOST_SLOTS, 4)?,
-        json: matches.get_flag("json"),
+        json: flag(matches, "json"),
     })
 }
 
 fn run<'a>(matches: &ArgMatches<'a>) -> Option<RunOptions<'a>>
-    ensures limits { IfSome result (λ o. (1 ≤ o.nodes) × (o.nodes ≤ 64) × (1 ≤ o.slots) × (o.slots ≤ 64) × (1 ≤ o.threads) × (o.threads ≤ 8)) }
-    ensures nodes { IfSome result (λ o. one_text (found_of matches.now) (codes "nodes") ≡ None → o.nodes ≡ 1) }
-    ensures slots { IfSome result (λ o. one_text (found_of matches.now) (codes "slots") ≡ None → o.slots ≡ 4) }
-    ensures threads { IfSome result (λ o. one_text (found_of matches.now) (codes "threads") ≡ None → o.threads ≡ 2) }
+    ensures { IfSome result (IsRunOptions (rows_of (found_of matches.now))) }
 {
     Some(RunOptions {
-        script: matches.get_str("script")?,
+        script: text(matches, "script")?,
         threads: number(matches, "threads", MOST_THREADS, 2)?,
         nodes: number(matches, "nodes", MOST_NODES, 1)?,
         slots: number(matches, "slots", MOST_SLOTS, 4)?,
-        plan: matches.get_str("plan"),
-        history: matches.get_str("history"),
-        json: matches.get_flag("json"),
+        plan: text(matches, "plan"),
+        history: text(matches, "history"),
+        json: flag(matches, "json"),
+        explain: flag(matches, "explain"),
     })
 }
 
 fn of<'a>(name: &str, matches: &ArgMatches<'a>) -> Option<Request<'a>>
-    ensures limits { IfSome result IsWithinLimits }
-    ensures defaults { IfSome result (KeepsDefaults (rows_of (found_of matches.now))) }
+    ensures { IfSome result (IsRequest name.now (rows_of (found_of matches.now))) }
 {
     match name {
-        "check" => Some(Request::Check(matches.get_str("script")?)),
-        "serial" => Some(Request::Serial(matches.get_str("script")?)),
+        "check" => Some(Request::Check(script(matches)?)),
+        "serial" => Some(Request::Serial(script(matches)?)),
         "sim" => Some(Request::Sim(sim(matches)?)),
         "run" => Some(Request::Run(run(matches)?)),
+        "explain" => Some(Request::Explain(number(matches, "number", MOST_REFUSAL, 1)?)),
         _ => None,
     }
 }
 
 /// Reads the options of the subcommand `name`.
 pub fn read<'a>(alloc: Global, name: &str, matches: &ArgMatches<'a>) -> Result<Request<'a>, Error>
-    ensures limits { IfOk result IsWithinLimits }
-    ensures defaults { IfOk result (KeepsDefaults (rows_of (found_of matches.now))) }
+    ensures { IfOk result (IsRequest name.now (rows_of (found_of matches.now))) }
 {
     match of(name, matches) {
-        Some(options) => Ok(options),
+        Some(request) => Ok(request),
         None => missing(alloc),
     }
 }

@@ -66,15 +66,22 @@ fn reads_a_simulation(rt: HostRuntime) -> Result<(), Fail> {
 fn reads_the_short_commands(rt: HostRuntime) -> Result<(), Fail> {
     let alloc = rt.alloc();
     let w = words(alloc, &["raysim", "check", "a.ray"])?;
-    let Request::Check(script) = options(alloc, w.as_slice())? else {
+    let Request::Check(check) = options(alloc, w.as_slice())? else {
         return Err(Fail::from("a check"));
     };
-    assert_eq!(rt; script, "a.ray");
-    let w = words(alloc, &["raysim", "serial", "b.ray"])?;
-    let Request::Serial(script) = options(alloc, w.as_slice())? else {
+    assert_eq!(rt; check.script, "a.ray");
+    assert!(rt; !check.explain);
+    let w = words(alloc, &["raysim", "serial", "b.ray", "--explain"])?;
+    let Request::Serial(serial) = options(alloc, w.as_slice())? else {
         return Err(Fail::from("a serial run"));
     };
-    assert_eq!(rt; script, "b.ray");
+    assert_eq!(rt; serial.script, "b.ray");
+    assert!(rt; serial.explain);
+    let w = words(alloc, &["raysim", "explain", "37"])?;
+    let Request::Explain(number) = options(alloc, w.as_slice())? else {
+        return Err(Fail::from("an explanation"));
+    };
+    assert_eq!(rt; number, 37);
     let w = words(alloc, &["raysim", "fly", "b.ray"])?;
     assert!(rt; options(alloc, w.as_slice()).is_err());
     let w = words(alloc, &["raysim"])?;

@@ -6,6 +6,3 @@ mod value;
 
 pub use main_lines::write_main_lines;
 pub use value::write_value;
-
-#[cfg(test)]
-mod tests;

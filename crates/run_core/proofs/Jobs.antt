@@ -1,35 +1,34 @@
 -- Jobs that are given out, and what is handed in as done on them.
-use Rattle.std.proofs.Common.{◌≡◌, ℕ, List, [], ◌∷◌, ◌++◌, map, Option, Some, None, false, IfSome, refl, sym, ap, ◌∙◌, subst, inl, inr}
+use Rattle.std.proofs.Common.{◌≡◌, ℕ, List, [], ◌++◌, map, Option, Some, None, false, IfSome, refl, sym, ap, ◌∙◌, subst, inl, inr}
 use Rattle.meaning.specs.Values as meant
 use Rattle.meaning.specs.Values.{Put, Task, main_birth}
 use Rattle.meaning.specs.Syntax.{Number, Parameter, Script}
 use Rattle.meaning.specs.Kinds.{IsBirthOf, MarkedOf}
-use Rattle.meaning.specs.Meaning.{replay}
 use Rattle.kind_laws.specs.Law.{HasKind}
 use Rattle.script_check.specs.Scripts.{IsWellTyped}
-use Rattle.values.specs.Values.{value_of, content_of, id_of}
+use Rattle.values.specs.Values.{value_of}
 use Rattle.task_spec.specs.Births.{birth_of}
 use Rattle.evaluation.specs.declared.piece.Stop.{Stop}
 use Rattle.evaluation.specs.declared.piece.Stop.TheVariants as stops
 use Rattle.evaluation.specs.Pieces as pieces
-use Rattle.segment.specs.Jobs.{JobData, DoneData, IsTaskOf, IsBegun, IsTrueOf}
+use Rattle.segment.specs.Jobs.{JobData, Done, IsTaskOf, IsBegun, IsTrueOf}
 use Rattle.event_log.specs.Entries.{Entry}
 use Rattle.event_log.specs.Rules.{Setting}
 use Rattle.machine.specs.Numbered.{item_of}
 use Rattle.machine.specs.Tables.{Tables, Row, Out, Given}
 use Rattle.machine.specs.Jobs as jobs
 use Rattle.machine.specs.Jobs.{Handed, Nothing, OfAnother, OfJob}
-use Rattle.machine.specs.Claims.{Step, Answer, Takes, claim}
+use Rattle.machine.specs.Claims.{Step, Takes, claim}
 use Rattle.machine.specs.Steps.{Commits}
 use Rattle.machine.specs.Knows.{Knows, KnowsRow, KnowsPhase, IsTask}
 use Rattle.machine.specs.Law.{IsSound, IsTrue, MayCome}
-use Rattle.machine.specs.Given.{IsGood, IsGoodIfGiven, GivesGood, ClaimsGiveGoodJobs}
+use Rattle.machine.specs.GoodJobs.{IsGood, IsGoodIfGiven, GivesGood, ClaimsGiveGoodJobs}
 use Rattle.machine.proofs.Numbers.{all_at}
 use Rattle.run_tables.specs.Views.{job_of, stopped_of}
 use Rattle.run_tables.specs.Handed as parts
-use Rattle.run_tables.specs.declared.outcome.JobOutcome.{JobOutcome}
+use Rattle.segment.specs.declared.done.DoneParts.{DoneParts}
 use Rattle.run_core.specs.States.{setting_of}
-use Rattle.run_core.specs.Steps.{IsHanded, AreParts, outcomes_of}
+use Rattle.run_core.specs.Steps.{IsHanded, AreParts, done_of}
 
 -- ---- jobs that are given out
 
@@ -62,7 +61,7 @@ job_begun script typed law log t sound w step e later after d given =
 -- ---- what is handed in
 
 -- as with its parts
-pub handed_in : (t : Tables) (j : ℕ) (d : Option DoneData) (o : Option JobOutcome) → AreParts d o → (h : Handed) → parts.IsHanded t j o h → IsHanded t j d h
+pub handed_in : (t : Tables) (j : ℕ) (d : Option Done) (o : Option DoneParts) → AreParts d o → (h : Handed) → parts.IsHanded t j o h → IsHanded t j d h
 handed_in t j None None a h e = e
 handed_in t j None (Some o) a h e = absurd a
 handed_in t j (Some d) None a h e = absurd a
@@ -74,7 +73,7 @@ same_stop (stops.Needs y) = refl
 same_stop (stops.Ends c) = refl
 
 -- what is true of its job, as the code has both, is true of the job as the tables have it
-true_of : (script : Script) (d : DoneData) → IsTrueOf script d → IsTrue (setting_of script) (job_of d.job) (outcomes_of d)
+true_of : (script : Script) (d : Done) → IsTrueOf script d → IsTrue (setting_of script) (job_of d.job) (done_of d)
 true_of script d h = h ∙ ap (λ stop. record { births = map birth_of d.job.births ++ map birth_of d.births; prints = map value_of d.job.printed ++ map value_of d.prints; stop = stop }) (sym (same_stop d.stop))
 
 abbrev out_at : ℕ → Given
@@ -99,7 +98,7 @@ one_out s log t knows j w v row other at_w out at_v out' =
     ap (λ n. jobs.job_of j n row) same ∙ ap (λ r. jobs.job_of j v r) row_same
 
 -- what was done on a job of the run is true of it
-pub may_come : (script : Script) (log : List Entry) (t : Tables) → IsSound (setting_of script) log t → (j : ℕ) (d : Option DoneData) → (h : Handed) → IsHanded t j d h → IfSome d (λ x. IsTrueOf script x) → MayCome (setting_of script) t (Commits j h)
+pub may_come : (script : Script) (log : List Entry) (t : Tables) → IsSound (setting_of script) log t → (j : ℕ) (d : Option Done) → (h : Handed) → IsHanded t j d h → IfSome d (λ x. IsTrueOf script x) → MayCome (setting_of script) t (Commits j h)
 may_come script log t sound j None h e true_done = subst (λ x. MayCome (setting_of script) t (Commits j x)) (sym e) tt
 may_come script log t sound j (Some d) h (inr e) true_done = subst (λ x. MayCome (setting_of script) t (Commits j x)) (sym e.0) tt
 may_come script log t sound j (Some d) h (inl e) true_done =
@@ -107,4 +106,4 @@ may_come script log t sound j (Some d) h (inl e) true_done =
     (λ w row at_w out.
     let there = e.1 in
     let same = there.4 ∙ one_out (setting_of script) log t sound.knows j there.0 w there.1 row there.2 there.3 at_w out in
-    subst (λ job. IsTrue (setting_of script) job (outcomes_of d)) same (true_of script d true_done))
+    subst (λ job. IsTrue (setting_of script) job (done_of d)) same (true_of script d true_done))

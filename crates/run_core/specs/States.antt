@@ -22,7 +22,7 @@ abbrev pub first_state : RunState
 first_state = record { log = opening; tables = first_tables; is_halted = false }
 
 -- the script is well typed and the log is legal; unless an event found no memory, the tables tell of the log
-pub record IsKept (script : Script) (c : RunState) : Type 0 where
+pub record IsSoundRun (script : Script) (c : RunState) : Type 0 where
   pub typed : IsWellTyped script
   pub legal : Legal (setting_of script) c.log
   pub knows : c.is_halted ≡ false → Knows (setting_of script) c.log c.tables

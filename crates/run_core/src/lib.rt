@@ -1,12 +1,12 @@
 //! The run of a script on one node: one event at a time.
 #![tactic(auto)]
 
+mod cores;
 mod event;
 mod reply;
-mod run;
 mod state;
 mod steps;
 
-pub use event::Event;
+pub use cores::Core;
+pub use event::LocalEvent;
 pub use reply::Reply;
-pub use run::Core;

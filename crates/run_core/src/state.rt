@@ -7,7 +7,7 @@ ghost use Rattle.run_core.specs.Events.{logged};
 ghost use Rattle.run_core.specs.States.{first_state};
 ghost use Rattle.run_core.specs.Views.{data_of, state_of};
 
-use crate::event::Event;
+use crate::event::LocalEvent;
 use event_log::Entry;
 use ids::{AttemptId, NodeId, ObjectId, WorkerId};
 use run_tables::Tables;
@@ -60,7 +60,7 @@ impl State {
     pub fn add(
         &mut self,
         alloc: Global,
-        event: Event,
+        event: LocalEvent,
         entries: Vec<Entry>,
     ) -> Result<(), AllocError>
         ensures ok { OnOk result (log_of self.new.log ≡ log_of self.old.log ++ In (event_of (logged event)) 0 ∷ map entry_of entries.items) }

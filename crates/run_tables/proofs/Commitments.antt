@@ -10,11 +10,11 @@ use Rattle.sequence.proofs.Places.{slice_get_below, slice_get-append}
 use Rattle.std.proofs.lemmas.List.{length-append}
 use Rattle.machine.specs.Numbered.{item_of, changed}
 use Rattle.machine.specs.Tables as machine
-use Rattle.machine.specs.Jobs.{Handed, Nothing, OfAnother, OfJob, Outcomes, stop_of}
+use Rattle.machine.specs.Jobs.{Handed, Nothing, OfAnother, OfJob, Done, stop_of}
 use Rattle.machine.specs.Claims.{Step, Takes, Refuses}
 use Rattle.machine.specs.Commits.{commit, commit_given, commit_by, commit_phase, commit_done, is_too_much, new_rows, begin, row_after, committed, filled, take}
 use Rattle.run_tables.specs.Logged.{task_count}
-use Rattle.run_tables.specs.declared.outcome.JobOutcome.{JobOutcome}
+use Rattle.segment.specs.declared.done.DoneParts.{DoneParts}
 use Rattle.run_tables.specs.Handed.{IsHanded}
 use Rattle.run_tables.specs.declared.row.Row.{Row}
 use Rattle.run_tables.specs.declared.row.Phase.{Phase}
@@ -44,7 +44,7 @@ out_elsewhere t j w i row h e = let s : (i == j) ≡ false = grind (arith, nat_t
 too_much : (made n rows tasks : ℕ) → made + n ≤ 1000000 → rows ≤ 1024 → nat_lt (1024 - rows) tasks ≡ (nat_lt 1000000 (made + n) || nat_lt 1024 (rows + tasks))
 too_much made n rows tasks h k = grind (arith, nat_tests)
 
-pub too_much_exact : (t : machine.Tables) (w : ℕ) (d : Outcomes) (bs : List ABirth) (rows : List Row) (n count tasks : ℕ)
+pub too_much_exact : (t : machine.Tables) (w : ℕ) (d : Done) (bs : List ABirth) (rows : List Row) (n count tasks : ℕ)
     → d.births ≡ bs → t.rows ≡ map row_of rows → length bs ≡ n → count ≡ length rows → tasks ≡ task_count bs → t.made + n ≤ 1000000 → length rows ≤ 1024
     → nat_lt (1024 - count) tasks ≡ is_too_much t w d
 too_much_exact t w d bs rows n count tasks eb er en ec et h k =
@@ -80,10 +80,10 @@ other_refused t j h e = given_other t j (item_of 1 t.jobs j) h e
 
 -- what was done on the job
 
-pub done_refused : (t : machine.Tables) (j w : ℕ) (row : machine.Row) (d : Outcomes) → is_too_much t w d ≡ true → commit_done t j w row (OfJob d) ≡ Refuses 37
+pub done_refused : (t : machine.Tables) (j w : ℕ) (row : machine.Row) (d : Done) → is_too_much t w d ≡ true → commit_done t j w row (OfJob d) ≡ Refuses 37
 done_refused t j w row d e = ap (λ b. if b then Refuses 37 else Takes (take t j w row d)) e
 
-pub done_taken : (t : machine.Tables) (j w : ℕ) (row : machine.Row) (d : Outcomes) → is_too_much t w d ≡ false → commit_done t j w row (OfJob d) ≡ Takes (take t j w row d)
+pub done_taken : (t : machine.Tables) (j w : ℕ) (row : machine.Row) (d : Done) → is_too_much t w d ≡ false → commit_done t j w row (OfJob d) ≡ Takes (take t j w row d)
 done_taken t j w row d e = ap (λ b. if b then Refuses 37 else Takes (take t j w row d)) e
 
 -- a step whose parts are as told
@@ -91,7 +91,7 @@ done_taken t j w row d e = ap (λ b. if b then Refuses 37 else Takes (take t j w
 abbrev pub made_step : List machine.Row → List machine.Given → ℕ → List Entry → Step
 made_step rows jobs made entries = record { tables = record { rows = rows; jobs = jobs; made = made }; entries = entries; given = None }
 
-pub take_is : (t : machine.Tables) (j w : ℕ) (row : machine.Row) (d : Outcomes) (serial next n : ℕ) (rows : List machine.Row) (jobs : List machine.Given) (made : ℕ) (entries : List Entry)
+pub take_is : (t : machine.Tables) (j w : ℕ) (row : machine.Row) (d : Done) (serial next n : ℕ) (rows : List machine.Row) (jobs : List machine.Given) (made : ℕ) (entries : List Entry)
     → length row.objects ≡ serial → length t.rows ≡ next → length d.births ≡ n
     → rows ≡ filled (changed 1 t.rows w (λ _. row_after d row) ++ new_rows w (serial + 1) d.births) row.attempt.object d.stop
     → jobs ≡ changed 1 t.jobs j committed → made ≡ t.made + n
@@ -124,5 +124,5 @@ behind f old mid more after i row e h g told =
 
 -- what is handed in
 
-pub handed_in : (t : machine.Tables) (j : ℕ) (o : Option JobOutcome) (d : JobOutcome) (h : Handed) → o ≡ Some d → IsHanded t j (Some d) h → IsHanded t j o h
+pub handed_in : (t : machine.Tables) (j : ℕ) (o : Option DoneParts) (d : DoneParts) (h : Handed) → o ≡ Some d → IsHanded t j (Some d) h → IsHanded t j o h
 handed_in t j o d h e i = subst (λ x. IsHanded t j x h) (sym e) i

@@ -9,7 +9,7 @@ ghost use Rattle.machine.specs.Claims.{claim, give, got, Takes, Refuses};
 ghost use Rattle.run_tables.specs.Views.{tables_of, row_of, job_of, content_in};
 ghost use Rattle.run_tables.specs.declared.row.Row.{Row};
 
-use crate::given::{Answer, answer_entries, give_answered_at, give_at};
+use crate::giving::{Found, answer_entries, give_answered_at, give_at};
 use crate::place::place_of;
 use crate::row::Phase;
 use crate::rows::{copy_content_at, is_to_accept};
@@ -113,12 +113,12 @@ impl Tables {
             is_committed: false,
         })?;
         let number = self.jobs.len() as u64;
-        let answer = Answer {
+        let found = Found {
             object,
             content,
             is_accepted: accepted,
         };
-        let job = give_answered_at(alloc, &mut self.rows, place, worker, number, answer)?;
+        let job = give_answered_at(alloc, &mut self.rows, place, worker, number, found)?;
         Ok(Claimed { entries, job })
     }
 }

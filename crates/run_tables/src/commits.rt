@@ -4,25 +4,24 @@ ghost use Rattle.std.specs.Prelude.{◌≡◌, ◌⊎◌, ◌+◌, ◌<◌, ◌�
 ghost use Rattle.task_spec.specs.Births.{birth_of};
 ghost use Rattle.segment.specs.Parts.{data_of};
 ghost use Rattle.event_log.specs.Views.{entry_of, code_of};
-ghost use Rattle.machine.specs.Jobs.{Handed, Outcomes};
+ghost use Rattle.machine.specs.Jobs.{Handed, Done};
 ghost use Rattle.machine.specs.Claims.{Takes, Refuses};
 ghost use Rattle.machine.specs.Numbered.{changed};
 ghost use Rattle.machine.specs.Commits.{commit, commit_done, committed, is_too_much, take};
 ghost use Rattle.run_tables.specs.Views.{tables_of, given_of, row_of, job_of};
-ghost use Rattle.run_tables.specs.Handed.{IsHanded, IsOut, outcomes_of};
+ghost use Rattle.run_tables.specs.Handed.{IsHanded, IsOut, done_of};
 ghost use Rattle.run_tables.specs.Logged.{task_count};
 ghost use Rattle.run_tables.specs.declared.row.Row.{Row};
 
 use crate::applied::apply;
 use crate::begun::count_tasks;
 use crate::handed::is_job_of;
-use crate::outcome::JobOutcome;
 use crate::place::place_of;
 use crate::row::Phase;
 use crate::rows::row_at;
 use crate::tables::{Given, Tables};
 use event_log::{Entry, Refusal};
-use segment::JobParts;
+use segment::{DoneParts, JobParts};
 use sequence::Seq;
 use std::alloc::{AllocError, Global};
 use task_spec::Birth;
@@ -46,24 +45,24 @@ impl Tables {
         &mut self,
         alloc: Global,
         job: u64,
-        outcome: Option<JobOutcome>,
+        done: Option<DoneParts>,
     ) -> Result<Vec<Entry>, Refusal>
-        ensures taken { IfOk result (λ entries. (h : Handed) × IsHanded (tables_of self.old) job outcome h × (commit (tables_of self.old) job h ≡ Takes (record { tables = tables_of self.new; entries = map entry_of entries.items; given = None }))) }
-        ensures refused { IfErr result (λ e. (e ≡ Refusal.NoMemory) ⊎ ((h : Handed) × IsHanded (tables_of self.old) job outcome h × (commit (tables_of self.old) job h ≡ Refuses (code_of e)) × (self.new ≡ self.old))) }
+        ensures taken { IfOk result (λ entries. (h : Handed) × IsHanded (tables_of self.old) job done h × (commit (tables_of self.old) job h ≡ Takes (record { tables = tables_of self.new; entries = map entry_of entries.items; given = None }))) }
+        ensures refused { IfErr result (λ e. (e ≡ Refusal.NoMemory) ⊎ ((h : Handed) × IsHanded (tables_of self.old) job done h × (commit (tables_of self.old) job h ≡ Refuses (code_of e)) × (self.new ≡ self.old))) }
     {
-        let Some(outcome) = outcome else {
+        let Some(done) = done else {
             return Err(Refusal::NoJob);
         };
-        if !self.is_out(job, &outcome.job) {
+        if !self.is_out(job, &done.job) {
             return Err(Refusal::NoJob);
         }
         let Some(place) = self.place_out(job) else {
             return Err(Refusal::NoJob);
         };
-        if self.is_too_much(&outcome.births) {
+        if self.is_too_much(&done.births) {
             return Err(Refusal::Limit);
         }
-        match self.take(alloc, job, place, outcome) {
+        match self.take(alloc, job, place, done) {
             Ok(entries) => Ok(entries),
             Err(_) => Err(Refusal::NoMemory),
         }
@@ -109,7 +108,7 @@ impl Tables {
 
     /// Whether object 1,000,001 or worker 1,025 would come.
     fn is_too_much(&self, births: &[Birth]) -> bool
-        ensures exact { (w : ℕ) (d : Outcomes) → d.births ≡ map birth_of births.now → result ≡ is_too_much (tables_of self.now) w d }
+        ensures exact { (w : ℕ) (d : Done) → d.births ≡ map birth_of births.now → result ≡ is_too_much (tables_of self.now) w d }
         ensures room { result ≡ false → (self.now.made + length births.now ≤ 1000000) × (length self.now.rows + task_count (map birth_of births.now) ≤ 1024) }
     {
         let bears = births.len() as u64;
@@ -128,21 +127,21 @@ impl Tables {
         alloc: Global,
         job: u64,
         place: usize,
-        outcome: JobOutcome,
+        done: DoneParts,
     ) -> Result<Vec<Entry>, AllocError>
         requires place_in { place < length self.old.rows }
         requires job_from { 1 ≤ job }
         requires job_to { job ≤ length self.old.jobs }
-        requires objects { self.old.made + length outcome.births.items ≤ 1000000 }
-        requires workers { length self.old.rows + task_count (map birth_of outcome.births.items) ≤ 1024 }
-        ensures { IfOk result (λ entries. (row : Row) → slice_get self.old.rows place ≡ Some row → take (tables_of self.old) job (1 + place) (row_of row) (outcomes_of outcome) ≡ record { tables = tables_of self.new; entries = map entry_of entries.items; given = None }) }
+        requires objects { self.old.made + length done.births.items ≤ 1000000 }
+        requires workers { length self.old.rows + task_count (map birth_of done.births.items) ≤ 1024 }
+        ensures { IfOk result (λ entries. (row : Row) → slice_get self.old.rows place ≡ Some row → take (tables_of self.old) job (1 + place) (row_of row) (done_of done) ≡ record { tables = tables_of self.new; entries = map entry_of entries.items; given = None }) }
     {
-        let JobOutcome {
+        let DoneParts {
             job: _,
             births,
             prints,
             stop,
-        } = outcome;
+        } = done;
         let count = births.len() as u64;
         let entries = apply(alloc, &mut self.rows, place, births, prints, stop)?;
         note_committed(&mut self.jobs, job as usize - 1);

@@ -5,11 +5,10 @@ mod applied;
 mod begun;
 mod claims;
 mod commits;
-mod given;
+mod giving;
 mod handed;
 mod logged;
 mod object;
-mod outcome;
 mod place;
 mod row;
 mod rows;
@@ -18,9 +17,5 @@ mod tables;
 
 pub use claims::Claimed;
 pub use object::Object;
-pub use outcome::JobOutcome;
 pub use row::{Phase, Row};
 pub use tables::{Given, Tables};
-
-#[cfg(test)]
-mod tests;

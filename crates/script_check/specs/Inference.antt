@@ -1,5 +1,27 @@
 -- The rules as functions, which the code follows step by step.
-use Rattle.std.specs.Prelude.{ℕ, ◌+◌, Bool, true, false, List, [], ◌∷◌, ◌++◌, ◌^◌, ◌||◌, ◌&&◌, Option, Some, None, pos, length, nat_lt, nat_eq, nat_le, if◌then◌else◌}
+use Rattle.std.specs.Prelude.{
+  ℕ,
+  ◌+◌,
+  Bool,
+  true,
+  false,
+  List,
+  [],
+  ◌∷◌,
+  ◌++◌,
+  ◌^◌,
+  ◌||◌,
+  ◌&&◌,
+  Option,
+  Some,
+  None,
+  pos,
+  length,
+  nat_lt,
+  nat_eq,
+  nat_le,
+  if◌then◌else◌,
+}
 use Rattle.meaning.specs.Values.{Name}
 use Rattle.meaning.specs.Syntax.{Kind, Number, ListKind, RefKind, Expr, Exprs, end, also, Stmt, Block, done, step, Parameter, Function, Script}
 use Rattle.meaning.specs.Syntax as syntax
@@ -84,15 +106,25 @@ module _ (program : parsed.Program) (context : Context) where
     infer (parsed.Number n) = int_typing n
     infer (parsed.Variable x) = variable_typing context x
     infer (parsed.Prefixed op a) = infer a >>= prefixed op
-    infer (parsed.Binary op a b) = infer a >>= of_kind Number >>= λ c. infer b >>= of_kind Number >>= λ d. Some (record { expr = syntax.Binary (operator_named op) c d; kind = Number })
-    infer (parsed.Item a i) = infer a >>= λ x. items_of x.kind >>= λ t. infer i >>= of_kind Number >>= λ d. Some (record { expr = syntax.Binary syntax.ItemAt x.expr d; kind = t })
+    infer (parsed.Binary op a b) = infer a >>= of_kind Number >>= λ c. infer b >>= of_kind Number
+        >>= λ d. Some (record { expr = syntax.Binary (operator_named op) c d; kind = Number })
+    infer (parsed.Item a i) = infer a >>= λ x. items_of x.kind >>= λ t. infer i >>= of_kind Number
+        >>= λ d. Some (record { expr = syntax.Binary syntax.ItemAt x.expr d; kind = t })
     infer (parsed.ListOf parsed.no_expr) = None
-    infer (parsed.ListOf (parsed.also e es)) = infer e >>= λ x. infer_each x.kind es >>= λ cs. Some (record { expr = syntax.ListOf (also x.expr cs); kind = ListKind x.kind })
+    infer (parsed.ListOf (parsed.also e es)) = infer e >>= λ x. infer_each x.kind es >>= λ cs. Some (record {
+      expr = syntax.ListOf (also x.expr cs);
+      kind = ListKind x.kind;
+    })
     infer (parsed.Empty u) = Some (record { expr = syntax.Empty (kind_named u); kind = ListKind (kind_named u) })
-    infer (parsed.Call g args) = callee program g (count args) >>= λ f. infer_arguments args f.parameters >>= λ cs. Some (record { expr = syntax.Call g cs; kind = kind_named f.result })
-    infer (parsed.Remote r g args) = retries_within r >>= λ k. callee program g (count args) >>= λ f. infer_marked args f.parameters >>= λ m. Some (record { expr = syntax.Remote k g m.marks m.exprs; kind = RefKind (kind_named f.result) })
+    infer (parsed.Call g args) = callee program g (count args) >>= λ f. infer_arguments args f.parameters >>= λ cs. Some (record {
+      expr = syntax.Call g cs;
+      kind = kind_named f.result;
+    })
+    infer (parsed.Remote r g args) = retries_within r >>= λ k. callee program g (count args) >>= λ f. infer_marked args f.parameters
+        >>= λ m. Some (record { expr = syntax.Remote k g m.marks m.exprs; kind = RefKind (kind_named f.result) })
     infer (parsed.Len a) = infer a >>= length_typing
-    infer (parsed.Push a b) = infer a >>= λ x. items_of x.kind >>= λ t. infer b >>= of_kind t >>= λ d. Some (record { expr = syntax.Binary syntax.Push x.expr d; kind = ListKind t })
+    infer (parsed.Push a b) = infer a >>= λ x. items_of x.kind >>= λ t. infer b >>= of_kind t
+        >>= λ d. Some (record { expr = syntax.Binary syntax.Push x.expr d; kind = ListKind t })
 
     pub infer_each : Kind → parsed.Exprs → Option Exprs
     infer_each t parsed.no_expr = Some end
@@ -105,7 +137,11 @@ module _ (program : parsed.Program) (context : Context) where
 
     pub infer_marked : parsed.Exprs → List parsed.Parameter → Option Marked
     infer_marked parsed.no_expr [] = Some (record { marks = []; exprs = end })
-    infer_marked (parsed.also e es) (p ∷ ps) = infer e >>= λ x. mark_for x.kind (kind_named p.kind) >>= λ m. infer_marked es ps >>= λ rest. Some (record { marks = m ∷ rest.marks; exprs = also x.expr rest.exprs })
+    infer_marked (parsed.also e es) (p
+        ∷ ps) = infer e >>= λ x. mark_for x.kind (kind_named p.kind) >>= λ m. infer_marked es ps >>= λ rest. Some (record {
+          marks = m ∷ rest.marks;
+          exprs = also x.expr rest.exprs;
+        })
     infer_marked _ _ = None
 
   abbrev pub infer_as : Kind → parsed.Expr → Option Expr
@@ -128,13 +164,18 @@ pub record Blocked : Type 0 where
   pub after : Context
 
 abbrev pub let_step : parsed.Program → Context → Name → parsed.Expr → Option Stepped
-let_step program before x e = fresh before x >>= λ _. infer program before e >>= λ c. Some (record { stmt = syntax.Let x c.expr; after = before ++ variable x c.kind })
+let_step program before x e = fresh before x >>= λ _. infer program before e >>= λ c. Some (record {
+  stmt = syntax.Let x c.expr;
+  after = before
+      ++ variable x c.kind;
+})
 
 abbrev pub set_step : parsed.Program → Context → Name → parsed.Expr → Option Stepped
 set_step program before x e = kind_in before x >>= λ t. infer program before e >>= of_kind t >>= λ d. Some (record { stmt = syntax.Set x d; after = before })
 
 abbrev pub print_step : parsed.Program → Name → Context → parsed.Expr → Option Stepped
-print_step program self before e = if same_name self main_name then (infer program before e >>= λ c. if has_reference c.kind then None else Some (record { stmt = syntax.Print c.expr; after = before })) else None
+print_step program self before e = if same_name self main_name then (infer program before e >>= λ c. if has_reference c.kind then None
+    else Some (record { stmt = syntax.Print c.expr; after = before })) else None
 
 abbrev pub return_step : parsed.Program → Kind → Context → parsed.Expr → Option Stepped
 return_step program result before e = infer program before e >>= of_kind result >>= λ c. Some (record { stmt = syntax.Return c; after = before })
@@ -147,15 +188,22 @@ module _ (program : parsed.Program) (function : parsed.Function) where
     pub step_of : parsed.Stmt → Context → Option Stepped
     step_of (parsed.Let x e) before = let_step program before x e
     step_of (parsed.Set x e) before = set_step program before x e
-    step_of (parsed.If e a) before = infer program before e >>= of_kind Number >>= λ c. steps_of a before >>= block_alone >>= λ x. Some (record { stmt = syntax.If c x done; after = before })
-    step_of (parsed.IfElse e a b) before = infer program before e >>= of_kind Number >>= λ c. steps_of a before >>= block_alone >>= λ x. steps_of b before >>= block_alone >>= λ y. Some (record { stmt = syntax.If c x y; after = before })
-    step_of (parsed.For x from to body) before = fresh before x >>= λ _. infer program before from >>= of_kind Number >>= λ c. infer program before to >>= of_kind Number >>= λ d. steps_of body (before ++ variable x Number) >>= block_alone >>= λ b. Some (record { stmt = syntax.For x c d b; after = before })
+    step_of (parsed.If e a) before = infer program before e >>= of_kind Number >>= λ c. steps_of a before >>= block_alone
+        >>= λ x. Some (record { stmt = syntax.If c x done; after = before })
+    step_of (parsed.IfElse e a b) before = infer program before e >>= of_kind Number >>= λ c. steps_of a before >>= block_alone >>= λ x. steps_of b before
+        >>= block_alone >>= λ y. Some (record { stmt = syntax.If c x y; after = before })
+    step_of (parsed.For x from to body) before = fresh before x >>= λ _. infer program before from >>= of_kind Number >>= λ c. infer program before to
+        >>= of_kind Number >>= λ d. steps_of body (before ++ variable x Number) >>= block_alone
+        >>= λ b. Some (record { stmt = syntax.For x c d b; after = before })
     step_of (parsed.Print e) before = print_step program function.name before e
     step_of (parsed.Return e) before = return_step program (kind_named function.result) before e
 
     pub steps_of : parsed.Block → Context → Option Blocked
     steps_of parsed.no_stmt before = Some (record { block = done; after = before })
-    steps_of (parsed.stmt s rest) before = step_of s before >>= λ c. steps_of rest c.after >>= λ b. Some (record { block = step c.stmt b.block; after = b.after })
+    steps_of (parsed.stmt s rest) before = step_of s before >>= λ c. steps_of rest c.after >>= λ b. Some (record {
+      block = step c.stmt b.block;
+      after = b.after;
+    })
 
   abbrev pub block_from : parsed.Block → Context → Option Block
   block_from b before = steps_of b before >>= block_alone
@@ -184,7 +232,8 @@ pub record Declared : Type 0 where
 
 abbrev pub declared : List parsed.Parameter → Context → Option Declared
 declared [] before = Some (record { parameters = []; context = before })
-declared (p ∷ ps) before = fresh before p.name >>= λ _. declared ps (before ++ variable p.name (kind_named p.kind)) >>= λ d. Some (record { parameters = parameter_named p ∷ d.parameters; context = d.context })
+declared (p ∷ ps) before = fresh before p.name >>= λ _. declared ps (before
+    ++ variable p.name (kind_named p.kind)) >>= λ d. Some (record { parameters = parameter_named p ∷ d.parameters; context = d.context })
 
 abbrev pub function_from : parsed.Program → parsed.Function → Option Function
 function_from program f =

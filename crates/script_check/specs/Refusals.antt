@@ -2,7 +2,17 @@
 use Rattle.std.specs.Prelude.{ℕ, Bool, true, false, Option, Some, None}
 use Rattle.script_tokens.specs.declared.token.Span.{Span}
 use Rattle.script_check.specs.declared.error.CheckError.{CheckError}
-use Rattle.script_check.specs.declared.error.CheckError.TheVariants.{UnknownName, WrongType, WrongCount, NoMain, PrintOutsideMain, MissingReturn, BadRetries, Duplicate, NoMemory}
+use Rattle.script_check.specs.declared.error.CheckError.TheVariants.{
+  UnknownName,
+  WrongType,
+  WrongCount,
+  NoMain,
+  PrintOutsideMain,
+  MissingReturn,
+  BadRetries,
+  Duplicate,
+  NoMemory,
+}
 
 abbrev pub number_of : CheckError → ℕ
 number_of (UnknownName s) = 10

@@ -1,5 +1,24 @@
 -- Which programs are allowed, and what each becomes: a rule for each form, over the parsed program.
-use Rattle.std.specs.Prelude.{◌≡◌, ◌≢◌, ℕ, ◌<◌, ◌≤◌, ◌^◌, ◌⊎◌, Bool, false, List, [], ◌∷◌, ◌++◌, Option, Some, None, pos, if◌then◌else◌}
+use Rattle.std.specs.Prelude.{
+  ◌≡◌,
+  ◌≢◌,
+  ℕ,
+  ◌<◌,
+  ◌≤◌,
+  ◌^◌,
+  ◌⊎◌,
+  Bool,
+  false,
+  List,
+  [],
+  ◌∷◌,
+  ◌++◌,
+  Option,
+  Some,
+  None,
+  pos,
+  if◌then◌else◌,
+}
 use Rattle.meaning.specs.Values.{Name, main_name}
 use Rattle.meaning.specs.Syntax.{Kind, Number, ListKind, RefKind, Operator, Expr, Exprs, end, also, Stmt, Block, done, step, Parameter, Function, Script}
 use Rattle.meaning.specs.Syntax as syntax
@@ -53,15 +72,20 @@ module _ (program : parsed.Program) (context : Context) where
     IsChecked (parsed.Prefixed prefixes.Negate a) c t = (x : Expr) × IsChecked a x Number × (c ≡ syntax.Unary syntax.Negate x) × (t ≡ Number)
     IsChecked (parsed.Prefixed prefixes.Get a) c t = (x : Expr) × IsChecked a x (RefKind t) × (c ≡ syntax.GetOf t x)
     IsChecked (parsed.Prefixed prefixes.Put a) c t = (x : Expr) × (u : Kind) × IsChecked a x u × (c ≡ syntax.PutOf x) × (t ≡ RefKind u)
-    IsChecked (parsed.Binary op a b) c t = (x : Expr) × (y : Expr) × IsChecked a x Number × IsChecked b y Number × (c ≡ syntax.Binary (operator_named op) x y) × (t ≡ Number)
+    IsChecked (parsed.Binary op a b) c t = (x : Expr) × (y : Expr) × IsChecked a x Number × IsChecked b y Number
+        × (c ≡ syntax.Binary (operator_named op) x y) × (t ≡ Number)
     IsChecked (parsed.Item a i) c t = (x : Expr) × (y : Expr) × IsChecked a x (ListKind t) × IsChecked i y Number × (c ≡ syntax.Binary syntax.ItemAt x y)
     IsChecked (parsed.ListOf parsed.no_expr) c t = ⊥
-    IsChecked (parsed.ListOf (parsed.also e es)) c t = (x : Expr) × (xs : Exprs) × (u : Kind) × IsChecked e x u × EachChecked es xs u × (c ≡ syntax.ListOf (also x xs)) × (t ≡ ListKind u)
+    IsChecked (parsed.ListOf (parsed.also e es)) c t = (x : Expr) × (xs : Exprs) × (u : Kind) × IsChecked e x u × EachChecked es xs u
+        × (c ≡ syntax.ListOf (also x xs)) × (t ≡ ListKind u)
     IsChecked (parsed.Empty u) c t = (c ≡ syntax.Empty (kind_named u)) × (t ≡ ListKind (kind_named u))
-    IsChecked (parsed.Call g args) c t = (f : parsed.Function) × (xs : Exprs) × IsCallee program g f × ArgumentsChecked args xs f.parameters × (c ≡ syntax.Call g xs) × (t ≡ kind_named f.result)
-    IsChecked (parsed.Remote r g args) c t = (f : parsed.Function) × (ms : List Bool) × (xs : Exprs) × (retries_of r ≤ 10) × IsCallee program g f × MarkedChecked args ms xs f.parameters × (c ≡ syntax.Remote (retries_of r) g ms xs) × (t ≡ RefKind (kind_named f.result))
+    IsChecked (parsed.Call g args) c t = (f : parsed.Function) × (xs : Exprs) × IsCallee program g f × ArgumentsChecked args xs f.parameters
+        × (c ≡ syntax.Call g xs) × (t ≡ kind_named f.result)
+    IsChecked (parsed.Remote r g args) c t = (f : parsed.Function) × (ms : List Bool) × (xs : Exprs) × (retries_of r ≤ 10) × IsCallee program g f
+        × MarkedChecked args ms xs f.parameters × (c ≡ syntax.Remote (retries_of r) g ms xs) × (t ≡ RefKind (kind_named f.result))
     IsChecked (parsed.Len a) c t = (x : Expr) × (u : Kind) × IsChecked a x (ListKind u) × (c ≡ syntax.Unary syntax.Len x) × (t ≡ Number)
-    IsChecked (parsed.Push a b) c t = (x : Expr) × (y : Expr) × (u : Kind) × IsChecked a x (ListKind u) × IsChecked b y u × (c ≡ syntax.Binary syntax.Push x y) × (t ≡ ListKind u)
+    IsChecked (parsed.Push a b) c t = (x : Expr) × (y : Expr) × (u : Kind) × IsChecked a x (ListKind u) × IsChecked b y u
+        × (c ≡ syntax.Binary syntax.Push x y) × (t ≡ ListKind u)
 
     -- further items, each of the first one's type
     pub EachChecked : parsed.Exprs → Exprs → Kind → Type 0
@@ -71,13 +95,15 @@ module _ (program : parsed.Program) (context : Context) where
     -- as many arguments as parameters, each of its parameter's type
     pub ArgumentsChecked : parsed.Exprs → Exprs → List parsed.Parameter → Type 0
     ArgumentsChecked parsed.no_expr cs [] = cs ≡ end
-    ArgumentsChecked (parsed.also e es) cs (p ∷ ps) = (x : Expr) × (xs : Exprs) × IsChecked e x (kind_named p.kind) × ArgumentsChecked es xs ps × (cs ≡ also x xs)
+    ArgumentsChecked (parsed.also e es) cs (p ∷ ps) = (x : Expr) × (xs : Exprs) × IsChecked e x (kind_named p.kind) × ArgumentsChecked es xs ps
+        × (cs ≡ also x xs)
     ArgumentsChecked _ _ _ = ⊥
 
     -- each of its parameter's type, or a reference to that, and then marked
     pub MarkedChecked : parsed.Exprs → List Bool → Exprs → List parsed.Parameter → Type 0
     MarkedChecked parsed.no_expr marks cs [] = (marks ≡ []) × (cs ≡ end)
-    MarkedChecked (parsed.also e es) marks cs (p ∷ ps) = (x : Expr) × (xs : Exprs) × (m : Bool) × (ms : List Bool) × IsChecked e x (argument_kind m (kind_named p.kind)) × MarkedChecked es ms xs ps × (marks ≡ m ∷ ms) × (cs ≡ also x xs)
+    MarkedChecked (parsed.also e es) marks cs (p ∷ ps) = (x : Expr) × (xs : Exprs) × (m : Bool) × (ms : List Bool)
+        × IsChecked e x (argument_kind m (kind_named p.kind)) × MarkedChecked es ms xs ps × (marks ≡ m ∷ ms) × (cs ≡ also x xs)
     MarkedChecked _ _ _ _ = ⊥
 
 -- Statements
@@ -87,18 +113,27 @@ module _ (program : parsed.Program) (function : parsed.Function) where
   abbrev mutual
     -- the statement is allowed in a scope, becomes s, and leaves the scope after it
     pub StatementChecked : parsed.Stmt → Context → Stmt → Context → Type 0
-    StatementChecked (parsed.Let x e) before s after = (c : Expr) × (t : Kind) × (kind_in before x ≡ None) × IsChecked program before e c t × (s ≡ syntax.Let x c) × (after ≡ before ++ variable x t)
-    StatementChecked (parsed.Set x e) before s after = (c : Expr) × (t : Kind) × (kind_in before x ≡ Some t) × IsChecked program before e c t × (s ≡ syntax.Set x c) × (after ≡ before)
-    StatementChecked (parsed.If e a) before s after = (c : Expr) × (x : Block) × IsChecked program before e c Number × BlockChecked a before x × (s ≡ syntax.If c x done) × (after ≡ before)
-    StatementChecked (parsed.IfElse e a b) before s after = (c : Expr) × (x : Block) × (y : Block) × IsChecked program before e c Number × BlockChecked a before x × BlockChecked b before y × (s ≡ syntax.If c x y) × (after ≡ before)
-    StatementChecked (parsed.For x from to body) before s after = (c : Expr) × (d : Expr) × (b : Block) × (kind_in before x ≡ None) × IsChecked program before from c Number × IsChecked program before to d Number × BlockChecked body (before ++ variable x Number) b × (s ≡ syntax.For x c d b) × (after ≡ before)
-    StatementChecked (parsed.Print e) before s after = (c : Expr) × (t : Kind) × (function.name ≡ main_name) × IsChecked program before e c t × (has_reference t ≡ false) × (s ≡ syntax.Print c) × (after ≡ before)
-    StatementChecked (parsed.Return e) before s after = (c : Expr) × IsChecked program before e c (kind_named function.result) × (s ≡ syntax.Return c) × (after ≡ before)
+    StatementChecked (parsed.Let x e) before s after = (c : Expr) × (t : Kind) × (kind_in before x ≡ None) × IsChecked program before e c t
+        × (s ≡ syntax.Let x c) × (after ≡ before ++ variable x t)
+    StatementChecked (parsed.Set x e) before s after = (c : Expr) × (t : Kind) × (kind_in before x ≡ Some t) × IsChecked program before e c t
+        × (s ≡ syntax.Set x c) × (after ≡ before)
+    StatementChecked (parsed.If e a) before s after = (c : Expr) × (x : Block) × IsChecked program before e c Number × BlockChecked a before x
+        × (s ≡ syntax.If c x done) × (after ≡ before)
+    StatementChecked (parsed.IfElse e a b) before s after = (c : Expr) × (x : Block) × (y : Block) × IsChecked program before e c Number
+        × BlockChecked a before x × BlockChecked b before y × (s ≡ syntax.If c x y) × (after ≡ before)
+    StatementChecked (parsed.For x from to body) before s after = (c : Expr) × (d : Expr) × (b : Block) × (kind_in before x ≡ None)
+        × IsChecked program before from c Number × IsChecked program before to d Number × BlockChecked body (before ++ variable x Number) b
+        × (s ≡ syntax.For x c d b) × (after ≡ before)
+    StatementChecked (parsed.Print e) before s after = (c : Expr) × (t : Kind) × (function.name ≡ main_name) × IsChecked program before e c t
+        × (has_reference t ≡ false) × (s ≡ syntax.Print c) × (after ≡ before)
+    StatementChecked (parsed.Return e) before s after = (c : Expr) × IsChecked program before e c (kind_named function.result) × (s ≡ syntax.Return c)
+        × (after ≡ before)
 
     -- its statements in order, each in the scope that the one before leaves
     pub BlockChecked : parsed.Block → Context → Block → Type 0
     BlockChecked parsed.no_stmt before b = b ≡ done
-    BlockChecked (parsed.stmt s rest) before b = (after : Context) × (c : Stmt) × (cs : Block) × StatementChecked s before c after × BlockChecked rest after cs × (b ≡ step c cs)
+    BlockChecked (parsed.stmt s rest) before b = (after : Context) × (c : Stmt) × (cs : Block) × StatementChecked s before c after
+        × BlockChecked rest after cs × (b ≡ step c cs)
 
 abbrev mutual
   -- no way through it passes by without a return
@@ -120,7 +155,8 @@ parameter_named p = record { name = p.name; kind = kind_named p.kind }
 -- the parameters, each with a name of its own, and the scope after them
 abbrev pub ParametersChecked : List parsed.Parameter → Context → List Parameter → Context → Type 0
 ParametersChecked [] before ps after = (ps ≡ []) × (after ≡ before)
-ParametersChecked (p ∷ rest) before ps after = (qs : List Parameter) × (kind_in before p.name ≡ None) × ParametersChecked rest (before ++ variable p.name (kind_named p.kind)) qs after × (ps ≡ parameter_named p ∷ qs)
+ParametersChecked (p ∷ rest) before ps after = (qs : List Parameter) × (kind_in before p.name ≡ None)
+    × ParametersChecked rest (before ++ variable p.name (kind_named p.kind)) qs after × (ps ≡ parameter_named p ∷ qs)
 
 -- the function of the program is allowed, and becomes f
 pub record FunctionChecked (program : parsed.Program) (function : parsed.Function) (f : Function) : Type 0 where
@@ -133,7 +169,8 @@ pub record FunctionChecked (program : parsed.Program) (function : parsed.Functio
 
 abbrev pub FunctionsChecked : parsed.Program → List parsed.Function → Script → Type 0
 FunctionsChecked program [] script = script ≡ []
-FunctionsChecked program (function ∷ functions) script = (f : Function) × (fs : Script) × FunctionChecked program function f × FunctionsChecked program functions fs × (script ≡ f ∷ fs)
+FunctionsChecked program (function ∷ functions) script = (f : Function) × (fs : Script) × FunctionChecked program function f
+    × FunctionsChecked program functions fs × (script ≡ f ∷ fs)
 
 -- none of the functions has the name of one before it
 abbrev pub AreNamedApart : parsed.Program → parsed.Program → Type 0

@@ -1,6 +1,33 @@
 -- How large a tree is, for measures.
 use Rattle.std.specs.Prelude.{ℕ, ◌+◌, Option, Some, None}
-use Rattle.script_syntax.specs.Trees.{Expr, Number, Variable, Prefixed, Binary, Item, ListOf, Empty, Call, Remote, Len, Push, Exprs, no_expr, also, Stmt, Let, Set, If, IfElse, For, Print, Return, Block, no_stmt, stmt}
+use Rattle.script_syntax.specs.Trees.{
+  Expr,
+  Number,
+  Variable,
+  Prefixed,
+  Binary,
+  Item,
+  ListOf,
+  Empty,
+  Call,
+  Remote,
+  Len,
+  Push,
+  Exprs,
+  no_expr,
+  also,
+  Stmt,
+  Let,
+  Set,
+  If,
+  IfElse,
+  For,
+  Print,
+  Return,
+  Block,
+  no_stmt,
+  stmt,
+}
 
 abbrev mutual
   pub size_of : Expr → ℕ

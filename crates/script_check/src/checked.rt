@@ -75,7 +75,8 @@ pub fn check(alloc: Global, program: Program) -> Result<Checked, CheckError>
     // What is given is what the program becomes by the rules.
     ensures found { IfOk result (λ c. IsCheckedOf (program_of program.functions.items) (script_of c)) }
     // What the rules allow is given, unless memory runs out.
-    ensures only { (script : Script) → IsCheckedOf (program_of program.functions.items) script → MatchResult result (λ c. script_of c ≡ script) (λ e. e ≡ CheckError.NoMemory) }
+    ensures only { (script : Script) → IsCheckedOf (program_of program.functions.items) script →
+        MatchResult result (λ c. script_of c ≡ script) (λ e. e ≡ CheckError.NoMemory) }
 {
     let functions = functions_of(&program);
     check_names(functions)?;

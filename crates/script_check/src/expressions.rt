@@ -82,7 +82,8 @@ pub(crate) fn check_number(
     expr: &Expr,
 ) -> Result<CheckedExpr, CheckError>
     ensures value { IfOk result (λ c. infer_as (program_of functions.now) (context_of scope.now) ANumber (tree_of expr.now) ≡ Some (expr_of c)) }
-    ensures refused { IfErr result (λ e. IsTrue (is_refusal e) → infer_as (program_of functions.now) (context_of scope.now) ANumber (tree_of expr.now) ≡ None) }
+    ensures refused { IfErr result (λ e. IsTrue (is_refusal e) →
+        infer_as (program_of functions.now) (context_of scope.now) ANumber (tree_of expr.now) ≡ None) }
 {
     let typing = check_expr(alloc, functions, scope, expr)?;
     typing.number(expr.span)
@@ -97,8 +98,10 @@ fn check_push(
     list: &Expr,
     item: &Expr,
 ) -> Result<Typing, CheckError>
-    ensures value { IfOk result (λ x. infer (program_of functions.now) (context_of scope.now) (Push (tree_of list.now) (tree_of item.now)) ≡ Some (typing_of x)) }
-    ensures refused { IfErr result (λ e. IsTrue (is_refusal e) → infer (program_of functions.now) (context_of scope.now) (Push (tree_of list.now) (tree_of item.now)) ≡ None) }
+    ensures value { IfOk result (λ x. infer (program_of functions.now) (context_of scope.now) (Push (tree_of list.now) (tree_of item.now))
+        ≡ Some (typing_of x)) }
+    ensures refused { IfErr result (λ e. IsTrue (is_refusal e) →
+        infer (program_of functions.now) (context_of scope.now) (Push (tree_of list.now) (tree_of item.now)) ≡ None) }
 {
     let typing = check_expr(alloc, functions, scope, list)?;
     let kind = items_of(typing.kind, list.span)?;
@@ -118,7 +121,8 @@ fn check_list(
     span: Span,
 ) -> Result<Typing, CheckError>
     ensures value { IfOk result (λ x. infer (program_of functions.now) (context_of scope.now) (ListOf (trees_of items.now)) ≡ Some (typing_of x)) }
-    ensures refused { IfErr result (λ e. IsTrue (is_refusal e) → infer (program_of functions.now) (context_of scope.now) (ListOf (trees_of items.now)) ≡ None) }
+    ensures refused { IfErr result (λ e. IsTrue (is_refusal e) →
+        infer (program_of functions.now) (context_of scope.now) (ListOf (trees_of items.now)) ≡ None) }
 {
     let [first, rest @ ..] = items else {
         return Err(CheckError::WrongType(span));
@@ -142,8 +146,11 @@ fn check_each(
     items: &[Expr],
     mut checked: Vec<CheckedExpr>,
 ) -> Result<Vec<CheckedExpr>, CheckError>
-    ensures value { IfOk result (λ cs. onto checked.items (infer_each (program_of functions.now) (context_of scope.now) (kind_of kind.now) (trees_of items.now)) ≡ Some (exprs_of cs.items)) }
-    ensures refused { IfErr result (λ e. IsTrue (is_refusal e) → infer_each (program_of functions.now) (context_of scope.now) (kind_of kind.now) (trees_of items.now) ≡ None) }
+    ensures value { IfOk result (λ cs.
+        onto checked.items (infer_each (program_of functions.now) (context_of scope.now) (kind_of kind.now) (trees_of items.now))
+        ≡ Some (exprs_of cs.items)) }
+    ensures refused { IfErr result (λ e. IsTrue (is_refusal e) →
+        infer_each (program_of functions.now) (context_of scope.now) (kind_of kind.now) (trees_of items.now) ≡ None) }
 {
     for item in items {
         let typing = check_expr(alloc, functions, scope, item)?;
@@ -162,8 +169,10 @@ fn check_call(
     name: &Name,
     arguments: &[Expr],
 ) -> Result<Typing, CheckError>
-    ensures value { IfOk result (λ x. infer (program_of functions.now) (context_of scope.now) (Call (string_bytes name.now.text) (trees_of arguments.now)) ≡ Some (typing_of x)) }
-    ensures refused { IfErr result (λ e. IsTrue (is_refusal e) → infer (program_of functions.now) (context_of scope.now) (Call (string_bytes name.now.text) (trees_of arguments.now)) ≡ None) }
+    ensures value { IfOk result (λ x. infer (program_of functions.now) (context_of scope.now) (Call (string_bytes name.now.text) (trees_of arguments.now))
+        ≡ Some (typing_of x)) }
+    ensures refused { IfErr result (λ e. IsTrue (is_refusal e) →
+        infer (program_of functions.now) (context_of scope.now) (Call (string_bytes name.now.text) (trees_of arguments.now)) ≡ None) }
 {
     let function = callee(functions, name, arguments.len())?;
     let checked = check_arguments(alloc, functions, scope, &function.parameters, arguments)?;
@@ -182,8 +191,11 @@ fn check_arguments(
     arguments: &[Expr],
 ) -> Result<Vec<CheckedExpr>, CheckError>
     requires { length parameters.now ≡ length arguments.now }
-    ensures value { IfOk result (λ cs. infer_arguments (program_of functions.now) (context_of scope.now) (trees_of arguments.now) (map parsed_parameter parameters.now) ≡ Some (exprs_of cs.items)) }
-    ensures refused { IfErr result (λ e. IsTrue (is_refusal e) → infer_arguments (program_of functions.now) (context_of scope.now) (trees_of arguments.now) (map parsed_parameter parameters.now) ≡ None) }
+    ensures value { IfOk result (λ cs.
+        infer_arguments (program_of functions.now) (context_of scope.now) (trees_of arguments.now) (map parsed_parameter parameters.now)
+        ≡ Some (exprs_of cs.items)) }
+    ensures refused { IfErr result (λ e. IsTrue (is_refusal e) →
+        infer_arguments (program_of functions.now) (context_of scope.now) (trees_of arguments.now) (map parsed_parameter parameters.now) ≡ None) }
 {
     let mut checked = Vec::new(alloc);
     for (i, argument) in arguments.iter().enumerate() {
@@ -204,8 +216,12 @@ fn check_remote(
     name: &Name,
     arguments: &[Expr],
 ) -> Result<Typing, CheckError>
-    ensures value { IfOk result (λ x. infer (program_of functions.now) (context_of scope.now) (Remote (written_retries written) (string_bytes name.now.text) (trees_of arguments.now)) ≡ Some (typing_of x)) }
-    ensures refused { IfErr result (λ e. IsTrue (is_refusal e) → infer (program_of functions.now) (context_of scope.now) (Remote (written_retries written) (string_bytes name.now.text) (trees_of arguments.now)) ≡ None) }
+    ensures value { IfOk result (λ x.
+        infer (program_of functions.now) (context_of scope.now) (Remote (written_retries written) (string_bytes name.now.text) (trees_of arguments.now))
+        ≡ Some (typing_of x)) }
+    ensures refused { IfErr result (λ e. IsTrue (is_refusal e) →
+        infer (program_of functions.now) (context_of scope.now) (Remote (written_retries written) (string_bytes name.now.text) (trees_of arguments.now))
+        ≡ None) }
 {
     let retries = retries(written)?;
     let function = callee(functions, name, arguments.len())?;
@@ -226,8 +242,11 @@ fn check_marked(
     arguments: &[Expr],
 ) -> Result<MarkedArguments, CheckError>
     requires { length parameters.now ≡ length arguments.now }
-    ensures value { IfOk result (λ m. infer_marked (program_of functions.now) (context_of scope.now) (trees_of arguments.now) (map parsed_parameter parameters.now) ≡ Some (marked_of m)) }
-    ensures refused { IfErr result (λ e. IsTrue (is_refusal e) → infer_marked (program_of functions.now) (context_of scope.now) (trees_of arguments.now) (map parsed_parameter parameters.now) ≡ None) }
+    ensures value { IfOk result (λ m.
+        infer_marked (program_of functions.now) (context_of scope.now) (trees_of arguments.now) (map parsed_parameter parameters.now)
+        ≡ Some (marked_of m)) }
+    ensures refused { IfErr result (λ e. IsTrue (is_refusal e) →
+        infer_marked (program_of functions.now) (context_of scope.now) (trees_of arguments.now) (map parsed_parameter parameters.now) ≡ None) }
 {
     let mut marks = Vec::new(alloc);
     let mut exprs = Vec::new(alloc);

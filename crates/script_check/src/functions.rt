@@ -23,7 +23,8 @@ fn check_parameters(
     scope: &mut Vec<Variable>,
     parameters: &[Parameter],
 ) -> Result<Vec<CheckedParameter>, CheckError>
-    ensures value { IfOk result (λ ps. declared (map parsed_parameter parameters.now) (context_of scope.old.items) ≡ Some (record { parameters = map parameter_of ps.items; context = context_of scope.new.items })) }
+    ensures value { IfOk result (λ ps. declared (map parsed_parameter parameters.now) (context_of scope.old.items)
+        ≡ Some (record { parameters = map parameter_of ps.items; context = context_of scope.new.items })) }
     ensures refused { IfErr result (λ e. IsTrue (is_refusal e) → declared (map parsed_parameter parameters.now) (context_of scope.old.items) ≡ None) }
 {
     let mut checked = Vec::new(alloc);

@@ -58,7 +58,8 @@ pub(crate) fn declare(
 
 /// The function of a name.
 pub(crate) fn find<'a>(functions: &'a [Function], name: &str) -> Option<&'a Function>
-    ensures { MatchOption result (function_in (program_of functions.now) name.now ≡ None) (λ f. function_in (program_of functions.now) name.now ≡ Some (parsed_function f.now)) }
+    ensures { MatchOption result (function_in (program_of functions.now) name.now ≡ None) (λ f. function_in (program_of functions.now) name.now
+        ≡ Some (parsed_function f.now)) }
 {
     for function in functions {
         if function.name.text.as_str() == name {

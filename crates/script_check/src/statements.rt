@@ -2,12 +2,31 @@
 
 ghost use Rattle.std.specs.Prelude.{◌≡◌, ◌++◌, IfOk, IfErr, IsTrue, None, Some, OnOk, string_bytes};
 ghost use Rattle.meaning.specs.Syntax.{Number as ANumber};
-ghost use Rattle.script_syntax.specs.Views.{program_of, tree_of, type_of, statement_of as parsed_statement, statements_of as parsed_statements, function_of as parsed_function};
+ghost use Rattle.script_syntax.specs.Views.{
+  program_of,
+  tree_of,
+  type_of,
+  statement_of as parsed_statement,
+  statements_of as parsed_statements,
+  function_of as parsed_function,
+};
 ghost use Rattle.script_check.specs.Refusals.{is_refusal};
 ghost use Rattle.script_check.specs.Trees.{kind_of, statement_of, statements_of, block_of};
 ghost use Rattle.script_check.specs.Scopes.{context_of};
 ghost use Rattle.script_check.specs.Rules.{variable};
-ghost use Rattle.script_check.specs.Inference.{let_step, set_step, print_step, return_step, step_of, steps_of, block_from, else_from, returns, block_returns, else_returns};
+ghost use Rattle.script_check.specs.Inference.{
+  let_step,
+  set_step,
+  print_step,
+  return_step,
+  step_of,
+  steps_of,
+  block_from,
+  else_from,
+  returns,
+  block_returns,
+  else_returns,
+};
 ghost use Rattle.script_check.specs.Branches.{other_of};
 
 use crate::error::CheckError;
@@ -26,8 +45,10 @@ fn check_let(
     name: &Name,
     expr: &Expr,
 ) -> Result<CheckedStatement, CheckError>
-    ensures value { IfOk result (λ s. let_step (program_of functions.now) (context_of scope.old.items) (string_bytes name.now.text) (tree_of expr.now) ≡ Some (record { stmt = statement_of s; after = context_of scope.new.items })) }
-    ensures refused { IfErr result (λ e. IsTrue (is_refusal e) → let_step (program_of functions.now) (context_of scope.old.items) (string_bytes name.now.text) (tree_of expr.now) ≡ None) }
+    ensures value { IfOk result (λ s. let_step (program_of functions.now) (context_of scope.old.items) (string_bytes name.now.text) (tree_of expr.now)
+        ≡ Some (record { stmt = statement_of s; after = context_of scope.new.items })) }
+    ensures refused { IfErr result (λ e. IsTrue (is_refusal e) →
+        let_step (program_of functions.now) (context_of scope.old.items) (string_bytes name.now.text) (tree_of expr.now) ≡ None) }
 {
     check_fresh(scope, name)?;
     let typing = check_expr(alloc, functions, scope, expr)?;
@@ -43,8 +64,10 @@ fn check_set(
     name: &Name,
     expr: &Expr,
 ) -> Result<CheckedStatement, CheckError>
-    ensures value { IfOk result (λ s. set_step (program_of functions.now) (context_of scope.now) (string_bytes name.now.text) (tree_of expr.now) ≡ Some (record { stmt = statement_of s; after = context_of scope.now })) }
-    ensures refused { IfErr result (λ e. IsTrue (is_refusal e) → set_step (program_of functions.now) (context_of scope.now) (string_bytes name.now.text) (tree_of expr.now) ≡ None) }
+    ensures value { IfOk result (λ s. set_step (program_of functions.now) (context_of scope.now) (string_bytes name.now.text) (tree_of expr.now)
+        ≡ Some (record { stmt = statement_of s; after = context_of scope.now })) }
+    ensures refused { IfErr result (λ e. IsTrue (is_refusal e) →
+        set_step (program_of functions.now) (context_of scope.now) (string_bytes name.now.text) (tree_of expr.now) ≡ None) }
 {
     let Some(kind) = look_up(scope, name.text.as_str()) else {
         return Err(CheckError::UnknownName(name.span));
@@ -63,8 +86,10 @@ fn check_print(
     span: Span,
     expr: &Expr,
 ) -> Result<CheckedStatement, CheckError>
-    ensures value { IfOk result (λ s. print_step (program_of functions.now) (string_bytes function.now.name.text) (context_of scope.now) (tree_of expr.now) ≡ Some (record { stmt = statement_of s; after = context_of scope.now })) }
-    ensures refused { IfErr result (λ e. IsTrue (is_refusal e) → print_step (program_of functions.now) (string_bytes function.now.name.text) (context_of scope.now) (tree_of expr.now) ≡ None) }
+    ensures value { IfOk result (λ s. print_step (program_of functions.now) (string_bytes function.now.name.text) (context_of scope.now) (tree_of expr.now)
+        ≡ Some (record { stmt = statement_of s; after = context_of scope.now })) }
+    ensures refused { IfErr result (λ e. IsTrue (is_refusal e) →
+        print_step (program_of functions.now) (string_bytes function.now.name.text) (context_of scope.now) (tree_of expr.now) ≡ None) }
 {
     if function.name.text.as_str() != "main" {
         return Err(CheckError::PrintOutsideMain(span));
@@ -84,8 +109,10 @@ fn check_return(
     scope: &[Variable],
     expr: &Expr,
 ) -> Result<CheckedStatement, CheckError>
-    ensures value { IfOk result (λ s. return_step (program_of functions.now) (kind_of function.now.result) (context_of scope.now) (tree_of expr.now) ≡ Some (record { stmt = statement_of s; after = context_of scope.now })) }
-    ensures refused { IfErr result (λ e. IsTrue (is_refusal e) → return_step (program_of functions.now) (kind_of function.now.result) (context_of scope.now) (tree_of expr.now) ≡ None) }
+    ensures value { IfOk result (λ s. return_step (program_of functions.now) (kind_of function.now.result) (context_of scope.now) (tree_of expr.now)
+        ≡ Some (record { stmt = statement_of s; after = context_of scope.now })) }
+    ensures refused { IfErr result (λ e. IsTrue (is_refusal e) →
+        return_step (program_of functions.now) (kind_of function.now.result) (context_of scope.now) (tree_of expr.now) ≡ None) }
 {
     let typing = check_expr(alloc, functions, scope, expr)?;
     let value = typing.of_kind(&function.result, expr.span)?;
@@ -101,8 +128,11 @@ fn check_statement(
     scope: &mut Vec<Variable>,
     statement: &Statement,
 ) -> Result<CheckedStatement, CheckError>
-    ensures value { IfOk result (λ s. step_of (program_of functions.now) (parsed_function function.now) (parsed_statement statement.now) (context_of scope.old.items) ≡ Some (record { stmt = statement_of s; after = context_of scope.new.items })) }
-    ensures refused { IfErr result (λ e. IsTrue (is_refusal e) → step_of (program_of functions.now) (parsed_function function.now) (parsed_statement statement.now) (context_of scope.old.items) ≡ None) }
+    ensures value { IfOk result (λ s.
+        step_of (program_of functions.now) (parsed_function function.now) (parsed_statement statement.now) (context_of scope.old.items)
+        ≡ Some (record { stmt = statement_of s; after = context_of scope.new.items })) }
+    ensures refused { IfErr result (λ e. IsTrue (is_refusal e) →
+        step_of (program_of functions.now) (parsed_function function.now) (parsed_statement statement.now) (context_of scope.old.items) ≡ None) }
 {
     match statement {
         Statement::Let(name, expr) => check_let(alloc, functions, scope, name, expr),
@@ -136,9 +166,12 @@ pub(crate) fn check_block(
     scope: &mut Vec<Variable>,
     statements: &[Statement],
 ) -> Result<CheckedBlock, CheckError>
-    ensures value { IfOk result (λ b. block_from (program_of functions.now) (parsed_function function.now) (parsed_statements statements.now) (context_of scope.old.items) ≡ Some (block_of b)) }
+    ensures value { IfOk result (λ b.
+        block_from (program_of functions.now) (parsed_function function.now) (parsed_statements statements.now) (context_of scope.old.items)
+        ≡ Some (block_of b)) }
     ensures same { OnOk result (context_of scope.new.items ≡ context_of scope.old.items) }
-    ensures refused { IfErr result (λ e. IsTrue (is_refusal e) → block_from (program_of functions.now) (parsed_function function.now) (parsed_statements statements.now) (context_of scope.old.items) ≡ None) }
+    ensures refused { IfErr result (λ e. IsTrue (is_refusal e) →
+        block_from (program_of functions.now) (parsed_function function.now) (parsed_statements statements.now) (context_of scope.old.items) ≡ None) }
 {
     let outer = scope.len();
     let block = check_statements(alloc, functions, function, scope, statements)?;
@@ -155,9 +188,11 @@ fn check_else(
     scope: &mut Vec<Variable>,
     second: &Option<Block>,
 ) -> Result<CheckedBlock, CheckError>
-    ensures value { IfOk result (λ b. else_from (program_of functions.now) (parsed_function function.now) (other_of second.now) (context_of scope.old.items) ≡ Some (block_of b)) }
+    ensures value { IfOk result (λ b. else_from (program_of functions.now) (parsed_function function.now) (other_of second.now) (context_of scope.old.items)
+        ≡ Some (block_of b)) }
     ensures same { OnOk result (context_of scope.new.items ≡ context_of scope.old.items) }
-    ensures refused { IfErr result (λ e. IsTrue (is_refusal e) → else_from (program_of functions.now) (parsed_function function.now) (other_of second.now) (context_of scope.old.items) ≡ None) }
+    ensures refused { IfErr result (λ e. IsTrue (is_refusal e) →
+        else_from (program_of functions.now) (parsed_function function.now) (other_of second.now) (context_of scope.old.items) ≡ None) }
 {
     match second {
         None => {
@@ -178,9 +213,13 @@ fn check_turn(
     name: &Name,
     statements: &[Statement],
 ) -> Result<CheckedBlock, CheckError>
-    ensures value { IfOk result (λ b. block_from (program_of functions.now) (parsed_function function.now) (parsed_statements statements.now) (context_of scope.old.items ++ variable (string_bytes name.now.text) ANumber) ≡ Some (block_of b)) }
+    ensures value { IfOk result (λ b.
+        block_from (program_of functions.now) (parsed_function function.now) (parsed_statements statements.now) (context_of scope.old.items
+        ++ variable (string_bytes name.now.text) ANumber) ≡ Some (block_of b)) }
     ensures same { OnOk result (context_of scope.new.items ≡ context_of scope.old.items) }
-    ensures refused { IfErr result (λ e. IsTrue (is_refusal e) → block_from (program_of functions.now) (parsed_function function.now) (parsed_statements statements.now) (context_of scope.old.items ++ variable (string_bytes name.now.text) ANumber) ≡ None) }
+    ensures refused { IfErr result (λ e. IsTrue (is_refusal e) →
+        block_from (program_of functions.now) (parsed_function function.now) (parsed_statements statements.now) (context_of scope.old.items
+        ++ variable (string_bytes name.now.text) ANumber) ≡ None) }
 {
     let outer = scope.len();
     declare(scope, name, ValueType::Int)?;
@@ -198,8 +237,11 @@ fn check_statements(
     scope: &mut Vec<Variable>,
     statements: &[Statement],
 ) -> Result<CheckedBlock, CheckError>
-    ensures value { IfOk result (λ b. steps_of (program_of functions.now) (parsed_function function.now) (parsed_statements statements.now) (context_of scope.old.items) ≡ Some (record { block = block_of b; after = context_of scope.new.items })) }
-    ensures refused { IfErr result (λ e. IsTrue (is_refusal e) → steps_of (program_of functions.now) (parsed_function function.now) (parsed_statements statements.now) (context_of scope.old.items) ≡ None) }
+    ensures value { IfOk result (λ b.
+        steps_of (program_of functions.now) (parsed_function function.now) (parsed_statements statements.now) (context_of scope.old.items)
+        ≡ Some (record { block = block_of b; after = context_of scope.new.items })) }
+    ensures refused { IfErr result (λ e. IsTrue (is_refusal e) →
+        steps_of (program_of functions.now) (parsed_function function.now) (parsed_statements statements.now) (context_of scope.old.items) ≡ None) }
 {
     let mut checked = Vec::new(alloc);
     for statement in statements {

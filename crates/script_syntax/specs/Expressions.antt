@@ -5,8 +5,39 @@ use Rattle.std.specs.Prelude.{ℕ, zero, suc, List, ◌∷◌, Option, Some, Non
 use Rattle.script_tokens.specs.declared.token.Mark.TheVariants as marks
 use Rattle.script_tokens.specs.Tokens.{Name, Token, number, name, mark}
 use Rattle.script_syntax.specs.declared.tree.Prefix.{Prefix}
-use Rattle.script_syntax.specs.Trees.{Kind, IntType, ListType, RefType, Expr, Number, Variable, Prefixed, Binary, Item, ListOf, Empty, Call, Remote, Len, Push, Exprs, no_expr, also}
-use Rattle.script_syntax.specs.Operators.{Comparison, Additive, Multiplicative, comparison_mark, comparison, additive_mark, additive, multiplicative_mark, multiplicative, prefix_mark}
+use Rattle.script_syntax.specs.Trees.{
+  Kind,
+  IntType,
+  ListType,
+  RefType,
+  Expr,
+  Number,
+  Variable,
+  Prefixed,
+  Binary,
+  Item,
+  ListOf,
+  Empty,
+  Call,
+  Remote,
+  Len,
+  Push,
+  Exprs,
+  no_expr,
+  also,
+}
+use Rattle.script_syntax.specs.Operators.{
+  Comparison,
+  Additive,
+  Multiplicative,
+  comparison_mark,
+  comparison,
+  additive_mark,
+  additive,
+  multiplicative_mark,
+  multiplicative,
+  prefix_mark,
+}
 
 -- one more is open
 abbrev pub Deeper : ℕ → (ℕ → Type 0) → Type 0
@@ -127,12 +158,14 @@ abbrev mutual
   primary_before (Int n) rest = number n ∷ rest
   primary_before (Named x) rest = name x ∷ rest
   primary_before (CallOf g args) rest = name g ∷ mark marks.OpenParenthesis ∷ arguments_before args (mark marks.CloseParenthesis ∷ rest)
-  primary_before (RemoteOf r g args) rest = mark marks.Remote ∷ retries_before r (name g ∷ mark marks.OpenParenthesis ∷ arguments_before args (mark marks.CloseParenthesis ∷ rest))
+  primary_before (RemoteOf r g args) rest = mark marks.Remote
+      ∷ retries_before r (name g ∷ mark marks.OpenParenthesis ∷ arguments_before args (mark marks.CloseParenthesis ∷ rest))
   primary_before (Listed first others) rest = mark marks.OpenBracket ∷ expression_before first (more_before others (mark marks.CloseBracket ∷ rest))
   primary_before (EmptyOf t) rest = mark marks.Empty ∷ kind_before t rest
   primary_before (Enclosed e) rest = mark marks.OpenParenthesis ∷ expression_before e (mark marks.CloseParenthesis ∷ rest)
   primary_before (LenOf e) rest = mark marks.Len ∷ mark marks.OpenParenthesis ∷ expression_before e (mark marks.CloseParenthesis ∷ rest)
-  primary_before (PushOf a b) rest = mark marks.Push ∷ mark marks.OpenParenthesis ∷ expression_before a (mark marks.Comma ∷ expression_before b (mark marks.CloseParenthesis ∷ rest))
+  primary_before (PushOf a b) rest = mark marks.Push ∷ mark marks.OpenParenthesis
+      ∷ expression_before a (mark marks.Comma ∷ expression_before b (mark marks.CloseParenthesis ∷ rest))
 
   pub arguments_before : Arguments → List Token → List Token
   arguments_before no_argument rest = rest

@@ -42,8 +42,10 @@ abbrev mutual
   statement_before (LetOf x e) rest = mark marks.Let ∷ name x ∷ mark marks.Assign ∷ expression_before e (mark marks.Semicolon ∷ rest)
   statement_before (SetOf x e) rest = mark marks.Set ∷ name x ∷ mark marks.Assign ∷ expression_before e (mark marks.Semicolon ∷ rest)
   statement_before (IfOf e a) rest = mark marks.If ∷ expression_before e (mark marks.OpenBrace ∷ statements_before a (mark marks.CloseBrace ∷ rest))
-  statement_before (IfElseOf e a b) rest = mark marks.If ∷ expression_before e (mark marks.OpenBrace ∷ statements_before a (mark marks.CloseBrace ∷ mark marks.Else ∷ mark marks.OpenBrace ∷ statements_before b (mark marks.CloseBrace ∷ rest)))
-  statement_before (ForOf x from to body) rest = mark marks.For ∷ name x ∷ mark marks.In ∷ expression_before from (mark marks.Range ∷ expression_before to (mark marks.OpenBrace ∷ statements_before body (mark marks.CloseBrace ∷ rest)))
+  statement_before (IfElseOf e a b) rest = mark marks.If ∷ expression_before e (mark marks.OpenBrace
+      ∷ statements_before a (mark marks.CloseBrace ∷ mark marks.Else ∷ mark marks.OpenBrace ∷ statements_before b (mark marks.CloseBrace ∷ rest)))
+  statement_before (ForOf x from to body) rest = mark marks.For ∷ name x ∷ mark marks.In
+      ∷ expression_before from (mark marks.Range ∷ expression_before to (mark marks.OpenBrace ∷ statements_before body (mark marks.CloseBrace ∷ rest)))
   statement_before (PrintOf e) rest = mark marks.Print ∷ expression_before e (mark marks.Semicolon ∷ rest)
   statement_before (ReturnOf e) rest = mark marks.Return ∷ expression_before e (mark marks.Semicolon ∷ rest)
 
@@ -70,7 +72,8 @@ parameters_before (p ∷ ps) rest = parameter_before p (more_parameters_before p
 
 abbrev pub function_before : FunctionWord → List Token → List Token
 function_before (FunctionOf x ps t body) rest =
-    mark marks.Fn ∷ name x ∷ mark marks.OpenParenthesis ∷ parameters_before ps (mark marks.CloseParenthesis ∷ mark marks.Arrow ∷ kind_before t (block_before body rest))
+    mark marks.Fn ∷ name x ∷ mark marks.OpenParenthesis ∷ parameters_before ps (mark marks.CloseParenthesis ∷ mark marks.Arrow
+    ∷ kind_before t (block_before body rest))
 
 abbrev pub functions_before : Functions → List Token → List Token
 functions_before no_function rest = rest

@@ -1,5 +1,25 @@
 -- A parser on lists of tokens, by which the code and the grammar are compared.
-use Rattle.std.specs.Prelude.{◌≡◌, ◌+◌, ℕ, zero, suc, List, [], ◌∷◌, ◌++◌, length, Option, Some, None, Result, Ok, Err, nat_lt, ◌==◌, if◌then◌else◌}
+use Rattle.std.specs.Prelude.{
+  ◌≡◌,
+  ◌+◌,
+  ℕ,
+  zero,
+  suc,
+  List,
+  [],
+  ◌∷◌,
+  ◌++◌,
+  length,
+  Option,
+  Some,
+  None,
+  Result,
+  Ok,
+  Err,
+  nat_lt,
+  ◌==◌,
+  if◌then◌else◌,
+}
 use Rattle.script_tokens.specs.declared.token.Mark.{Mark}
 use Rattle.script_tokens.specs.declared.token.Mark.TheVariants as marks
 use Rattle.script_syntax.specs.declared.refusal.Refusal.{Refusal}
@@ -9,7 +29,41 @@ use Rattle.script_syntax.specs.declared.tree.BinaryOperator.{BinaryOperator}
 use Rattle.script_syntax.specs.declared.tree.BinaryOperator.TheVariants as operators
 use Rattle.script_syntax.specs.declared.tree.Prefix.{Prefix}
 use Rattle.script_syntax.specs.declared.tree.Prefix.TheVariants as prefixes
-use Rattle.script_syntax.specs.Trees.{Kind, IntType, ListType, RefType, Expr, Number, Variable, Prefixed, Binary, Item, ListOf, Empty, Call, Remote, Len, Push, Exprs, no_expr, also, Stmt, Let, Set, If, IfElse, For, Print, Return, Block, no_stmt, stmt, Parameter, Function, Program}
+use Rattle.script_syntax.specs.Trees.{
+  Kind,
+  IntType,
+  ListType,
+  RefType,
+  Expr,
+  Number,
+  Variable,
+  Prefixed,
+  Binary,
+  Item,
+  ListOf,
+  Empty,
+  Call,
+  Remote,
+  Len,
+  Push,
+  Exprs,
+  no_expr,
+  also,
+  Stmt,
+  Let,
+  Set,
+  If,
+  IfElse,
+  For,
+  Print,
+  Return,
+  Block,
+  no_stmt,
+  stmt,
+  Parameter,
+  Function,
+  Program,
+}
 
 -- what is read from the front, and the rest
 abbrev pub Reader : Type 0 → Type 0
@@ -155,23 +209,33 @@ items unary tokens = expression unary tokens >>= λ a. chain (after marks.Comma)
 
 unfoldable pub arguments : Option (Reader Expr) → Reader Exprs
 arguments deeper tokens = after marks.OpenParenthesis tokens >>= λ r. deeper >>= λ unary.
-    choose (after marks.CloseParenthesis r.1) (items unary r.1 >>= λ es. after marks.CloseParenthesis es.1 >>= λ q. Some (es.0, q.1)) (λ q. Some (no_expr, q.1))
+    choose (after marks.CloseParenthesis r.1) (items unary r.1 >>= λ es. after marks.CloseParenthesis es.1
+    >>= λ q. Some (es.0, q.1)) (λ q. Some (no_expr, q.1))
 
 unfoldable pub enclosed : Option (Reader Expr) → Mark → Mark → Reader Expr
 enclosed deeper first last tokens = after first tokens >>= λ r. deeper >>= λ unary. expression unary r.1 >>= λ e. after last e.1 >>= λ q. Some (e.0, q.1)
 
 unfoldable pub retries : Option (Reader Expr) → Reader (Option ℕ)
-retries deeper tokens = choose (after marks.OpenParenthesis tokens) (Some (None, tokens)) (λ r. deeper >>= λ _. numbered r.1 >>= λ n. after marks.CloseParenthesis n.1 >>= λ q. Some (Some n.0, q.1))
+retries deeper tokens = choose (after marks.OpenParenthesis tokens) (Some (
+  None,
+  tokens,
+)) (λ r. deeper >>= λ _. numbered r.1 >>= λ n. after marks.CloseParenthesis n.1 >>= λ q. Some (Some n.0, q.1))
 
 unfoldable pub pair : Option (Reader Expr) → Reader (Expr × Expr)
-pair deeper tokens = after marks.OpenParenthesis tokens >>= λ r. deeper >>= λ unary. expression unary r.1 >>= λ a. after marks.Comma a.1 >>= λ c. expression unary c.1 >>= λ b. after marks.CloseParenthesis b.1 >>= λ q. Some ((a.0, b.0), q.1)
+pair deeper tokens = after marks.OpenParenthesis tokens >>= λ r. deeper >>= λ unary. expression unary r.1 >>= λ a. after marks.Comma a.1
+    >>= λ c. expression unary c.1 >>= λ b. after marks.CloseParenthesis b.1 >>= λ q. Some ((a.0, b.0), q.1)
 
 unfoldable pub primary : Reader Kind → Option (Reader Expr) → Reader Expr
 primary kind deeper [] = None
 primary kind deeper (number n ∷ rest) = Some (Number n, rest)
-primary kind deeper (name x ∷ rest) = choose (before marks.OpenParenthesis rest) (Some (Variable x, rest)) (λ _. arguments deeper rest >>= λ args. Some (Call x args.0, args.1))
-primary kind deeper (mark marks.Remote ∷ rest) = retries deeper rest >>= λ r. named r.1 >>= λ g. arguments deeper g.1 >>= λ args. Some (Remote r.0 g.0 args.0, args.1)
-primary kind deeper (mark marks.OpenBracket ∷ rest) = deeper >>= λ unary. items unary rest >>= λ es. after marks.CloseBracket es.1 >>= λ q. Some (ListOf es.0, q.1)
+primary kind deeper (name x ∷ rest) = choose (before marks.OpenParenthesis rest) (Some (
+  Variable x,
+  rest,
+)) (λ _. arguments deeper rest >>= λ args. Some (Call x args.0, args.1))
+primary kind deeper (mark marks.Remote
+    ∷ rest) = retries deeper rest >>= λ r. named r.1 >>= λ g. arguments deeper g.1 >>= λ args. Some (Remote r.0 g.0 args.0, args.1)
+primary kind deeper (mark marks.OpenBracket
+    ∷ rest) = deeper >>= λ unary. items unary rest >>= λ es. after marks.CloseBracket es.1 >>= λ q. Some (ListOf es.0, q.1)
 primary kind deeper (mark marks.Empty ∷ rest) = kind rest >>= λ t. Some (Empty t.0, t.1)
 primary kind deeper (mark marks.OpenParenthesis ∷ rest) = enclosed deeper marks.OpenParenthesis marks.CloseParenthesis (mark marks.OpenParenthesis ∷ rest)
 primary kind deeper (mark marks.Len ∷ rest) = enclosed deeper marks.OpenParenthesis marks.CloseParenthesis rest >>= λ e. Some (Len e.0, e.1)
@@ -212,7 +276,8 @@ branches outer block tokens = outer tokens >>= λ e. block e.1 >>= λ a.
     choose (after marks.Else a.1) (Some (If e.0 a.0, a.1)) (λ r. block r.1 >>= λ b. Some (IfElse e.0 a.0 b.0, b.1))
 
 unfoldable pub repeated : Reader Expr → Reader Block → Reader Stmt
-repeated outer block tokens = named tokens >>= λ x. after marks.In x.1 >>= λ i. outer i.1 >>= λ first. after marks.Range first.1 >>= λ r. outer r.1 >>= λ last. block last.1 >>= λ body. Some (For x.0 first.0 last.0 body.0, body.1)
+repeated outer block tokens = named tokens >>= λ x. after marks.In x.1 >>= λ i. outer i.1 >>= λ first. after marks.Range first.1 >>= λ r. outer r.1
+    >>= λ last. block last.1 >>= λ body. Some (For x.0 first.0 last.0 body.0, body.1)
 
 unfoldable pub statement : Reader Expr → Reader Block → Reader Stmt
 statement outer block (mark marks.Let ∷ rest) = assigned outer rest >>= λ x. Some (Let x.0.0 x.0.1, x.1)
@@ -234,7 +299,8 @@ statements statement tokens = chain (unless marks.CloseBrace) statement (λ _. a
 
 -- given how a statement is read in one more brace
 unfoldable pub block : Option (Reader Stmt) → Reader Block
-block deeper tokens = after marks.OpenBrace tokens >>= λ r. deeper >>= λ statement. statements statement r.1 >>= λ b. after marks.CloseBrace b.1 >>= λ q. Some (b.0, q.1)
+block deeper tokens = after marks.OpenBrace tokens >>= λ r. deeper >>= λ statement. statements statement r.1 >>= λ b. after marks.CloseBrace b.1
+    >>= λ q. Some (b.0, q.1)
 
 unfoldable pub deeper_statement : ℕ → Option (Reader Stmt)
 deeper_statement zero = None
@@ -260,10 +326,14 @@ some_parameters kind tokens = parameter kind tokens >>= λ p. chain (after marks
 
 unfoldable pub parameters : Option (Reader Kind) → Reader (List Parameter)
 parameters deeper tokens = after marks.OpenParenthesis tokens >>= λ r. deeper >>= λ kind.
-    choose (after marks.CloseParenthesis r.1) (some_parameters kind r.1 >>= λ ps. after marks.CloseParenthesis ps.1 >>= λ q. Some (ps.0, q.1)) (λ q. Some ([], q.1))
+    choose (after marks.CloseParenthesis r.1) (some_parameters kind r.1 >>= λ ps. after marks.CloseParenthesis ps.1 >>= λ q. Some (
+      ps.0,
+      q.1,
+    )) (λ q. Some ([], q.1))
 
 unfoldable pub function : Reader Function
-function tokens = after marks.Fn tokens >>= λ f. named f.1 >>= λ x. parameters (deeper_kind 32) x.1 >>= λ ps. after marks.Arrow ps.1 >>= λ r. kind_at 32 r.1 >>= λ t. block_at 32 t.1 >>= λ b.
+function tokens = after marks.Fn tokens >>= λ f. named f.1 >>= λ x. parameters (deeper_kind 32) x.1 >>= λ ps. after marks.Arrow ps.1
+    >>= λ r. kind_at 32 r.1 >>= λ t. block_at 32 t.1 >>= λ b.
     Some (record { name = x.0; parameters = ps.0; result = t.0; body = b.0 }, b.1)
 
 abbrev pub unless_end : Reader (Unit {0})

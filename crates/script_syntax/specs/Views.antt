@@ -1,7 +1,41 @@
 -- What the code's trees stand for.
 use Rattle.std.specs.Prelude.{ℕ, List, [], ◌∷◌, map, Option, Some, None}
 use Rattle.std.specs.String.{string_bytes}
-use Rattle.script_syntax.specs.Trees.{Kind, IntType, ListType, RefType, Expr as ATree, Number, Variable, Prefixed, Binary, Item, ListOf, Empty, Call, Remote, Len, Push, Exprs, no_expr, also, Stmt, Let, Set, If, IfElse, For, Print, Return, Block as ABlock, no_stmt, stmt, Parameter as AParameter, Function as AFunction, Program as AProgram}
+use Rattle.script_syntax.specs.Trees.{
+  Kind,
+  IntType,
+  ListType,
+  RefType,
+  Expr as ATree,
+  Number,
+  Variable,
+  Prefixed,
+  Binary,
+  Item,
+  ListOf,
+  Empty,
+  Call,
+  Remote,
+  Len,
+  Push,
+  Exprs,
+  no_expr,
+  also,
+  Stmt,
+  Let,
+  Set,
+  If,
+  IfElse,
+  For,
+  Print,
+  Return,
+  Block as ABlock,
+  no_stmt,
+  stmt,
+  Parameter as AParameter,
+  Function as AFunction,
+  Program as AProgram,
+}
 use Rattle.script_syntax.specs.declared.tree.ValueType.{ValueType}
 use Rattle.script_syntax.specs.declared.tree.ValueType as types
 use Rattle.script_syntax.specs.declared.tree.Expr.{Expr}

@@ -3,7 +3,27 @@
 ghost use Rattle.std.specs.Prelude.{◌≡◌, ◌<◌, ◌+◌, IfOk, IfSome, MatchOption, None, Some, length, [], ◌∷◌};
 ghost use Rattle.std.specs.String.{string_bytes};
 ghost use Rattle.script_tokens.specs.Views.{token_of, tokens_of};
-ghost use Rattle.script_syntax.specs.Reading.{Gives, Shows, mark_number, after, before, unless, unless_end, numbered, named, adding, multiplying, comparing, prefixing, kind_at, deeper_kind, unary_at, deeper, statement_at, deeper_statement};
+ghost use Rattle.script_syntax.specs.Reading.{
+  Gives,
+  Shows,
+  mark_number,
+  after,
+  before,
+  unless,
+  unless_end,
+  numbered,
+  named,
+  adding,
+  multiplying,
+  comparing,
+  prefixing,
+  kind_at,
+  deeper_kind,
+  unary_at,
+  deeper,
+  statement_at,
+  deeper_statement,
+};
 
 use crate::refusal::Refusal;
 use crate::tree::{BinaryOperator, Name, Prefix};

@@ -5,7 +5,23 @@ ghost use Rattle.std.specs.Prelude.{◌≡◌, ◌<◌, ◌+◌, IfOk, length};
 ghost use Rattle.script_tokens.specs.Views.{tokens_of};
 ghost use Rattle.std.specs.String.{string_bytes};
 ghost use Rattle.script_syntax.specs.Trees.{Binary, Item, Call as CallTree, Remote as RemoteTree, ListOf};
-ghost use Rattle.script_syntax.specs.Reading.{Gives, product, sum, expression, items, arguments, enclosed, retries, pair, primary, postfix, unary_at, kind_at, deeper, expression_at};
+ghost use Rattle.script_syntax.specs.Reading.{
+  Gives,
+  product,
+  sum,
+  expression,
+  items,
+  arguments,
+  enclosed,
+  retries,
+  pair,
+  primary,
+  postfix,
+  unary_at,
+  kind_at,
+  deeper,
+  expression_at,
+};
 ghost use Rattle.script_syntax.specs.Views.{tree_of, trees_of, kind_tree, retries_of};
 
 use crate::cursor::{

@@ -28,7 +28,8 @@ fn error_of(refusal: Refusal) -> SyntaxError
 /// The program that all of the tokens are.
 fn program(context: Context, tokens: &[Placed]) -> Result<Program, SyntaxError>
     ensures found { IfOk result (λ p. IsProgram (tokens_of tokens.now) (program_of p.functions.items)) }
-    ensures read { (program : AProgram) → IsProgram (tokens_of tokens.now) program → MatchResult result (λ p. program_of p.functions.items ≡ program) (λ e. e ≡ errors.NoMemory) }
+    ensures read { (program : AProgram) → IsProgram (tokens_of tokens.now) program →
+        MatchResult result (λ p. program_of p.functions.items ≡ program) (λ e. e ≡ errors.NoMemory) }
     ensures refused { IfErr result (λ e. IsRefusalOfTokens (tokens_of tokens.now) e) }
 {
     match functions(context, tokens) {
@@ -48,7 +49,8 @@ pub fn parse(alloc: Global, text: &[u8]) -> Result<Program, SyntaxError>
     // What is answered is the text's program.
     ensures found { IfOk result (λ p. Reads text.now (program_of p.functions.items)) }
     // A text that is a program is answered with that program, unless memory runs out.
-    ensures read { (program : AProgram) → Reads text.now program → MatchResult result (λ p. program_of p.functions.items ≡ program) (λ e. e ≡ errors.NoMemory) }
+    ensures read { (program : AProgram) → Reads text.now program →
+        MatchResult result (λ p. program_of p.functions.items ≡ program) (λ e. e ≡ errors.NoMemory) }
     // A text is refused only for a cause.
     ensures refused { IfErr result (λ e. IsRefusalOfText text.now e) }
 {

@@ -23,7 +23,8 @@ fn add_assignment<'p>(
     target: &'p Name,
     value: &'p Expr,
 ) -> Result<(), AllocError>
-    ensures { OnOk result (Writes tokens.old.items tokens.new.items (λ rest. mark sign ∷ name (string_bytes target.entry.now.text) ∷ mark marks.Assign ∷ expression_before (expression_of (tree_of value.entry.now)) (mark marks.Semicolon ∷ rest))) }
+    ensures { OnOk result (Writes tokens.old.items tokens.new.items (λ rest. mark sign ∷ name (string_bytes target.entry.now.text) ∷ mark marks.Assign
+        ∷ expression_before (expression_of (tree_of value.entry.now)) (mark marks.Semicolon ∷ rest))) }
 {
     add_mark(tokens, sign)?;
     add_name(tokens, target)?;
@@ -87,7 +88,8 @@ fn add_statement<'p>(
 
 #[cycle(writing)]
 fn add_block<'p>(tokens: &mut Vec<Token<'p>>, block: &'p Block) -> Result<(), AllocError>
-    ensures { OnOk result (Writes tokens.old.items tokens.new.items (λ rest. block_before (written_statements (statements_of block.entry.now.statements.items)) rest)) }
+    ensures { OnOk result (Writes tokens.old.items tokens.new.items (λ rest.
+        block_before (written_statements (statements_of block.entry.now.statements.items)) rest)) }
 {
     add_mark(tokens, Mark::OpenBrace)?;
     add_statements(tokens, &block.statements)?;
@@ -100,7 +102,8 @@ fn add_statements<'p>(
     tokens: &mut Vec<Token<'p>>,
     statements: &'p [Statement],
 ) -> Result<(), AllocError>
-    ensures { OnOk result (Writes tokens.old.items tokens.new.items (λ rest. statements_before (written_statements (statements_of statements.entry.now)) rest)) }
+    ensures { OnOk result (Writes tokens.old.items tokens.new.items (λ rest.
+        statements_before (written_statements (statements_of statements.entry.now)) rest)) }
 {
     for statement in statements {
         add_statement(tokens, statement)?;

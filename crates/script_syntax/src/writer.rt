@@ -7,7 +7,18 @@ ghost use Rattle.script_syntax.specs.Operators.{prefix_mark};
 ghost use Rattle.script_syntax.specs.Expressions.{kind_before, retries_before, expression_before, arguments_before};
 ghost use Rattle.script_syntax.specs.Views.{type_of, retries_of, kind_tree, tree_of, trees_of};
 ghost use Rattle.script_syntax.specs.Printing.{written, written_arguments, expression_of};
-ghost use Rattle.script_syntax.specs.Writing.{Writes, tightness, word_of_operator, left_word, right_word, operator_mark, bare_word, bare_before, wanted_before, has_items};
+ghost use Rattle.script_syntax.specs.Writing.{
+  Writes,
+  tightness,
+  word_of_operator,
+  left_word,
+  right_word,
+  operator_mark,
+  bare_word,
+  bare_before,
+  wanted_before,
+  has_items,
+};
 
 use crate::tree::{BinaryOperator, Expr, ExprKind, Name, Prefix, Retries, ValueType};
 use script_tokens::{Mark, Token};

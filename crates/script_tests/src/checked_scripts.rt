@@ -1,4 +1,5 @@
-use crate::support::refusal;
+// Checked trees: what no text shows.
+
 use script_check::{
     CheckError, Checked, CheckedExpr, CheckedStatement, Program, Span, ValueType, check,
 };
@@ -6,24 +7,6 @@ use script_syntax::{Block, Expr, ExprKind, Function, Name, Statement, parse};
 use std::alloc::{AllocError, Global};
 use std::process::Abort;
 use std::test::Fail;
-
-#[test]
-fn allows_what_the_rules_allow(rt: HostRuntime) -> Result<(), Fail> {
-    let cases = [
-        "fn main() -> int { return 0; }",
-        "fn f(x: int) -> int { return x; } fn main() -> int { let f = f(1); return f; }",
-        "fn main() -> int { if 1 { let a = 1; } else { let a = [1]; } for a in 0 .. 1 { } let a = 2; return a; }",
-        "fn f(x: int) -> int { return x; } fn main() -> int { let r = put 1; return get remote(10) f(r) + get remote(0) f(2); }",
-        "fn main() -> int { return 1; print 2; }",
-        "fn main() -> int { if 1 { return 1; } else { return 2; } }",
-        "fn even(n: int) -> int { if n == 0 { return 1; } return odd(n - 1); } fn odd(n: int) -> int { if n == 0 { return 0; } return even(n - 1); } fn main() -> int { print [[1], empty int]; return even(4); }",
-        "fn sum(l: [ref int]) -> int { let t = 0; for i in 0 .. len(l) { set t = t + get l[i]; } return t; } fn sq(x: int) -> int { return x * x; } fn main() -> int { return get remote sum([remote sq(1), remote sq(2)]); }",
-    ];
-    for text in cases {
-        assert_eq!(rt; refusal(rt.alloc(), text)?, None, "{text}");
-    }
-    Ok(())
-}
 
 /// That main's `if` has an empty second block, and that its task has 3 new runs and a marked argument.
 fn assert_filled_in(rt: &impl Abort, script: &Checked) {

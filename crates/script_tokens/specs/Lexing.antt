@@ -1,5 +1,23 @@
 -- Functions on lists of bytes that read tokens.
-use Rattle.std.specs.Prelude.{◌+◌, ◌*◌, ◌-◌, ℕ, Bool, true, false, List, [], ◌∷◌, length, Option, Some, None, ◌==◌, nat_lt, if◌then◌else◌}
+use Rattle.std.specs.Prelude.{
+  ◌+◌,
+  ◌*◌,
+  ◌-◌,
+  ℕ,
+  Bool,
+  true,
+  false,
+  List,
+  [],
+  ◌∷◌,
+  length,
+  Option,
+  Some,
+  None,
+  ◌==◌,
+  nat_lt,
+  if◌then◌else◌,
+}
 use Rattle.std.specs.Str.{bytes_eq}
 use Rattle.script_tokens.specs.declared.token.Mark.{Mark}
 use Rattle.script_tokens.specs.declared.token.Mark.TheVariants as marks
@@ -54,7 +72,9 @@ word_in [] word = None
 word_in (m ∷ ms) word = if bytes_eq (mark_text m) word then Some m else word_in ms word
 
 abbrev pub reserved_words : List Mark
-reserved_words = marks.Fn ∷ marks.Let ∷ marks.Set ∷ marks.If ∷ marks.Else ∷ marks.For ∷ marks.In ∷ marks.Print ∷ marks.Return ∷ marks.Int ∷ marks.Ref ∷ marks.Remote ∷ marks.Put ∷ marks.Get ∷ marks.Len ∷ marks.Push ∷ marks.Empty ∷ []
+reserved_words = marks.Fn ∷ marks.Let ∷ marks.Set ∷ marks.If ∷ marks.Else ∷ marks.For ∷ marks.In ∷ marks.Print ∷ marks.Return ∷ marks.Int
+    ∷ marks.Ref
+    ∷ marks.Remote ∷ marks.Put ∷ marks.Get ∷ marks.Len ∷ marks.Push ∷ marks.Empty ∷ []
 
 -- the token of a word that begins with a letter
 unfoldable pub word_token : List ℕ → Option Token
@@ -64,7 +84,10 @@ word_token word = choose (word_in reserved_words word) (if nat_lt 64 (length wor
 
 -- the symbols of one byte
 abbrev pub singles : List (ℕ × Mark)
-singles = (40, marks.OpenParenthesis) ∷ (41, marks.CloseParenthesis) ∷ (123, marks.OpenBrace) ∷ (125, marks.CloseBrace) ∷ (91, marks.OpenBracket) ∷ (93, marks.CloseBracket) ∷ (44, marks.Comma) ∷ (59, marks.Semicolon) ∷ (58, marks.Colon) ∷ (61, marks.Assign) ∷ (60, marks.Less) ∷ (43, marks.Plus) ∷ (45, marks.Minus) ∷ (42, marks.Times) ∷ (47, marks.Slash) ∷ (37, marks.Percent) ∷ []
+singles = (40, marks.OpenParenthesis) ∷ (41, marks.CloseParenthesis) ∷ (123, marks.OpenBrace) ∷ (125, marks.CloseBrace) ∷ (91, marks.OpenBracket)
+    ∷ (93, marks.CloseBracket) ∷ (44, marks.Comma) ∷ (59, marks.Semicolon) ∷ (58, marks.Colon) ∷ (61, marks.Assign) ∷ (60, marks.Less)
+    ∷ (43, marks.Plus)
+    ∷ (45, marks.Minus) ∷ (42, marks.Times) ∷ (47, marks.Slash) ∷ (37, marks.Percent) ∷ []
 
 abbrev pub single_in : List (ℕ × Mark) → ℕ → Option Mark
 single_in [] b = None

@@ -7,4 +7,5 @@ use Rattle.script_tokens.specs.Views.{token_of}
 -- The tokens stand one after another between two places of the text, and the bytes of each span are its token's.
 abbrev pub ArePlaced : List ℕ → ℕ → List Placed → ℕ → Type 0
 ArePlaced text from [] to = from ≤ to
-ArePlaced text from (p ∷ placed) to = (from ≤ p.span.start) × (p.span.start < p.span.end) × (slice_range text p.span.start p.span.end ≡ spell (token_of p.token)) × ArePlaced text p.span.end placed to
+ArePlaced text from (p ∷ placed) to = (from ≤ p.span.start) × (p.span.start < p.span.end)
+    × (slice_range text p.span.start p.span.end ≡ spell (token_of p.token)) × ArePlaced text p.span.end placed to

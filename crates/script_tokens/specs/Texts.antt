@@ -43,7 +43,8 @@ Stands (token t) rest = IsToken t × (ends (lengthens t) rest ≡ true)
 -- The text is the pieces, each standing before what follows it, and then the rest; the pieces' tokens are these.
 abbrev pub IsTextBefore : List ℕ → List Piece → List Token → List ℕ → Type 0
 IsTextBefore rest [] tokens text = (text ≡ rest) × (tokens ≡ [])
-IsTextBefore rest (p ∷ pieces) tokens text = (after : List ℕ) × (others : List Token) × (text ≡ text_of p ++ after) × Stands p after × (tokens ≡ tokens_in p ++ others) × IsTextBefore rest pieces others after
+IsTextBefore rest (p ∷ pieces) tokens text = (after : List ℕ) × (others : List Token) × (text ≡ text_of p ++ after) × Stands p after
+    × (tokens ≡ tokens_in p ++ others) × IsTextBefore rest pieces others after
 
 -- The text, of at most 65,536 bytes, each below 128, is these tokens.
 pub record AreTokens (text : List ℕ) (tokens : List Token) : Type 0 where

@@ -1,6 +1,26 @@
 // Tokens, read from left to right.
 
-ghost use Rattle.std.specs.Prelude.{◌≡◌, ◌<◌, ◌≤◌, ◌+◌, ◌^◌, ℕ, IfOk, IfErr, MatchResult, MatchOption, OnOk, None, Some, true, ◌++◌, length, max, List, []};
+ghost use Rattle.std.specs.Prelude.{
+  ◌≡◌,
+  ◌<◌,
+  ◌≤◌,
+  ◌+◌,
+  ◌^◌,
+  ℕ,
+  IfOk,
+  IfErr,
+  MatchResult,
+  MatchOption,
+  OnOk,
+  None,
+  Some,
+  true,
+  ◌++◌,
+  length,
+  max,
+  List,
+  [],
+};
 ghost use Rattle.script_tokens.specs.declared.error.SyntaxError.{SyntaxError};
 ghost use Rattle.script_tokens.specs.declared.error.SyntaxError.TheVariants as errors;
 ghost use Rattle.script_tokens.specs.Tokens.{Token as AToken};

@@ -1,4 +1,3 @@
 mod Beyond
 mod Growing
-mod MainJobs
 mod Safe

@@ -27,7 +27,7 @@ pub record JobData : Type 0 where
   pub answers : List Content
 
 -- a job that was run: what it bore and printed beyond what the job had, and where it stopped
-pub record DoneData : Type 0 where
+pub record Done : Type 0 where
   pub job : JobData
   pub births : List Birth
   pub prints : List RunValue
@@ -56,8 +56,13 @@ abbrev pub beyond : JobData → Piece → Piece
 beyond j p = record { births = drop (length j.births) p.births; prints = drop (length j.printed) p.prints; stop = p.stop }
 
 -- all that was born and printed up to the stop: what the job had, and then what was done
-abbrev pub whole_of : DoneData → Piece
-whole_of d = record { births = map birth_of d.job.births ++ map birth_of d.births; prints = map value_of d.job.printed ++ map value_of d.prints; stop = stop_of d.stop }
+abbrev pub whole_of : Done → Piece
+whole_of d =
+    record {
+      births = map birth_of d.job.births ++ map birth_of d.births;
+      prints = map value_of d.job.printed ++ map value_of d.prints;
+      stop = stop_of d.stop;
+    }
 
 -- a task of one of the script's functions, with arguments of its parameters' kinds
 abbrev pub IsTaskOf : Script → meant.Birth → Type 0
@@ -74,5 +79,5 @@ pub record IsBegun (script : Script) (j : JobData) : Type 0 where
   pub printed : IsFirst (map value_of j.printed) (replay_of script j).prints
 
 -- what was done is true of its job: with what the job had, it is the whole replay
-abbrev pub IsTrueOf : Script → DoneData → Type 0
+abbrev pub IsTrueOf : Script → Done → Type 0
 IsTrueOf script d = replay_of script d.job ≡ whole_of d

@@ -3,19 +3,21 @@
 ghost use Rattle.std.specs.Prelude.{◌≡◌};
 ghost use Rattle.evaluation.specs.Pieces.{piece_of};
 ghost use Rattle.segment.specs.Jobs.{IsTrueOf};
+ghost use Rattle.segment.specs.Parts.{data_of};
 ghost use Rattle.segment.specs.Pieces.{done_of};
 
 use crate::job::Job;
+use crate::parts::JobParts;
 use crate::script_name::ScriptName;
 use evaluation::{Piece, Stop};
 use std::marker::Model;
 use task_spec::Birth;
 use values::RunValue;
 
-/// The parts of a job that was run.
+/// The plain parts of a job that was run, and of what was done on it.
 #[derive(Drop)]
-pub struct DoneParts<S: ScriptName> {
-    pub job: Job<S>,
+pub struct DoneParts {
+    pub job: JobParts,
     /// What the attempt bore beyond what the job had.
     pub births: Vec<Birth>,
     /// What the attempt printed beyond what the job had.
@@ -34,10 +36,10 @@ pub struct Done<S: ScriptName> {
 impl<S: ScriptName> Model for Done<S> {
     ghost use Rattle.std.specs.Coded.{codes};
     ghost use Rattle.values.specs.contracts.value.RunValue as run_values;
-    ghost use Rattle.segment.specs.Jobs.{DoneData, IsTrueOf};
+    ghost use Rattle.segment.specs.Jobs.{Done, IsTrueOf};
     ghost use Rattle.segment.specs.Pieces.{done_of};
 
-    ghost Value = { DoneData };
+    ghost Value = { Done };
 
     ghost coded = { Prim.hlevel (codes, run_values.the_row.coded) };
 
@@ -84,9 +86,9 @@ impl<S: ScriptName> Done<S> {
         &self.piece.stop
     }
 
-    /// The job, and what was done on it.
-    pub fn into_parts(self) -> DoneParts<S>
-        ensures job { result.job ≡ self.job }
+    /// The job's parts, and what was done on it.
+    pub fn into_parts(self) -> DoneParts
+        ensures job { data_of result.job ≡ self.job }
         ensures births { result.births.items ≡ self.births }
         ensures prints { result.prints.items ≡ self.prints }
         ensures stop { result.stop ≡ self.stop }
@@ -99,7 +101,7 @@ impl<S: ScriptName> Done<S> {
             stop,
         } = piece;
         DoneParts {
-            job,
+            job: job.into_parts(),
             births,
             prints,
             stop,

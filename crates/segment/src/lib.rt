@@ -12,6 +12,3 @@ pub use evaluation::Stop;
 pub use job::{Job, NoMemory};
 pub use parts::JobParts;
 pub use script_name::ScriptName;
-
-#[cfg(test)]
-mod tests;

@@ -4,6 +4,3 @@
 mod run;
 
 pub use run::{NoMemory, SerialRun, run_serial};
-
-#[cfg(test)]
-mod tests;

@@ -1,5 +1,24 @@
 -- What the code's values stand for.
-use Rattle.meaning.specs.Values.{Value, Int as AnInt, Items, Named, Values, none, more, Outcome, Val, Trapped, Trap as ATrap, Overflow, DivZero, Index, TooLong, Loop, TooDeep, Id as AnId}
+use Rattle.meaning.specs.Values.{
+  Value,
+  Int as AnInt,
+  Items,
+  Named,
+  Values,
+  none,
+  more,
+  Outcome,
+  Val,
+  Trapped,
+  Trap as ATrap,
+  Overflow,
+  DivZero,
+  Index,
+  TooLong,
+  Loop,
+  TooDeep,
+  Id as AnId,
+}
 use Rattle.ids.specs.declared.object.ObjectId.{ObjectId}
 use Rattle.values.specs.declared.value.RunValue.{RunValue, Int, List', Id, Row_of-RunValue, end_of-RunValue, more_of-RunValue}
 use Rattle.values.specs.declared.content.Trap.{Trap}

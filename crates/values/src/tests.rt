@@ -30,27 +30,3 @@ fn ids_come_in_order_of_first_place_each_once(rt: HostRuntime) {
     let none = ids_in(&Content::Trap(Trap::Loop), alloc).expect(&rt, "ids");
     assert!(&rt; none.is_empty());
 }
-
-#[test]
-fn values_are_the_same_item_by_item(rt: HostRuntime) {
-    let alloc = rt.alloc();
-    let list = |last: i64| {
-        vec![in alloc;
-            RunValue::Int(1),
-            RunValue::Id(object(1, 2)),
-            RunValue::Int(last),
-        ]
-    };
-    let one = RunValue::List(list(5).expect(&rt, "list"));
-    let other = RunValue::List(list(6).expect(&rt, "list"));
-    let again = one.copy(alloc).expect(&rt, "copy");
-    let shorter = vec![in alloc; RunValue::Int(1)].expect(&rt, "list");
-    assert!(&rt; one.is_same(&again));
-    assert!(&rt; !one.is_same(&other));
-    assert!(&rt; !one.is_same(&RunValue::List(shorter)));
-    assert!(&rt; !RunValue::Id(object(1, 2)).is_same(&RunValue::Id(object(2, 1))));
-    assert!(&rt; !RunValue::Int(1).is_same(&RunValue::Id(object(1, 1))));
-    assert!(&rt; Content::Trap(Trap::Loop).is_same(&Content::Trap(Trap::Loop)));
-    assert!(&rt; !Content::Trap(Trap::Loop).is_same(&Content::Trap(Trap::Index)));
-    assert!(&rt; !Content::Value(one).is_same(&Content::Trap(Trap::Loop)));
-}

@@ -1,4 +1,4 @@
-use Rattle.machine.proofs.Given.{claims_give_good_jobs}
+use Rattle.machine.proofs.GoodJobs.{claims_give_good_jobs}
 use Rattle.machine.proofs.law.claims_give_good_jobs.Goals as goal
 
 pub returns : goal.returns

@@ -1,4 +1,4 @@
-use Rattle.std.proofs.Common.{subst}
+use Rattle.std.proofs.Common.{rules, subst}
 use Rattle.script_check.specs.Trees.{script_of}
 use Rattle.raysim_commands.specs.Scripts.{IsRefusalOf, IsScript}
 use Rattle.raysim_commands.proofs.Begun.{begun_so, always_err}
@@ -15,3 +15,7 @@ returns-in_err-put_all-clause-beginning g c =
     always_err c.from_residual-in_err-put_all.result _
     (begun_so _ c.in_ok-text.text.items (script_of c.in-Ok.script) _ _ c.in-Ok-run_script.report.status _ _
     c.in_ok-text.ensures.ok (subst (λ t. IsScript t (script_of c.in-Ok.script)) c.as_slice.ensures.value c.in-Ok.ensures.found) c.in-Ok-run_script.ensures.reported c.as_bytes.ensures.value c.in_err-put_all.ensures.beginning)
+
+pub returns-in_err-text-clause-refused : goal.returns-in_err-text-clause-refused
+returns-in_err-text-clause-refused g c =
+    let why = explains_as_others _ _ _ _ (c.in_err-text.ensures.refused (g.W.Sink.has_failed c.args.writer.now)) in search (rules, why)

@@ -1,17 +1,13 @@
 use Rattle.std.proofs.Common.{◌≡◌, ◌⊎◌, None, refl, ap, ◌∙◌, subst, inl, inr}
 use Rattle.segment.specs.Parts as parts
 use Rattle.machine.specs.Claims.{Step}
-use Rattle.machine.specs.Claims as claims
 use Rattle.machine.specs.Steps.{Claims}
-use Rattle.event_log.specs.Views.{code_of, log_of, entry_of}
-use Rattle.event_log.specs.declared.refusal.Refusal.{Refusal}
-use Rattle.event_log.specs.declared.refusal.Refusal.TheVariants as refusals
 use Rattle.run_tables.specs.declared.tables.Tables.{Tables}
 use Rattle.run_tables.specs.Views.{tables_of, job_of}
-use Rattle.run_core.specs.declared.event.Event.TheVariants as events
+use Rattle.run_core.specs.declared.event.LocalEvent.TheVariants as events
 use Rattle.machine.specs.Law.{IsSound}
 use Rattle.run_core.specs.States.{RunState, setting_of}
-use Rattle.run_core.specs.Steps.{GivesJob, told_of}
+use Rattle.run_core.specs.Steps.{GivesJob, reply_of}
 use Rattle.run_core.specs.Views.{data_of, state_of}
 use Rattle.run_core.proofs.Jobs.{job_begun}
 use Rattle.run_core.proofs.Kept.{not_taken, claim_refuses, sound_of, TakesSo, sound_then, taken, kept_of}
@@ -26,7 +22,7 @@ returns-in-Err-clause-kept g c =
     let before = state_of (data_of c.args.state.now) in
     let mid : RunState = record { log = before.log; tables = tables_of c.claim.new.self; is_halted = before.is_halted } in
     let refusal = c.in-Err.refusal in
-    (not_taken g.S.ScriptName.script before mid (state_of (data_of c.refuse.new.state)) (events.Claim c.args.worker) None refusal (told_of c.refuse.result) c.requires.kept c.events_stay_sound.ensures c.requires.goes_on refl
+    (not_taken g.S.ScriptName.script before mid (state_of (data_of c.refuse.new.state)) (events.Claim c.args.worker) None refusal (reply_of c.refuse.result) c.requires.kept c.events_stay_sound.ensures c.requires.goes_on refl
     (claim_refuses g.S.ScriptName.script before mid c.args.worker None refusal (as_state c.claim.new.self c.args.state.now.tables c.in-Err.ensures.refused)) c.refuse.ensures).1
 
 pub new-requires : goal.new-requires

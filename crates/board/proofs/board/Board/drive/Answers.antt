@@ -1,4 +1,3 @@
-use Rattle.std.proofs.Common.{◌≡◌, ℕ, refl}
 use Rattle.run_core.specs.Views.{state_of}
 use Rattle.board.proofs.Turning.{no_turn, one_more}
 use Rattle.board.proofs.board.Board.drive.Goals as goal

@@ -1,7 +1,6 @@
 use Rattle.std.proofs.Common.{◌≡◌, None, Some, refl, sym, ap, ◌∙◌, subst, inl, inr}
-use Rattle.event_log.specs.declared.refusal.Refusal.{Refusal}
 use Rattle.segment.specs.Jobs.{JobData}
-use Rattle.run_core.specs.declared.event.Event.TheVariants as events
+use Rattle.run_core.specs.declared.event.LocalEvent.TheVariants as events
 use Rattle.run_core.specs.Steps.{Answers, GivesJob, Accepts, Refuses}
 use Rattle.run_core.specs.Views.{state_of}
 use Rattle.board.proofs.board.Board.take_turn.Goals as goal
@@ -24,7 +23,7 @@ returns-in-Ok-apply-clause-taken g c =
       worker = c.args.worker;
       ready = c.requires.ready;
       claimed = between;
-      outcome = c.in-Ok-run.done;
+      done = c.in-Ok-run.done;
       claims = subst (λ j. Answers before (events.Claim c.args.worker) None between (GivesJob j)) (sym own) c.in-Job.ensures.answers;
       is_true = c.in-Ok-run.ensures.is_true;
       commits = subst (λ n. Answers between (events.Commit n) (Some c.in-Ok-run.done) after Accepts) number c.in-Ok-apply.ensures.answers;

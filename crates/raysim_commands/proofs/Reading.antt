@@ -1,0 +1,46 @@
+-- Texts of scripts, as far as they are read.
+use Rattle.std.proofs.Common.{◌≡◌, ◌∙◌, ◌<◌, ◌≤◌, ℕ, List, Option, None, Some, inl, inr, refl, ap, take, length, arith}
+use Rattle.std.specs.Prelude.{IfSome}
+use Rattle.std.proofs.lemmas.Bool.{cases_lt}
+use Rattle.std.proofs.lemmas.List.{take_all, length-take-le}
+use Rattle.meaning.specs.Syntax.{Script}
+use Rattle.script_tokens.specs.declared.error.SyntaxError.TheVariants as syntax
+use Rattle.script_syntax.specs.Trees.{Program}
+use Rattle.script_syntax.specs.Grammar.{Reads}
+use Rattle.raysim_streams.specs.declared.Refusal.TheVariants.{At}
+use Rattle.raysim_commands.specs.Scripts.{IsScript, IsNoScriptFor}
+
+-- a long text reads as no program
+too_long : (bytes : List ℕ) → 65536 < length bytes → (program : Program) → Reads bytes program → ⊥
+too_long bytes more program r = let short : length bytes ≤ 65536 = r.1.short in omega arith
+
+-- a long text is refused for its length
+long_refused : (bytes : List ℕ) → 65536 < length bytes → IsNoScriptFor bytes (At 4 (record { start = 0; end = 0 }))
+long_refused bytes more = record {
+  none = λ script s. too_long bytes more s.0 s.1;
+  told = inl (
+    syntax.TooLarge (record { start = 0; end = 0 }),
+    record { cause = inl (more, refl, refl); only = λ program r. absurd (too_long bytes more program r) },
+    refl,
+  );
+}
+
+-- where more was read than a script may have, the text is refused for its length
+pub known_long : (known : Option (List ℕ)) (all : List ℕ) → IfSome known (λ b. all ≡ take 65537 b) → 65536 < length all → IfSome known (λ b. IsNoScriptFor b (At 4 (record { start = 0; end = 0 })))
+known_long None all same more = tt
+known_long (Some b) all same more = elim (cases_lt 65536 (length b)) [
+  | inl longer ↦ long_refused b longer
+  | inr shorter ↦
+      let whole : length all ≡ length b = ap length (same ∙ take_all 65537 b (omega arith)) in
+      let bad : ⊥ = omega arith in absurd bad
+]
+
+-- where less was read, all was
+pub known_short : (known : Option (List ℕ)) (all : List ℕ) → IfSome known (λ b. all ≡ take 65537 b) → length all ≤ 65536 → IfSome known (λ b. all ≡ b)
+known_short None all same less = tt
+known_short (Some b) all same less = elim (cases_lt 65536 (length b)) [
+  | inl longer ↦
+      let cut : length all ≡ 65537 = ap length same ∙ length-take-le 65537 b (omega arith) in
+      let bad : ⊥ = omega arith in absurd bad
+  | inr shorter ↦ same ∙ take_all 65537 b (omega arith)
+]

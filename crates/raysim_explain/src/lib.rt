@@ -1,0 +1,12 @@
+//! What a refusal means, and where in a script it stands.
+#![tactic(auto)]
+
+mod place;
+mod reason;
+mod shown;
+#[cfg(test)]
+mod tests;
+
+pub use place::{Place, line_at, place_of};
+pub use reason::Reason;
+pub use shown::Shown;

@@ -1,0 +1,17 @@
+-- Numbers and texts of refusals.
+use Rattle.std.specs.Prelude.{ℕ, List, ◌++◌, codes}
+use Rattle.std.specs.Fmt.{decimal}
+use Rattle.raysim_streams.specs.declared.refusal.Refusal.{Refusal}
+use Rattle.raysim_streams.specs.declared.refusal.Refusal.TheVariants.{At, NoMemory, Stopped, Failed}
+
+abbrev pub refusal_number : Refusal → ℕ
+refusal_number (At code span) = code
+refusal_number NoMemory = 39
+refusal_number (Stopped code) = code
+refusal_number (Failed failure) = 50
+
+abbrev pub refusal_text : Refusal → List ℕ
+refusal_text (At code span) = codes "refused " ++ (decimal code ++ (codes " at " ++ (decimal span.start ++ (codes ".." ++ decimal span.end))))
+refusal_text NoMemory = codes "refused 39"
+refusal_text (Stopped code) = codes "refused " ++ decimal code
+refusal_text (Failed failure) = codes "refused 50"

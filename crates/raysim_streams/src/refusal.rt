@@ -1,0 +1,81 @@
+// What a command refuses.
+
+ghost use Rattle.std.specs.Prelude.{◌≡◌};
+ghost use Rattle.raysim_streams.specs.declared.refusal.Refusal.TheVariants.{NoMemory, Failed};
+ghost use Rattle.raysim_streams.specs.Refusals.{refusal_number};
+
+use crate::failure::Failure;
+use script_tokens::Span;
+use std::alloc::{AllocError, AllocFailed};
+use std::fmt;
+
+/// Why a command gives no report. Its text is the line that goes to standard error.
+#[derive(Clone, Copy, Debug, PartialEq, Eq, Drop)]
+pub enum Refusal {
+    /// The script is refused with this number (1 to 4 and 10 to 17), at these bytes: `refused 3 at 28..29`.
+    At { code: u16, span: Span },
+    /// Want of memory: `refused 39`.
+    NoMemory,
+    /// A run was stopped before its end, for the reason of this number (20 to 41): `refused 41`.
+    Stopped { code: u16 },
+    /// A read or a write failed: `refused 50`.
+    Failed(Failure),
+}
+
+impl Refusal {
+    /// The refusal's number, as its text tells it.
+    pub fn number(self) -> u16
+        ensures { result ≡ refusal_number self }
+    {
+        match self {
+            Refusal::At { code, span: _ } => code,
+            Refusal::NoMemory => 39,
+            Refusal::Stopped { code } => code,
+            Refusal::Failed(_) => 50,
+        }
+    }
+}
+
+impl fmt::Display for Refusal {
+    ghost use Rattle.std.specs.Prelude.{Some};
+    ghost use Rattle.raysim_streams.specs.Refusals.{refusal_text};
+
+    ghost output = { λ r. Some (refusal_text r) };
+
+    fn fmt<W: fmt::Write>(&self, f: &mut fmt::Formatter<W>) -> fmt::Result {
+        match self {
+            Refusal::At { code, span } => {
+                let start = span.start;
+                let end = span.end;
+                write!(f, "refused {code} at {start}..{end}")
+            }
+            Refusal::NoMemory => write!(f, "refused 39"),
+            Refusal::Stopped { code } => write!(f, "refused {code}"),
+            Refusal::Failed(_) => write!(f, "refused 50"),
+        }
+    }
+}
+
+impl From<AllocError> for Refusal {
+    ghost from_gives = { λ _ e. e ≡ NoMemory };
+
+    fn from(_error: AllocError) -> Refusal {
+        Refusal::NoMemory
+    }
+}
+
+impl<T: Drop> From<AllocFailed<T>> for Refusal {
+    ghost from_gives = { λ _ e. e ≡ NoMemory };
+
+    fn from(_error: AllocFailed<T>) -> Refusal {
+        Refusal::NoMemory
+    }
+}
+
+impl From<Failure> for Refusal {
+    ghost from_gives = { λ failure e. e ≡ Failed failure };
+
+    fn from(failure: Failure) -> Refusal {
+        Refusal::Failed(failure)
+    }
+}

@@ -1,5 +1,0 @@
-mod fixtures;
-mod jobs;
-mod pieces;
-mod rows;
-mod text;

@@ -1,0 +1,70 @@
+// What comes of a case. The program's commands are called here alone.
+
+use crate::case::{Case, Outcome};
+use raysim_commands::{Refusal, Tracked, check, run, serial};
+use script_syntax::{parse, print_program};
+use std::alloc::{AllocError, Global};
+
+/// Does what a command of the program says, over a reader and a writer in memory. None where there is no such command.
+fn done(
+    alloc: Global,
+    command: &str,
+    script: &[u8],
+    written: &mut Vec<u8>,
+) -> Option<Result<u8, Refusal>> {
+    let mut reader = Tracked::reader(script);
+    let mut writer = Tracked::writer(written);
+    if command == "check" {
+        return Some(check(alloc, &mut reader, &mut writer));
+    }
+    if command == "serial" {
+        return Some(serial(alloc, &mut reader, &mut writer));
+    }
+    if command == "run" {
+        return Some(run(alloc, &mut reader, &mut writer));
+    }
+    None
+}
+
+/// What a command of the program comes to: a refusal is one line, with status 1.
+fn outcome_of_command(alloc: Global, case: &Case) -> Result<Option<Outcome>, AllocError> {
+    let mut bytes = Vec::new(alloc);
+    let script = case.script.as_bytes();
+    let Some(answer) = done(alloc, case.command.as_str(), script, &mut bytes) else {
+        return Ok(None);
+    };
+    let mut outcome = Outcome::new(alloc);
+    match str::from_utf8(bytes.as_slice()) {
+        Ok(text) => outcome.written.push_str(text)?,
+        Err(_) => outcome.written.push_str("no text")?,
+    }
+    match answer {
+        Ok(status) => outcome.status = status,
+        Err(refusal) => {
+            outcome.status = 1;
+            outcome.refusal = format!(in alloc; "{refusal}")?;
+        }
+    }
+    Ok(Some(outcome))
+}
+
+/// The program of a text as it is printed, read again and printed once more. Nothing is written where a text is no program.
+fn outcome_of_print(alloc: Global, case: &Case) -> Result<Outcome, AllocError> {
+    let mut outcome = Outcome::new(alloc);
+    let Ok(program) = parse(alloc, case.script.as_bytes()) else {
+        return Ok(outcome);
+    };
+    let printed = print_program(alloc, &program)?;
+    if let Ok(again) = parse(alloc, printed.as_bytes()) {
+        outcome.written = print_program(alloc, &again)?;
+    }
+    Ok(outcome)
+}
+
+/// What comes of a case, or None where its command is none.
+pub fn outcome_of(alloc: Global, case: &Case) -> Result<Option<Outcome>, AllocError> {
+    if case.command.as_str() == "print" {
+        return Ok(Some(outcome_of_print(alloc, case)?));
+    }
+    outcome_of_command(alloc, case)
+}

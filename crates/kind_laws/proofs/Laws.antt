@@ -20,7 +20,7 @@ use Rattle.meaning_laws.proofs.Steps.{content_is}
 use Rattle.kind_laws.specs.Law.{HasKind, LegalLogsKeepKinds}
 use Rattle.kind_laws.proofs.Typed.{Typed, typed_step}
 
-typed_opening : (script : Script) → IsBirthOf script main_birth Number → Typed script (births opening)
+pub typed_opening : (script : Script) → IsBirthOf script main_birth Number → Typed script (births opening)
 typed_opening script h o b e = go (same_id main_object o) e
   where
     go : (t : Bool) → (if t then Some main_birth else None) ≡ Some b → HasKind script (read_birth (den script (births opening)) b)
@@ -37,7 +37,7 @@ typed_log : (end : End) (s : Setting) (log : List Entry) → ScriptChecks s.scri
 typed_log end s log checks main h =
     subst (λ l. Typed s.script (births l)) (sym h.begins) (steps s end checks opening h.rest (good_opening s.script) (typed_opening s.script main) h.each)
 
-kept_fit : (s : Setting) (log : List Entry) → ScriptChecks s.script s.script → GoodLog s.script log → Typed s.script (births log) →
+pub kept_fit : (s : Setting) (log : List Entry) → ScriptChecks s.script s.script → GoodLog s.script log → Typed s.script (births log) →
     (a : Attempt) (y : Id) (c : Outcome) (h : Stops s log a (Needs (Named y))) → HasContent log y c → AnswersFit (run_birth s.script h.replays.spec) h.base (answers_of a log ++ c ∷ [])
 kept_fit s log checks g typed a y c h content =
     let script = s.script in

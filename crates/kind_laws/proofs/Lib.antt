@@ -1,4 +1,4 @@
-mod Numbers
-mod Typed
+pub mod Numbers
+pub mod Typed
 pub mod Laws
 pub mod Mains

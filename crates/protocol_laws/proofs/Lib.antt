@@ -1,0 +1,9 @@
+pub mod Premises
+pub mod Tests
+pub mod StaysOut
+pub mod JobsOut
+pub mod Refusals
+pub mod Events
+pub mod Laws
+pub mod Pace
+pub mod Given

@@ -1,0 +1,90 @@
+-- What follows of it that an event isn't refused.
+use Rattle.std.proofs.Common.{◌≡◌, ℕ, Bool, true, false, Option, Some, None, refl, ap}
+use Rattle.std.specs.Prelude.{◌&&◌, not}
+use Rattle.protocol.specs.Nodes.{Node}
+use Rattle.protocol.specs.Tables.{Run, Worker, Ready, Out, Phase, Waits, HasEnded, HasFaulted}
+use Rattle.protocol.specs.Whole.{Whole, node_at, worker_at}
+use Rattle.protocol.specs.Events.{is_live_node, is_live_worker}
+use Rattle.protocol.specs.Refusals.{is_dead_node, is_dead_worker, is_job, is_ready_phase, is_ready_run, job_in_phase, job_in_run, or_code, unless}
+use Rattle.protocol_legal.proofs.FrameLists.{eq_true}
+
+pub or_none : (a b : Option ℕ) → or_code a b ≡ None → (a ≡ None) × (b ≡ None)
+or_none None b h = (refl, h)
+or_none (Some a) b h = absurd (cc)
+
+pub unless_none : (t : Bool) (code : ℕ) → unless t code ≡ None → t ≡ true
+unless_none true code h = refl
+unless_none false code h = absurd (cc)
+
+pub and_parts : (a b : Bool) → (a && b) ≡ true → (a ≡ true) × (b ≡ true)
+and_parts true b h = (refl, h)
+and_parts false b h = absurd (cc)
+
+pub not_true : (t : Bool) → not t ≡ true → t ≡ false
+not_true true g = absurd (cc)
+not_true false g = refl
+
+-- ---- the living and the dead
+
+pub record WorkerThere (c : Whole) (w : ℕ) (life : Bool) : Type 0 where
+  pub worker : Worker
+  pub at : worker_at c w ≡ Some worker
+  pub lives : worker.is_live ≡ life
+
+pub record NodeThere (c : Whole) (n : ℕ) (life : Bool) : Type 0 where
+  pub node : Node
+  pub at : node_at c n ≡ Some node
+  pub lives : node.is_live ≡ life
+
+module _ (c : Whole) where
+  pub live_worker : (w : ℕ) → is_live_worker (worker_at c w) ≡ true → WorkerThere c w true
+  live_worker w h = go (worker_at c w) refl h
+    where
+      go : (o : Option Worker) → worker_at c w ≡ o → is_live_worker o ≡ true → WorkerThere c w true
+      go None e l = absurd (cc)
+      go (Some x) e l = record { worker = x; at = e; lives = l }
+
+  pub dead_worker : (w : ℕ) → is_dead_worker (worker_at c w) ≡ true → WorkerThere c w false
+  dead_worker w h = go (worker_at c w) refl h
+    where
+      go : (o : Option Worker) → worker_at c w ≡ o → is_dead_worker o ≡ true → WorkerThere c w false
+      go None e l = absurd (cc)
+      go (Some x) e l = record { worker = x; at = e; lives = not_true x.is_live l }
+
+  pub live_node : (n : ℕ) → is_live_node (node_at c n) ≡ true → NodeThere c n true
+  live_node n h = go (node_at c n) refl h
+    where
+      go : (o : Option Node) → node_at c n ≡ o → is_live_node o ≡ true → NodeThere c n true
+      go None e l = absurd (cc)
+      go (Some x) e l = record { node = x; at = e; lives = l }
+
+  pub dead_node : (n : ℕ) → is_dead_node (node_at c n) ≡ true → NodeThere c n false
+  dead_node n h = go (node_at c n) refl h
+    where
+      go : (o : Option Node) → node_at c n ≡ o → is_dead_node o ≡ true → NodeThere c n false
+      go None e l = absurd (cc)
+      go (Some x) e l = record { node = x; at = e; lives = not_true x.is_live l }
+
+-- ---- attempts
+
+pub ready_run : (o : Option Run) → is_ready_run o ≡ true → (run : Run) × (o ≡ Some run) × (run.phase ≡ Ready)
+ready_run None h = absurd (cc)
+ready_run (Some run) h = (run, refl, phase run.phase h)
+  where
+    phase : (p : Phase) → is_ready_phase p ≡ true → p ≡ Ready
+    phase Ready g = refl
+    phase (Out j) g = absurd (cc)
+    phase (Waits y k) g = absurd (cc)
+    phase (HasEnded d) g = absurd (cc)
+    phase (HasFaulted d) g = absurd (cc)
+
+pub out_run : (o : Option Run) (j : ℕ) → is_job (job_in_run o) j ≡ true → (run : Run) × (o ≡ Some run) × (run.phase ≡ Out j)
+out_run None j h = absurd (cc)
+out_run (Some run) j h = (run, refl, phase run.phase h)
+  where
+    phase : (p : Phase) → is_job (job_in_phase p) j ≡ true → p ≡ Out j
+    phase Ready g = absurd (cc)
+    phase (Out i) g = ap Out (eq_true i j g)
+    phase (Waits y k) g = absurd (cc)
+    phase (HasEnded k) g = absurd (cc)
+    phase (HasFaulted k) g = absurd (cc)

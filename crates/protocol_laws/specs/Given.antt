@@ -1,0 +1,41 @@
+-- The jobs that claims give out.
+use Rattle.std.specs.Prelude.{List, None, Option, Some, ℕ}
+use Rattle.event_log.specs.Entries.{Claim, Entry}
+use Rattle.event_log.specs.Rules.{Setting}
+use Rattle.kind_laws.specs.Law.{HasKind}
+use Rattle.meaning.specs.Kinds.{AnswersFit, IsBirthOf, ScriptChecks}
+use Rattle.meaning.specs.Lists.{IsFirst}
+use Rattle.meaning.specs.Meaning.{replay, run_birth}
+use Rattle.meaning.specs.Syntax.{Number, Script}
+use Rattle.meaning.specs.Values.{main_birth}
+use Rattle.protocol.specs.Answers.{Answer, Refuses, Takes, answer}
+use Rattle.protocol.specs.Jobs.{Handed, Job}
+use Rattle.protocol.specs.Whole.{Whole}
+use Rattle.protocol_legal.specs.Knows.{IsTask}
+use Rattle.protocol_laws.specs.Sound.{IsSound}
+
+-- a job that may be run
+pub record IsGood (script : Script) (job : Job) : Type 0 where
+  -- its attempt is of a task, which makes an object of some kind
+  pub task : IsTask job.spec
+  pub kind : HasKind script job.spec
+  -- its answers are of the kinds that the task asks for
+  pub answers : AnswersFit (run_birth script job.spec) job.base job.answers
+  -- what it bore and printed so far begins what the task does on them
+  pub births : IsFirst job.births (replay script job.spec job.base job.answers).births
+  pub prints : IsFirst job.prints (replay script job.spec job.base job.answers).prints
+
+abbrev pub IsGoodIfGiven : Script → Option Job → Type 0
+IsGoodIfGiven script None = Unit {0}
+IsGoodIfGiven script (Some job) = IsGood script job
+
+abbrev pub GivesGood : Script → Answer → Type 0
+GivesGood script (Takes step) = IsGoodIfGiven script step.given
+GivesGood script (Refuses code) = Unit {0}
+
+-- each claim of a sound run gives a job that may be run, where the script's functions are allowed, and main has no parameters and gives a
+-- number
+abbrev pub ClaimsGiveGoodJobs : Type 0
+ClaimsGiveGoodJobs =
+    (s : Setting) → ScriptChecks s.script s.script → IsBirthOf s.script main_birth Number →
+    (log : List Entry) (c : Whole) → IsSound s log c → (w : ℕ) (handed : Handed) → GivesGood s.script (answer c (Claim w) handed)

@@ -1,0 +1,5 @@
+pub mod Sound
+pub mod Coming
+pub mod Law
+pub mod Pace
+pub mod Given

@@ -1,0 +1,32 @@
+-- What is true of a run between two events.
+use Rattle.std.specs.Prelude.{◌≡◌, ◌<◌, ℕ, ◌+◌, true, false, List, Some, length}
+use Rattle.event_log.specs.Entries.{Entry}
+use Rattle.event_log.specs.Rules.{Setting}
+use Rattle.holding.specs.Past.{Fact}
+use Rattle.holding_steps.specs.Whole.{WholeTrue}
+use Rattle.protocol.specs.Jobs.{Given}
+use Rattle.protocol.specs.Numbered.{item_at}
+use Rattle.protocol.specs.Tables.{Out, Run, Worker}
+use Rattle.protocol.specs.Whole.{Whole, worker_at}
+use Rattle.protocol_legal.specs.Whole.{Between}
+
+-- the worker's attempt is out as that job
+abbrev pub IsOutAs : ℕ → Worker → Type 0
+IsOutAs j x = (run : Run) × (x.run ≡ Some run) × (run.phase ≡ Out j)
+
+pub record JobsAreOut (c : Whole) : Type 0 where
+  -- each job was given to a worker that is there
+  pub given : (j : ℕ) (g : Given) → item_at c.jobs j ≡ Some g → g.worker < length c.workers + 1
+  -- a job that isn't committed is out, as long as its worker lives
+  pub out : (j : ℕ) (g : Given) (x : Worker) →
+      item_at c.jobs j ≡ Some g → g.is_committed ≡ false → worker_at c g.worker ≡ Some x → x.is_live ≡ true → IsOutAs j x
+
+pub record IsSound (s : Setting) (log : List Entry) (c : Whole) : Type 0 where
+  -- the log is legal, and tables, stores and messages say of it what is true
+  pub between : Between s log c
+  -- what happened so far: the facts of the log, and who came to hold what and let go of it
+  pub past : List Fact
+  -- nobody holds or lets go of anything but as that says
+  pub held : WholeTrue log past c
+  -- who has a job is busy with it
+  pub jobs : JobsAreOut c

@@ -1,0 +1,44 @@
+// The laws of the whole protocol.
+
+ghost use Rattle.protocol_laws.specs.Given.{ClaimsGiveGoodJobs};
+ghost use Rattle.protocol_laws.specs.Pace.{KeepsPace};
+ghost use Rattle.protocol_laws.specs.Law.{EventsKeepSound, NothingHeldIsReleased, OpeningIsSound, ProtocolStaysLegal, SoundIsLegal};
+
+/// A run begins sound, in a cluster that has a node.
+pub fn opening_is_sound()
+    ensures { OpeningIsSound }
+{}
+
+/// Every event keeps a run sound, accepted or refused: claims, commits, deliveries, ticks, notices, losses, evictions, deaths of workers
+/// and nodes, and nodes that join; where what is handed in as done on a job is what its attempt's replay does, and no function of the script
+/// calls main and none but main prints.
+pub fn event_keeps_sound()
+    ensures { EventsKeepSound }
+{}
+
+/// The log of a sound run is legal beside its own network.
+pub fn sound_is_legal()
+    ensures { SoundIsLegal }
+{}
+
+/// The log of the whole protocol is legal, whatever events come, in any order and number.
+pub fn protocol_stays_legal()
+    ensures { ProtocolStaysLegal }
+{}
+
+/// What a sound run released wasn't held where it was released.
+pub fn nothing_held_is_released()
+    ensures { NothingHeldIsReleased }
+{}
+
+/// What an attempt of a legal log bore and printed begins what its task does on its answers, which are of the kinds asked for; where the
+/// script's functions are allowed.
+pub fn attempts_keep_pace()
+    ensures { KeepsPace }
+{}
+
+/// Each job that a claim gives out is one that may be run: its answers are of the kinds asked for, and what it bore and printed so far
+/// begins what its task does on them.
+pub fn claims_give_good_jobs()
+    ensures { ClaimsGiveGoodJobs }
+{}

@@ -1,5 +1,5 @@
 -- Events in texts.
-use Rattle.std.proofs.Common.{◌≡◌, ℕ, ◌<◌, ◌^◌, false, List, [], ◌∷◌, ◌++◌, Option, Some, None, refl, sym, ap, ◌∙◌, subst, arith}
+use Rattle.std.proofs.Common.{◌≡◌, ℕ, ◌<◌, ◌^◌, false, List, ◌∷◌, ◌++◌, Option, Some, None, refl, sym, ap, ◌∙◌, subst, arith}
 use Rattle.std.specs.Prelude.{IfSome, codes, if◌then◌else◌, Bool, true}
 use Rattle.std.specs.Option.{option_map}
 use Rattle.std.specs.Fmt.{decimal}
@@ -16,7 +16,7 @@ use Rattle.event_files.specs.Lines.{IsEvent}
 use Rattle.event_files.specs.Reading.{pick, go_on, both, has, parted, behind, number_in, worker_in, node_in, object_in, two_workers_in, worker_and_node_in, node_and_object_in, event_in}
 use Rattle.event_files.proofs.Decimals.{number_in-decimal, number_in-is, given_of}
 use Rattle.event_files.proofs.Marks.{pick_keeps, map_keeps, behind-is, parted-at, parted-is, IsParted, no_mark_in_decimal, has-append}
-use Rattle.event_files.proofs.Objects.{both-is, object_in-text, object_in-is}
+use Rattle.event_files.proofs.Objects.{object_in-text, object_in-is}
 
 space : (n : ℕ) (rest : List ℕ) → n < 2 ^ 32 → parted 32 (decimal n ++ 32 ∷ rest) ≡ Some (decimal n, rest)
 space n rest h = parted-at 32 (decimal n) rest (no_mark_in_decimal 32 n (omega arith) (omega arith))

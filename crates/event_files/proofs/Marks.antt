@@ -10,7 +10,7 @@ use Rattle.std.specs.Int.{IsInRange}
 use Rattle.std.proofs.lemmas.List.{take_all, length-drop}
 use Rattle.std.proofs.lemmas.Fmt.{decimal_is_IsNumeral}
 use Rattle.std.proofs.lemmas.Str.Parse.{digit_at}
-use Rattle.event_files.specs.Reading.{pick, go_on, has, with_first, parted, behind}
+use Rattle.event_files.specs.Reading.{pick, has, with_first, parted, behind}
 
 -- what holds of the result on each way holds
 pub pick_keeps : {A B : Type 0} (P : B → Type 0) (o : Option A) (f : A → Option B) (y : Option B) →

@@ -1,11 +1,10 @@
 -- Objects in texts.
-use Rattle.std.proofs.Common.{◌≡◌, ℕ, ◌<◌, ◌^◌, List, ◌∷◌, ◌++◌, Option, Some, None, refl, sym, ap, ◌∙◌, arith}
+use Rattle.std.proofs.Common.{◌≡◌, ℕ, ◌<◌, ◌^◌, List, ◌∷◌, ◌++◌, Option, Some, None, refl, ap, ◌∙◌, arith}
 use Rattle.std.specs.Prelude.{IfSome, codes}
-use Rattle.std.specs.Option.{option_map}
 use Rattle.std.specs.Fmt.{decimal}
 use Rattle.ids.specs.Texts.{object_text, IsObject}
 use Rattle.ids.specs.declared.object.ObjectId.{ObjectId}
-use Rattle.event_files.specs.Reading.{go_on, both, parted, behind, number_in, object_of, object_in}
+use Rattle.event_files.specs.Reading.{both, parted, behind, number_in, object_of, object_in}
 use Rattle.event_files.proofs.Decimals.{number_in-decimal, number_in-is, given_of, none_of}
 use Rattle.event_files.proofs.Marks.{pick_keeps, map_keeps, behind-is, parted-at, parted-is, no_mark_in_decimal}
 

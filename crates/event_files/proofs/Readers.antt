@@ -1,5 +1,5 @@
 -- The two formats read what they write.
-use Rattle.std.proofs.Common.{◌≡◌, ◌≢◌, ℕ, ◌<◌, ◌^◌, Bool, true, false, List, [], ◌∷◌, ◌++◌, Option, Some, None, refl, sym, ap, ◌∙◌, subst, arith}
+use Rattle.std.proofs.Common.{◌≡◌, ℕ, ◌<◌, ◌^◌, Bool, true, false, List, [], ◌∷◌, ◌++◌, Option, Some, None, refl, ap, ◌∙◌, arith}
 use Rattle.std.specs.Prelude.{IfSome, codes, if◌then◌else◌, map}
 use Rattle.std.specs.Option.{option_map}
 use Rattle.std.specs.Fmt.{decimal}
@@ -19,13 +19,13 @@ use Rattle.event_log.specs.declared.event.Event.TheVariants as events
 use Rattle.event_files.specs.declared.line.Line.{Line}
 use Rattle.event_files.specs.declared.line.Line.TheVariants as lines
 use Rattle.event_files.specs.declared.plan.PlanLine.{PlanLine}
-use Rattle.event_files.specs.Lines.{IsEvent, AreEvents, AreWorkers, IsLine, workers_text, settle_text, line_text}
-use Rattle.event_files.specs.Plans.{may_be_planned, planned, plan_line_at, plan_line_in, IsPlanLine, plan_line_text}
+use Rattle.event_files.specs.Lines.{AreEvents, AreWorkers, IsLine, workers_text, line_text}
+use Rattle.event_files.specs.Plans.{may_be_planned, plan_line_at, plan_line_in, IsPlanLine, plan_line_text}
 use Rattle.event_files.specs.Files.{Row, Said, is_passed, AreRows, rows_text, all_said, IsFile}
 use Rattle.event_files.specs.Reading.{pick, go_on, has, parted, behind, number_in, event_in, workers_in, settle_in, line_in}
-use Rattle.event_files.specs.Printing.{events_text, event_line}
+use Rattle.event_files.specs.Printing.{events_text}
 use Rattle.event_files.proofs.Decimals.{number_in-decimal, number_in-is, given_of}
-use Rattle.event_files.proofs.Marks.{pick_keeps, map_keeps, behind-is, parted-at, parted-is, IsParted, no_mark_in_decimal, has-append}
+use Rattle.event_files.proofs.Marks.{pick_keeps, behind-is, parted-at, parted-is, IsParted, no_mark_in_decimal, has-append}
 use Rattle.event_files.proofs.EventTexts.{IsEventIn, event_in-text, event_in-is, event_in_a_line}
 use Rattle.event_files.proofs.Settles.{AreWorkersIn, workers_in-is, workers_in-text}
 use Rattle.event_files.proofs.Rows.{Reads}

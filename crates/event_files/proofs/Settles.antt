@@ -1,13 +1,13 @@
 -- The workers of a settle.
-use Rattle.std.proofs.Common.{◌≡◌, ◌≢◌, ℕ, ◌<◌, ◌^◌, Bool, true, false, List, [], ◌∷◌, ◌++◌, Option, Some, None, refl, sym, ap, ◌∙◌, subst, arith}
-use Rattle.std.specs.Prelude.{IfSome, codes, ◌==◌, if◌then◌else◌}
+use Rattle.std.proofs.Common.{◌≡◌, ℕ, ◌<◌, ◌^◌, Bool, true, false, List, [], ◌∷◌, ◌++◌, Option, Some, None, refl, sym, ap, ◌∙◌, subst, arith}
+use Rattle.std.specs.Prelude.{IfSome, ◌==◌, if◌then◌else◌}
 use Rattle.std.specs.Fmt.{decimal}
 use Rattle.std.proofs.lemmas.Bool.{eqb-true}
 use Rattle.std.proofs.lemmas.List.{append_assoc, append-nil}
 use Rattle.std.specs.Option.{option_map}
 use Rattle.ids.specs.declared.worker.WorkerId.{WorkerId}
 use Rattle.event_files.specs.Lines.{AreWorkers, workers_text}
-use Rattle.event_files.specs.Reading.{go_on, has, with_first, parted, worker_in, before_first, words_in, all_workers, workers_in}
+use Rattle.event_files.specs.Reading.{go_on, has, parted, worker_in, before_first, words_in, all_workers, workers_in}
 use Rattle.event_files.proofs.Decimals.{number_in-decimal, given_of}
 use Rattle.event_files.proofs.Marks.{parted-is, IsParted, none-parted, no_mark_in_decimal}
 use Rattle.event_files.proofs.EventTexts.{IsWorkerIn, worker_in-is}

@@ -1,5 +1,5 @@
 -- The lines of event files and plans, and how they are written.
-use Rattle.std.specs.Prelude.{ℕ, ◌<◌, ◌^◌, Bool, true, false, IsTrue, List, [], ◌∷◌, ◌++◌, codes}
+use Rattle.std.specs.Prelude.{ℕ, ◌<◌, ◌^◌, List, [], ◌∷◌, ◌++◌, codes}
 use Rattle.std.specs.Fmt.{decimal}
 use Rattle.ids.specs.declared.worker.WorkerId.{WorkerId}
 use Rattle.ids.specs.Texts.{IsObject}

@@ -1,0 +1,7 @@
+mod Decimals
+mod Marks
+mod Objects
+mod EventTexts
+mod Settles
+mod Rows
+mod Readers

@@ -1,0 +1,10 @@
+use Rattle.std.proofs.Common.{length}
+use Rattle.event_files.specs.Lines.{IsLine, line_text}
+use Rattle.event_files.proofs.Rows.{IsReadTo}
+use Rattle.event_files.proofs.events.parse_events.Given as goal
+
+abbrev pub invariant-loop-line : goal.invariant-loop-line
+invariant-loop-line l = IsReadTo IsLine line_text l.text l.rest l.lines l.number
+
+abbrev pub decreases-loop-line : goal.decreases-loop-line
+decreases-loop-line l = length l.rest

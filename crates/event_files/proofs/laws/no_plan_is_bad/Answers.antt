@@ -1,0 +1,9 @@
+use Rattle.std.proofs.Common.{sym, ◌∙◌}
+use Rattle.event_files.specs.Plans.{IsPlanLine, plan_line_text, plan_line_in}
+use Rattle.event_files.proofs.Rows.{none_bad}
+use Rattle.event_files.proofs.Readers.{reads_plans}
+use Rattle.event_files.proofs.laws.no_plan_is_bad.Goals as goal
+
+pub returns : goal.returns
+returns c bytes a n h k =
+    none_bad IsPlanLine plan_line_text plan_line_in reads_plans h.rows k.rows k.line k.rest h.are_rows k.are_rows k.in_a_line k.is_bad (sym h.written ∙ k.written)

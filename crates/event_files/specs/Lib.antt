@@ -1,0 +1,6 @@
+pub mod Refusals
+pub mod Lines
+pub mod Plans
+pub mod Files
+pub mod Reading
+pub mod Printing

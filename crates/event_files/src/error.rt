@@ -1,0 +1,47 @@
+// Why a file of events is refused.
+
+ghost use Rattle.std.specs.Prelude.{◌≡◌};
+ghost use Rattle.event_files.specs.declared.error.EventError.TheVariants.{NoMemory};
+ghost use Rattle.event_files.specs.Refusals.{refusal_number};
+
+use std::alloc::{AllocError, AllocFailed};
+
+/// Why a file of events or a plan is refused.
+#[derive(Clone, Copy, PartialEq, Eq, Debug, Drop)]
+pub enum EventError {
+    /// 40: the line with this number, counted from 1, is none of the format.
+    BadLine(u64),
+    /// 41: the file stands for more than 100,000 events. Reading never answers it, since only a run knows the events of a `settle`.
+    TooLong,
+    /// 39: want of memory.
+    NoMemory,
+}
+
+impl EventError {
+    /// The refusal's number: 40 or 41, and 39 for want of memory.
+    pub fn number(self) -> u16
+        ensures { result ≡ refusal_number self }
+    {
+        match self {
+            EventError::BadLine(_) => 40,
+            EventError::TooLong => 41,
+            EventError::NoMemory => 39,
+        }
+    }
+}
+
+impl From<AllocError> for EventError {
+    ghost from_gives = { λ _ e. e ≡ NoMemory };
+
+    fn from(_e: AllocError) -> EventError {
+        EventError::NoMemory
+    }
+}
+
+impl<T: Drop> From<AllocFailed<T>> for EventError {
+    ghost from_gives = { λ _ e. e ≡ NoMemory };
+
+    fn from(_e: AllocFailed<T>) -> EventError {
+        EventError::NoMemory
+    }
+}

@@ -1,0 +1,84 @@
+// Plans.
+
+ghost use Rattle.std.specs.Prelude.{◌≡◌, IfOk, IfErr};
+ghost use Rattle.event_files.specs.Plans.{may_be_planned, plan_line_in, IsPlanLine, plan_line_text};
+ghost use Rattle.event_files.specs.Files.{IsFile, IsRefusal};
+
+use crate::error::EventError;
+use crate::event::read_event;
+use crate::numbers::read_number;
+use crate::parts::parted;
+use crate::passing::is_passed;
+use event_log::Event;
+use sequence::Seq;
+use std::alloc::Global;
+
+/// An event that happens once so many commits were accepted, or where nothing else can be done.
+#[derive(Clone, Copy, PartialEq, Eq, Debug)]
+pub struct PlanLine {
+    pub commits: u64,
+    pub event: Event,
+}
+
+/// What is to happen to a run from outside, in the order of its lines.
+#[derive(Drop)]
+pub struct RunPlan {
+    pub lines: Seq<PlanLine>,
+}
+
+/// Whether a plan may have the event: a claim, a commit and a delivery are the run's own.
+fn may_be_planned(event: Event) -> bool
+    ensures { result ≡ may_be_planned event }
+{
+    !matches!(
+        event,
+        Event::Claim(_) | Event::Commit(_) | Event::Deliver(_)
+    )
+}
+
+/// What a line without its line feed says.
+#[tactic(auto, unfolding(crate::specs::Plans::plan_line_in))]
+fn read_plan_line(text: &[u8]) -> Option<PlanLine>
+    ensures { result ≡ plan_line_in text.now }
+{
+    let Some((front, back)) = parted(text, b' ') else {
+        return None;
+    };
+    let Some(commits) = read_number(front) else {
+        return None;
+    };
+    let Some(event) = read_event(back) else {
+        return None;
+    };
+    if may_be_planned(event) {
+        return Some(PlanLine { commits, event });
+    }
+    None
+}
+
+/// Reads a plan: lines `C EVENT`, each ended by a line feed, by the rules of event files. `C` is a number of commits, and the
+/// event is a tick, notice, notice-node, evict, lose, kill, kill-node or join.
+///
+/// Answers `BadLine` with the number of the first line, counted from 1, that is none of these.
+pub fn parse_plan(alloc: Global, text: &[u8]) -> Result<RunPlan, EventError>
+    ensures read { IfOk result (λ plan. IsFile IsPlanLine plan_line_text text.now plan.lines) }
+    ensures refused { IfErr result (λ e. IsRefusal IsPlanLine plan_line_text text.now e) }
+{
+    let mut lines = Seq::new(alloc);
+    let mut rest = text;
+    let mut number = 0;
+    while let Some((line, after)) = parted(rest, b'\n') {
+        number += 1;
+        if !is_passed(line) {
+            let Some(said) = read_plan_line(line) else {
+                return Err(EventError::BadLine(number));
+            };
+            lines.push(said)?;
+        }
+        rest = after;
+    }
+    if !rest.is_empty() {
+        return Err(EventError::BadLine(number + 1));
+    }
+    Ok(RunPlan { lines })
+}

@@ -3,7 +3,7 @@
 ghost use Rattle.std.specs.Prelude.{◌≡◌, IfOk, OnOk, Some, None, if◌then◌else◌};
 ghost use Rattle.protocol.specs.Sets.{has};
 ghost use Rattle.protocol.specs.Recovery.{first_stop, made_from, members, members_below, stop_at, with_lost};
-ghost use Rattle.lineage.specs.Plans.{planned};
+ghost use Rattle.lineage.specs.Plans.{IsRightPlan, planned};
 
 use crate::arguments::made_from;
 use crate::serials::{add_serial, has_serial, in_order};
@@ -110,14 +110,24 @@ fn first_stop(here: &Here, serials: &Seq<u64>) -> Option<Fault>
     None
 }
 
-/// The plan for the lost own object of that serial: it and its dereferenced arguments that are lost too, and so on, unless one of them can't
-/// be made again. An error is want of memory.
-pub fn plan(alloc: Global, here: &Here, serial: u64) -> Result<Recovery, AllocError>
-    ensures { IfOk result (λ p. p ≡ planned here.now serial) }
+/// What is decided about the lost own object of that serial.
+fn decide(alloc: Global, here: &Here, serial: u64) -> Result<Recovery, AllocError>
+    ensures { IfOk result (λ r. r ≡ planned here.now serial) }
 {
     let serials = members(alloc, here, serial)?;
     if let Some(why) = first_stop(here, &serials) {
         return Ok(Recovery::Stop(why));
     }
     Ok(Recovery::Remake(serials))
+}
+
+/// The plan for the lost own object of that serial: the least set with it and, of each in the set, the dereferenced arguments that are lost too,
+/// in birth order; or, of those in the set that can't be made again, the first. An error is want of memory.
+#[tactic(auto, using(crate::proofs::Least::is_right_plan))]
+pub fn plan(alloc: Global, here: &Here, serial: u64) -> Result<Recovery, AllocError>
+    ensures decision { IfOk result (λ r. r ≡ planned here.now serial) }
+    ensures right { IfOk result (λ r. IsRightPlan here.now serial r) }
+{
+    let recovery = decide(alloc, here, serial)?;
+    Ok(recovery)
 }

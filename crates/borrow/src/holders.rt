@@ -1,0 +1,51 @@
+// An object's holders.
+
+ghost use Rattle.std.specs.Prelude.{◌≡◌, ◌↔◌, ◌&&◌, ◌||◌, OnOk, not, true};
+ghost use Rattle.meaning.specs.Births.{same_id};
+ghost use Rattle.meaning.specs.Values.{Id};
+ghost use Rattle.protocol.specs.Sets.{has_id};
+ghost use Rattle.protocol.specs.Tables.{is_held, with_holder, without_holder};
+ghost use Rattle.borrow.specs.Held.{holds};
+
+use number_lists::{add_object, has_object};
+use numbers::ObjectId;
+use protocol_data::Object;
+use std::alloc::AllocError;
+
+/// Adds a holder. One that was removed before doesn't come to hold the object again. An error is want of memory.
+pub fn add(object: &mut Object, holder: ObjectId) -> Result<(), AllocError>
+    ensures step { OnOk result (object.new ≡ with_holder holder object.old) }
+    ensures added { (e : Id) → OnOk result (holds object.new e ≡ ((has_id object.old.added e || same_id holder e) && not (has_id object.old.removed e))) }
+    ensures late { has_id object.old.removed holder ≡ true → (e : Id) → OnOk result (holds object.new e ≡ holds object.old e) }
+{
+    add_object(&mut object.added, holder)?;
+    Ok(())
+}
+
+/// Removes a holder, and no other. An error is want of memory.
+pub fn remove(object: &mut Object, holder: ObjectId) -> Result<(), AllocError>
+    ensures step { OnOk result (object.new ≡ without_holder holder object.old) }
+    ensures removed { (e : Id) → OnOk result (holds object.new e ≡ (holds object.old e && not (same_id holder e))) }
+{
+    add_object(&mut object.removed, holder)?;
+    Ok(())
+}
+
+/// Whether one of those that were added is left.
+fn is_one_left(object: &Object) -> bool
+    ensures { result ≡ is_held object.now }
+{
+    object
+        .added
+        .items
+        .iter()
+        .any(|e| !has_object(&object.removed, *e))
+}
+
+/// Whether anyone holds it. It takes no memory.
+pub fn is_held(object: &Object) -> bool
+    ensures step { result ≡ is_held object.now }
+    ensures someone { (result ≡ true) ↔ ((e : Id) × (holds object.now e ≡ true)) }
+{
+    is_one_left(object)
+}

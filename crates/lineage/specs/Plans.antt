@@ -1,0 +1,43 @@
+-- What is to be done about a lost object: which objects are made again, or why none is.
+use Rattle.std.specs.Prelude.{Bool, List, None, Option, Some, [], true, ◌+◌, ◌<◌, ◌≡◌, ◌≤◌, ◌∷◌, ℕ}
+use Rattle.std.specs.List.{AllByRecursion}
+use Rattle.event_log.specs.Entries.{Fault}
+use Rattle.protocol.specs.Sets.{has}
+use Rattle.protocol.specs.Steps.{Here, object_at}
+use Rattle.protocol.specs.Recovery.{first_stop, is_lost_at, made_from, members}
+pub use Rattle.lineage.specs.declared.planning.Recovery.{Recovery}
+pub use Rattle.lineage.specs.declared.planning.Recovery.TheVariants.{Remake, Stop}
+
+abbrev pub planned_by : List ℕ → Option Fault → Recovery
+planned_by ks None = Remake ks
+planned_by ks (Some f) = Stop f
+
+-- the plan for the object of that serial
+abbrev pub planned : Here → ℕ → Recovery
+planned h k = let ks : List ℕ = members h k in planned_by ks (first_stop h ks)
+
+-- ---- what a plan is to be
+
+-- of the objects that the test names, it names the lost dereferenced arguments too
+abbrev pub IsClosed : Here → (ℕ → Bool) → Type 0
+IsClosed h p = (k : ℕ) → p k ≡ true → AllByRecursion (λ o. is_lost_at (object_at h o) ≡ true → p o.serial ≡ true) (made_from h k)
+
+-- what an object is made from is older
+abbrev pub ArgumentsAreOlder : Here → Type 0
+ArgumentsAreOlder h = (k : ℕ) → AllByRecursion (λ o. is_lost_at (object_at h o) ≡ true → o.serial < k) (made_from h k)
+
+-- each is greater than the one before it
+abbrev pub Ascends : ℕ → List ℕ → Type 0
+Ascends low [] = Unit {0}
+Ascends low (k ∷ ks) = (low ≤ k) × Ascends (k + 1) ks
+
+-- the least closed set with that object in it, in birth order
+pub record IsLeast (h : Here) (k : ℕ) (ks : List ℕ) : Type 0 where
+  pub there : has ks k ≡ true
+  pub closed : IsClosed h (has ks)
+  pub least : (p : ℕ → Bool) → p k ≡ true → IsClosed h p → (j : ℕ) → has ks j ≡ true → p j ≡ true
+  pub ordered : Ascends 1 ks
+
+-- that set is made again, unless one of it can't be: then the first such one in birth order is the reason
+abbrev pub IsRightPlan : Here → ℕ → Recovery → Type 0
+IsRightPlan h k r = ArgumentsAreOlder h → 1 ≤ k → (ks : List ℕ) × IsLeast h k ks × (r ≡ planned_by ks (first_stop h ks))

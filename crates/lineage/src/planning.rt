@@ -1,0 +1,133 @@
+// Which objects are made again with a lost one.
+
+ghost use Rattle.std.specs.Prelude.{◌≡◌, IfOk, OnOk, Some, None, if◌then◌else◌};
+ghost use Rattle.protocol.specs.Sets.{has};
+ghost use Rattle.protocol.specs.Recovery.{first_stop, made_from, members, members_below, stop_at, with_lost};
+ghost use Rattle.lineage.specs.Plans.{IsRightPlan, planned};
+
+use crate::arguments::made_from;
+use crate::serials::{add_serial, has_serial, in_order};
+use crate::tables::{is_lost_at, may_try_again};
+use number_lists::item_at_number;
+use numbers::{Cause, Fault, ObjectId};
+use protocol_data::{Here, Maker};
+use sequence::Seq;
+use std::alloc::{AllocError, Global};
+
+/// What is to be done about a lost object.
+#[derive(Drop)]
+pub enum Recovery {
+    /// The objects of these serials are made again, in birth order, so that arguments come first.
+    Remake(Seq<u64>),
+    /// One of them can't be made again, for this reason: the first such one in birth order.
+    Stop(Fault),
+}
+
+/// Adds the serials of those that are lost.
+fn add_lost(here: &Here, objects: &Seq<ObjectId>, serials: &mut Seq<u64>) -> Result<(), AllocError>
+    ensures { OnOk result (serials.new ≡ with_lost here.now objects.now serials.old) }
+{
+    for object in &objects.items {
+        if is_lost_at(here, *object) {
+            add_serial(serials, object.serial)?;
+        }
+    }
+    Ok(())
+}
+
+/// Of a member, adds what it is made from and is lost.
+fn add_arguments(
+    alloc: Global,
+    here: &Here,
+    serial: u64,
+    serials: &mut Seq<u64>,
+) -> Result<(), AllocError>
+    ensures { OnOk result (serials.new ≡ (if has serials.old serial then with_lost here.now (made_from here.now serial) serials.old else serials.old)) }
+{
+    if !has_serial(serials, serial) {
+        return Ok(());
+    }
+    let objects = made_from(alloc, here, serial)?;
+    add_lost(here, &objects, serials)
+}
+
+/// From the youngest down, since what an object is made from is older.
+#[tactic(auto, using(crate::proofs::Counting::down_step, crate::proofs::Counting::down_last))]
+fn add_members_below(
+    alloc: Global,
+    here: &Here,
+    serial: u64,
+    serials: &mut Seq<u64>,
+) -> Result<(), AllocError>
+    ensures { OnOk result (serials.new ≡ members_below here.now serial serials.old) }
+{
+    for back in 0..serial {
+        add_arguments(alloc, here, serial - back, serials)?;
+    }
+    Ok(())
+}
+
+/// The serials of the objects to make again, in birth order.
+fn members(alloc: Global, here: &Here, serial: u64) -> Result<Seq<u64>, AllocError>
+    ensures { IfOk result (λ all. all ≡ members here.now serial) }
+{
+    let mut found = Seq::new(alloc);
+    found.push(serial)?;
+    add_members_below(alloc, here, serial, &mut found)?;
+    in_order(alloc, &found, serial)
+}
+
+/// Why the object of that serial can't be made again.
+fn stop_at(here: &Here, serial: u64) -> Option<Fault>
+    ensures { result ≡ stop_at here.now serial }
+{
+    let owner = here.me;
+    let object = ObjectId { owner, serial };
+    let Some(found) = item_at_number(&here.worker.objects, serial) else {
+        let kind = Cause::PutLost;
+        return Some(Fault { kind, object });
+    };
+    let Maker::ByTask(task) = &found.maker else {
+        let kind = Cause::PutLost;
+        return Some(Fault { kind, object });
+    };
+    if may_try_again(task) {
+        return None;
+    }
+    let kind = Cause::RetriesUsed;
+    Some(Fault { kind, object })
+}
+
+/// Why one of these can't be made again, the first that can't.
+fn first_stop(here: &Here, serials: &Seq<u64>) -> Option<Fault>
+    ensures { result ≡ first_stop here.now serials.now }
+{
+    for serial in &serials.items {
+        if let Some(stop) = stop_at(here, *serial) {
+            return Some(stop);
+        }
+    }
+    None
+}
+
+/// What is decided about the lost own object of that serial.
+fn decide(alloc: Global, here: &Here, serial: u64) -> Result<Recovery, AllocError>
+    ensures { IfOk result (λ r. r ≡ planned here.now serial) }
+{
+    let serials = members(alloc, here, serial)?;
+    if let Some(why) = first_stop(here, &serials) {
+        return Ok(Recovery::Stop(why));
+    }
+    Ok(Recovery::Remake(serials))
+}
+
+/// The plan for the lost own object of that serial: the least set with it and, of each in the set, the dereferenced arguments that are lost too,
+/// in birth order; or, of those in the set that can't be made again, the first. An error is want of memory.
+#[tactic(auto, using(crate::proofs::Least::is_right_plan))]
+pub fn plan(alloc: Global, here: &Here, serial: u64) -> Result<Recovery, AllocError>
+    ensures decision { IfOk result (λ r. r ≡ planned here.now serial) }
+    ensures right { IfOk result (λ r. IsRightPlan here.now serial r) }
+{
+    let recovery = decide(alloc, here, serial)?;
+    Ok(recovery)
+}

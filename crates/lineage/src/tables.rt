@@ -1,0 +1,61 @@
+// What a plan reads of an owner's tables.
+
+ghost use Rattle.std.specs.Prelude.{◌≡◌, Some, None};
+ghost use Rattle.protocol.specs.Sets.{retries_in};
+ghost use Rattle.protocol.specs.Tables.{has_content, is_lost, is_whole, may_try_again};
+ghost use Rattle.protocol.specs.Steps.{object_at};
+ghost use Rattle.protocol.specs.Recovery.{is_lost_at};
+
+use held::Origin;
+use numbers::ObjectId;
+use protocol_data::{Here, Object, OwnTask};
+use task_spec::Birth;
+use worker_steps::{is_pending, object_at};
+
+/// Whether it has a content, which no fault, attempt or release takes from it.
+fn is_whole(object: &Object) -> bool
+    ensures { result ≡ is_whole object.now }
+{
+    object.settled.is_some() && object.fault.is_none() && !is_pending(object) && !object.is_released
+}
+
+/// Whether no place of a copy of its content is known, and none is coming.
+pub fn is_lost(object: &Object) -> bool
+    ensures { result ≡ is_lost object.now }
+{
+    is_whole(object) && object.places.items.is_empty()
+}
+
+/// Whether its content can be had.
+pub fn has_content(object: &Object) -> bool
+    ensures { result ≡ has_content object.now }
+{
+    is_whole(object) && !object.places.items.is_empty()
+}
+
+/// Whether the own object of that id is lost.
+pub fn is_lost_at(here: &Here, object: ObjectId) -> bool
+    ensures { result ≡ is_lost_at (object_at here.now object) }
+{
+    match object_at(here, object) {
+        None => false,
+        Some(found) => is_lost(found),
+    }
+}
+
+/// How many new runs a task allows.
+fn retries_in(spec: &Origin) -> u8
+    ensures { result ≡ retries_in spec.now }
+{
+    match &spec.inner {
+        Birth::Put(_) => 0,
+        Birth::Task { retries, .. } => *retries,
+    }
+}
+
+/// Whether the task has retries left.
+pub fn may_try_again(task: &OwnTask) -> bool
+    ensures { result ≡ may_try_again task.now }
+{
+    task.number < u32::from(retries_in(&task.spec))
+}

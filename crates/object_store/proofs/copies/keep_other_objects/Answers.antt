@@ -1,0 +1,11 @@
+use Rattle.std.proofs.Common.{◌∙◌, ap, rules}
+use Rattle.std.specs.Prelude.{not}
+use Rattle.std.specs.List.{filter}
+use Rattle.std.proofs.lemmas.Fn.{filter_same}
+use Rattle.protocol.specs.Stores.{Copy, is_of}
+use Rattle.object_store.proofs.copies.keep_other_objects.Goals as goal
+
+pub returns : goal.returns
+returns c =
+    let kept = λ (x : Copy). not (is_of c.args.object x) in
+    filter_same _ kept _ (λ x b f' k. search rules) _ _ c.retain.ensures.filtered ∙ ap (filter kept) c.copies.view_is

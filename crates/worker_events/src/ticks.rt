@@ -1,0 +1,142 @@
+// A tick: the worker sends again what it waits for.
+
+ghost use Rattle.std.specs.Prelude.{◌≡◌, ◌+◌, ◌-◌, OnOk, Some, None};
+ghost use Rattle.protocol.specs.Tables.{task_of};
+ghost use Rattle.protocol.specs.Steps.{own_object};
+ghost use Rattle.protocol.specs.Ticks.{asks_again, sends_holds, sends_run, sends_stop, sends_task, sends_tasks, tick_step};
+ghost use Rattle.protocol_data.specs.declared.tables.Run.{Run};
+
+use crate::worker_deaths::is_unheard;
+use number_lists::item_at_number;
+use numbers::{AttemptId, ObjectId};
+use protocol_data::{Halt, Here, Holding, Maker, Message, Phase, Progress};
+use sequence::Seq;
+use std::alloc::Global;
+use worker_steps::{is_own, say, say_to_node, tell_stop};
+
+/// Of a pending task, its Ask or its Push is sent again.
+fn send_task(alloc: Global, here: &mut Here, serial: u64) -> Result<(), Halt>
+    ensures { OnOk result (here.new ≡ sends_task here.old serial (task_of (own_object here.old serial))) }
+{
+    let Some(found) = item_at_number(&here.worker.objects, serial) else {
+        return Ok(());
+    };
+    let Maker::ByTask(task) = &found.maker else {
+        return Ok(());
+    };
+    let owner = here.me;
+    let object = ObjectId { owner, serial };
+    let number = task.number;
+    let attempt = AttemptId { object, number };
+    match &task.progress {
+        Progress::AtRest => Ok(()),
+        Progress::AskedAt(t, node) => {
+            let t = *t;
+            let node = *node;
+            say_to_node(here, node, Message::Ask(attempt, t))
+        }
+        Progress::RunsOn(worker, _) => {
+            let worker = *worker;
+            let spec = task.spec.copy(alloc)?;
+            say(here, worker, Message::Push(attempt, spec))
+        }
+    }
+}
+
+/// Of each pending task, in birth order.
+#[tactic(auto, using(worker_steps::proofs::EachLaws::each_step, worker_steps::proofs::EachLaws::each_last))]
+fn send_tasks(alloc: Global, here: &mut Here) -> Result<(), Halt>
+    ensures { OnOk result (here.new ≡ sends_tasks here.old) }
+{
+    let count = here.worker.objects.len() as u64;
+    for place in 0..count {
+        send_task(alloc, here, place + 1)?;
+    }
+    Ok(())
+}
+
+/// What the own attempt asked for is asked for again.
+fn ask_again(here: &mut Here) -> Result<(), Halt>
+    ensures { (run : Run) → here.old.worker.run ≡ Some run → OnOk result (here.new ≡ asks_again here.old run.phase) }
+{
+    let Some(run) = &here.worker.run else {
+        return Ok(());
+    };
+    let Phase::Waits(object, fetching) = &run.phase else {
+        return Ok(());
+    };
+    let object = *object;
+    if let Some(fetch) = fetching {
+        let number = fetch.number;
+        let node = fetch.node;
+        return say_to_node(here, node, Message::Fetch(object, number));
+    }
+    if is_own(here, object) {
+        return Ok(());
+    }
+    say(here, object.owner, Message::Where(object))
+}
+
+/// The Holds that wait are sent again.
+fn send_holds(here: &mut Here, holds: &Seq<Holding>) -> Result<(), Halt>
+    ensures { OnOk result (here.new ≡ sends_holds here.old holds.now) }
+{
+    for hold in &holds.items {
+        let holder = hold.holder;
+        let object = hold.object;
+        say(here, object.owner, Message::Hold(holder, object))?;
+    }
+    Ok(())
+}
+
+/// How the attempt stopped is told again, where that wasn't heard.
+fn send_stop(alloc: Global, here: &mut Here) -> Result<(), Halt>
+    ensures { (run : Run) → here.old.worker.run ≡ Some run → OnOk result (here.new ≡ sends_stop here.old run) }
+{
+    let Some(run) = &here.worker.run else {
+        return Ok(());
+    };
+    if is_unheard(run) {
+        return tell_stop(alloc, here);
+    }
+    Ok(())
+}
+
+/// The own attempt's Holds that wait are sent again.
+fn send_own_holds(alloc: Global, here: &mut Here) -> Result<(), Halt>
+    ensures { (run : Run) → here.old.worker.run ≡ Some run → OnOk result (here.new ≡ sends_holds here.old run.holds) }
+{
+    let Some(run) = &here.worker.run else {
+        return Ok(());
+    };
+    let holds = run.holds.copy(alloc)?;
+    send_holds(here, &holds)
+}
+
+/// Of the own attempt, all that it waits for, and how it stopped.
+fn send_own(alloc: Global, here: &mut Here) -> Result<(), Halt>
+    ensures { (run : Run) → here.old.worker.run ≡ Some run → OnOk result (here.new ≡ sends_run here.old (Some run)) }
+{
+    ask_again(here)?;
+    send_own_holds(alloc, here)?;
+    send_stop(alloc, here)
+}
+
+/// The same, if there is one.
+fn send_run(alloc: Global, here: &mut Here) -> Result<(), Halt>
+    ensures { OnOk result (here.new ≡ sends_run here.old here.old.worker.run) }
+{
+    match &here.worker.run {
+        None => Ok(()),
+        Some(_) => send_own(alloc, here),
+    }
+}
+
+/// The worker sends again what it waits for: Asks and Pushes of its tasks, what its own attempt asked for, its Holds, and how its attempt
+/// stopped.
+pub fn tick_step(alloc: Global, here: &mut Here) -> Result<(), Halt>
+    ensures { OnOk result (here.new ≡ tick_step here.old) }
+{
+    send_tasks(alloc, here)?;
+    send_run(alloc, here)
+}

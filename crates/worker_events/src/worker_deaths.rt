@@ -1,0 +1,109 @@
+// What the death of a worker ends.
+
+ghost use Rattle.std.specs.Prelude.{◌≡◌, ◌&&◌, ◌==◌, ◌++◌, ◌∷◌, [], IfOk, OnOk, Some, None, not};
+ghost use Rattle.std.specs.List.{filter};
+ghost use Rattle.protocol.specs.Steps.{with_run};
+ghost use Rattle.protocol.specs.Notices.{drops_holds, drops_holds_by, drops_stop, is_unheard, loses_owner, with_dead_worker};
+ghost use Rattle.protocol_data.specs.declared.tables.Run.{Run};
+
+use numbers::{Cause, Fault, WorkerId};
+use protocol_data::{Halt, Here, Holding, Phase, Run};
+use sequence::Seq;
+use std::alloc::Global;
+use worker_steps::{fault, leave_if_free, note_heard};
+
+/// The worker knows that the other is dead.
+pub fn add_dead_worker(here: &mut Here, worker: WorkerId) -> Result<(), Halt>
+    ensures { OnOk result (here.new ≡ with_dead_worker here.old worker) }
+{
+    here.worker.dead_workers.push(worker)?;
+    Ok(())
+}
+
+/// The own attempt, if it needs an object of the dead, is answered by a fault.
+pub fn lose_owner(alloc: Global, here: &mut Here, worker: WorkerId) -> Result<(), Halt>
+    ensures { OnOk result (here.new ≡ loses_owner here.old worker) }
+{
+    let Some(run) = &here.worker.run else {
+        return Ok(());
+    };
+    let Phase::Waits(object, _) = &run.phase else {
+        return Ok(());
+    };
+    let object = *object;
+    if !object.owned_by(worker) {
+        return Ok(());
+    }
+    let kind = Cause::OwnerDied;
+    fault(alloc, here, Fault { kind, object })
+}
+
+/// The Holds that are not of objects of the dead.
+fn holds_of_others(
+    alloc: Global,
+    holds: &Seq<Holding>,
+    worker: WorkerId,
+) -> Result<Seq<Holding>, Halt>
+    ensures { IfOk result (λ others. others ≡ filter (λ k. not (k.object.owner == worker)) holds.now) }
+{
+    let mut others = Seq::new(alloc);
+    for hold in &holds.items {
+        if !hold.object.owned_by(worker) {
+            others.push(*hold)?;
+        }
+    }
+    Ok(others)
+}
+
+/// The own attempt waits for no Hold to the dead.
+fn keep_holds_of_others(alloc: Global, here: &mut Here, worker: WorkerId) -> Result<(), Halt>
+    ensures { (run : Run) → here.old.worker.run ≡ Some run → OnOk result (here.new ≡ with_run here.old (record run { holds = filter (λ k. not (k.object.owner == worker)) run.holds })) }
+{
+    if let Some(run) = &mut here.worker.run {
+        let others = holds_of_others(alloc, &run.holds, worker)?;
+        run.holds = others;
+        return Ok(());
+    }
+    Ok(())
+}
+
+/// Holds to the dead count as acknowledged, and a stopped attempt that waited for them alone is over.
+fn drop_own_holds(alloc: Global, here: &mut Here, worker: WorkerId) -> Result<(), Halt>
+    ensures { (run : Run) → here.old.worker.run ≡ Some run → OnOk result (here.new ≡ drops_holds_by here.old worker (Some run)) }
+{
+    keep_holds_of_others(alloc, here, worker)?;
+    leave_if_free(alloc, here)
+}
+
+/// Holds to the dead count as acknowledged.
+pub fn drop_holds(alloc: Global, here: &mut Here, worker: WorkerId) -> Result<(), Halt>
+    ensures { OnOk result (here.new ≡ drops_holds here.old worker) }
+{
+    match &here.worker.run {
+        None => Ok(()),
+        Some(_) => drop_own_holds(alloc, here, worker),
+    }
+}
+
+/// Whether the attempt is over and its owner hasn't heard of it.
+pub fn is_unheard(run: &Run) -> bool
+    ensures { result ≡ is_unheard run.now }
+{
+    run.is_over && !run.is_acknowledged
+}
+
+/// The end of an attempt of the dead counts as heard.
+pub fn drop_stop(here: &mut Here, worker: WorkerId) -> Result<(), Halt>
+    ensures { OnOk result (here.new ≡ drops_stop here.old worker) }
+{
+    let Some(run) = &here.worker.run else {
+        return Ok(());
+    };
+    if !is_unheard(run) {
+        return Ok(());
+    }
+    if !run.attempt.owner().is(worker) {
+        return Ok(());
+    }
+    note_heard(here)
+}

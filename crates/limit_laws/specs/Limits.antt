@@ -15,3 +15,10 @@ whole_within made c m = if is_within made m.whole then m.whole else c
 -- what it logs where it is taken
 abbrev pub entries_within : ℕ → Moved → Option (List Entry)
 entries_within made m = if is_within made m.whole then Some m.out.entries else None
+
+-- the whole after an event, and what it logs, where it counts the objects itself
+abbrev pub whole_limited : Whole → Moved → Whole
+whole_limited c m = whole_within m.whole.made c m
+
+abbrev pub entries_limited : Moved → Option (List Entry)
+entries_limited m = entries_within m.whole.made m

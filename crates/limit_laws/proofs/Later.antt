@@ -11,7 +11,7 @@ use Rattle.protocol.specs.Releases.{release_step}
 use Rattle.protocol.specs.Messages.{Letter, Party, TheNode, TheWorker}
 use Rattle.protocol.specs.Deliveries.{reached}
 use Rattle.protocol.specs.Slots.{node_reached}
-use Rattle.protocol.specs.Events.{as_committed, claimed, committed, committed_by, delivered, delivered_by, delivered_to, is_live_node, is_live_worker, with_delivered}
+use Rattle.protocol.specs.Events.{delivered, delivered_by, delivered_to, is_live_node, is_live_worker}
 use Rattle.protocol.specs.Whole.{Moved, Whole, after_node, here, moved, node_at, node_does, node_does_by, there, undelivered, worker_at, worker_does, worker_does_at, worker_does_by}
 
 counted_at : (c : Whole) (made w : ℕ) (jobs : List Given) (f : Here → Here) (x : Worker) (o : Option Node)
@@ -116,4 +116,3 @@ delivered_unmarked c k l e g = ap (delivered_by c k) g ∙ ap (λ bs. delivered_
 
 pub marked_past : (c : Whole) (i : ℕ) → length c.delivered ≤ i → marked i c ≡ c
 marked_past c i less = ap (λ bs. record c { delivered = bs }) (set_past true c.delivered i less)
-

@@ -1,5 +1,5 @@
 -- What an event comes to, where it is within the limits and where it isn't.
-use Rattle.std.proofs.Common.{◌≡◌, ℕ, ◌+◌, Bool, true, false, List, [], ◌∷◌, length, Option, Some, None, refl, sym, ap, ◌∙◌}
+use Rattle.std.proofs.Common.{◌≡◌, ℕ, ◌+◌, Bool, true, false, length, Some, None, refl, ap, ◌∙◌}
 use Rattle.std.specs.Prelude.{if◌then◌else◌}
 use Rattle.protocol.specs.Messages.{Message, Party}
 use Rattle.protocol.specs.Slots.{forgets, node_reached}

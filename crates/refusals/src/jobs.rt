@@ -1,0 +1,76 @@
+// Jobs that are out.
+
+ghost use Rattle.std.specs.Prelude.{◌≡◌};
+ghost use Rattle.protocol.specs.Numbered.{item_at};
+ghost use Rattle.protocol.specs.Refusals.{commit_refusal, is_of_job, is_out_by, job_in_run, job_out};
+ghost use Rattle.protocol.specs.Whole.{worker_at};
+
+use crate::living::is_live_worker;
+use number_lists::item_at_number;
+use numbers::WorkerId;
+use protocol_data::{Handed, Phase, Run, Whole, Worker};
+
+/// The attempt's job that is out.
+fn job_in_run(run: &Option<Run>) -> Option<u64>
+    ensures { result ≡ job_in_run run.now }
+{
+    let Some(run) = run else {
+        return None;
+    };
+    match &run.phase {
+        Phase::Out(job) => Some(*job),
+        _ => None,
+    }
+}
+
+/// The job that is out, of a live worker.
+pub fn job_out(worker: &Worker) -> Option<u64>
+    ensures { result ≡ job_out worker.now }
+{
+    if !worker.is_live {
+        return None;
+    }
+    job_in_run(&worker.run)
+}
+
+/// Whether that job is out with the worker.
+fn is_out_by(whole: &Whole, number: WorkerId, job: u64) -> bool
+    ensures { result ≡ is_out_by (worker_at whole.now number) job }
+{
+    let Some(worker) = item_at_number(&whole.workers, u64::from(number.0)) else {
+        return false;
+    };
+    match job_in_run(&worker.run) {
+        Some(out) => out == job,
+        None => false,
+    }
+}
+
+/// Whether what is handed in was done on the job.
+fn is_of_job(handed: &Handed) -> bool
+    ensures { result ≡ is_of_job handed.now }
+{
+    matches!(handed, Handed::OfJob(_))
+}
+
+/// Why a commit is refused: there is no such job, or its worker is dead.
+pub fn commit_refusal(whole: &Whole, job: u64, handed: &Handed) -> Option<u8>
+    ensures { result ≡ commit_refusal whole.now job handed.now (item_at whole.now.jobs job) }
+{
+    let Some(given) = item_at_number(&whole.jobs, job) else {
+        return Some(32);
+    };
+    if given.is_committed {
+        return Some(32);
+    }
+    if !is_of_job(handed) {
+        return Some(32);
+    }
+    if !is_out_by(whole, given.worker, job) {
+        return Some(32);
+    }
+    if !is_live_worker(whole, given.worker) {
+        return Some(33);
+    }
+    None
+}

@@ -1,0 +1,10 @@
+//! Why an event is refused before it is tried: the first of its reasons, in their order.
+#![tactic(auto, unfolding(meaning::specs::Births::same_id, event_log::specs::Words::same_attempt))]
+
+mod jobs;
+mod living;
+mod reasons;
+
+pub use jobs::job_out;
+pub use living::{is_live_node, is_live_worker, is_ready, is_ready_run};
+pub use reasons::refusal;

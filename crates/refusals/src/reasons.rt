@@ -1,0 +1,132 @@
+// Why an event is refused.
+
+ghost use Rattle.std.specs.Prelude.{◌≡◌, is_some};
+ghost use Rattle.protocol.specs.Refusals.{is_dead_node, is_dead_worker, is_ready, no_worker, or_code, refusal, store_refusal, unless};
+ghost use Rattle.protocol.specs.Events.{is_live_node};
+ghost use Rattle.protocol.specs.Numbered.{item_at};
+ghost use Rattle.protocol.specs.Stores.{evict_refusal, lose_refusal};
+ghost use Rattle.protocol.specs.Whole.{node_at, worker_at};
+ghost use Rattle.protocol_data.specs.Entries.{event_of};
+
+use crate::jobs::commit_refusal;
+use crate::living::{is_dead_node, is_dead_worker, is_live_node, is_live_worker, is_ready};
+use number_lists::item_at_number;
+use numbers::{NodeId, ObjectId, WorkerId};
+use object_store::{may_evict, may_lose};
+use protocol_data::{Handed, Happening, Whole};
+
+/// There is no such live worker.
+fn no_worker(whole: &Whole, number: WorkerId) -> Option<u8>
+    ensures { result ≡ no_worker whole.now number }
+{
+    if is_live_worker(whole, number) {
+        return None;
+    }
+    Some(30)
+}
+
+/// Why a claim is refused.
+fn claim_refusal(whole: &Whole, number: WorkerId) -> Option<u8>
+    ensures { result ≡ or_code (no_worker whole.now number) (unless (is_ready whole.now number) 31) }
+{
+    if !is_live_worker(whole, number) {
+        return Some(30);
+    }
+    if !is_ready(whole, number) {
+        return Some(31);
+    }
+    None
+}
+
+/// Why an eviction is refused.
+fn evict_refusal(whole: &Whole, number: NodeId, object: ObjectId) -> Option<u8>
+    ensures { result ≡ store_refusal (evict_refusal object) (node_at whole.now number) }
+{
+    let Some(node) = item_at_number(&whole.nodes, u64::from(number.0)) else {
+        return Some(36);
+    };
+    if !node.is_live {
+        return Some(36);
+    }
+    may_evict(&node.store, object)
+}
+
+/// Why a loss is refused.
+fn lose_refusal(whole: &Whole, number: NodeId, object: ObjectId) -> Option<u8>
+    ensures { result ≡ store_refusal (lose_refusal object) (node_at whole.now number) }
+{
+    let Some(node) = item_at_number(&whole.nodes, u64::from(number.0)) else {
+        return Some(36);
+    };
+    if !node.is_live {
+        return Some(36);
+    }
+    may_lose(&node.store, object)
+}
+
+/// Why a message isn't delivered.
+fn deliver_refusal(whole: &Whole, number: u64) -> Option<u8>
+    ensures { result ≡ unless (is_some (item_at whole.now.network number)) 34 }
+{
+    if item_at_number(&whole.network, number).is_none() {
+        return Some(34);
+    }
+    None
+}
+
+/// Why a worker isn't told that a worker is dead.
+fn notice_refusal(whole: &Whole, number: WorkerId, dead: WorkerId) -> Option<u8>
+    ensures { result ≡ or_code (no_worker whole.now number) (unless (is_dead_worker (worker_at whole.now dead)) 35) }
+{
+    if !is_live_worker(whole, number) {
+        return Some(30);
+    }
+    if !is_dead_worker(whole, dead) {
+        return Some(35);
+    }
+    None
+}
+
+/// Why a worker isn't told that a node is dead.
+fn notice_node_refusal(whole: &Whole, number: WorkerId, dead: NodeId) -> Option<u8>
+    ensures { result ≡ or_code (no_worker whole.now number) (unless (is_dead_node (node_at whole.now dead)) 35) }
+{
+    if !is_live_worker(whole, number) {
+        return Some(30);
+    }
+    if !is_dead_node(whole, dead) {
+        return Some(35);
+    }
+    None
+}
+
+/// Why a node isn't killed.
+fn kill_node_refusal(whole: &Whole, number: NodeId) -> Option<u8>
+    ensures { result ≡ unless (is_live_node (node_at whole.now number)) 36 }
+{
+    if !is_live_node(whole, number) {
+        return Some(36);
+    }
+    None
+}
+
+/// The number of the first reason for which the event is refused before it is tried, with what is handed in: 20 the copy is pinned, 21 there is
+/// no copy, 30 no such live worker, 31 it isn't ready, 32 no such job, 33 the job's worker is dead, 34 no such message, 35 what the notice tells
+/// of isn't dead, 36 no such live node.
+pub fn refusal(whole: &Whole, event: &Happening, handed: &Handed) -> Option<u8>
+    ensures { result ≡ refusal whole.now (event_of event.now) handed.now }
+{
+    match event {
+        Happening::Claim(worker) => claim_refusal(whole, *worker),
+        Happening::Commit(job) => commit_refusal(whole, *job, handed),
+        Happening::Deliver(message) => deliver_refusal(whole, *message),
+        Happening::Tick(worker) => no_worker(whole, *worker),
+        Happening::Notice(worker, dead) => notice_refusal(whole, *worker, *dead),
+        Happening::NoticeNode(worker, dead) => notice_node_refusal(whole, *worker, *dead),
+        Happening::Evict(node, object) => evict_refusal(whole, *node, *object),
+        Happening::Lose(node, object) => lose_refusal(whole, *node, *object),
+        Happening::Kill(worker) => no_worker(whole, *worker),
+        Happening::KillNode(node) => kill_node_refusal(whole, *node),
+        Happening::Join => None,
+    }
+}

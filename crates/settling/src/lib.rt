@@ -1,0 +1,9 @@
+//! Which event comes next where nothing else is asked for. It takes no memory and changes nothing.
+#![tactic(auto, unfolding(meaning::specs::Births::same_id, event_log::specs::Words::same_attempt))]
+
+mod claims;
+mod commits;
+mod messages;
+mod turns;
+
+pub use turns::{next, next_from};

@@ -4,7 +4,9 @@ use Rattle.meaning.specs.Values.{Id}
 use Rattle.event_log.specs.Entries.{Fault}
 use Rattle.protocol.specs.Steps.{Here}
 use Rattle.protocol.specs.Recovery.{first_stop, gives_up, members, recovers, recovers_by, remakes}
-use Rattle.lineage.specs.Plans.{Recovery, Remake, Stop, planned, planned_by}
+use Rattle.lineage.specs.Plans.{planned, planned_by}
+use Rattle.lineage.specs.declared.planning.Recovery.{Recovery}
+use Rattle.lineage.specs.declared.planning.Recovery.TheVariants.{Remake, Stop}
 
 abbrev carried : Here → Id → Recovery → Here
 carried h o (Remake ks) = remakes h ks

@@ -17,7 +17,7 @@ returns-clause-whole c =
     let t = c.take_node-there in
     subst (λ m. OnOk c.put_node.result (c.put_node.new.whole ≡ m.whole))
     (node_done c.args.whole.now t.new.whole c.in-Some.place c.args.number (new_node 0) t.result.node (λ h. forgets h c.args.worker) t.result
-    c.forget.new.there c.in-Some.ensures.found.1 c.in-Some.ensures.found.0 t.ensures.left t.ensures.taken t.ensures.there c.in_ok-forget.ensures)
+    c.killed.new.there c.in-Some.ensures.found.1 c.in-Some.ensures.found.0 t.ensures.left t.ensures.taken t.ensures.there c.in_ok-killed.ensures.step)
     c.put_node.ensures.whole
 
 pub returns-clause-entries : goal.returns-clause-entries
@@ -25,5 +25,5 @@ returns-clause-entries c =
     let t = c.take_node-there in
     subst (λ m. IfOk c.put_node.result (λ entries. entries ≡ m.out.entries))
     (node_done c.args.whole.now t.new.whole c.in-Some.place c.args.number (new_node 0) t.result.node (λ h. forgets h c.args.worker) t.result
-    c.forget.new.there c.in-Some.ensures.found.1 c.in-Some.ensures.found.0 t.ensures.left t.ensures.taken t.ensures.there c.in_ok-forget.ensures)
+    c.killed.new.there c.in-Some.ensures.found.1 c.in-Some.ensures.found.0 t.ensures.left t.ensures.taken t.ensures.there c.in_ok-killed.ensures.step)
     c.put_node.ensures.entries

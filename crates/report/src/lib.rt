@@ -4,7 +4,7 @@
 mod main_lines;
 mod value;
 
-pub use main_lines::write_main_lines;
+pub use main_lines::{trap_name, write_main_lines};
 pub use value::write_value;
 
 #[cfg(test)]

@@ -16,7 +16,7 @@ use std::alloc::{AllocError, Global};
 
 /// Which attempts were accepted, which ended, and which met a fault.
 #[derive(Drop)]
-struct AttemptStates {
+pub struct AttemptStates {
     accepted: IndexSet<AttemptId>,
     ended: IndexSet<AttemptId>,
     faulted: IndexSet<AttemptId>,
@@ -67,7 +67,7 @@ impl AttemptStates {
     }
 
     /// The states of a log's attempts.
-    fn of(alloc: Global, log: &[Entry]) -> Result<AttemptStates, AllocError>
+    pub fn of(alloc: Global, log: &[Entry]) -> Result<AttemptStates, AllocError>
         ensures { IfOk result (λ states. AreStatesOf states (log_of log.now)) }
     {
         let mut states = AttemptStates::new(alloc);
@@ -78,7 +78,7 @@ impl AttemptStates {
     }
 
     /// The word for an attempt's state.
-    fn name(&self, attempt: AttemptId) -> &'static str
+    pub fn name(&self, attempt: AttemptId) -> &'static str
         ensures { (log : List logged.Entry) → AreStatesOf self.now log → result.now ≡ state_of log (attempt_of attempt) }
     {
         if is_among(&self.accepted, attempt) {

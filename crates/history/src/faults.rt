@@ -7,7 +7,8 @@ ghost use Rattle.history.specs.Texts.{fault_text, kind_name};
 use std::alloc::AllocError;
 use values::{Fault, FaultKind};
 
-fn kind_name(kind: FaultKind) -> &'static str
+/// The word for a kind of fault.
+pub fn kind_name(kind: FaultKind) -> &'static str
     ensures { result.now ≡ kind_name (kind_of kind) }
 {
     match kind {

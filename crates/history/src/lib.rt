@@ -4,11 +4,14 @@
 
 mod attempts;
 mod faults;
-mod main_end;
+pub mod main_end;
 mod objects;
 mod prints;
 mod refusals;
 mod text;
 
+pub use attempts::AttemptStates;
+pub use faults::kind_name;
 pub use main_end::status_of;
+pub use refusals::last_event;
 pub use text::report_text;

@@ -37,7 +37,7 @@ fn end_in(entry: &Entry) -> Option<&Content>
 }
 
 /// The content with which main ended first.
-fn main_end(log: &[Entry]) -> Option<&Content>
+pub fn main_end(log: &[Entry]) -> Option<&Content>
     ensures { option_map content_of (option_copied result) ≡ main_end (log_of log.now) }
 {
     for entry in log {
@@ -62,7 +62,7 @@ fn fault_in(entry: &Entry) -> Option<Fault>
 }
 
 /// The fault that a get of main was answered with first.
-fn main_fault(log: &[Entry]) -> Option<Fault>
+pub fn main_fault(log: &[Entry]) -> Option<Fault>
     ensures { option_map fault_of result ≡ main_fault (log_of log.now) }
 {
     for entry in log {

@@ -9,7 +9,7 @@ use event_log::{Entry, Event};
 use std::alloc::AllocError;
 
 /// The last event of a log, after one more entry.
-fn last_event(last: Option<Event>, entry: &Entry) -> Option<Event>
+pub fn last_event(last: Option<Event>, entry: &Entry) -> Option<Event>
     ensures { option_map event_of result ≡ last_in (option_map event_of last) (entry_of entry.now) }
 {
     match entry {

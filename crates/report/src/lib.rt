@@ -4,5 +4,5 @@
 mod main_lines;
 mod value;
 
-pub use main_lines::write_main_lines;
+pub use main_lines::{trap_name, write_main_lines};
 pub use value::write_value;

@@ -8,7 +8,8 @@ use crate::value::write_value;
 use std::alloc::AllocError;
 use values::{Content, RunValue, Trap};
 
-fn trap_name(trap: Trap) -> &'static str
+/// The word for a trap.
+pub fn trap_name(trap: Trap) -> &'static str
     ensures { result.now ≡ trap_name (trap_of trap) }
 {
     match trap {

@@ -1,0 +1,53 @@
+// The report as JSON.
+
+ghost use Rattle.std.specs.Prelude.{◌≡◌, ◌++◌, IfOk, codes, string_bytes};
+ghost use Rattle.serde_json.specs.View.{view};
+ghost use Rattle.serde_json.specs.Written.{compact_text};
+ghost use Rattle.event_log.specs.Views.{log_of};
+ghost use Rattle.report_json.specs.Report.{report_data};
+
+use crate::attempts::attempts_json;
+use crate::entries::{prints_json, releases_json, resolves_json};
+use crate::main_end::main_json;
+use crate::refusals::refusals_json;
+use event_log::Entry;
+use serde_json::{Value, json};
+use std::alloc::{AllocError, Global};
+
+fn report_value(alloc: Global, log: &[Entry]) -> Result<Value, AllocError>
+    ensures { IfOk result (λ v. view v ≡ report_data (log_of log.now)) }
+{
+    let attempts = attempts_json(alloc, log)?;
+    let main = main_json(alloc, log)?;
+    let prints = prints_json(alloc, log)?;
+    let refused = refusals_json(alloc, log)?;
+    let released = releases_json(alloc, log)?;
+    let resolved = resolves_json(alloc, log)?;
+    json!(in alloc; {
+        "attempts": attempts,
+        "main": main,
+        "prints": prints,
+        "refused": refused,
+        "released": released,
+        "resolved": resolved
+    })
+}
+
+fn compact(alloc: Global, log: &[Entry]) -> Result<String, AllocError>
+    ensures { IfOk result (λ text. string_bytes text ≡ compact_text (report_data (log_of log.now))) }
+{
+    report_value(alloc, log)?.to_string(alloc)
+}
+
+/// The report of a log as JSON, on one line that ends with a line feed: what `history::report_text` says of the log, as one object
+/// with no spaces and its keys in the order of their bytes. `attempts` has objects with `attempt`, `state` and `worker`; `main` has
+/// `end`, which is `value`, `trap`, `fault` or `open`, and beside it the `value`, the `trap`, or `fault` and `named`; `prints` has
+/// values; `refused` has objects with `code` and `event`, `released` ids, and `resolved` objects with `fault`, `named` and `object`.
+/// Ids are strings, and lists arrays. It is made of any log, as `report_text` is.
+pub fn report_json(alloc: Global, log: &[Entry]) -> Result<String, AllocError>
+    ensures { IfOk result (λ text. string_bytes text ≡ compact_text (report_data (log_of log.now)) ++ codes "\n") }
+{
+    let mut text = compact(alloc, log)?;
+    text.push_str("\n")?;
+    Ok(text)
+}

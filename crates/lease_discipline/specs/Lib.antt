@@ -1,0 +1,2 @@
+pub mod Discipline
+pub mod Law

@@ -8,3 +8,4 @@ pub mod Own
 pub mod Events
 pub mod Opening
 pub mod Laws
+pub mod Told

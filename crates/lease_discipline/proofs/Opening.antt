@@ -18,7 +18,7 @@ use Rattle.protocol_owed.proofs.Letters.{among-nothing}
 use Rattle.lease_discipline.specs.Discipline.{KeepsLeases, NodeKeeps, WorkerKeeps}
 use Rattle.lease_discipline.proofs.Follows.{not_both}
 
-only_driver : (w : ℕ) (x : Worker) → item_at (driver ∷ []) w ≡ Some x → (w ≡ 1) × (driver ≡ x)
+pub only_driver : (w : ℕ) (x : Worker) → item_at (driver ∷ []) w ≡ Some x → (w ≡ 1) × (driver ≡ x)
 only_driver zero x e = absurd (cc)
 only_driver (suc zero) x e = (refl, cc)
 only_driver (suc (suc i)) x e = absurd (cc)

@@ -1,2 +1,4 @@
 pub mod Discipline
 pub mod Law
+pub mod Told
+pub mod Owing

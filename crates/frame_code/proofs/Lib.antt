@@ -1,3 +1,5 @@
 pub mod Places
 pub mod Sizes
 pub mod Rows
+pub mod Patches
+pub mod Blocks

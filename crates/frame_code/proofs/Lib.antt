@@ -3,3 +3,4 @@ pub mod Sizes
 pub mod Rows
 pub mod Patches
 pub mod Blocks
+pub mod Marks

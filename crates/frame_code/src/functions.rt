@@ -35,12 +35,11 @@ fn emit_marked(
     ensures { OnOk result (codes code.new.items
         ≡ codes code.old.items ++ marked_code 0 (length parameters.now) (map parameter_of parameters.now)) }
 {
-    let mut argument = 0;
-    let mut mark = slot(parameters.len())?;
-    for _ in parameters {
+    let count = slot(parameters.len())?;
+    let mut mark = count;
+    for argument in 0..count {
         put(code, Instruction::SkipZero(Operand::Slot(mark), 1))?;
         put(code, Instruction::Get(argument, Operand::Slot(argument)))?;
-        argument = following(argument)?;
         mark = following(mark)?;
     }
     Ok(())

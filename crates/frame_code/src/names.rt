@@ -61,11 +61,7 @@ pub(crate) fn following(register: u32) -> Result<u32, AllocError>
 }
 
 /// The register of a variable, or another where there is none.
-pub(crate) fn place_or(
-    names: &[Register<'_>],
-    name: &str,
-    other: u32,
-) -> Result<u32, AllocError>
+pub(crate) fn place_or(names: &[Register<'_>], name: &str, other: u32) -> Result<u32, AllocError>
     ensures { IfOk result (λ i. i ≡ place_or (place_in (names_of names.now) name.now) other) }
 {
     match place_in(names, name) {

@@ -64,7 +64,14 @@ fn emit_statement<'a>(
         }
         CheckedStatement::If(condition, first, second) => {
             let condition = emit_operand(code, script, names, condition, free)?;
-            emit_choice(code, script, names, condition, &first.statements, &second.statements)
+            emit_choice(
+                code,
+                script,
+                names,
+                condition,
+                &first.statements,
+                &second.statements,
+            )
         }
         CheckedStatement::For(name, from, to, body) => {
             emit_expr(code, script, names, from, free, free)?;

@@ -5,9 +5,9 @@ use Rattle.frame_code.specs.Views.{codes}
 use Rattle.frame_code.proofs.functions.emit_marked.Given as goal
 
 -- the code so far with what is left to write
-abbrev pub invariant-loop-_ : goal.invariant-loop-_
-invariant-loop-_ l = record {
+abbrev pub invariant-loop-argument : goal.invariant-loop-argument
+invariant-loop-argument l = record {
   mark : l.mark ≡ length l.parameters + l.argument;
-  code : codes l.code.items ++ marked_code l.argument (length l.parameters) (map parameter_of (drop l._-index l.parameters))
+  code : codes l.code.items ++ marked_code l.argument (length l.parameters) (map parameter_of (drop l.argument l.parameters))
       ≡ codes l.fn.code.items ++ marked_code 0 (length l.parameters) (map parameter_of l.parameters);
 }

@@ -1,4 +1,4 @@
-use Rattle.std.proofs.Common.{refl, sym, ◌∙◌, arith}
+use Rattle.std.proofs.Common.{sym, ◌∙◌, arith}
 use Rattle.frame_laws.specs.Compile.{place_in}
 use Rattle.frame_code.specs.Views.{names_of}
 use Rattle.frame_code.proofs.Places.{further_none, place_later, place_found, place_nowhere}
@@ -16,7 +16,7 @@ pub loop-place-preserved : goal.loop-place-preserved
 loop-place-preserved c = record {
   within = omega arith;
   left = sym (place_later c.args.names.now c.loop-place.place _ c.args.name.now c.loop-place-test.true (sym c.is_name.ensures ∙ c.if-is_name.false))
-  ∙ c.loop-place.invariant.left;
+      ∙ c.loop-place.invariant.left;
 }
 
 pub returns : goal.returns

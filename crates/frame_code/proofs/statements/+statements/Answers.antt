@@ -1,4 +1,4 @@
-use Rattle.std.proofs.Common.{rules, ◌≡◌, ◌<◌, ◌+◌, ◌-◌, ◌++◌, refl, sym, ap, ◌∙◌, arith}
+use Rattle.std.proofs.Common.{rules, ◌<◌, ◌+◌, ◌-◌, ◌++◌, refl, ap, ◌∙◌, arith}
 use Rattle.std.specs.Prelude.{slice_set}
 use Rattle.script_check.specs.Trees.{expr_of, statement_of, statements_of, script_of}
 use Rattle.frame_laws.specs.Instructions as pure
@@ -60,8 +60,11 @@ pub emit_statement-emit_choice-requires : goal.emit_statement-emit_choice-requir
 emit_statement-emit_choice-requires t c =
     let first = c.deref-in-If-2 in
     let second = c.deref-in-If-3 in
-    let f = if_size c.args.statement.now c.in-If.condition c.in-If.first c.in-If.second first.result.now second.result.now c.in-If.is first.ensures.value second.ensures.value in
-    let g : block_size (statements_of first.result.now) + block_size (statements_of second.result.now) + 1 < stmt_size (statement_of c.args.statement.now) = omega arith in
+    let f =
+    if_size c.args.statement.now c.in-If.condition c.in-If.first c.in-If.second first.result.now second.result.now c.in-If.is first.ensures.value
+    second.ensures.value in
+    let g : block_size (statements_of first.result.now) + block_size (statements_of second.result.now) + 1 < stmt_size (statement_of c.args.statement.now) =
+    omega arith in
     search (rules, g)
 
 pub emit_statement-emit_loop-requires : goal.emit_statement-emit_loop-requires
@@ -78,11 +81,16 @@ emit_statement-returns-in_ok-condition-in-If-clause-code t c =
     let free = c.in_ok-free.free in
     let e = expr_of c.in-If.condition in
     let given = c.in_ok-condition-in-If.ensures.operand ∙ ap (λ ns. operand_of (names_of ns) e free) c.deref-in-If.ensures.value in
-    let before = c.in_ok-condition-in-If.ensures.code ∙ ap (λ ns. codes c.args.code.now.items ++ whole_operand script (names_of ns) e free) c.deref-in-If.ensures.value in
+    let before =
+    c.in_ok-condition-in-If.ensures.code ∙ ap (λ ns. codes c.args.code.now.items ++ whole_operand script (names_of ns) e free) c.deref-in-If.ensures.value
+    in
     on_ok _ _ c.emit_choice.result
-    (λ p. choice_code script (names_of names) c.args.statement.now c.in-If.condition c.in-If.first c.in-If.second c.deref-in-If-2.result.now c.deref-in-If-3.result.now
-    (codes c.args.code.now.items) (codes c.emit_operand-in-If.new.code.items) (codes c.emit_choice.new.code.items) free (given_of c.in_ok-condition-in-If.condition)
-    c.in-If.is c.deref-in-If-2.ensures.value c.deref-in-If-3.ensures.value (c.in_ok-free.ensures ∙ c.len.ensures ∙ c.args.names.now.ok.0 ∙ count_names names) given before p)
+    (λ p. choice_code script (names_of names) c.args.statement.now c.in-If.condition c.in-If.first c.in-If.second c.deref-in-If-2.result.now
+    c.deref-in-If-3.result.now
+    (codes c.args.code.now.items) (codes c.emit_operand-in-If.new.code.items) (codes c.emit_choice.new.code.items) free
+    (given_of c.in_ok-condition-in-If.condition)
+    c.in-If.is c.deref-in-If-2.ensures.value c.deref-in-If-3.ensures.value (c.in_ok-free.ensures ∙ c.len.ensures ∙ c.args.names.now.ok.0 ∙ count_names names)
+    given before p)
     c.emit_choice.ensures.code
 
 pub emit_statement-returns-in_ok-emit_expr-in-For-2-clause-code : goal.emit_statement-returns-in_ok-emit_expr-in-For-2-clause-code
@@ -93,11 +101,16 @@ emit_statement-returns-in_ok-emit_expr-in-For-2-clause-code t c =
     let second = c.in_ok-second-in-For.second in
     let from = expr_of c.in-For.from in
     let to = expr_of c.in-For.to in
-    let one = c.in_ok-emit_expr-in-For.ensures ∙ ap (λ ns. codes c.args.code.now.items ++ expr_code script (names_of ns) from free free) c.deref-in-For.ensures.value in
-    let two = c.in_ok-emit_expr-in-For-2.ensures ∙ ap (λ ns. codes c.emit_expr-in-For.new.code.items ++ expr_code script (names_of ns) to second second) c.deref-in-For-2.ensures.value in
+    let one =
+    c.in_ok-emit_expr-in-For.ensures ∙ ap (λ ns. codes c.args.code.now.items ++ expr_code script (names_of ns) from free free)
+    c.deref-in-For.ensures.value in
+    let two =
+    c.in_ok-emit_expr-in-For-2.ensures ∙ ap (λ ns. codes c.emit_expr-in-For.new.code.items ++ expr_code script (names_of ns) to second second)
+    c.deref-in-For-2.ensures.value in
     on_ok _ _ c.emit_loop.result
     (λ p. loop_is script (names_of names) c.args.statement.now c.in-For.name c.in-For.from c.in-For.to c.in-For.body c.deref-in-For-3.result.now
-    (codes c.args.code.now.items) (codes c.emit_expr-in-For.new.code.items) (codes c.emit_expr-in-For-2.new.code.items) (codes c.emit_loop.new.code.items) free second
+    (codes c.args.code.now.items) (codes c.emit_expr-in-For.new.code.items) (codes c.emit_expr-in-For-2.new.code.items) (codes c.emit_loop.new.code.items)
+    free second
     c.as_str-in-For.result.now c.in-For.is c.deref-in-For-3.ensures.value c.as_str-in-For.ensures.value
     (c.in_ok-free.ensures ∙ c.len.ensures ∙ c.args.names.now.ok.0 ∙ count_names names) c.in_ok-second-in-For.ensures one two p)
     c.emit_loop.ensures.code

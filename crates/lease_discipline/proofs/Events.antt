@@ -42,7 +42,7 @@ set_same [] i x e = absurd (cc)
 set_same (y ∷ xs) zero x e = let same : y ≡ x = cc in ap (λ z. z ∷ xs) (sym same)
 set_same (y ∷ xs) (suc i) x e = ap (λ zs. y ∷ zs) (set_same xs i x e)
 
-changed_same : {X : Type 0} (xs : List X) (n : ℕ) (x : X) → item_at xs n ≡ Some x → changed_at xs n (λ _. x) ≡ xs
+pub changed_same : {X : Type 0} (xs : List X) (n : ℕ) (x : X) → item_at xs n ≡ Some x → changed_at xs n (λ _. x) ≡ xs
 changed_same xs zero x e = absurd (cc)
 changed_same xs (suc i) x e = ap (changed_by xs (suc i) (λ _. x)) e ∙ set_same xs i x e
 
@@ -226,7 +226,7 @@ with_jobs c jobs made stay k =
       homes = k.homes;
     }
 
-ready_run : (c : Whole) (w : ℕ) (x : Worker) → worker_at c w ≡ Some x → is_ready c w ≡ true → is_ready_run x.run ≡ true
+pub ready_run : (c : Whole) (w : ℕ) (x : Worker) → worker_at c w ≡ Some x → is_ready c w ≡ true → is_ready_run x.run ≡ true
 ready_run c w x at e =
     let f : is_ready_on c w (Some x) ≡ true = ap (is_ready_on c w) (sym at) ∙ e in
     and_right x.is_live (is_ready_run x.run) (and_left (x.is_live && is_ready_run x.run) (has_slot w (node_at c x.node)) f)
@@ -246,7 +246,7 @@ pub record OutAs (r : Option Run) (j : ℕ) : Type 0 where
   pub at : r ≡ Some run
   pub out : run.phase ≡ Out j
 
-out_as : (r : Option Run) (j : ℕ) → is_job (job_in_run r) j ≡ true → OutAs r j
+pub out_as : (r : Option Run) (j : ℕ) → is_job (job_in_run r) j ≡ true → OutAs r j
 out_as None j e = absurd (cc)
 out_as (Some run) j e = by_phase run.phase refl e
   where

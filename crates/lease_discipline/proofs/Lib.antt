@@ -9,3 +9,6 @@ pub mod Events
 pub mod Opening
 pub mod Laws
 pub mod Told
+pub mod Turns
+pub mod TurnEvents
+pub mod SlotLaw

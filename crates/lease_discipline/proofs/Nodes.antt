@@ -32,13 +32,13 @@ has-left (x ∷ xs) w v e =
     (λ _ f. or_right (x == v) (has xs v) (has-left xs w v f))
     (λ _ f. elim (or_cases (x == v) (has (without_number xs w) v) f) [ inl g ↦ or_left (x == v) (has xs v) g | inr g ↦ or_right (x == v) (has xs v) (has-left xs w v g) ]) e
 
-has-gone : (xs : List ℕ) (w : ℕ) → has (without_number xs w) w ≡ false
+pub has-gone : (xs : List ℕ) (w : ℕ) → has (without_number xs w) w ≡ false
 has-gone [] w = refl
 has-gone (x ∷ xs) w =
     at_test (λ b. (x == w) ≡ b → has (if not b then x ∷ without_number xs w else without_number xs w) w ≡ false) (x == w)
     (λ _ _. has-gone xs w) (λ _ e. ap (λ b. b || has (without_number xs w) w) e ∙ has-gone xs w) refl
 
-has-stays : (xs : List ℕ) (w v : ℕ) → w ≢ v → has xs v ≡ true → has (without_number xs w) v ≡ true
+pub has-stays : (xs : List ℕ) (w v : ℕ) → w ≢ v → has xs v ≡ true → has (without_number xs w) v ≡ true
 has-stays [] w v apart e = e
 has-stays (x ∷ xs) w v apart e =
     at_test (λ b. (x == w) ≡ b → has (if not b then x ∷ without_number xs w else without_number xs w) v ≡ true) (x == w)
@@ -54,13 +54,13 @@ has-push xs w v e = elim (list_any-push_cases (λ y. y == v) xs w e) [ inl f ↦
 has_not-push : (xs : List ℕ) (w v : ℕ) → has xs v ≡ false → w ≢ v → has (xs ++ w ∷ []) v ≡ false
 has_not-push xs w v e apart = is_false _ (λ f. elim (has-push xs w v f) [ inl g ↦ not_both _ g e | inr g ↦ apart g ])
 
-has-last : (xs : List ℕ) (w : ℕ) → has (xs ++ w ∷ []) w ≡ true
+pub has-last : (xs : List ℕ) (w : ℕ) → has (xs ++ w ∷ []) w ≡ true
 has-last xs w = list_any-push_right (λ y. y == w) xs w (equal_number w)
 
 has-idle : (xs : List ℕ) (w v : ℕ) → has (with_number xs w) v ≡ true → (has xs v ≡ true) ⊎ (w ≡ v)
 has-idle xs w v e = at_test (λ b. has (if b then xs else xs ++ w ∷ []) v ≡ true → (has xs v ≡ true) ⊎ (w ≡ v)) (has xs w) (λ _ f. inl f) (λ _ f. has-push xs w v f) e
 
-has-first : (xs : List ℕ) (w : ℕ) → first_item xs ≡ Some w → has xs w ≡ true
+pub has-first : (xs : List ℕ) (w : ℕ) → first_item xs ≡ Some w → has xs w ≡ true
 has-first [] w e = absurd (cc)
 has-first (x ∷ xs) w e = let f : x ≡ w = cc in or_left (x == w) (has xs w) (ap (λ y. y == w) f ∙ equal_number w)
 

@@ -49,7 +49,7 @@ use Rattle.lease_discipline.proofs.Laws.{pushes_find_free}
 
 -- ---- the same in both words
 
-to_pace : (p : Phase) → pace_in_phase p ≡ pace_in p
+pub to_pace : (p : Phase) → pace_in_phase p ≡ pace_in p
 to_pace Ready = refl
 to_pace (Out j) = refl
 to_pace (Waits y f) = refl

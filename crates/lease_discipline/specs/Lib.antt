@@ -2,3 +2,4 @@ pub mod Discipline
 pub mod Law
 pub mod Told
 pub mod Owing
+pub mod Slots

@@ -1,5 +1,6 @@
 // The laws of leases.
 
+ghost use Rattle.lease_discipline.specs.Slots.{LawOfKeptSlots};
 ghost use Rattle.lease_discipline.specs.Law.{EventsKeepLeases, OpeningKeepsLeases, PushesFindFree};
 ghost use Rattle.lease_discipline.specs.Owing.{AttemptsRunOnce, ClaimsAreAnswered, EventsStayInStep, LogsTell, OpeningIsInStep};
 
@@ -42,4 +43,10 @@ pub fn attempts_run_once()
 /// A claim of a live worker is answered 31 exactly where the worker isn't ready: it has no slot, or its attempt doesn't go on.
 pub fn claims_are_answered()
     ensures { ClaimsAreAnswered }
+{}
+
+/// Whatever events come: the slots of a node in use are never more than there are; a live worker that was given, or whose job is out, has its
+/// slot; and no slot is free while an ask, or a live worker whose attempt may go on, stands in the node's queue.
+pub fn law_of_kept_slots()
+    ensures { LawOfKeptSlots }
 {}

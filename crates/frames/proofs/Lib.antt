@@ -1,0 +1,3 @@
+pub mod Rows
+pub mod Written
+pub mod Doing

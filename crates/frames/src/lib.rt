@@ -1,0 +1,9 @@
+//! A register machine for scripts, whose state is a frame that can be kept.
+#![tactic(auto)]
+
+mod halt;
+mod jumping;
+mod operators;
+mod registers;
+mod value;
+mod working;

@@ -1,6 +1,7 @@
 //! A register machine for scripts, whose state is a frame that can be kept.
 #![tactic(auto)]
 
+mod asking;
 mod halt;
 mod jumping;
 mod operators;

@@ -6,5 +6,6 @@ mod halt;
 mod jumping;
 mod operators;
 mod registers;
+mod step;
 mod value;
 mod working;

@@ -15,17 +15,17 @@ use Rattle.evaluation.specs.Pieces as pieces
 use Rattle.segment.specs.Jobs.{JobData, Done, IsTaskOf, IsBegun, IsTrueOf}
 use Rattle.event_log.specs.Entries.{Entry, Event, Claim, Commit, Deliver, Tick, Notice, NoticeNode, Evict, Lose, Kill, KillNode, Join}
 use Rattle.exchange.specs.Jobs.{job_in, stopped_of, work_of}
-use Rattle.protocol.specs.Answers.{Answer, Takes, Refuses, answer, decided, given_out, job_of, limited, takes}
+use Rattle.protocol.specs.Answers.{Refuses, answer, decided, given_out, job_of, limited, takes}
 use Rattle.protocol.specs.Events.{happens}
 use Rattle.protocol.specs.Jobs.{Given, Handed, Job, Nothing, OfAnother, OfJob, Outcomes}
 use Rattle.protocol.specs.Jobs as jobs
 use Rattle.protocol.specs.Numbered.{item_at}
 use Rattle.protocol.specs.Refusals.{is_within_limits, refusal}
-use Rattle.protocol.specs.Tables.{Out, Run, Worker}
+use Rattle.protocol.specs.Tables.{Run, Worker}
 use Rattle.protocol.specs.Whole.{Moved, Whole, worker_at}
 use Rattle.protocol_legal.specs.Knows.{IsTask}
 use Rattle.protocol_laws.specs.Coming.{IsRight}
-use Rattle.protocol_laws.specs.Given.{IsGood, IsGoodIfGiven, GivesGood, ClaimsGiveGoodJobs}
+use Rattle.protocol_laws.specs.Given.{IsGood, GivesGood, ClaimsGiveGoodJobs}
 use Rattle.protocol_laws.specs.Sound.{IsSound}
 use Rattle.protocol_core.specs.States.{beside}
 use Rattle.protocol_core.specs.Steps.{IsHanded, IsOut, IsOutAs}

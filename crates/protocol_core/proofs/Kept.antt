@@ -1,5 +1,5 @@
 -- What is kept of a run, event by event.
-use Rattle.std.proofs.Common.{◌≡◌, ℕ, ◌<◌, true, false, List, [], ◌++◌, map, Option, Some, None, IfSome, refl, sym, ap, ◌∙◌, subst, inl, inr}
+use Rattle.std.proofs.Common.{◌≡◌, ℕ, ◌<◌, true, false, List, [], ◌++◌, Option, Some, None, IfSome, refl, sym, ap, ◌∙◌, subst}
 use Rattle.meaning.specs.Syntax.{Script}
 use Rattle.script_check.specs.Scripts.{IsWellTyped}
 use Rattle.event_log.specs.Entries.{Entry, Event}
@@ -13,7 +13,6 @@ use Rattle.answers.specs.declared.reply.Outcome.TheVariants.{Taken, Refused}
 use Rattle.exchange.specs.Jobs.{job_in}
 use Rattle.protocol.specs.Answers.{Answer, Takes, Refuses, answer, logged, whole_after}
 use Rattle.protocol.specs.Jobs.{Handed, Job}
-use Rattle.protocol.specs.Whole.{Whole}
 use Rattle.protocol_laws.specs.Given.{IsGood, IsGoodIfGiven, GivesGood, ClaimsGiveGoodJobs}
 use Rattle.protocol_laws.specs.Law.{EventsKeepSound, OpeningIsSound, SoundIsLegal}
 use Rattle.protocol_laws.specs.Sound.{IsSound}

@@ -1,7 +1,7 @@
 -- What an event makes of the state, and what is answered to it.
-use Rattle.std.specs.Prelude.{◌≡◌, ◌⊎◌, ℕ, true, false, List, ◌++◌, Option, Some, None}
+use Rattle.std.specs.Prelude.{◌≡◌, ◌⊎◌, ℕ, true, false, ◌++◌, Option, Some, None}
 use Rattle.segment.specs.Jobs.{JobData, Done}
-use Rattle.event_log.specs.Entries.{Commit, Entry, Event}
+use Rattle.event_log.specs.Entries.{Commit, Event}
 use Rattle.event_log.specs.Views.{code_of}
 use Rattle.event_log.specs.declared.refusal.Refusal.{Refusal}
 use Rattle.event_log.specs.declared.refusal.Refusal.TheVariants as refusals

@@ -1,4 +1,4 @@
-use Rattle.std.proofs.Common.{◌≡◌, ◌++◌, ◌-◌, ◌+◌, [], ◌∷◌, ap, ◌∙◌}
+use Rattle.std.proofs.Common.{◌++◌, ◌-◌, ◌+◌, [], ◌∷◌, ap, ◌∙◌}
 use Rattle.protocol.specs.Nodes.{new_node}
 use Rattle.protocol.specs.Sets.{repeated}
 use Rattle.whole_steps.proofs.Blanks.{one_more}

@@ -1,0 +1,5 @@
+pub mod Discipline
+pub mod Law
+pub mod Told
+pub mod Owing
+pub mod Slots

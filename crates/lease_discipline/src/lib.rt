@@ -1,0 +1,4 @@
+//! A worker runs one attempt at a time: how workers are leased to attempts, whatever events come.
+#![tactic(auto)]
+
+pub mod law;

@@ -1,0 +1,11 @@
+use Rattle.std.proofs.Common.{map, ap, ◌∙◌}
+use Rattle.values.specs.Values.{id_of, value_of}
+use Rattle.values.specs.Listed.{ids_listed, adding}
+use Rattle.values.proofs.ListedLaws.{adding-each_once}
+use Rattle.lineage_text.proofs.edges.ids_of.Goals as goal
+
+pub returns : goal.returns
+returns c =
+    c.in_ok-add_ids.ensures
+    ∙ ap (λ seen. adding (map id_of seen) (ids_listed (value_of c.args.value.now))) c.new-found.ensures.items
+    ∙ adding-each_once (ids_listed (value_of c.args.value.now))

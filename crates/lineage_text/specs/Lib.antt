@@ -1,0 +1,5 @@
+pub mod Edges
+pub mod Births
+pub mod Attempts
+pub mod Entries
+pub mod Text

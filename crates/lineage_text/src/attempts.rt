@@ -1,0 +1,106 @@
+// The node of an attempt, joined to its object.
+
+ghost use Rattle.std.specs.Prelude.{◌≡◌, ◌++◌, List, OnOk, string_bytes};
+ghost use Rattle.values.specs.Values.{content_of};
+ghost use Rattle.event_log.specs.Entries as logged;
+ghost use Rattle.event_log.specs.Views.{attempt_of, fault_of};
+ghost use Rattle.history.specs.Attempts.{AreStatesOf};
+ghost use Rattle.lineage_text.specs.Attempts.{attempt_edge, attempt_node, begun_text, ended_text, fate_head, fate_tail, fault_tail, faulted_text};
+
+use crate::edges::write_named_edges;
+use history::{AttemptStates, kind_name};
+use ids::{AttemptId, WorkerId};
+use log_words::write_content;
+use std::alloc::{AllocError, Global};
+use values::{Content, Fault, ids_in};
+
+#[tactic(auto, unfolding(crate::specs::Attempts::attempt_node))]
+fn write_attempt_node(
+    text: &mut String,
+    states: &AttemptStates,
+    attempt: AttemptId,
+    worker: WorkerId,
+) -> Result<(), AllocError>
+    ensures { (log : List logged.Entry) → AreStatesOf states.now log → OnOk result
+        (string_bytes text.new ≡ string_bytes text.old ++ attempt_node log (attempt_of attempt) worker.0) }
+{
+    let state = states.name(attempt);
+    writeln!(
+        text,
+        "    \"{attempt}\" [label=\"{attempt} on {worker}: {state}\", shape=plaintext];"
+    )
+}
+
+#[tactic(auto, unfolding(crate::specs::Attempts::attempt_edge))]
+fn write_attempt_edge(text: &mut String, attempt: AttemptId) -> Result<(), AllocError>
+    ensures { OnOk result (string_bytes text.new ≡ string_bytes text.old ++ attempt_edge (attempt_of attempt)) }
+{
+    let object = attempt.object;
+    writeln!(
+        text,
+        "    \"{object}\" -> \"{attempt}\" [style=dotted, arrowhead=none];"
+    )
+}
+
+/// Writes the node of an attempt, with its worker and its state, and the edge from its object.
+pub fn write_begun(
+    text: &mut String,
+    states: &AttemptStates,
+    attempt: AttemptId,
+    worker: WorkerId,
+) -> Result<(), AllocError>
+    ensures { (log : List logged.Entry) → AreStatesOf states.now log → OnOk result
+        (string_bytes text.new ≡ string_bytes text.old ++ begun_text log (attempt_of attempt) worker.0) }
+{
+    write_attempt_node(text, states, attempt, worker)?;
+    write_attempt_edge(text, attempt)
+}
+
+#[tactic(auto, unfolding(crate::specs::Attempts::fate_head))]
+fn write_fate_head(text: &mut String, attempt: AttemptId) -> Result<(), AllocError>
+    ensures { OnOk result (string_bytes text.new ≡ string_bytes text.old ++ fate_head (attempt_of attempt)) }
+{
+    let object = attempt.object;
+    write!(text, "    \"{object}\" -> \"{attempt}\" [label=\"")
+}
+
+#[tactic(auto, unfolding(crate::specs::Attempts::fate_tail))]
+fn write_fate_tail(text: &mut String) -> Result<(), AllocError>
+    ensures { OnOk result (string_bytes text.new ≡ string_bytes text.old ++ fate_tail) }
+{
+    text.push_str("\"];\n")
+}
+
+/// Writes the content with which an attempt ended, and the edges to what it names.
+pub fn write_ended(
+    alloc: Global,
+    text: &mut String,
+    attempt: AttemptId,
+    content: &Content,
+) -> Result<(), AllocError>
+    ensures { OnOk result (string_bytes text.new ≡ string_bytes text.old ++ ended_text (attempt_of attempt) (content_of content.now)) }
+{
+    let named = ids_in(content, alloc)?;
+    write_fate_head(text, attempt)?;
+    write_content(text, content)?;
+    write_fate_tail(text)?;
+    write_named_edges(text, attempt.object, &named)
+}
+
+/// Writes the end of a red label that is a fault.
+#[tactic(auto, unfolding(crate::specs::Attempts::fault_tail))]
+pub fn write_fault_tail(text: &mut String, fault: Fault) -> Result<(), AllocError>
+    ensures { OnOk result (string_bytes text.new ≡ string_bytes text.old ++ fault_tail (fault_of fault)) }
+{
+    let kind = kind_name(fault.kind);
+    let object = fault.object;
+    writeln!(text, "{kind} {object}\", color=red];")
+}
+
+/// Writes the fault with which an attempt ended.
+pub fn write_faulted(text: &mut String, attempt: AttemptId, fault: Fault) -> Result<(), AllocError>
+    ensures { OnOk result (string_bytes text.new ≡ string_bytes text.old ++ faulted_text (attempt_of attempt) (fault_of fault)) }
+{
+    write_fate_head(text, attempt)?;
+    write_fault_tail(text, fault)
+}

@@ -1,0 +1,58 @@
+// What each entry adds to the graph.
+
+ghost use Rattle.std.specs.Prelude.{◌≡◌, ◌++◌, List, OnOk, string_bytes};
+ghost use Rattle.values.specs.Values.{id_of};
+ghost use Rattle.event_log.specs.Entries as logged;
+ghost use Rattle.event_log.specs.Views.{entry_of, fault_of};
+ghost use Rattle.history.specs.Attempts.{AreStatesOf};
+ghost use Rattle.lineage_text.specs.Entries.{lineage_in, released_text, resolved_head, resolved_text};
+
+use crate::attempts::{write_begun, write_ended, write_fault_tail, write_faulted};
+use crate::births::write_born;
+use event_log::Entry;
+use history::AttemptStates;
+use ids::ObjectId;
+use std::alloc::{AllocError, Global};
+use values::Fault;
+
+#[tactic(auto, unfolding(crate::specs::Entries::resolved_head))]
+fn write_resolved_head(text: &mut String, object: ObjectId) -> Result<(), AllocError>
+    ensures { OnOk result (string_bytes text.new ≡ string_bytes text.old ++ resolved_head (id_of object)) }
+{
+    write!(text, "    \"{object}\" [xlabel=\"")
+}
+
+fn write_resolved(text: &mut String, object: ObjectId, fault: Fault) -> Result<(), AllocError>
+    ensures { OnOk result (string_bytes text.new ≡ string_bytes text.old ++ resolved_text (id_of object) (fault_of fault)) }
+{
+    write_resolved_head(text, object)?;
+    write_fault_tail(text, fault)
+}
+
+#[tactic(auto, unfolding(crate::specs::Entries::released_text))]
+fn write_released(text: &mut String, object: ObjectId) -> Result<(), AllocError>
+    ensures { OnOk result (string_bytes text.new ≡ string_bytes text.old ++ released_text (id_of object)) }
+{
+    writeln!(text, "    \"{object}\" [fontcolor=gray];")
+}
+
+/// Writes what an entry adds to the graph.
+pub fn write_entry(
+    alloc: Global,
+    text: &mut String,
+    states: &AttemptStates,
+    entry: &Entry,
+) -> Result<(), AllocError>
+    ensures { (log : List logged.Entry) → AreStatesOf states.now log → OnOk result
+        (string_bytes text.new ≡ string_bytes text.old ++ lineage_in log (entry_of entry.now)) }
+{
+    match entry {
+        Entry::Born { object, birth, .. } => write_born(alloc, text, *object, birth),
+        Entry::Begun { attempt, worker } => write_begun(text, states, *attempt, *worker),
+        Entry::Ended { attempt, content } => write_ended(alloc, text, *attempt, content),
+        Entry::Faulted { attempt, fault, .. } => write_faulted(text, *attempt, *fault),
+        Entry::Resolved { object, fault } => write_resolved(text, *object, *fault),
+        Entry::Released(object) => write_released(text, *object),
+        _ => Ok(()),
+    }
+}

@@ -1,0 +1,49 @@
+// The graph of a log, for Graphviz.
+
+ghost use Rattle.std.specs.Prelude.{◌≡◌, ◌++◌, IfOk, OnOk, string_bytes};
+ghost use Rattle.std.specs.List.{flat_map};
+ghost use Rattle.event_log.specs.Views.{log_of};
+ghost use Rattle.lineage_text.specs.Entries.{lineage_in};
+ghost use Rattle.lineage_text.specs.Text.{graph_head, lineage_text};
+
+use crate::entries::write_entry;
+use event_log::Entry;
+use history::AttemptStates;
+use std::alloc::{AllocError, Global};
+
+#[tactic(auto, unfolding(crate::specs::Text::graph_head))]
+fn write_head(text: &mut String) -> Result<(), AllocError>
+    ensures { OnOk result (string_bytes text.new ≡ string_bytes text.old ++ graph_head) }
+{
+    text.push_str(
+        "strict digraph lineage {\n    node [shape=box];\n    \"o1.0\" [label=\"o1.0: main()\"];\n",
+    )
+}
+
+fn write_entries(alloc: Global, text: &mut String, log: &[Entry]) -> Result<(), AllocError>
+    ensures { OnOk result (string_bytes text.new ≡ string_bytes text.old ++ flat_map (lineage_in (log_of log.now)) (log_of log.now)) }
+{
+    let states = AttemptStates::of(alloc, log)?;
+    for entry in log {
+        write_entry(alloc, text, &states, entry)?;
+    }
+    Ok(())
+}
+
+/// What the objects of a log are made of, as a graph in Graphviz's language DOT, main's own object with them: a box for each
+/// task, labelled by its call, and an ellipse for each put; an edge to a task from each object in its arguments, and a
+/// dashed edge from an object to each that its value names. An attempt stands beside its object, with its worker and its
+/// state as in a report, and the dotted line between them has the content or the fault with which it ended. An object that
+/// will have no content is red, with its fault beside it, and the text of one that was released is gray.
+///
+/// It is made of any log, a legal one or not. Names of functions are written as they are: those of a script that was
+/// checked need no escapes. Goes over the log a fixed number of times.
+pub fn lineage_text(alloc: Global, log: &[Entry]) -> Result<String, AllocError>
+    ensures { IfOk result (λ text. string_bytes text ≡ lineage_text (log_of log.now)) }
+{
+    let mut text = String::new(alloc);
+    write_head(&mut text)?;
+    write_entries(alloc, &mut text, log)?;
+    text.push_str("}\n")?;
+    Ok(text)
+}

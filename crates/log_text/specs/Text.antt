@@ -1,0 +1,17 @@
+-- A log in words.
+use Rattle.std.specs.Prelude.{ℕ, List, [], ◌∷◌, ◌++◌}
+use Rattle.meaning.specs.Births.{Bearing}
+use Rattle.event_log.specs.Entries.{Entry}
+use Rattle.event_log.specs.Events.{refused_next}
+use Rattle.event_log.specs.Words.{births}
+use Rattle.log_text.specs.Told.{Told, nothing_told, told_after}
+use Rattle.log_text.specs.Entries.{line}
+
+-- the lines of the entries, where `told` is what was told before them
+abbrev pub lines : List Bearing → Told → List Entry → List ℕ
+lines births told [] = []
+lines births told (x ∷ rest) = line births told x (refused_next rest) ++ lines births (told_after told x (refused_next rest)) rest
+
+-- a line for each entry
+abbrev pub log_text : List Entry → List ℕ
+log_text log = lines (births log) nothing_told log

@@ -1,0 +1,84 @@
+// Attempts, with the functions that they run.
+
+ghost use Rattle.std.specs.Prelude.{◌≡◌, ◌++◌, OnOk, option_copied, string_bytes};
+ghost use Rattle.std.specs.Option.{option_map};
+ghost use Rattle.task_spec.specs.Births.{birth_of};
+ghost use Rattle.event_log.specs.Words.{births};
+ghost use Rattle.event_log.specs.Views.{attempt_of, log_of};
+ghost use Rattle.log_words.specs.Index.{IsIndexOf};
+ghost use Rattle.log_text.specs.Attempts.{again_note, begun_text, call_note, name_note, named_text};
+
+use event_log::Entry;
+use ids::{AttemptId, WorkerId};
+use log_words::{BirthIndex, write_call};
+use std::alloc::AllocError;
+use task_spec::Birth;
+
+/// Writes ` (sq)`, the function of a call.
+fn write_name(text: &mut String, birth: Option<&Birth>) -> Result<(), AllocError>
+    ensures { OnOk result (string_bytes text.new ≡ string_bytes text.old ++ name_note (option_map birth_of (option_copied birth.entry))) }
+{
+    let Some(Birth::Task { function, .. }) = birth else {
+        return Ok(());
+    };
+    text.push_str(" (")?;
+    text.push_str(function.as_str())?;
+    text.push_str(")")
+}
+
+/// Writes `: sq(7)`, a call.
+fn write_call_of(text: &mut String, birth: Option<&Birth>) -> Result<(), AllocError>
+    ensures { OnOk result (string_bytes text.new ≡ string_bytes text.old ++ call_note (option_map birth_of (option_copied birth.entry))) }
+{
+    let Some(
+        Birth::Task {
+            function,
+            arguments,
+            ..
+        },
+    ) = birth
+    else {
+        return Ok(());
+    };
+    text.push_str(": ")?;
+    write_call(text, function.as_str(), arguments)
+}
+
+fn write_again(text: &mut String, number: u32) -> Result<(), AllocError>
+    ensures { OnOk result (string_bytes text.new ≡ string_bytes text.old ++ again_note number) }
+{
+    if number == 0 {
+        return Ok(());
+    }
+    text.push_str(" again")
+}
+
+/// Writes an attempt with the function that it runs, such as `a1.1#0 (sq)`.
+pub fn write_named(
+    text: &mut String,
+    index: &BirthIndex,
+    log: &[Entry],
+    attempt: AttemptId,
+) -> Result<(), AllocError>
+    ensures { IsIndexOf index.now log.now → OnOk result
+        (string_bytes text.new ≡ string_bytes text.old ++ named_text (births (log_of log.now)) (attempt_of attempt)) }
+{
+    write!(text, "{attempt}")?;
+    write_name(text, index.birth(log, attempt.object))
+}
+
+/// Writes where an attempt begins and what it runs, such as `w2 begins a1.1#0: sq(7)`.
+pub fn write_begun(
+    text: &mut String,
+    index: &BirthIndex,
+    log: &[Entry],
+    attempt: AttemptId,
+    worker: WorkerId,
+) -> Result<(), AllocError>
+    ensures { IsIndexOf index.now log.now → OnOk result
+        (string_bytes text.new ≡ string_bytes text.old ++ begun_text (births (log_of log.now)) (attempt_of attempt) worker.0) }
+{
+    write!(text, "{worker} begins {attempt}")?;
+    write_again(text, attempt.number)?;
+    write_call_of(text, index.birth(log, attempt.object))
+}

@@ -1,0 +1,163 @@
+// The line of each entry.
+
+ghost use Rattle.std.specs.Prelude.{◌≡◌, ◌+◌, ◌++◌, ◌<◌, ◌^◌, OnOk, string_bytes};
+ghost use Rattle.event_log.specs.Words.{births};
+ghost use Rattle.values.specs.Values.{id_of, value_of};
+ghost use Rattle.event_log.specs.Views.{entry_of, fault_of, log_of};
+ghost use Rattle.log_words.specs.Index.{IsIndexOf};
+ghost use Rattle.log_text.specs.Entries.{act_text, entry_text, indent, lack_head, lack_text, line, print_text};
+ghost use Rattle.log_text.specs.Entries.{resolve_head, resolve_text};
+ghost use Rattle.log_text.specs.Told.{told_of};
+
+use crate::attempts::{write_begun, write_named};
+use crate::events::write_event;
+use crate::refusals::write_refusal;
+use crate::told::Told;
+use event_log::Entry;
+use ids::ObjectId;
+use log_words::{BirthIndex, write_birth, write_content, write_fault};
+use report::write_value;
+use std::alloc::AllocError;
+use values::{Fault, RunValue};
+
+fn write_lack_head(text: &mut String, object: ObjectId) -> Result<(), AllocError>
+    ensures { OnOk result (string_bytes text.new ≡ string_bytes text.old ++ lack_head (id_of object)) }
+{
+    write!(text, " ends with a fault at get {object}: ")
+}
+
+/// Writes how a get was answered with a fault.
+fn write_lack(text: &mut String, object: ObjectId, fault: Fault) -> Result<(), AllocError>
+    ensures { OnOk result (string_bytes text.new ≡ string_bytes text.old ++ lack_text (id_of object) (fault_of fault)) }
+{
+    write_lack_head(text, object)?;
+    write_fault(text, fault)
+}
+
+fn write_resolve_head(text: &mut String, object: ObjectId) -> Result<(), AllocError>
+    ensures { OnOk result (string_bytes text.new ≡ string_bytes text.old ++ resolve_head (id_of object)) }
+{
+    let owner = object.owner;
+    write!(text, "{owner} gives up {object}: ")
+}
+
+/// Writes that an object will have no content.
+fn write_resolve(text: &mut String, object: ObjectId, fault: Fault) -> Result<(), AllocError>
+    ensures { OnOk result (string_bytes text.new ≡ string_bytes text.old ++ resolve_text (id_of object) (fault_of fault)) }
+{
+    write_resolve_head(text, object)?;
+    write_fault(text, fault)
+}
+
+fn write_print(text: &mut String, value: &RunValue) -> Result<(), AllocError>
+    ensures { OnOk result (string_bytes text.new ≡ string_bytes text.old ++ print_text (value_of value.now)) }
+{
+    text.push_str("main prints ")?;
+    write_value(text, value)
+}
+
+/// Writes what an entry says of an attempt: what it makes, gets, or ends with.
+fn write_act(
+    text: &mut String,
+    index: &BirthIndex,
+    log: &[Entry],
+    entry: &Entry,
+) -> Result<(), AllocError>
+    ensures { IsIndexOf index.now log.now → OnOk result
+        (string_bytes text.new ≡ string_bytes text.old ++ act_text (births (log_of log.now)) (entry_of entry.now)) }
+{
+    match entry {
+        Entry::Begun { attempt, worker } => write_begun(text, index, log, *attempt, *worker),
+        Entry::Born {
+            object,
+            attempt,
+            birth,
+        } => {
+            write_named(text, index, log, *attempt)?;
+            write!(text, " makes {object}: ")?;
+            write_birth(text, birth)
+        }
+        Entry::Got {
+            attempt,
+            object,
+            content,
+        } => {
+            write_named(text, index, log, *attempt)?;
+            write!(text, " gets {object}: ")?;
+            write_content(text, content)
+        }
+        Entry::Ended { attempt, content } => {
+            write_named(text, index, log, *attempt)?;
+            text.push_str(" ends with ")?;
+            write_content(text, content)
+        }
+        Entry::Accepted(attempt) => {
+            let owner = attempt.object.owner;
+            write!(text, "{owner} accepts ")?;
+            write_named(text, index, log, *attempt)
+        }
+        Entry::Faulted {
+            attempt,
+            object,
+            fault,
+        } => {
+            write_named(text, index, log, *attempt)?;
+            write_lack(text, *object, *fault)
+        }
+        _ => Ok(()),
+    }
+}
+
+/// Writes what came of an event.
+fn write_entry(
+    text: &mut String,
+    index: &BirthIndex,
+    log: &[Entry],
+    entry: &Entry,
+) -> Result<(), AllocError>
+    ensures { IsIndexOf index.now log.now → OnOk result
+        (string_bytes text.new ≡ string_bytes text.old ++ entry_text (births (log_of log.now)) (entry_of entry.now)) }
+{
+    match entry {
+        Entry::In { .. } => Ok(()),
+        Entry::Refused(refusal) => write_refusal(text, *refusal),
+        Entry::Opened { worker, node } => write!(text, "{node} opens {worker}"),
+        Entry::Printed(value) => write_print(text, value),
+        Entry::Resolved { object, fault } => write_resolve(text, *object, *fault),
+        Entry::Released(object) => {
+            let owner = object.owner;
+            write!(text, "{owner} releases {object}")
+        }
+        _ => write_act(text, index, log, entry),
+    }
+}
+
+fn write_indent(text: &mut String, events: usize) -> Result<(), AllocError>
+    ensures { OnOk result (string_bytes text.new ≡ string_bytes text.old ++ indent events) }
+{
+    if events == 0 {
+        return Ok(());
+    }
+    text.push_str("    ")
+}
+
+/// Writes the line of an entry, behind what was told before; `is_refused` says of an event that it is refused.
+pub fn write_line(
+    text: &mut String,
+    index: &BirthIndex,
+    log: &[Entry],
+    told: &Told,
+    entry: &Entry,
+    is_refused: bool,
+) -> Result<(), AllocError>
+    requires { told.now.events + 1 < 2 ^ 64 }
+    ensures { IsIndexOf index.now log.now → OnOk result (string_bytes text.new
+        ≡ string_bytes text.old ++ line (births (log_of log.now)) (told_of told.now) (entry_of entry.now) is_refused) }
+{
+    if let Entry::In { event, seat } = entry {
+        return write_event(text, told.events + 1, &told.jobs, event, *seat, is_refused);
+    }
+    write_indent(text, told.events)?;
+    write_entry(text, index, log, entry)?;
+    text.push_str("\n")
+}

@@ -1,0 +1,14 @@
+//! A log in words, a line for each entry.
+#![tactic(auto)]
+
+mod attempts;
+mod entries;
+mod events;
+mod refusals;
+mod text;
+mod told;
+
+pub use text::log_text;
+
+#[cfg(test)]
+mod tests;

@@ -1,0 +1,38 @@
+// A log in words.
+
+ghost use Rattle.std.specs.Prelude.{◌≡◌, IfOk, drop, string_bytes};
+ghost use Rattle.event_log.specs.Events.{refused_next};
+ghost use Rattle.event_log.specs.Views.{log_of};
+ghost use Rattle.log_text.specs.Text.{log_text};
+
+use crate::entries::write_line;
+use crate::told::Told;
+use event_log::Entry;
+use log_words::BirthIndex;
+use std::alloc::{AllocError, Global};
+
+/// Whether a refusal stands at the place.
+fn is_refusal_at(log: &[Entry], place: usize) -> bool
+    ensures { result ≡ refused_next (log_of (drop place log.now)) }
+{
+    matches!(log.get(place), Some(Entry::Refused(_)))
+}
+
+/// The log in words: a line for each entry, each with a line feed, in the order of the log. Events are numbered from 1, and
+/// what came of an event stands below it, with four spaces in front; see docs/reading-a-log.md for what each line says.
+///
+/// It is made of any log, a legal one or not: of several births of an object the first counts, an attempt of an object
+/// without a birth has no function beside it, and a commit of a job that was never given out names no worker.
+pub fn log_text(alloc: Global, log: &[Entry]) -> Result<String, AllocError>
+    ensures { IfOk result (λ text. string_bytes text ≡ log_text (log_of log.now)) }
+{
+    let mut text = String::new(alloc);
+    let index = BirthIndex::of(alloc, log)?;
+    let mut told = Told::new(alloc);
+    for (place, entry) in log.iter().enumerate() {
+        let is_refused = is_refusal_at(log, place + 1);
+        write_line(&mut text, &index, log, &told, entry, is_refused)?;
+        told.note(entry, is_refused)?;
+    }
+    Ok(text)
+}

@@ -1,0 +1,57 @@
+// What has been told when an entry comes.
+
+ghost use Rattle.std.specs.Prelude.{◌≡◌, ◌+◌, ◌++◌, ◌<◌, ◌≤◌, ◌^◌, OnOk, [], if◌then◌else◌, map};
+ghost use Rattle.event_log.specs.Events.{claim_in};
+ghost use Rattle.event_log.specs.Views.{entry_of, event_of};
+ghost use Rattle.log_text.specs.Told.{nothing_told, told_after, told_of};
+
+use event_log::{Entry, Event};
+use ids::WorkerId;
+use std::alloc::{AllocError, Global};
+
+/// How many events came, and the workers to which jobs were given, by job.
+#[derive(Drop)]
+pub struct Told {
+    pub events: usize,
+    pub jobs: Vec<WorkerId>,
+}
+
+/// Notes the job that an accepted event gives out.
+fn note_job(jobs: &mut Vec<WorkerId>, event: &Event, is_refused: bool) -> Result<(), AllocError>
+    ensures { OnOk result (map (λ w. w.0) jobs.new.items
+        ≡ map (λ w. w.0) jobs.old.items ++ (if is_refused then [] else claim_in (event_of event.now))) }
+{
+    if is_refused {
+        return Ok(());
+    }
+    match event {
+        Event::Claim(worker) => Ok(jobs.push(*worker)?),
+        _ => Ok(()),
+    }
+}
+
+impl Told {
+    /// Nothing has been told.
+    pub fn new(alloc: Global) -> Told
+        ensures { told_of result ≡ nothing_told }
+    {
+        Told {
+            events: 0,
+            jobs: Vec::new(alloc),
+        }
+    }
+
+    /// Notes an entry.
+    pub fn note(&mut self, entry: &Entry, is_refused: bool) -> Result<(), AllocError>
+        requires { self.old.events + 1 < 2 ^ 64 }
+        ensures told { OnOk result (told_of self.new ≡ told_after (told_of self.old) (entry_of entry.now) is_refused) }
+        ensures counted { self.new.events ≤ self.old.events + 1 }
+    {
+        let Entry::In { event, .. } = entry else {
+            return Ok(());
+        };
+        note_job(&mut self.jobs, event, is_refused)?;
+        self.events += 1;
+        Ok(())
+    }
+}

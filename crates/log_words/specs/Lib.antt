@@ -1,0 +1,4 @@
+pub mod Calls
+pub mod Contents
+pub mod Faults
+pub mod Index

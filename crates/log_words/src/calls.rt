@@ -1,0 +1,84 @@
+// Births, written as the language writes them.
+
+ghost use Rattle.std.specs.Prelude.{◌≡◌, ◌++◌, OnOk, map, string_bytes};
+ghost use Rattle.std.specs.List.{flat_map};
+ghost use Rattle.task_spec.specs.Births.{argument_of, birth_of};
+ghost use Rattle.log_words.specs.Calls.{mark_text, argument_text, other_text, arguments_text, call_text, birth_text};
+
+use report::write_value;
+use std::alloc::AllocError;
+use task_spec::{Argument, Birth};
+
+/// Writes `get ` before an argument that is dereferenced.
+fn write_mark(text: &mut String, is_dereferenced: bool) -> Result<(), AllocError>
+    ensures { OnOk result (string_bytes text.new ≡ string_bytes text.old ++ mark_text is_dereferenced) }
+{
+    if is_dereferenced {
+        return text.push_str("get ");
+    }
+    Ok(())
+}
+
+fn write_argument(text: &mut String, argument: &Argument) -> Result<(), AllocError>
+    ensures { OnOk result (string_bytes text.new ≡ string_bytes text.old ++ argument_text (argument_of argument.now)) }
+{
+    write_mark(text, argument.is_dereferenced)?;
+    write_value(text, &argument.value)
+}
+
+/// Writes the arguments behind the first.
+fn write_others(text: &mut String, arguments: &[Argument]) -> Result<(), AllocError>
+    ensures { OnOk result (string_bytes text.new ≡ string_bytes text.old ++ flat_map other_text (map argument_of arguments.now)) }
+{
+    for argument in arguments {
+        text.push_str(", ")?;
+        write_argument(text, argument)?;
+    }
+    Ok(())
+}
+
+fn write_arguments(text: &mut String, arguments: &[Argument]) -> Result<(), AllocError>
+    ensures { OnOk result (string_bytes text.new ≡ string_bytes text.old ++ arguments_text (map argument_of arguments.now)) }
+{
+    let [first, others @ ..] = arguments else {
+        return Ok(());
+    };
+    write_argument(text, first)?;
+    write_others(text, others)
+}
+
+/// Writes a call, such as `inc(get o1.1, 5)`: `get` stands before an argument that the task's worker dereferences before
+/// the body.
+pub fn write_call(
+    text: &mut String,
+    function: &str,
+    arguments: &[Argument],
+) -> Result<(), AllocError>
+    ensures { OnOk result (string_bytes text.new ≡ string_bytes text.old ++ call_text function.now (map argument_of arguments.now)) }
+{
+    text.push_str(function)?;
+    text.push_str("(")?;
+    write_arguments(text, arguments)?;
+    text.push_str(")")
+}
+
+/// Writes what makes an object, such as `put [1, 2]` or `remote(3) sq(7)`, where 3 is how many further runs the task has.
+pub fn write_birth(text: &mut String, birth: &Birth) -> Result<(), AllocError>
+    ensures { OnOk result (string_bytes text.new ≡ string_bytes text.old ++ birth_text (birth_of birth.now)) }
+{
+    match birth {
+        Birth::Put(value) => {
+            text.push_str("put ")?;
+            write_value(text, value)
+        }
+        Birth::Task {
+            function,
+            arguments,
+            retries,
+            ..
+        } => {
+            write!(text, "remote({retries}) ")?;
+            write_call(text, function.as_str(), arguments)
+        }
+    }
+}

@@ -1,0 +1,12 @@
+//! The words in which a log is told: what each object was born as, calls, contents and faults.
+#![tactic(auto)]
+
+mod births;
+mod calls;
+mod contents;
+mod faults;
+
+pub use births::BirthIndex;
+pub use calls::{write_birth, write_call};
+pub use contents::write_content;
+pub use faults::{kind_words, write_fault};

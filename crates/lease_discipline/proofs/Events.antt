@@ -1,5 +1,6 @@
 -- Every event keeps the leases in order.
-use Rattle.std.proofs.Common.{◌≡◌, ◌≢◌, ℕ, zero, suc, ◌+◌, List, [], ◌∷◌, ◌++◌, length, map, Some, None, Option, refl, ap, sym, subst, ◌∙◌, ◌⊎◌, inl, inr, arith, append-nil}
+use Rattle.std.proofs.Common.{◌≡◌, ◌≢◌, ℕ, zero, suc, ◌+◌, List, [], ◌∷◌, ◌++◌, length, map, Some, None, Option, refl, ap, sym, subst, ◌∙◌, ◌⊎◌, inl, inr}
+use Rattle.std.proofs.Common.{arith, append-nil}
 use Rattle.std.specs.Prelude.{Bool, true, false, if◌then◌else◌, slice_get, slice_set, not, ◌&&◌, ◌==◌}
 use Rattle.sequence.proofs.Places.{and_left, and_right, slice_get-last}
 use Rattle.meaning.proofs.BirthLaws.{at_test}
@@ -15,21 +16,25 @@ use Rattle.protocol.specs.Tables.{HasEnded, HasFaulted, Out, Phase, Ready, Run, 
 use Rattle.protocol.specs.Steps.{Here}
 use Rattle.protocol.specs.Slots.{forgets, node_reached}
 use Rattle.protocol.specs.Releases.{release_step}
-use Rattle.protocol.specs.Whole.{Whole, Moved, moved, node_at, worker_at, there, here, after_node, after_worker, node_does, node_does_by, worker_does, worker_does_by, worker_does_at}
+use Rattle.protocol.specs.Whole.{Whole, Moved, moved, node_at, worker_at, there, here, after_node, after_worker, node_does, node_does_by, worker_does}
+use Rattle.protocol.specs.Whole.{worker_does_by, worker_does_at}
 use Rattle.protocol.specs.Commits.{claim_step, commit_step}
 use Rattle.protocol.specs.Notices.{notice_step, notice_node_step}
 use Rattle.protocol.specs.Ticks.{tick_step}
 use Rattle.protocol.specs.Deliveries.{reached}
-use Rattle.protocol.specs.Events.{as_committed, claimed, committed_by, with_committed, delivered_by, delivered_to, with_delivered, is_live_worker, is_live_node, killed_by, dead, dies_with, happens}
+use Rattle.protocol.specs.Events.{as_committed, claimed, committed_by, with_committed, delivered_by, delivered_to, with_delivered, is_live_worker}
+use Rattle.protocol.specs.Events.{is_live_node, killed_by, dead, dies_with, happens}
 use Rattle.protocol.specs.Answers.{Refuses, answer, decided, takes, given_out, whole_after}
-use Rattle.protocol.specs.Refusals.{commit_refusal, has_slot, is_job, is_of_job, is_out_by, is_ready, is_ready_on, is_ready_run, is_within_limits, job_in_phase, job_in_run, no_worker, or_code, refusal, unless}
+use Rattle.protocol.specs.Refusals.{commit_refusal, has_slot, is_job, is_of_job, is_out_by, is_ready, is_ready_on, is_ready_run, is_within_limits}
+use Rattle.protocol.specs.Refusals.{job_in_phase, job_in_run, no_worker, or_code, refusal, unless}
 use Rattle.protocol_owed.proofs.Nodes.{changed_cases, push_cases, nothing_past, there_still, there_more}
 use Rattle.protocol_owed.proofs.Letters.{among-append_cases, among-more}
 use Rattle.protocol_owed.proofs.CourseEvents.{append_split, one_of}
 use Rattle.protocol_owed.proofs.CourseAll.{both_passed, passed}
 use Rattle.lease_discipline.specs.Discipline.{Look, Gave, IsOfNode, KeepsLeases, NodeKeeps, WorkerKeeps, WorkersKeep}
 use Rattle.lease_discipline.proofs.Tame.{item_mapped, same_number}
-use Rattle.lease_discipline.proofs.Follows.{AllFollow, Follows, JobsStay, More, follow_grows, gave_more, is_false, jobs_more, node_follows, not_both, stays, true_more}
+use Rattle.lease_discipline.proofs.Follows.{AllFollow, Follows, JobsStay, More, follow_grows, gave_more, is_false, jobs_more, node_follows, not_both, stays}
+use Rattle.lease_discipline.proofs.Follows.{true_more}
 use Rattle.lease_discipline.proofs.Moves.{notice_step-kept, notice_node_step-kept, reached-kept, release_step-kept, tick_step-kept, IsHeardFrom}
 use Rattle.lease_discipline.proofs.Theres.{Goes, forgets_goes, reached_goes}
 use Rattle.lease_discipline.proofs.Heres.{Does, IsToldBy, IsOverOf, IsGivenBy, by_number, changed_elsewhere, does_kept, mine}
@@ -124,7 +129,8 @@ node_begins : (d : Whole) (n : ℕ) (node : Node) → node_at d n ≡ Some node 
 node_begins d n node at k = record {
   number = refl;
   counted = refl;
-  workers = subst (λ xs. WorkersKeep d.jobs (λ w. item_at xs w) (d.network ++ [])) (sym (append-nil d.workers)) (subst (WorkersKeep d.jobs (worker_at d)) (sym (append-nil d.network)) k.workers);
+  workers = subst (λ xs. WorkersKeep d.jobs (λ w. item_at xs w) (d.network ++ [])) (sym (append-nil d.workers))
+      (subst (WorkersKeep d.jobs (worker_at d)) (sym (append-nil d.network)) k.workers);
   there = subst (λ xs. NodeKeeps (λ w. item_at xs w) (d.network ++ []) n node.scheduler) (sym (append-nil d.workers))
       (subst (λ ls. NodeKeeps (worker_at d) ls n node.scheduler) (sym (append-nil d.network)) (k.nodes n node at));
   alone = λ l m h e. let f = h.1 in absurd (cc);
@@ -139,7 +145,8 @@ node_beside d n opened = record {
   forth = λ w x e. inr (there_more d.workers (repeated opened (new_worker n)) w x e);
 }
 
-node_event : (d : Whole) (n : ℕ) (f : There → There) → ((node : Node) → node_at d n ≡ Some node → (t : There) → Goes d.jobs d.workers d.network n t → Goes d.jobs d.workers d.network n (f t)) →
+node_event : (d : Whole) (n : ℕ) (f : There → There) →
+    ((node : Node) → node_at d n ≡ Some node → (t : There) → Goes d.jobs d.workers d.network n t → Goes d.jobs d.workers d.network n (f t)) →
     KeepsLeases d → KeepsLeases (node_does d n f).whole
 node_event d n f goes k = by_node (node_at d n) refl
   where
@@ -165,14 +172,16 @@ module _ (c : Whole) (me : ℕ) (x : Worker) (node : Node) (at : worker_at c me 
         goes = record {
           number = refl;
           counted = ap length (sym same);
-          workers = subst (λ xs. WorkersKeep c.jobs (λ w. item_at xs w) (c.network ++ [])) (sym all) (subst (WorkersKeep c.jobs (worker_at c)) (sym (append-nil c.network)) k.workers);
+          workers = subst (λ xs. WorkersKeep c.jobs (λ w. item_at xs w) (c.network ++ [])) (sym all)
+              (subst (WorkersKeep c.jobs (worker_at c)) (sym (append-nil c.network)) k.workers);
           there = subst (λ xs. NodeKeeps (λ w. item_at xs w) (c.network ++ []) n node.scheduler) (sym all)
               (subst (λ ls. NodeKeeps (worker_at c) ls n node.scheduler) (sym (append-nil c.network)) (k.nodes n node home));
           alone = λ l m h e. let f = h.1 in absurd (cc);
         };
       }
 
-  worker_beside : (h : Here) → Does c me n x at h → IsBeside n (worker_at c) (λ w. item_at (changed_at c.workers me (λ _. h.worker) ++ repeated h.there.opened (new_worker n)) w)
+  worker_beside : (h : Here) → Does c me n x at h →
+      IsBeside n (worker_at c) (λ w. item_at (changed_at c.workers me (λ _. h.worker) ++ repeated h.there.opened (new_worker n)) w)
   worker_beside h d = record {
     back = λ w y e. elim (append_split (changed_at c.workers me (λ _. h.worker)) (repeated h.there.opened (new_worker n)) w y e) [
       | inl f ↦ elim (changed_cases c.workers me w (λ _. h.worker) y f) [
@@ -186,7 +195,8 @@ module _ (c : Whole) (me : ℕ) (x : Worker) (node : Node) (at : worker_at c me 
           let f : ◌≡◌ {A = Option Worker} (Some x) (Some y) = sym at ∙ subst (λ v. worker_at c v ≡ Some y) same e in
           let is : x ≡ y = cc in
           inl (ap (λ (z : Worker). z.node) (sym is))
-      | inr apart ↦ inr (there_more (changed_at c.workers me (λ _. h.worker)) (repeated h.there.opened (new_worker n)) w y (changed_elsewhere c.workers me w (λ _. h.worker) y apart e))
+      | inr apart ↦ inr (there_more (changed_at c.workers me (λ _. h.worker)) (repeated h.there.opened (new_worker n)) w y
+          (changed_elsewhere c.workers me w (λ _. h.worker) y apart e))
     ];
   }
 
@@ -194,11 +204,13 @@ module _ (c : Whole) (me : ℕ) (x : Worker) (node : Node) (at : worker_at c me 
   worker_ends h d =
       node_ends (record c { workers = changed_at c.workers me (λ _. h.worker) }) (worker_at c) n node h.there home d.goes k.nodes k.homes (worker_beside h d)
 
-  pub worker_event_at : (f : Here → Here) → (Does c me n x at (here c me x node) → Does c me n x at (f (here c me x node))) → KeepsLeases (worker_does_at c me x f (Some node)).whole
+  pub worker_event_at : (f : Here → Here) → (Does c me n x at (here c me x node) → Does c me n x at (f (here c me x node))) →
+      KeepsLeases (worker_does_at c me x f (Some node)).whole
   worker_event_at f step =
       let g : Here = f (here c me x node) in
       worker_ends (release_step g)
-      (release_step-kept (IsToldBy c me n x at) (IsOverOf c me n x at) (IsGivenBy c me n x at) (Does c me n x at) (does_kept c me n x at) g (step worker_begins))
+      (release_step-kept (IsToldBy c me n x at) (IsOverOf c me n x at) (IsGivenBy c me n x at) (Does c me n x at) (does_kept c me n x at) g
+      (step worker_begins))
 
 -- a step of whichever worker
 abbrev Steps : Whole → ℕ → (Here → Here) → Type 0
@@ -237,7 +249,8 @@ claim_event c w e k =
     let jobs : List Given = c.jobs ++ g ∷ [] in
     let ready : is_ready c w ≡ true = passed (is_ready c w) 31 (both_passed (no_worker c w) (unless (is_ready c w) 31) e).1 in
     worker_event (record c { jobs = jobs }) w (λ h. claim_step h (length c.jobs + 1))
-    (λ x at node d. claim_does (record c { jobs = jobs }) w x.node x at (here (record c { jobs = jobs }) w x node) (length c.jobs + 1) (ready_run c w x at ready) (g, item_last c.jobs g, refl) d)
+    (λ x at node d. claim_does (record c { jobs = jobs }) w x.node x at (here (record c { jobs = jobs }) w x node) (length c.jobs + 1)
+    (ready_run c w x at ready) (g, item_last c.jobs g, refl) d)
     (with_jobs c jobs c.made (λ j h i. (h, there_more c.jobs (g ∷ []) j h i, refl)) k)
 
 -- the attempt that is out isn't over
@@ -263,22 +276,26 @@ committed_stay jobs j i g e =
     (f.0, f.1, worker_of (elim (changed_cases jobs j i as_committed f.0 f.1) [ inl (_, h, at, is) ↦ inl (h, at, is) | inr (_, at) ↦ inr at ]))
   where
     worker_of : {h : Given} → ((y : Given) × (item_at jobs i ≡ Some y) × (h ≡ as_committed y)) ⊎ (item_at jobs i ≡ Some h) → h.worker ≡ g.worker
-    worker_of (inl (y, at, is)) = let f : ◌≡◌ {A = Option Given} (Some g) (Some y) = sym e ∙ at in let same : g ≡ y = cc in ap (λ (z : Given). z.worker) is ∙ ap (λ (z : Given). z.worker) (sym same)
+    worker_of (inl (y, at, is)) = let f : ◌≡◌ {A = Option Given} (Some g) (Some y) = sym e ∙ at in let same : g ≡ y = cc in
+        ap (λ (z : Given). z.worker) is ∙ ap (λ (z : Given). z.worker) (sym same)
     worker_of (inr at) = let f = sym at ∙ e in cc
 
-commit_event : (c : Whole) (j : ℕ) (handed : Handed) (g : Option Given) → commit_refusal c j handed g ≡ None → KeepsLeases c → KeepsLeases (committed_by c j handed g).whole
+commit_event : (c : Whole) (j : ℕ) (handed : Handed) (g : Option Given) → commit_refusal c j handed g ≡ None → KeepsLeases c →
+    KeepsLeases (committed_by c j handed g).whole
 commit_event c j Nothing g e k = k
 commit_event c j OfAnother g e k = k
 commit_event c j (OfJob o) None e k = k
 commit_event c j (OfJob o) (Some g) e k =
     let open_job : Bool = not g.is_committed && is_of_job (OfJob o) in
     let both = both_passed (unless (open_job && is_out_by (worker_at c g.worker) j) 32) (unless (is_live_worker (worker_at c g.worker)) 33) e in
-    let out : is_out_by (worker_at c g.worker) j ≡ true = and_right open_job (is_out_by (worker_at c g.worker) j) (passed (open_job && is_out_by (worker_at c g.worker) j) 32 both.0) in
+    let out : is_out_by (worker_at c g.worker) j ≡ true =
+    and_right open_job (is_out_by (worker_at c g.worker) j) (passed (open_job && is_out_by (worker_at c g.worker) j) 32 both.0) in
     let d : Whole = with_committed c j (length o.births) in
     worker_event d g.worker (λ h. commit_step h o)
     (λ x at node does.
     let run : OutAs x.run j = out_as x.run j (ap (λ y. is_out_by y j) (sym at) ∙ out) in
-    let over : run.run.is_over ≡ false = is_false _ (λ i. let s = (mine d g.worker x.node x at (here d g.worker x node) does).stopped run.run run.at i in let f : has_stopped (Out j) ≡ true = ap has_stopped (sym run.out) ∙ s in absurd (cc)) in
+    let over : run.run.is_over ≡ false = is_false _ (λ i. let s = (mine d g.worker x.node x at (here d g.worker x node) does).stopped run.run run.at i in
+    let f : has_stopped (Out j) ≡ true = ap has_stopped (sym run.out) ∙ s in absurd (cc)) in
     commit_does d g.worker x.node x at (here d g.worker x node) o run.run run.at over does)
     (with_jobs c (changed_at c.jobs j as_committed) (c.made + length o.births) (committed_stay c.jobs j) k)
 
@@ -340,14 +357,17 @@ module _ (c : Whole) (w : ℕ) (x : Worker) (at : worker_at c w ≡ Some x) (nod
 
   reached_does : (from : Party) (m : Message) → Among (letter from (TheWorker w) m) c.network → P start → P (reached start from m)
   reached_does from m came d =
-      reached-kept (IsToldBy c w x.node x at) (IsOverOf c w x.node x at) (IsGivenBy c w x.node x at) P (does_kept c w x.node x at) start from m (heard_from from m came d) d
+      reached-kept (IsToldBy c w x.node x at) (IsOverOf c w x.node x at) (IsGivenBy c w x.node x at) P (does_kept c w x.node x at) start from m
+      (heard_from from m came d) d
 
 with_marks : (c : Whole) (k : ℕ) → KeepsLeases c → KeepsLeases (with_delivered c k)
 with_marks c k l = record { workers = l.workers; nodes = l.nodes; homes = l.homes }
 
-letter_event : (c : Whole) (s to : Party) (m : Message) → Among (letter s to m) c.network → KeepsLeases c → KeepsLeases (delivered_to c (letter s to m) to).whole
+letter_event : (c : Whole) (s to : Party) (m : Message) → Among (letter s to m) c.network → KeepsLeases c →
+    KeepsLeases (delivered_to c (letter s to m) to).whole
 letter_event c s (TheWorker w) m came k =
-    at_test (λ b. is_live_worker (worker_at c w) ≡ b → KeepsLeases (if b then worker_does c w (λ h. reached h s m) else moved c).whole) (is_live_worker (worker_at c w))
+    at_test (λ b. is_live_worker (worker_at c w) ≡ b → KeepsLeases (if b then worker_does c w (λ h. reached h s m) else moved c).whole)
+    (is_live_worker (worker_at c w))
     (λ _ e. worker_event c w (λ h. reached h s m)
     (λ x at node d.
     let live : x.is_live ≡ true = ap is_live_worker (sym at) ∙ e in
@@ -355,7 +375,8 @@ letter_event c s (TheWorker w) m came k =
     (λ _ _. k) refl
 letter_event c s (TheNode n) m came k =
     at_test (λ b. KeepsLeases (if b then node_does c n (λ h. node_reached h s m) else moved c).whole) (is_live_node (node_at c n))
-    (λ _. node_event c n (λ h. node_reached h s m) (λ node at t g. reached_goes c.jobs c.workers c.network n t s m (g.workers.letters (letter s (TheNode n) m) (among-more c.network t.out.letters _ came)) g) k)
+    (λ _. node_event c n (λ h. node_reached h s m) (λ node at t g. reached_goes c.jobs c.workers c.network n t s m
+    (g.workers.letters (letter s (TheNode n) m) (among-more c.network t.out.letters _ came)) g) k)
     (λ _. k)
 
 deliver_event : (c : Whole) (k : ℕ) (l : Option Letter) → item_at c.network k ≡ l → KeepsLeases c → KeepsLeases (delivered_by c k l).whole
@@ -371,11 +392,16 @@ dies x = record { node = refl; live = λ e. absurd (cc); began = refl; going = �
 pub followed : (c : Whole) (workers : List Worker) (nodes : List Node) → AllFollow (worker_at c) (λ w. item_at workers w) →
     ((w : ℕ) (y : Worker) → item_at workers w ≡ Some y → WorkerKeeps c.jobs c.network w y) →
     ((n : ℕ) (node : Node) → item_at nodes n ≡ Some node → (old : Node) × (node_at c n ≡ Some old) × (node.scheduler ≡ old.scheduler)) →
-    ((n : ℕ) (node : Node) → node_at c n ≡ Some node → (next : Node) × (item_at nodes n ≡ Some next)) → KeepsLeases c → KeepsLeases (record c { workers = workers; nodes = nodes })
+    ((n : ℕ) (node : Node) → node_at c n ≡ Some node → (next : Node) × (item_at nodes n ≡ Some next)) → KeepsLeases c →
+    KeepsLeases (record c { workers = workers; nodes = nodes })
 followed c workers nodes all each back forth k =
     let look : Look = λ w. item_at workers w in
     record {
-      workers = record { each = each; letters = λ l i. true_more (worker_at c) look c.network c.network (follow_grows (worker_at c) look all) (λ _ j. j) l (k.workers.letters l i) };
+      workers = record {
+        each = each;
+        letters = λ l i. true_more (worker_at c) look c.network c.network (follow_grows (worker_at c) look all) (λ _ j. j) l
+            (k.workers.letters l i);
+      };
       nodes = λ n node e.
           let b = back n node e in
           node_follows (worker_at c) look c.network n node.scheduler all (subst (NodeKeeps (worker_at c) c.network n) (sym b.2) (k.nodes n b.0 b.1));
@@ -399,8 +425,10 @@ killed_follow c w = record {
       (f.0, f.1, by_case v x e f.0 (elim (changed_cases c.workers w v dead f.0 f.1) [ inl (_, y, at, is) ↦ inl (y, at, is) | inr (_, at) ↦ inr at ]));
 }
   where
-    by_case : (v : ℕ) (x : Worker) → worker_at c v ≡ Some x → (y : Worker) → ((z : Worker) × (item_at c.workers v ≡ Some z) × (y ≡ dead z)) ⊎ (item_at c.workers v ≡ Some y) → Follows x y
-    by_case v x e y (inl (z, at, is)) = let f : ◌≡◌ {A = Option Worker} (Some x) (Some z) = sym e ∙ at in let same : x ≡ z = cc in subst (Follows x) (ap dead same ∙ sym is) (dies x)
+    by_case : (v : ℕ) (x : Worker) → worker_at c v ≡ Some x → (y : Worker) →
+        ((z : Worker) × (item_at c.workers v ≡ Some z) × (y ≡ dead z)) ⊎ (item_at c.workers v ≡ Some y) → Follows x y
+    by_case v x e y (inl (z, at, is)) = let f : ◌≡◌ {A = Option Worker} (Some x) (Some z) = sym e ∙ at in let same : x ≡ z = cc in
+        subst (Follows x) (ap dead same ∙ sym is) (dies x)
     by_case v x e y (inr at) = let f : ◌≡◌ {A = Option Worker} (Some x) (Some y) = sym e ∙ at in let same : x ≡ y = cc in subst (Follows x) same (stays x)
 
 kill_event : (c : Whole) (w : ℕ) (o : Option Worker) → worker_at c w ≡ o → KeepsLeases c → KeepsLeases (killed_by c w o).whole
@@ -428,7 +456,8 @@ kill_event c w (Some x) at k =
       where
         dead_now : (y : Worker) × (item_at (changed_at c.workers w dead) w ≡ Some y) → item_at (changed_at c.workers w dead) w ≡ Some (dead x)
         dead_now (y, i) = elim (changed_cases c.workers w w dead y i) [
-          | inl (_, z, j, is) ↦ let l : ◌≡◌ {A = Option Worker} (Some x) (Some z) = sym at ∙ j in let same : x ≡ z = cc in i ∙ ap (λ u. Some u) (is ∙ ap dead (sym same))
+          | inl (_, z, j, is) ↦ let l : ◌≡◌ {A = Option Worker} (Some x) (Some z) = sym at ∙ j in let same : x ≡ z = cc in
+              i ∙ ap (λ u. Some u) (is ∙ ap dead (sym same))
           | inr (apart, _) ↦ absurd (apart refl)
         ]
 
@@ -463,10 +492,12 @@ kill_node_event c n f same k =
     (λ w y e.
     let r = item_mapped (dies_with n) c.workers w y e in
     subst (WorkerKeeps c.jobs c.network w) (sym r.2)
-    (at_test (λ b. WorkerKeeps c.jobs c.network w (if b then dead r.0 else r.0)) (r.0.node == n) (λ _. dead_keeps c w r.0 (k.workers.each w r.0 r.1)) (λ _. k.workers.each w r.0 r.1)))
+    (at_test (λ b. WorkerKeeps c.jobs c.network w (if b then dead r.0 else r.0)) (r.0.node == n) (λ _. dead_keeps c w r.0 (k.workers.each w r.0 r.1))
+    (λ _. k.workers.each w r.0 r.1)))
     (λ m node e. same_schedulers c n f same m node e) (λ m node e. there_still c.nodes n m f node e) k
 
-store_event : (c : Whole) (n : ℕ) (f : Node → Node) → ((node : Node) → (f node).scheduler ≡ node.scheduler) → KeepsLeases c → KeepsLeases (record c { nodes = changed_at c.nodes n f })
+store_event : (c : Whole) (n : ℕ) (f : Node → Node) → ((node : Node) → (f node).scheduler ≡ node.scheduler) → KeepsLeases c →
+    KeepsLeases (record c { nodes = changed_at c.nodes n f })
 store_event c n f same k =
     followed c c.workers (changed_at c.nodes n f) (record { back = λ w y e. (y, e, stays y); forth = λ w x e. (x, e, stays x) }) k.workers.each
     (λ m node e. same_schedulers c n f same m node e) (λ m node e. there_still c.nodes n m f node e) k
@@ -503,23 +534,29 @@ happens_keeps c (Claim w) handed e k = claim_event c w e k
 happens_keeps c (Commit j) handed e k = commit_event c j handed (item_at c.jobs j) e k
 happens_keeps c (Deliver i) handed e k = deliver_event c i (item_at c.network i) refl k
 happens_keeps c (Tick w) handed e k = worker_event c w tick_step
-    (λ x at node d. tick_step-kept (IsToldBy c w x.node x at) (IsOverOf c w x.node x at) (IsGivenBy c w x.node x at) (Does c w x.node x at) (does_kept c w x.node x at) (here c w x node) d) k
+    (λ x at node d. tick_step-kept (IsToldBy c w x.node x at) (IsOverOf c w x.node x at) (IsGivenBy c w x.node x at) (Does c w x.node x at)
+    (does_kept c w x.node x at) (here c w x node) d) k
 happens_keeps c (Notice w v) handed e k = worker_event c w (λ h. notice_step h v)
-    (λ x at node d. notice_step-kept (IsToldBy c w x.node x at) (IsOverOf c w x.node x at) (IsGivenBy c w x.node x at) (Does c w x.node x at) (does_kept c w x.node x at) (here c w x node) v d) k
+    (λ x at node d. notice_step-kept (IsToldBy c w x.node x at) (IsOverOf c w x.node x at) (IsGivenBy c w x.node x at) (Does c w x.node x at)
+    (does_kept c w x.node x at) (here c w x node) v d) k
 happens_keeps c (NoticeNode w n) handed e k = worker_event c w (λ h. notice_node_step h n)
-    (λ x at node d. notice_node_step-kept (IsToldBy c w x.node x at) (IsOverOf c w x.node x at) (IsGivenBy c w x.node x at) (Does c w x.node x at) (does_kept c w x.node x at) (here c w x node) n d) k
+    (λ x at node d. notice_node_step-kept (IsToldBy c w x.node x at) (IsOverOf c w x.node x at) (IsGivenBy c w x.node x at) (Does c w x.node x at)
+    (does_kept c w x.node x at) (here c w x node) n d) k
 happens_keeps c (Evict n o) handed e k = store_event c n _ (λ _. refl) k
 happens_keeps c (Lose n o) handed e k = store_event c n _ (λ _. refl) k
 happens_keeps c (Kill w) handed e k = kill_event c w (worker_at c w) refl k
 happens_keeps c (KillNode n) handed e k = kill_node_event c n _ (λ _. refl) k
 happens_keeps c Join handed e k = join_event c k
 
-limited_keeps : (c : Whole) (m : Moved) (b : Bool) (given : Option Job) → KeepsLeases c → KeepsLeases m.whole → KeepsLeases (whole_after c (if b then takes m given else Refuses 37))
+limited_keeps : (c : Whole) (m : Moved) (b : Bool) (given : Option Job) → KeepsLeases c → KeepsLeases m.whole →
+    KeepsLeases (whole_after c (if b then takes m given else Refuses 37))
 limited_keeps c m true given k l = l
 limited_keeps c m false given k l = k
 
-decided_keeps : (c : Whole) (e : Event) (handed : Handed) (code : Option ℕ) → refusal c e handed ≡ code → KeepsLeases c → KeepsLeases (whole_after c (decided c e handed code))
-decided_keeps c e handed None unrefused k = limited_keeps c (happens c e handed) (is_within_limits (happens c e handed).whole) (given_out c e) k (happens_keeps c e handed unrefused k)
+decided_keeps : (c : Whole) (e : Event) (handed : Handed) (code : Option ℕ) → refusal c e handed ≡ code → KeepsLeases c →
+    KeepsLeases (whole_after c (decided c e handed code))
+decided_keeps c e handed None unrefused k = limited_keeps c (happens c e handed) (is_within_limits (happens c e handed).whole) (given_out c e) k
+    (happens_keeps c e handed unrefused k)
 decided_keeps c e handed (Some code) refused k = k
 
 pub events_keep : (c : Whole) (e : Event) (handed : Handed) → KeepsLeases c → KeepsLeases (whole_after c (answer c e handed))

@@ -13,7 +13,8 @@ use Rattle.numbered.proofs.Places.{changed_is, item_is}
 use Rattle.protocol.specs.Sets.{object_id, repeated}
 use Rattle.protocol.specs.Messages.{Letter, letter, Message, Party, TheWorker, TheNode, Ask, Give, Elsewhere, Wait, Back, Push, Finished, FinishedAck, Failed}
 use Rattle.protocol.specs.Messages.{Where, At, Gone, Fetch, CopyOf, Missing, Hold, HoldAck, Unhold}
-use Rattle.protocol.specs.Tables.{Fetching, HasEnded, HasFaulted, Object, Out, OwnTask, Phase, Ready, Run, RunsOn, Waits, Worker, has_stopped, new_worker, owner_of, task_in, task_of, with_task}
+use Rattle.protocol.specs.Tables.{Fetching, HasEnded, HasFaulted, Object, Out, OwnTask, Phase, Ready, Run, RunsOn, Waits, Worker, has_stopped, new_worker}
+use Rattle.protocol.specs.Tables.{owner_of, task_in, task_of, with_task}
 use Rattle.protocol.specs.Steps.{Here, logs, logs_all, own_id, says, with_run, with_task_of, with_there, with_worker}
 use Rattle.protocol.specs.Runs.{asks_for_slot, gives_slot_back, with_answer}
 use Rattle.protocol.specs.Asking.{with_begun}
@@ -177,7 +178,8 @@ module _ (c : Whole) (me n : ℕ) (old : Worker) (there : item_at c.workers me �
                   subst (λ u. WorkerKeeps c.jobs (sent_here h) u z) (sym same) (subst (WorkerKeeps c.jobs (sent_here h) me) is k)
               | inr apart ↦ g.workers.each w z (sym (at_other x y opened w apart) ∙ e)
             ];
-            letters = λ l i. true_more (look_with x opened) (look_with y opened) (sent_here h) (sent_here h) (follow_grows (look_with x opened) (look_with y opened) all) (λ _ j. j) l (g.workers.letters l i);
+            letters = λ l i. true_more (look_with x opened) (look_with y opened) (sent_here h) (sent_here h)
+                (follow_grows (look_with x opened) (look_with y opened) all) (λ _ j. j) l (g.workers.letters l i);
           };
           there = node_follows (look_with x opened) (look_with y opened) (sent_here h) n h.there.node.scheduler all g.there;
           alone = g.alone;
@@ -195,12 +197,18 @@ module _ (c : Whole) (me n : ℕ) (old : Worker) (there : item_at c.workers me �
         live = λ i. i;
         began = refl;
         going = λ r i over.
-            let is : next ≡ r = cc in
-            (run, e, sym same ∙ ap (λ (q : Run). q.attempt) is, is_false run.is_over (λ g. not_both r.is_over (ap (λ (q : Run). q.is_over) (sym is) ∙ later g) over));
+            let is : next ≡ r = cc in (
+              run,
+              e,
+              sym same ∙ ap (λ (q : Run). q.attempt) is,
+              is_false run.is_over
+                  (λ g. not_both r.is_over (ap (λ (q : Run). q.is_over) (sym is) ∙ later g) over),
+            );
       })
       (record {
         began = k.began;
-        present = λ r i. let is : next ≡ r = cc in ap (λ (q : Run). has_begun q.attempt h.worker.began) (sym is) ∙ ap (λ a. has_begun a h.worker.began) same ∙ k.present run e;
+        present = λ r i. let is : next ≡ r = cc in ap (λ (q : Run). has_begun q.attempt h.worker.began) (sym is) ∙
+            ap (λ a. has_begun a h.worker.began) same ∙ k.present run e;
         stopped = λ r i o. let is : next ≡ r = cc in subst (λ (q : Run). has_stopped q.phase ≡ true) is (stopped (ap (λ (q : Run). q.is_over) is ∙ o));
         out = λ r j i o. let is : next ≡ r = cc in out j (ap (λ (q : Run). q.phase) is ∙ o);
         runs = k.runs;
@@ -210,7 +218,8 @@ module _ (c : Whole) (me n : ℕ) (old : Worker) (there : item_at c.workers me �
   logs_does h es d = record { who = d.who; home = d.home; goes = logs_goes c.jobs (workers_with h.worker) c.network n h.there es d.goes }
 
   -- a true letter is sent
-  says_does : (h : Here) (to : Party) (m : Message) → IsTrue (look_here h) (sent_here h) (letter (TheWorker h.me) to m) → Does h → Does (with_there h (posts h.there (letter (TheWorker h.me) to m)))
+  says_does : (h : Here) (to : Party) (m : Message) → IsTrue (look_here h) (sent_here h) (letter (TheWorker h.me) to m) → Does h →
+      Does (with_there h (posts h.there (letter (TheWorker h.me) to m)))
   says_does h to m is d = record { who = d.who; home = d.home; goes = worker_says_goes c.jobs (workers_with h.worker) c.network n h.there h.me to m is d.goes }
 
   -- a worker whose attempt isn't over isn't wanted for another
@@ -225,7 +234,8 @@ module _ (c : Whole) (me n : ℕ) (old : Worker) (there : item_at c.workers me �
   frees_does h unwanted d = record {
     who = d.who;
     home = d.home;
-    goes = frees_goes c.jobs (workers_with h.worker) c.network n h.there h.me (subst (λ w. IsUnwanted (look_here h) (sent_here h) n w) (sym d.who) unwanted) d.goes;
+    goes = frees_goes c.jobs (workers_with h.worker) c.network n h.there h.me
+        (subst (λ w. IsUnwanted (look_here h) (sent_here h) n w) (sym d.who) unwanted) d.goes;
   }
 
   asks_does : (h : Here) → Does h → Does (asks_for_slot h)
@@ -233,7 +243,8 @@ module _ (c : Whole) (me n : ℕ) (old : Worker) (there : item_at c.workers me �
 
   -- an attempt that waits isn't over
   pub waits_on : (h : Here) (run : Run) (y : Id) (f : Option Fetching) → h.worker.run ≡ Some run → run.phase ≡ Waits y f → Does h → run.is_over ≡ false
-  waits_on h run y f e q d = is_false run.is_over (λ o. let s = (mine h d).stopped run e o in let g : has_stopped (Waits y f) ≡ true = ap has_stopped (sym q) ∙ s in absurd (cc))
+  waits_on h run y f e q d = is_false run.is_over (λ o. let s = (mine h d).stopped run e o in
+      let g : has_stopped (Waits y f) ≡ true = ap has_stopped (sym q) ∙ s in absurd (cc))
 
   -- ---- what is known of messages that come
 
@@ -257,19 +268,30 @@ module _ (c : Whole) (me n : ℕ) (old : Worker) (there : item_at c.workers me �
   done_here h run e o d = record {
     worker = h.worker;
     there = at_me h.worker h.there.opened;
-    done = record { listed = (mine h d).present run e; over = λ r i _. let g : ◌≡◌ {A = Option Run} (Some run) (Some r) = sym e ∙ i in let is : run ≡ r = cc in ap (λ (q : Run). q.is_over) (sym is) ∙ o };
+    done = record {
+      listed = (mine h d).present run e;
+      over = λ r i _. let g : ◌≡◌ {A = Option Run} (Some run) (Some r) = sym e ∙ i in
+          let is : run ≡ r = cc in ap (λ (q : Run). q.is_over) (sym is) ∙ o;
+    };
   }
 
   by_me : (h : Here) (a : Attempt) → Does h → IsDone (look_here h) me a → IsDone (look_here h) h.me a
   by_me h a d i = subst (λ w. IsDone (look_here h) w a) (sym d.who) i
 
   -- an attempt of an own task begins on the worker that was given
-  begins_does : (h : Here) (o : Id) (task : OwnTask) (w m : ℕ) → o.owner ≡ h.me → IsGivenBy m (attempt o task.number) w → Does h → Does (with_task_of h o (with_begun task w m))
+  begins_does : (h : Here) (o : Id) (task : OwnTask) (w m : ℕ) → o.owner ≡ h.me → IsGivenBy m (attempt o task.number) w → Does h →
+      Does (with_task_of h o (with_begun task w m))
   begins_does h o task w m own given d =
       let k = mine h d in
       let begun : OwnTask = with_begun task w m in
       worker_does h (with_task_of h o begun).worker (record { node = refl; live = λ i. i; began = refl; going = λ r i over. (r, i, refl, over) })
-      (record { began = k.began; present = k.present; stopped = k.stopped; out = k.out; runs = λ i t v q e f. by_item i t v q f (item_at (with_task_of h o begun).worker.objects i) refl e }) d
+      (record {
+        began = k.began;
+        present = k.present;
+        stopped = k.stopped;
+        out = k.out;
+        runs = λ i t v q e f. by_item i t v q f (item_at (with_task_of h o begun).worker.objects i) refl e;
+      }) d
     where
       id_of : (i : ℕ) → i ≡ o.serial → o ≡ object_id me i
       id_of i e = let f : o.owner ≡ me = own ∙ d.who in ap (λ u. object_id u o.serial) f ∙ ap (object_id me) (sym e)
@@ -277,16 +299,19 @@ module _ (c : Whole) (me n : ℕ) (old : Worker) (there : item_at c.workers me �
       same_places : (v q : ℕ) → RunsOn w m ≡ RunsOn v q → (w ≡ v) × (m ≡ q)
       same_places v q e = (cc, cc)
 
-      new_task_runs : (i : ℕ) (t : OwnTask) (v q : ℕ) → i ≡ o.serial → ◌≡◌ {A = Option OwnTask} (Some (with_begun task w m)) (Some t) → t.progress ≡ RunsOn v q → Gave (sent_here h) q (attempt (object_id me i) t.number) v
+      new_task_runs : (i : ℕ) (t : OwnTask) (v q : ℕ) → i ≡ o.serial → ◌≡◌ {A = Option OwnTask} (Some (with_begun task w m)) (Some t) →
+          t.progress ≡ RunsOn v q → Gave (sent_here h) q (attempt (object_id me i) t.number) v
       new_task_runs i t v q e f p =
           let is : with_begun task w m ≡ t = cc in
           let places = same_places v q (ap (λ (u : OwnTask). u.progress) is ∙ p) in
-          let a : attempt o task.number ≡ attempt (object_id me i) t.number = ap (λ u. attempt u task.number) (id_of i e) ∙ ap (λ (u : OwnTask). attempt (object_id me i) u.number) is in
+          let a : attempt o task.number ≡ attempt (object_id me i) t.number =
+          ap (λ u. attempt u task.number) (id_of i e) ∙ ap (λ (u : OwnTask). attempt (object_id me i) u.number) is in
           let given_here : Gave (sent_here h) m (attempt o task.number) w = gave_more c.network (sent_here h) m (attempt o task.number) w (was_sent h) given in
           subst (λ u. Gave (sent_here h) u (attempt (object_id me i) t.number) v) places.1
           (subst (λ u. Gave (sent_here h) m (attempt (object_id me i) t.number) u) places.0 (subst (λ b. Gave (sent_here h) m b w) a given_here))
 
-      by_item : (i : ℕ) (t : OwnTask) (v q : ℕ) → t.progress ≡ RunsOn v q → (x : Option Object) → item_at (with_task_of h o (with_begun task w m)).worker.objects i ≡ x → task_of x ≡ Some t →
+      by_item : (i : ℕ) (t : OwnTask) (v q : ℕ) → t.progress ≡ RunsOn v q → (x : Option Object) →
+          item_at (with_task_of h o (with_begun task w m)).worker.objects i ≡ x → task_of x ≡ Some t →
           Gave (sent_here h) q (attempt (object_id me i) t.number) v
       by_item i t v q p None at e = absurd (cc)
       by_item i t v q p (Some z) at e = elim (changed_cases h.worker.objects o.serial i (with_task (with_begun task w m)) z at) [
@@ -344,7 +369,8 @@ module _ (c : Whole) (me n : ℕ) (old : Worker) (there : item_at c.workers me �
         let next : Run = record run { phase = HasFaulted fault } in
         let over : run.is_over ≡ false = waits_on h run y f e q d in
         let g : Here = logs (with_run h next) (Faulted run.attempt y fault) in
-        let faulted : Does g = logs_does (with_run h next) (Faulted run.attempt y fault ∷ []) (run_does h run next e refl (λ o. o) (λ _. refl) (λ j o. absurd (cc)) d) in
+        let faulted : Does g = logs_does (with_run h next) (Faulted run.attempt y fault ∷ [])
+        (run_does h run next e refl (λ o. o) (λ _. refl) (λ j o. absurd (cc)) d) in
         frees_does g (busy_unwanted g next refl over faulted) faulted;
     frees = λ h run y f e q d. frees_does h (busy_unwanted h run e (waits_on h run y f e q d) d) d;
     tells_end = λ h run m ids e o d. says_does h (TheWorker (owner_of run)) (Finished run.attempt m ids) (by_me h run.attempt d (done_here h run e o d)) d;
@@ -352,7 +378,8 @@ module _ (c : Whole) (me n : ℕ) (old : Worker) (there : item_at c.workers me �
     back = λ h run e o d.
         let done : IsDone (look_here h) h.me run.attempt = by_me h run.attempt d (done_here h run e o d) in
         says_does h (TheNode h.worker.node) (Back run.attempt) (home_of h run.attempt d done) d;
-    hears = λ h w a told d. says_does h (TheWorker w) (FinishedAck a) (told.tells (look_here h) (sent_here h) (d.goes.workers.letters _ (was_sent h _ told.came))) d;
+    hears = λ h w a told d. says_does h (TheWorker w) (FinishedAck a)
+        (told.tells (look_here h) (sent_here h) (d.goes.workers.letters _ (was_sent h _ told.came))) d;
     back_of = λ h m a same over d.
         let done : IsDone (look_here h) me a = d.goes.workers.letters _ (was_sent h _ over.came) in
         subst (λ k. Does (with_there h (posts h.there (letter (TheWorker h.me) (TheNode k) (Back a))))) (sym same)
@@ -361,6 +388,7 @@ module _ (c : Whole) (me n : ℕ) (old : Worker) (there : item_at c.workers me �
     where
       home_of : (h : Here) (a : Attempt) → Does h → IsDone (look_here h) h.me a → IsBack (look_here h) h.worker.node h.me a
       home_of h a d i =
-          let g : ◌≡◌ {A = Option Worker} (Some h.worker) (Some i.worker) = sym (at_me h.worker h.there.opened) ∙ subst (λ w. look_here h w ≡ Some i.worker) d.who i.there in
+          let g : ◌≡◌ {A = Option Worker} (Some h.worker) (Some i.worker) =
+          sym (at_me h.worker h.there.opened) ∙ subst (λ w. look_here h w ≡ Some i.worker) d.who i.there in
           let is : h.worker ≡ i.worker = cc in
           record { done = i; home = ap (λ (x : Worker). x.node) (sym is) }

@@ -22,10 +22,12 @@ events_keep_leases c e handed k = events_keep c e handed k
 
 -- a Push of an attempt that a live worker never began finds the worker promised to it, on its own node
 pub promise : (c : Whole) → KeepsLeases c → (k w : ℕ) (from : Party) (a : Attempt) (spec : Birth) (x : Worker) (node : Node) →
-    item_at c.network k ≡ Some (letter from (TheWorker w) (Push a spec)) → worker_at c w ≡ Some x → node_at c x.node ≡ Some node → x.is_live ≡ true → has_begun a x.began ≡ false →
+    item_at c.network k ≡ Some (letter from (TheWorker w) (Push a spec)) → worker_at c w ≡ Some x → node_at c x.node ≡ Some node → x.is_live ≡ true →
+    has_begun a x.began ≡ false →
     IsPromised node.scheduler w x a
 promise c keeps k w from a spec x node sent at home live unbegun =
-    let pushed : IsPushed c.network from w a = keeps.workers.letters (letter from (TheWorker w) (Push a spec)) (among_at c.network k (letter from (TheWorker w) (Push a spec)) sent) in
+    let pushed : IsPushed c.network from w a = keeps.workers.letters (letter from (TheWorker w) (Push a spec))
+    (among_at c.network k (letter from (TheWorker w) (Push a spec)) sent) in
     let gave = pushed.given in
     let i : IsOfNode (worker_at c) pushed.node w = keeps.workers.letters _ gave.1 in
     let f : ◌≡◌ {A = Option Worker} (Some i.worker) (Some x) = sym i.there ∙ at in
@@ -34,4 +36,5 @@ promise c keeps k w from a spec x node sent at home live unbegun =
     (keeps.nodes x.node node home).promised w x a at live (subst (λ n. Gave c.network n a w) (sym same) gave) unbegun
 
 pub pushes_find_free : PushesFindFree
-pushes_find_free c keeps k w from a spec x sent at live unbegun = let h = keeps.homes w x at in (promise c keeps k w from a spec x h.0 sent at h.1 live unbegun).free
+pushes_find_free c keeps k w from a spec x sent at live unbegun = let h =
+    keeps.homes w x at in (promise c keeps k w from a spec x h.0 sent at h.1 live unbegun).free

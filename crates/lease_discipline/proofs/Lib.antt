@@ -12,3 +12,4 @@ pub mod Told
 pub mod Turns
 pub mod TurnEvents
 pub mod SlotLaw
+pub mod Judged

@@ -11,7 +11,8 @@ use Rattle.event_log.proofs.WordLaws.{same_attempt-true, same_attempt-refl}
 use Rattle.protocol.specs.Sets.{first_item, has, least, least_from, rest_of, with_number, without_number}
 use Rattle.protocol.specs.Messages.{Letter}
 use Rattle.protocol.specs.Nodes.{AskKey, Lease, Leased, Reply, Scheduler}
-use Rattle.protocol.specs.Slots.{is_latest_lease, may_be_idle, reply_to, same_key, slot_taken, with_answered, with_idle, with_lease, with_reply, without_lease, without_slot, without_worker}
+use Rattle.protocol.specs.Slots.{is_latest_lease, may_be_idle, reply_to, same_key, slot_taken, with_answered, with_idle, with_lease, with_reply}
+use Rattle.protocol.specs.Slots.{without_lease, without_slot, without_worker}
 use Rattle.protocol.specs.Runs.{is_free}
 use Rattle.protocol.specs.Tables.{Worker}
 use Rattle.protocol_owed.specs.Courses.{has_begun}
@@ -30,7 +31,11 @@ has-left [] w v e = e
 has-left (x ∷ xs) w v e =
     at_test (λ b. has (if not b then x ∷ without_number xs w else without_number xs w) v ≡ true → has (x ∷ xs) v ≡ true) (x == w)
     (λ _ f. or_right (x == v) (has xs v) (has-left xs w v f))
-    (λ _ f. elim (or_cases (x == v) (has (without_number xs w) v) f) [ inl g ↦ or_left (x == v) (has xs v) g | inr g ↦ or_right (x == v) (has xs v) (has-left xs w v g) ]) e
+    (λ _ f. elim (or_cases (x == v) (has (without_number xs w) v) f) [
+      | inl g ↦ or_left (x == v) (has xs v) g
+      | inr g ↦ or_right (x == v) (has xs v)
+          (has-left xs w v g)
+    ]) e
 
 pub has-gone : (xs : List ℕ) (w : ℕ) → has (without_number xs w) w ≡ false
 has-gone [] w = refl
@@ -58,7 +63,8 @@ pub has-last : (xs : List ℕ) (w : ℕ) → has (xs ++ w ∷ []) w ≡ true
 has-last xs w = list_any-push_right (λ y. y == w) xs w (equal_number w)
 
 has-idle : (xs : List ℕ) (w v : ℕ) → has (with_number xs w) v ≡ true → (has xs v ≡ true) ⊎ (w ≡ v)
-has-idle xs w v e = at_test (λ b. has (if b then xs else xs ++ w ∷ []) v ≡ true → (has xs v ≡ true) ⊎ (w ≡ v)) (has xs w) (λ _ f. inl f) (λ _ f. has-push xs w v f) e
+has-idle xs w v e = at_test (λ b. has (if b then xs else xs ++ w ∷ []) v ≡ true → (has xs v ≡ true) ⊎ (w ≡ v)) (has xs w) (λ _ f. inl f)
+    (λ _ f. has-push xs w v f) e
 
 pub has-first : (xs : List ℕ) (w : ℕ) → first_item xs ≡ Some w → has xs w ≡ true
 has-first [] w e = absurd (cc)
@@ -237,7 +243,8 @@ module _ (look : Look) (sent : List Letter) (n : ℕ) where
 
   -- ---- Back
 
-  slotless_now : (s : Scheduler) (w : ℕ) (a : Attempt) → may_be_idle s w a ≡ true → (is_latest_lease s w a ≡ true) × (has s.holders w ≡ false) × (has s.answered w ≡ false)
+  slotless_now : (s : Scheduler) (w : ℕ) (a : Attempt) → may_be_idle s w a ≡ true →
+      (is_latest_lease s w a ≡ true) × (has s.holders w ≡ false) × (has s.answered w ≡ false)
   slotless_now s w a e =
       let b = and_left (is_latest_lease s w a && not (has s.holders w)) (not (has s.answered w)) e in (
         and_left (is_latest_lease s w a) (not (has s.holders w)) b,
@@ -250,12 +257,20 @@ module _ (look : Look) (sent : List Letter) (n : ℕ) where
       negated false e = refl
 
   -- a worker of the node whose latest lease is over is idle
-  pub back_keeps : (s : Scheduler) (w : ℕ) (a : Attempt) (d : IsDone look w a) → d.worker.node ≡ n → may_be_idle s w a ≡ true → NodeKeeps look sent n s → NodeKeeps look sent n (with_idle s w)
+  pub back_keeps : (s : Scheduler) (w : ℕ) (a : Attempt) (d : IsDone look w a) → d.worker.node ≡ n → may_be_idle s w a ≡ true → NodeKeeps look sent n s →
+      NodeKeeps look sent n (with_idle s w)
   back_keeps s w a d home e k =
       let now = slotless_now s w a e in
       record {
         idle = λ v f. elim (has-idle s.idle w v f) [
-          | inl g ↦ let i = k.idle v g in record { worker = i.worker; there = i.there; home = i.home; free = i.free; slotless = i.slotless; unanswered = i.unanswered }
+          | inl g ↦ let i = k.idle v g in record {
+            worker = i.worker;
+            there = i.there;
+            home = i.home;
+            free = i.free;
+            slotless = i.slotless;
+            unanswered = i.unanswered;
+          }
           | inr g ↦ subst (λ u. IsIdle look n (with_idle s w) u) g (record {
             worker = d.worker;
             there = d.there;
@@ -267,7 +282,8 @@ module _ (look : Look) (sent : List Letter) (n : ℕ) where
             unanswered = now.2;
           })
         ];
-        promised = λ v x b at live given unbegun. let p = k.promised v x b at live given unbegun in record { free = p.free; leased = p.leased; sole = p.sole; slot = p.slot };
+        promised = λ v x b at live given unbegun. let p = k.promised v x b at live given unbegun in
+            record { free = p.free; leased = p.leased; sole = p.sole; slot = p.slot };
         busy = k.busy;
         replied = k.replied;
       }
@@ -282,17 +298,23 @@ module _ (look : Look) (sent : List Letter) (n : ℕ) where
     next = with_reply (with_lease s w k.attempt) k (Leased w)
 
     lease-cases : (v : ℕ) (b : Attempt) → is_latest_lease next v b ≡ true → (is_latest_lease s v b ≡ true) ⊎ ((v ≡ w) × (b ≡ k.attempt))
-    lease-cases v b e = elim (list_any-push_cases (λ (l : Lease). (l.worker == v) && same_attempt l.attempt b) (without_lease w s.leases) (record { worker = w; attempt = k.attempt }) e) [
-      | inl f ↦ inl (lease-left s.leases w v b f)
-      | inr f ↦ inr (sym (same_number w v (and_left (w == v) (same_attempt k.attempt b) f)), sym (same_attempt-true k.attempt b (and_right (w == v) (same_attempt k.attempt b) f)))
-    ]
+    lease-cases v b e = elim (list_any-push_cases (λ (l : Lease). (l.worker == v) && same_attempt l.attempt b) (without_lease w s.leases)
+        (record { worker = w; attempt = k.attempt }) e) [
+          | inl f ↦ inl (lease-left s.leases w v b f)
+          | inr f ↦ inr (
+            sym (same_number w v (and_left (w == v) (same_attempt k.attempt b) f)),
+            sym
+                (same_attempt-true k.attempt b (and_right (w == v) (same_attempt k.attempt b) f)),
+          )
+        ]
 
     -- its lease is the new one
     sole : IsLeasedFor next w k.attempt
-    sole b e = elim (list_any-push_cases (λ (l : Lease). (l.worker == w) && same_attempt l.attempt b) (without_lease w s.leases) (record { worker = w; attempt = k.attempt }) e) [
-      | inl f ↦ absurd (lease-gone s.leases w b f)
-      | inr f ↦ sym (same_attempt-true k.attempt b (and_right (w == w) (same_attempt k.attempt b) f))
-    ]
+    sole b e = elim (list_any-push_cases (λ (l : Lease). (l.worker == w) && same_attempt l.attempt b) (without_lease w s.leases)
+        (record { worker = w; attempt = k.attempt }) e) [
+          | inl f ↦ absurd (lease-gone s.leases w b f)
+          | inr f ↦ sym (same_attempt-true k.attempt b (and_right (w == w) (same_attempt k.attempt b) f))
+        ]
 
     both : (b c : Bool) → b ≡ true → c ≡ true → (b && c) ≡ true
     both true true e f = refl
@@ -301,7 +323,8 @@ module _ (look : Look) (sent : List Letter) (n : ℕ) where
 
     leased : is_latest_lease next w k.attempt ≡ true
     leased =
-        list_any-push_right (λ (l : Lease). (l.worker == w) && same_attempt l.attempt k.attempt) (without_lease w s.leases) (record { worker = w; attempt = k.attempt })
+        list_any-push_right (λ (l : Lease). (l.worker == w) && same_attempt l.attempt k.attempt) (without_lease w s.leases)
+        (record { worker = w; attempt = k.attempt })
         (both (w == w) (same_attempt k.attempt k.attempt) (equal_number w) (same_attempt-refl k.attempt))
 
     now : (y : Worker) (a : Attempt) → look w ≡ Some y → y.is_live ≡ true → Gave t n a w → has_begun a y.began ≡ false → IsPromised next w y a
@@ -310,16 +333,23 @@ module _ (look : Look) (sent : List Letter) (n : ℕ) where
       | inr (same, _) ↦
           let is : ◌≡◌ {A = Option Worker} (Some x) (Some y) = sym at ∙ there in
           let j : x ≡ y = cc in
-          subst (λ b. IsPromised next w y b) (sym same) (record { free = subst (λ (z : Worker). is_free z.run ≡ true) j free; leased = leased; sole = sole; slot = has-last s.holders w })
+          subst (λ b. IsPromised next w y b) (sym same) (record {
+            free = subst (λ (z : Worker). is_free z.run ≡ true) j free;
+            leased = leased;
+            sole = sole;
+            slot = has-last s.holders w;
+          })
     ]
 
-    before : (v : ℕ) (y : Worker) (a : Attempt) → w ≢ v → look v ≡ Some y → y.is_live ≡ true → Gave t n a v → has_begun a y.began ≡ false → IsPromised next v y a
+    before : (v : ℕ) (y : Worker) (a : Attempt) → w ≢ v → look v ≡ Some y → y.is_live ≡ true → Gave t n a v → has_begun a y.began ≡ false →
+        IsPromised next v y a
     before v y a apart there live gave unbegun = elim (which a v gave) [
       | inl old ↦
           let p = keeps.promised v y a there live old unbegun in
           record {
             free = p.free;
-            leased = list_any-push_left (λ (l : Lease). (l.worker == v) && same_attempt l.attempt a) (without_lease w s.leases) (record { worker = w; attempt = k.attempt }) (lease-stays s.leases w v a apart p.leased);
+            leased = list_any-push_left (λ (l : Lease). (l.worker == v) && same_attempt l.attempt a) (without_lease w s.leases)
+                (record { worker = w; attempt = k.attempt }) (lease-stays s.leases w v a apart p.leased);
             sole = λ b e. elim (lease-cases v b e) [ inl f ↦ p.sole b f | inr (f, _) ↦ absurd (apart (sym f)) ];
             slot = list_any-push_left (λ u. u == v) s.holders w p.slot;
           }
@@ -340,7 +370,8 @@ module _ (look : Look) (sent : List Letter) (n : ℕ) where
           };
       promised = λ v y a there live gave unbegun.
           at_test (λ b. (w == v) ≡ b → IsPromised next v y a) (w == v)
-          (λ _ f. subst (λ u. IsPromised next u y a) (same_number w v f) (now y a (subst (λ u. look u ≡ Some y) (sym (same_number w v f)) there) live (subst (λ u. Gave t n a u) (sym (same_number w v f)) gave) unbegun))
+          (λ _ f. subst (λ u. IsPromised next u y a) (same_number w v f)
+          (now y a (subst (λ u. look u ≡ Some y) (sym (same_number w v f)) there) live (subst (λ u. Gave t n a u) (sym (same_number w v f)) gave) unbegun))
           (λ _ f. before v y a (λ same. not_both (w == v) (ap (λ u. w == u) (sym same) ∙ equal_number w) f) there live gave unbegun) refl;
       busy = λ v y run there home e over b f. elim (lease-cases v b f) [
         | inl g ↦ keeps.busy v y run there home e over b g
@@ -353,7 +384,8 @@ module _ (look : Look) (sent : List Letter) (n : ℕ) where
       replied = λ j v e.
           at_test (λ b. same_key k j ≡ b → Gave t n j.attempt v) (same_key k j)
           (λ _ f.
-          let g : ◌≡◌ {A = Option Reply} (Some (Leased w)) (Some (Leased v)) = sym (reply-same s.asks k (Leased w)) ∙ ap (reply_to next) (same_key-true k j f) ∙ e in
+          let g : ◌≡◌ {A = Option Reply} (Some (Leased w)) (Some (Leased v)) =
+          sym (reply-same s.asks k (Leased w)) ∙ ap (reply_to next) (same_key-true k j f) ∙ e in
           let h : w ≡ v = cc in
           subst (λ u. Gave t n j.attempt u) h (subst (λ (i : AskKey). Gave t n i.attempt w) (same_key-true k j f) given))
           (λ _ f. gave_more sent t n j.attempt v more (keeps.replied j v (sym (reply-other s.asks k j (Leased w) f) ∙ e))) refl;

@@ -26,7 +26,8 @@ only_driver (suc (suc i)) x e = absurd (cc)
 driver_keeps : WorkerKeeps [] [] 1 driver
 driver_keeps = record {
   began = λ a e. elim (or_cases (same_attempt main_attempt a) false e) [ inl f ↦ inl (sym (same_attempt-true main_attempt a f), refl) | inr f ↦ absurd (cc) ];
-  present = λ run e. let is : main_run ≡ run = cc in subst (λ (r : Run). has_begun r.attempt driver.began ≡ true) is (or_left (same_attempt main_attempt main_attempt) false (same_attempt-refl main_attempt));
+  present = λ run e. let is : main_run ≡ run = cc in subst (λ (r : Run). has_begun r.attempt driver.began ≡ true) is
+      (or_left (same_attempt main_attempt main_attempt) false (same_attempt-refl main_attempt));
   stopped = λ run e o. let is : main_run ≡ run = cc in absurd (not_both run.is_over o (ap (λ (r : Run). r.is_over) (sym is)));
   out = λ run j e o. let is : main_run ≡ run = cc in absurd (ready_out j (ap (λ (r : Run). r.phase) is ∙ o));
   runs = λ k task v n e. absurd (none k task e);

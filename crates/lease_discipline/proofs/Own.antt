@@ -32,7 +32,8 @@ use Rattle.lease_discipline.proofs.Follows.{Grows, is_false, not_both, true_more
 use Rattle.lease_discipline.proofs.Moves.{IsKept, bears_all-kept, holds_ids-kept, leaves_if_free-kept, needs-kept}
 use Rattle.lease_discipline.proofs.Nodes.{IsUnwanted}
 use Rattle.lease_discipline.proofs.Theres.{letter_cases}
-use Rattle.lease_discipline.proofs.Heres.{Does, IsToldBy, IsOverOf, IsGivenBy, at_me, at_other, busy_unwanted, by_number, does_kept, frees_does, logs_does, look_here, look_with, mine, run_does, sent_here}
+use Rattle.lease_discipline.proofs.Heres.{Does, IsToldBy, IsOverOf, IsGivenBy, at_me, at_other, busy_unwanted, by_number, does_kept, frees_does, logs_does}
+use Rattle.lease_discipline.proofs.Heres.{look_here, look_with, mine, run_does, sent_here}
 use Rattle.lease_discipline.proofs.Heres.{stopped_pace, was_sent}
 
 stopped_not : HasStopped ≡ GoesOn → ⊥
@@ -108,7 +109,8 @@ module _ (c : Whole) (me n : ℕ) (old : Worker) (there : item_at c.workers me �
     is_x w z same e = let g : ◌≡◌ {A = Option Worker} (Some x) (Some z) = sym x_there ∙ subst (λ v. look v ≡ Some z) same e in cc
 
     pushed : IsPushed sent (TheWorker u) me a
-    pushed = d.goes.workers.letters (letter (TheWorker u) (TheWorker me) (Push a spec)) (was_sent c me n old there h (letter (TheWorker u) (TheWorker me) (Push a spec)) came)
+    pushed = d.goes.workers.letters (letter (TheWorker u) (TheWorker me) (Push a spec))
+        (was_sent c me n old there h (letter (TheWorker u) (TheWorker me) (Push a spec)) came)
 
     -- the node that gave it is its own
     given_here : Gave sent n a me
@@ -138,8 +140,10 @@ module _ (c : Whole) (me n : ℕ) (old : Worker) (there : item_at c.workers me �
             | inl f ↦ k.began b f
             | inr same ↦ subst (λ i. IsBegunBy sent me i) same (inr (u, spec, was_sent c me n old there h _ came))
           ];
-          present = λ r e. let is : new_run a spec (own_id h (length x.objects + 1)) ≡ r = cc in subst (λ (q : Run). has_begun q.attempt next.began ≡ true) is begun_now;
-          stopped = λ r e o. let is : new_run a spec (own_id h (length x.objects + 1)) ≡ r = cc in absurd (not_both r.is_over o (ap (λ (q : Run). q.is_over) (sym is)));
+          present = λ r e. let is : new_run a spec (own_id h (length x.objects + 1)) ≡ r = cc in
+              subst (λ (q : Run). has_begun q.attempt next.began ≡ true) is begun_now;
+          stopped = λ r e o. let is : new_run a spec (own_id h (length x.objects + 1)) ≡ r = cc in
+              absurd (not_both r.is_over o (ap (λ (q : Run). q.is_over) (sym is)));
           out = λ r j e o. let is : new_run a spec (own_id h (length x.objects + 1)) ≡ r = cc in absurd (ready_out j (ap (λ (q : Run). q.phase) is ∙ o));
           runs = k.runs;
         }
@@ -156,8 +160,13 @@ module _ (c : Whole) (me n : ℕ) (old : Worker) (there : item_at c.workers me �
     grows : Grows look look_next
     grows w z e = elim (by_number w me) [
       | inl same ↦
-          let is : x ≡ z = is_x w z same e in
-          (next, subst (λ v. look_next v ≡ Some next) (sym same) next_there, ap (λ (y : Worker). y.node) is, λ b i. done_still b (subst (IsDoneAt b) (sym is) i))
+          let is : x ≡ z = is_x w z same e in (
+            next,
+            subst (λ v. look_next v ≡ Some next) (sym same) next_there,
+            ap (λ (y : Worker). y.node) is,
+            λ b i. done_still b
+                (subst (IsDoneAt b) (sym is) i),
+          )
       | inr apart ↦ (z, elsewhere w apart ∙ e, refl, λ b i. i)
     ]
 
@@ -166,8 +175,16 @@ module _ (c : Whole) (me n : ℕ) (old : Worker) (there : item_at c.workers me �
         let k = d.goes.there in
         record {
           idle = λ w e. let i = k.idle w e in elim (by_number w me) [
-            | inl same ↦ absurd (not_both (has h.there.node.scheduler.holders me) promise.slot (ap (has h.there.node.scheduler.holders) (sym same) ∙ i.slotless))
-            | inr apart ↦ record { worker = i.worker; there = elsewhere w apart ∙ i.there; home = i.home; free = i.free; slotless = i.slotless; unanswered = i.unanswered }
+            | inl same ↦ absurd (not_both (has h.there.node.scheduler.holders me) promise.slot
+                (ap (has h.there.node.scheduler.holders) (sym same) ∙ i.slotless))
+            | inr apart ↦ record {
+              worker = i.worker;
+              there = elsewhere w apart ∙ i.there;
+              home = i.home;
+              free = i.free;
+              slotless = i.slotless;
+              unanswered = i.unanswered;
+            }
           ];
           promised = λ w z b at alive given unbegun. elim (by_number w me) [
             | inl same ↦ absurd (no_other w z b same at given unbegun)
@@ -195,7 +212,8 @@ module _ (c : Whole) (me n : ℕ) (old : Worker) (there : item_at c.workers me �
             let f : ◌≡◌ {A = Option Run} next.run (Some run) = ap (λ (y : Worker). y.run) is ∙ e in
             let this : new_run a spec (own_id h (length x.objects + 1)) ≡ run = cc in
             let attempts : a ≡ run.attempt = ap (λ (q : Run). q.attempt) this in
-            subst (λ v. IsLeasedFor h.there.node.scheduler v run.attempt) (sym same) (subst (λ b. IsLeasedFor h.there.node.scheduler me b) attempts promise.sole)
+            subst (λ v. IsLeasedFor h.there.node.scheduler v run.attempt) (sym same)
+            (subst (λ b. IsLeasedFor h.there.node.scheduler me b) attempts promise.sole)
 
     begins_does : Here_does (begins_run h a spec)
     begins_does =
@@ -218,10 +236,12 @@ module _ (c : Whole) (me n : ℕ) (old : Worker) (there : item_at c.workers me �
           };
         }
 
-  pub push_does : (h : Here) (a : Attempt) (spec : Birth) → h.worker.is_live ≡ true → (u : ℕ) → Among (letter (TheWorker u) (TheWorker me) (Push a spec)) c.network →
+  pub push_does : (h : Here) (a : Attempt) (spec : Birth) → h.worker.is_live ≡ true → (u : ℕ) →
+      Among (letter (TheWorker u) (TheWorker me) (Push a spec)) c.network →
       Here_does h → Here_does (push_reached h a spec)
   push_does h a spec live u came d =
-      at_test (λ b. (is_free h.worker.run && not (has_begun a h.worker.began)) ≡ b → Here_does (if b then begins_run h a spec else h)) (is_free h.worker.run && not (has_begun a h.worker.began))
+      at_test (λ b. (is_free h.worker.run && not (has_begun a h.worker.began)) ≡ b → Here_does (if b then begins_run h a spec else h))
+      (is_free h.worker.run && not (has_begun a h.worker.began))
       (λ _ e. begins_does h a spec d live u came (negated (has_begun a h.worker.began) (and_right (is_free h.worker.run) (not (has_begun a h.worker.began)) e)))
       (λ _ _. d) refl
     where
@@ -297,7 +317,10 @@ module _ (c : Whole) (me n : ℕ) (old : Worker) (there : item_at c.workers me �
     writes = λ h es p. record { pace = p.pace; unwanted = p.unwanted };
     says_plain = λ h w m _ p. says_stops h (TheWorker w) m p;
     says_plain_to_node = λ h k m _ p. says_stops h (TheNode k) m p;
-    objects = λ h x t p. record { pace = ap pace_in_run t.run ∙ p.pace; unwanted = λ a live gave unbegun. p.unwanted a (sym t.live ∙ live) gave (ap (has_begun a) (sym t.began) ∙ unbegun) };
+    objects = λ h x t p. record {
+      pace = ap pace_in_run t.run ∙ p.pace;
+      unwanted = λ a live gave unbegun. p.unwanted a (sym t.live ∙ live) gave (ap (has_begun a) (sym t.began) ∙ unbegun);
+    };
     store = λ h s p. record { pace = p.pace; unwanted = p.unwanted };
     begins = λ h o task w m _ _ p. says_stops _ (TheWorker w) _ (record { pace = p.pace; unwanted = p.unwanted });
     pushes_again = λ h k task w m _ _ p. says_stops h (TheWorker w) _ p;
@@ -315,7 +338,8 @@ module _ (c : Whole) (me n : ℕ) (old : Worker) (there : item_at c.workers me �
 
   -- an attempt that goes on isn't over
   going_on : (h : Here) (run : Run) → h.worker.run ≡ Some run → GoesOnHere h → Here_does h → run.is_over ≡ false
-  going_on h run e p d = is_false run.is_over (λ o. stopped_not (sym (ap pace_in_run e ∙ stopped_pace run.phase ((mine c me n old there h d).stopped run e o)) ∙ p))
+  going_on h run e p d = is_false run.is_over (λ o. stopped_not
+      (sym (ap pace_in_run e ∙ stopped_pace run.phase ((mine c me n old there h d).stopped run e o)) ∙ p))
 
   ends_does : (h : Here) (run : Run) (content : Outcome) → h.worker.run ≡ Some run → GoesOnHere h → Here_does h → Here_does (ends h run content)
   ends_does h run content e p d =
@@ -326,7 +350,13 @@ module _ (c : Whole) (me n : ℕ) (old : Worker) (there : item_at c.workers me �
       let unwanted : IsUnwanted (look_here c me n old there g) (sent_here c me n old there g) n me = busy_unwanted c me n old there g next refl over ended in
       let stops : StopsHere g = record {
         pace = refl;
-        unwanted = λ a live gave unbegun. unwanted a (record { worker = g.worker; there = at_me c me n old there g.worker g.there.opened; lives = live; given = gave; unbegun = unbegun });
+        unwanted = λ a live gave unbegun. unwanted a (record {
+          worker = g.worker;
+          there = at_me c me n old there g.worker g.there.opened;
+          lives = live;
+          given = gave;
+          unbegun = unbegun;
+        });
       } in
       let o : Id = run.attempt.object in
       let ids : List Id = each_once (ids_in_outcome content) in
@@ -334,7 +364,8 @@ module _ (c : Whole) (me n : ℕ) (old : Worker) (there : item_at c.workers me �
       let held : Here = holds_ids stored o ids in
       let left : Here = leaves_if_free held in
       let left_does : Here_does left = both stored held Here_does kept o ids (kept.store g (with_primary (store_here h) o run.attempt.number content) ended) in
-      let left_stops : StopsHere left = both stored held StopsHere stops_kept o ids (stops_kept.store g (with_primary (store_here h) o run.attempt.number content) stops) in
+      let left_stops : StopsHere left = both stored held StopsHere stops_kept o ids
+      (stops_kept.store g (with_primary (store_here h) o run.attempt.number content) stops) in
       frees_does c me n old there left (still_unwanted left left_stops) left_does
     where
       both : (stored held : Here) (P : Here → Type 0) (k : Kept P) (o : Id) (ids : List Id) → P stored → P (leaves_if_free (holds_ids stored o ids))
@@ -367,6 +398,8 @@ module _ (c : Whole) (me n : ℕ) (old : Worker) (there : item_at c.workers me �
           let started : Here_does g = logs_does c me n old there (with_run h next) es
           (run_does c me n old there h run next e refl (λ i. i) (λ i. absurd (not_both run.is_over i over)) (λ j i. absurd (ready_out j i)) d) in
           let borne : Here = bears_all g run.attempt o.births in
-          let borne_does : Here_does borne = bears_all-kept (IsToldBy c me n old there) (IsOverOf c me n old there) (IsGivenBy c me n old there) Here_does kept g run.attempt o.births started in
-          let borne_goes : GoesOnHere borne = bears_all-kept (IsToldBy c me n old there) (IsOverOf c me n old there) (IsGivenBy c me n old there) GoesOnHere goes_on_kept g run.attempt o.births refl in
+          let borne_does : Here_does borne = bears_all-kept (IsToldBy c me n old there) (IsOverOf c me n old there)
+          (IsGivenBy c me n old there) Here_does kept g run.attempt o.births started in
+          let borne_goes : GoesOnHere borne = bears_all-kept (IsToldBy c me n old there) (IsOverOf c me n old there)
+          (IsGivenBy c me n old there) GoesOnHere goes_on_kept g run.attempt o.births refl in
           stops_does borne o.stop borne.worker.run refl borne_goes borne_does

@@ -8,7 +8,8 @@ use Rattle.meaning.specs.Values.{Id, Birth}
 use Rattle.event_log.specs.Entries.{Attempt}
 use Rattle.event_log.specs.Words.{attempt}
 use Rattle.protocol.specs.Numbered.{item_at, changed_at}
-use Rattle.protocol.specs.Tables.{ByTask, Fetching, HasEnded, HasFaulted, Object, Out, OwnTask, Phase, AtRest, AskedAt, Ready, Run, RunsOn, Waits, WasPut, Worker}
+use Rattle.protocol.specs.Tables.{ByTask, Fetching, HasEnded, HasFaulted, Object, Out, OwnTask, Phase, AtRest, AskedAt, Ready, Run, RunsOn, Waits, WasPut}
+use Rattle.protocol.specs.Tables.{Worker}
 use Rattle.protocol.specs.Tables.{is_same_id, is_waiting_for, needed_by, new_task, object_needed, task_in, task_of, with_task, without_place}
 use Rattle.protocol.specs.Steps.{Here, is_own, object_at, own_object}
 use Rattle.protocol.specs.Asking.{if_asked, stands_at}
@@ -81,12 +82,15 @@ changed_tame x k f as_before = record {
     ]
 
 -- what makes the object isn't touched
-pub untouched_tame : (x : Worker) (k : ℕ) (f : Object → Object) → ((y : Object) → (f y).maker ≡ y.maker) → IsTame x (record x { objects = changed_at x.objects k f })
+pub untouched_tame : (x : Worker) (k : ℕ) (f : Object → Object) → ((y : Object) → (f y).maker ≡ y.maker) →
+    IsTame x (record x { objects = changed_at x.objects k f })
 untouched_tame x k f same = changed_tame x k f (λ y task v n e q. (task, ap task_in (sym (same y)) ∙ e, q, refl))
 
 -- a task that doesn't run takes the place of the one before
-pub task_tame : (x : Worker) (k : ℕ) (task : OwnTask) → ((v n : ℕ) → task.progress ≡ RunsOn v n → ⊥) → IsTame x (record x { objects = changed_at x.objects k (with_task task) })
-task_tame x k task rests = changed_tame x k (with_task task) (λ y old v n e q. let same : task ≡ old = cc in absurd (rests v n (ap (λ (u : OwnTask). u.progress) same ∙ q)))
+pub task_tame : (x : Worker) (k : ℕ) (task : OwnTask) → ((v n : ℕ) → task.progress ≡ RunsOn v n → ⊥) →
+    IsTame x (record x { objects = changed_at x.objects k (with_task task) })
+task_tame x k task rests = changed_tame x k (with_task task) (λ y old v n e q. let same : task ≡ old = cc in
+    absurd (rests v n (ap (λ (u : OwnTask). u.progress) same ∙ q)))
 
 pub new_tame : (x : Worker) (y : Object) → ((task : OwnTask) (v n : ℕ) → task_in y.maker ≡ Some task → task.progress ≡ RunsOn v n → ⊥) →
     IsTame x (record x { objects = x.objects ++ y ∷ [] })

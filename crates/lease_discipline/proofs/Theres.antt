@@ -1,5 +1,6 @@
 -- A node in an event keeps its leases in order, with the workers that are there and with those that it opens.
-use Rattle.std.proofs.Common.{◌≡◌, ℕ, zero, suc, ◌+◌, List, [], ◌∷◌, ◌++◌, length, Some, None, Option, refl, ap, sym, subst, ◌∙◌, ◌⊎◌, inl, inr, arith, length-append, append_assoc}
+use Rattle.std.proofs.Common.{◌≡◌, ℕ, zero, suc, ◌+◌, List, [], ◌∷◌, ◌++◌, length, Some, None, Option, refl, ap, sym, subst, ◌∙◌, ◌⊎◌, inl, inr, arith}
+use Rattle.std.proofs.Common.{length-append, append_assoc}
 use Rattle.std.specs.Prelude.{Bool, true, false, if◌then◌else◌, ◌||◌, nat_lt}
 use Rattle.meaning.proofs.BirthLaws.{at_test}
 use Rattle.sequence.proofs.Places.{slice_get-last}
@@ -13,8 +14,10 @@ use Rattle.protocol.specs.Messages.{Where, At, Gone, Fetch, CopyOf, Missing, Hol
 use Rattle.protocol.specs.Jobs.{Given}
 use Rattle.protocol.specs.Stores.{Store, copy_in}
 use Rattle.protocol.specs.Nodes.{AskKey, Leased, Queued, Reply, Scheduler, SentOn, There, node_logs, posts, with_scheduler, with_store_there}
-use Rattle.protocol.specs.Slots.{ask_key, asked_by, asks_slot, fetched, forgets, frees, gives_worker, grants, grants_next, grants_queued, has_free_slot, has_no_slot_for, is_back, leases_idle}
-use Rattle.protocol.specs.Slots.{leases_worker, may_be_idle, next_in_circle, next_worker, node_reached, node_reached_from, opens_worker, queues, replies, replies_anew, reply_message, reply_to}
+use Rattle.protocol.specs.Slots.{ask_key, asked_by, asks_slot, fetched, forgets, frees, gives_worker, grants, grants_next, grants_queued, has_free_slot}
+use Rattle.protocol.specs.Slots.{has_no_slot_for, is_back, leases_idle}
+use Rattle.protocol.specs.Slots.{leases_worker, may_be_idle, next_in_circle, next_worker, node_reached, node_reached_from, opens_worker, queues, replies}
+use Rattle.protocol.specs.Slots.{replies_anew, reply_message, reply_to}
 use Rattle.protocol.specs.Slots.{slot_taken, with_answered, with_idle, with_queued, with_reply, without_slot, without_worker}
 use Rattle.protocol.specs.Runs.{is_free}
 use Rattle.protocol.specs.Tables.{Worker, new_worker}
@@ -23,7 +26,8 @@ use Rattle.protocol_owed.proofs.FullNodes.{repeated-length}
 use Rattle.protocol_owed.proofs.Letters.{among-append_cases, among-push_cases, among-more, among-last, among-behind}
 use Rattle.lease_discipline.specs.Discipline.{Look, Gave, IsBack, IsOfNode, NodeKeeps, IsTrue, WorkerKeeps, WorkersKeep}
 use Rattle.lease_discipline.proofs.Follows.{Adds, adds_grows, same_grows, true_more, worker_more, new_keeps, node_letters, node_adds, not_both, More}
-use Rattle.lease_discipline.proofs.Nodes.{IsUnwanted, Lessens, lessened, queue_lessens, reply_lessens, taken_lessens, slot_lessens, answered_lessens, worker_lessens, back_keeps, gives_keeps, least-in}
+use Rattle.lease_discipline.proofs.Nodes.{IsUnwanted, Lessens, lessened, queue_lessens, reply_lessens, taken_lessens, slot_lessens, answered_lessens}
+use Rattle.lease_discipline.proofs.Nodes.{worker_lessens, back_keeps, gives_keeps, least-in}
 
 -- ---- letters
 
@@ -110,7 +114,8 @@ module _ (jobs : List Given) (ws : List Worker) (net : List Letter) (n : ℕ) wh
         ];
   }
 
-  sent_alone : (t : There) (l : Letter) → ((m : ℕ) → l.sender ≡ TheNode m → m ≡ n) → Goes t → (k : Letter) (m : ℕ) → Among k (t.out.letters ++ l ∷ []) → k.sender ≡ TheNode m → m ≡ n
+  sent_alone : (t : There) (l : Letter) → ((m : ℕ) → l.sender ≡ TheNode m → m ≡ n) → Goes t → (k : Letter) (m : ℕ) → Among k (t.out.letters ++ l ∷ []) →
+      k.sender ≡ TheNode m → m ≡ n
   sent_alone t l own g k m h e = elim (among-push_cases t.out.letters l k h) [
     | inl old ↦ g.alone k m old e
     | inr new ↦ own m (ap (λ (x : Letter). x.sender) (sym new) ∙ e)
@@ -129,7 +134,8 @@ module _ (jobs : List Given) (ws : List Worker) (net : List Letter) (n : ℕ) wh
   }
 
   -- a letter of a worker
-  pub worker_says_goes : (t : There) (v : ℕ) (to : Party) (m : Message) → IsTrue (look_in t) (sent_in t) (letter (TheWorker v) to m) → Goes t → Goes (posts t (letter (TheWorker v) to m))
+  pub worker_says_goes : (t : There) (v : ℕ) (to : Party) (m : Message) → IsTrue (look_in t) (sent_in t) (letter (TheWorker v) to m) → Goes t →
+      Goes (posts t (letter (TheWorker v) to m))
   worker_says_goes t v to m is g =
       posts_goes t (letter (TheWorker v) to m) is (λ k e. absurd (no_node v k e)) (λ a i w e. absurd (no_node v n (ap (λ (l : Letter). l.sender) (sym e)))) g
     where
@@ -137,7 +143,8 @@ module _ (jobs : List Given) (ws : List Worker) (net : List Letter) (n : ℕ) wh
       no_node v k e = cc
 
   -- a letter of the node that gives nobody
-  node_says_goes : (t : There) (to : Party) (m : Message) → IsTrue (look_in t) (sent_in t) (letter (TheNode t.number) to m) → is_give m ≡ false → Goes t → Goes (posts t (letter (TheNode t.number) to m))
+  node_says_goes : (t : There) (to : Party) (m : Message) → IsTrue (look_in t) (sent_in t) (letter (TheNode t.number) to m) → is_give m ≡ false → Goes t →
+      Goes (posts t (letter (TheNode t.number) to m))
   node_says_goes t to m is other g =
       posts_goes t (letter (TheNode t.number) to m) is (λ k e. let same : t.number ≡ k = cc in sym same ∙ g.number)
       (λ a i w e. absurd (no_give m a i w other (ap (λ (l : Letter). l.message) e))) g
@@ -171,7 +178,8 @@ module _ (jobs : List Given) (ws : List Worker) (net : List Letter) (n : ℕ) wh
       IsTrue (look_in t) (sent_in t) (letter (TheNode t.number) (TheWorker k.attempt.object.owner) (reply_message k x)) → Goes t → Goes (replies_anew t k x)
   anew_goes t k x other plain is g =
       let s : Scheduler = with_reply t.node.scheduler k x in
-      let h : Goes (with_scheduler t s) = scheduler_goes t s (lessened (look_in t) (sent_in t) n t.node.scheduler s (reply_lessens (look_in t) (sent_in t) n t.node.scheduler k x other) g.there) g in
+      let h : Goes (with_scheduler t s) = scheduler_goes t s
+      (lessened (look_in t) (sent_in t) n t.node.scheduler s (reply_lessens (look_in t) (sent_in t) n t.node.scheduler k x other) g.there) g in
       node_says_goes (with_scheduler t s) (TheWorker k.attempt.object.owner) (reply_message k x) is plain h
 
   pub no_slot_goes : (t : There) (k : AskKey) → Goes t → Goes (has_no_slot_for t k)
@@ -180,20 +188,25 @@ module _ (jobs : List Given) (ws : List Worker) (net : List Letter) (n : ℕ) wh
       (λ _. anew_goes t k (SentOn (next_in_circle t.nodes t.number)) (λ w e. absurd (cc)) refl tt g)
       (λ _.
       let s : Scheduler = with_queued t.node.scheduler k in
-      let h : Goes (with_scheduler t s) = scheduler_goes t s (lessened (look_in t) (sent_in t) n t.node.scheduler s (queue_lessens (look_in t) (sent_in t) n t.node.scheduler s.queue) g.there) g in
+      let h : Goes (with_scheduler t s) = scheduler_goes t s
+      (lessened (look_in t) (sent_in t) n t.node.scheduler s (queue_lessens (look_in t) (sent_in t) n t.node.scheduler s.queue) g.there) g in
       anew_goes (with_scheduler t s) k Queued (λ w e. absurd (cc)) refl tt h)
 
   -- ---- a worker is given
 
-  pub leases_goes : (t : There) (k : AskKey) (w : ℕ) (x : Worker) → look_in t w ≡ Some x → x.node ≡ n → is_free x.run ≡ true → IsUnwanted (look_in t) (sent_in t) n w → Goes t → Goes (leases_worker t k w)
+  pub leases_goes : (t : There) (k : AskKey) (w : ℕ) (x : Worker) → look_in t w ≡ Some x → x.node ≡ n → is_free x.run ≡ true →
+      IsUnwanted (look_in t) (sent_in t) n w → Goes t → Goes (leases_worker t k w)
   leases_goes t k w x at home free unwanted g =
       let l : Letter = letter (TheNode t.number) (TheWorker k.attempt.object.owner) (Give k.attempt k.t w) in
       record {
         number = g.number;
         counted = g.counted;
         workers = sent_workers t l (record { worker = x; there = at; home = home ∙ sym g.number }) g;
-        there = gives_keeps (look_in t) (sent_in t) n (with_letter net t.out.letters l) t.node.scheduler k w x (letter_more net t.out.letters l)
-            (k.t, subst (λ m. Among (letter (TheNode m) (TheWorker k.attempt.object.owner) (Give k.attempt k.t w)) (with_letter net t.out.letters l)) g.number (letter_last net t.out.letters l))
+        there = gives_keeps (look_in t) (sent_in t) n (with_letter net t.out.letters l) t.node.scheduler k w x (letter_more net t.out.letters l) (
+          k.t,
+          subst (λ m. Among (letter (TheNode m) (TheWorker k.attempt.object.owner) (Give k.attempt k.t w))
+              (with_letter net t.out.letters l)) g.number (letter_last net t.out.letters l),
+        )
             (λ a v gave. elim (letter_cases net t.out.letters l _ gave.1) [
               | inl f ↦ inl (gave.0, f)
               | inr f ↦ inr (same_given a gave.0 v (ap (λ (i : Letter). i.message) f))
@@ -236,7 +249,8 @@ module _ (jobs : List Given) (ws : List Worker) (net : List Letter) (n : ℕ) wh
             | inl f ↦ g.workers.each w y f
             | inr (_, (m, same)) ↦ subst (λ (x : Worker). WorkerKeeps jobs (sent_in t) w x) same (new_keeps jobs (sent_in t) w m)
           ];
-          letters = λ l h. true_more (look_in t) (look_in (opens_worker t)) (sent_in t) (sent_in t) (adds_grows (look_in t) (look_in (opens_worker t)) adds) (λ m i. i) l (g.workers.letters l h);
+          letters = λ l h. true_more (look_in t) (look_in (opens_worker t)) (sent_in t) (sent_in t)
+              (adds_grows (look_in t) (look_in (opens_worker t)) adds) (λ m i. i) l (g.workers.letters l h);
         };
         there = node_adds (look_in t) (look_in (opens_worker t)) (sent_in t) n t.node.scheduler adds (λ a w gave. given_there t g a w gave) g.there;
         alone = g.alone;
@@ -257,13 +271,15 @@ module _ (jobs : List Given) (ws : List Worker) (net : List Letter) (n : ℕ) wh
       by_idle (Some w) e =
           let i = g.there.idle w (least-in t.node.scheduler.idle w e) in
           leases_goes t k w i.worker i.there i.home i.free
-          (λ a wanted. not_both (has t.node.scheduler.holders w) (g.there.promised w wanted.worker a wanted.there wanted.lives wanted.given wanted.unbegun).slot i.slotless) g
+          (λ a wanted. not_both (has t.node.scheduler.holders w)
+          (g.there.promised w wanted.worker a wanted.there wanted.lives wanted.given wanted.unbegun).slot i.slotless) g
 
   pub asked_goes : (t : There) (k : AskKey) → Goes t → Goes (asked_by t k (reply_to t.node.scheduler k))
   asked_goes t k g = by_reply (reply_to t.node.scheduler k) refl
     where
       by_reply : (x : Option Reply) → reply_to t.node.scheduler k ≡ x → Goes (asked_by t k x)
-      by_reply None e = at_test (λ b. Goes (if b then gives_worker t k else has_no_slot_for t k)) (has_free_slot t.node.scheduler) (λ _. gives_goes t k g) (λ _. no_slot_goes t k g)
+      by_reply None e = at_test (λ b. Goes (if b then gives_worker t k else has_no_slot_for t k)) (has_free_slot t.node.scheduler) (λ _. gives_goes t k g)
+          (λ _. no_slot_goes t k g)
       by_reply (Some x) e = again_goes t k x e g
 
   -- ---- slots
@@ -317,7 +333,8 @@ module _ (jobs : List Given) (ws : List Worker) (net : List Letter) (n : ℕ) wh
       at_test (λ b. may_be_idle t.node.scheduler w a ≡ b → Goes (if b then with_scheduler t s else t)) (may_be_idle t.node.scheduler w a)
       (λ _ e. scheduler_goes t s (back_keeps (look_in t) (sent_in t) n t.node.scheduler w a d.done d.home e g.there) g) (λ _ _. g) refl
 
-  reached_from_goes : (t : There) (w : ℕ) (m : Message) → IsTrue (look_in t) (sent_in t) (letter (TheWorker w) (TheNode n) m) → Goes t → Goes (node_reached_from t w m)
+  reached_from_goes : (t : There) (w : ℕ) (m : Message) → IsTrue (look_in t) (sent_in t) (letter (TheWorker w) (TheNode n) m) → Goes t →
+      Goes (node_reached_from t w m)
   reached_from_goes t w (Ask a i) is g = asked_goes t (ask_key a i) g
   reached_from_goes t w (Back a) is g = back_goes t w a is g
   reached_from_goes t w (Fetch o number) is g = fetched_goes t o number w (copy_in t.node.store o number) g
@@ -337,6 +354,7 @@ module _ (jobs : List Given) (ws : List Worker) (net : List Letter) (n : ℕ) wh
   reached_from_goes t w (Hold e o) is g = g
   reached_from_goes t w (HoldAck e o) is g = g
 
-  pub reached_goes : (t : There) (from : Party) (m : Message) → IsTrue (look_in t) (sent_in t) (letter from (TheNode n) m) → Goes t → Goes (node_reached t from m)
+  pub reached_goes : (t : There) (from : Party) (m : Message) → IsTrue (look_in t) (sent_in t) (letter from (TheNode n) m) → Goes t →
+      Goes (node_reached t from m)
   reached_goes t (TheWorker w) m is g = reached_from_goes t w m is g
   reached_goes t (TheNode k) m is g = g

@@ -1,5 +1,6 @@
 -- A sound run whose leases are in order is disciplined, so its log tells of each worker what its tables say.
-use Rattle.std.proofs.Common.{◌≡◌, ◌≢◌, ℕ, zero, suc, ◌+◌, ◌<◌, List, [], ◌∷◌, ◌++◌, length, map, Some, None, Option, refl, ap, sym, subst, ◌∙◌, ◌⊎◌, inl, inr, append-nil, arith}
+use Rattle.std.proofs.Common.{◌≡◌, ◌≢◌, ℕ, zero, suc, ◌+◌, ◌<◌, List, [], ◌∷◌, ◌++◌, length, map, Some, None, Option, refl, ap, sym, subst, ◌∙◌, ◌⊎◌, inl}
+use Rattle.std.proofs.Common.{inr, append-nil, arith}
 use Rattle.std.specs.Prelude.{Bool, true, false, if◌then◌else◌, not, slice_get, ◌==◌}
 use Rattle.std.proofs.lemmas.Bool.Decides.{nat_tests}
 use Rattle.meaning.proofs.BirthLaws.{at_test}
@@ -80,7 +81,10 @@ to_courses c log a = record {
 
 of_courses : (c : Whole) (log : List Entry) → TellsCourses log c → AllTold (running c log)
 of_courses c log t = record {
-  held = λ later w. let h = t.told later w in record { there = λ x at live. agreeing _ x (h.there x at live); absent = λ none n. agreeing _ _ (h.absent none n) };
+  held = λ later w. let h = t.told later w in record {
+    there = λ x at live. agreeing _ x (h.there x at live);
+    absent = λ none n. agreeing _ _ (h.absent none n);
+  };
   given = t.given;
 }
 
@@ -105,7 +109,8 @@ module _ (s : Setting) (log : List Entry) (c : Whole) (sound : IsSound s log c) 
   -- whoever is pushed to runs the attempt, by the log
   pub push_runs : (w u : ℕ) (a : Attempt) (spec : Birth) → Among (letter (TheWorker u) (TheWorker w) (Push a spec)) c.network → worker_of a log ≡ Some w
   push_runs w u a spec came =
-      let says : IsPushed log a spec w = all_at (Says (past log b.asked)) c.network came.0 (letter (TheWorker u) (TheWorker w) (Push a spec)) b.knows.told came.1 in
+      let says : IsPushed log a spec w = all_at (Says (past log b.asked)) c.network came.0
+      (letter (TheWorker u) (TheWorker w) (Push a spec)) b.knows.told came.1 in
       says.runs
 
   run_runs : (w : ℕ) (x : Worker) (run : Run) → worker_at c w ≡ Some x → x.is_live ≡ true → x.run ≡ Some run → worker_of run.attempt log ≡ Some w
@@ -115,12 +120,14 @@ module _ (s : Setting) (log : List Entry) (c : Whole) (sound : IsSound s log c) 
   same_worker a v w e f = let g : ◌≡◌ {A = Option ℕ} (Some v) (Some w) = sym e ∙ f in cc
 
   -- the live worker w has none of whom the log says that another runs it
-  not_present : (a : Attempt) (v w : ℕ) (y : Worker) → worker_of a log ≡ Some v → v ≢ w → worker_at c w ≡ Some y → y.is_live ≡ true → is_attempt (present y.run) a ≡ false
+  not_present : (a : Attempt) (v w : ℕ) (y : Worker) → worker_of a log ≡ Some v → v ≢ w → worker_at c w ≡ Some y → y.is_live ≡ true →
+      is_attempt (present y.run) a ≡ false
   not_present a v w y runs apart at live = by_run y.run refl
     where
       by_run : (r : Option Run) → y.run ≡ r → is_attempt (present r) a ≡ false
       by_run None e = refl
-      by_run (Some run) e = is_false _ (λ same. apart (same_worker a v w runs (ap (λ i. worker_of i log) (sym (same_attempt-true run.attempt a same)) ∙ run_runs w y run at live e)))
+      by_run (Some run) e = is_false _ (λ same. apart (same_worker a v w runs
+          (ap (λ i. worker_of i log) (sym (same_attempt-true run.attempt a same)) ∙ run_runs w y run at live e)))
 
   pub disciplined : IsDisciplined c
   disciplined = record {
@@ -140,8 +147,10 @@ module _ (s : Setting) (log : List Entry) (c : Whole) (sound : IsSound s log c) 
     housed = λ w x at live. leases.homes w x at;
   }
     where
-      pushed : (k w : ℕ) (from : Party) (a : Attempt) (spec : Birth) → item_at c.network k ≡ Some (letter from (TheWorker w) (Push a spec)) → D.IsPushed c.network from w a
-      pushed k w from a spec sent = leases.workers.letters (letter from (TheWorker w) (Push a spec)) (among_at c.network k (letter from (TheWorker w) (Push a spec)) sent)
+      pushed : (k w : ℕ) (from : Party) (a : Attempt) (spec : Birth) → item_at c.network k ≡ Some (letter from (TheWorker w) (Push a spec)) →
+          D.IsPushed c.network from w a
+      pushed k w from a spec sent = leases.workers.letters (letter from (TheWorker w) (Push a spec))
+          (among_at c.network k (letter from (TheWorker w) (Push a spec)) sent)
 
       by_attempt : (v w : ℕ) (x : Worker) → worker_at c v ≡ Some x → x.is_live ≡ true → v ≢ w → (y : Worker) → worker_at c w ≡ Some y → y.is_live ≡ true →
           (a : Attempt) (r : Option Run) → x.run ≡ r → present r ≡ Some a → is_attempt (present y.run) a ≡ false
@@ -150,7 +159,8 @@ module _ (s : Setting) (log : List Entry) (c : Whole) (sound : IsSound s log c) 
           let same : run.attempt ≡ a = cc in
           not_present a v w y (subst (λ i. worker_of i log ≡ Some v) same (run_runs v x run at live e)) apart there lives
 
-      by_job : (w j : ℕ) (y : Worker) (g : Given) → worker_at c w ≡ Some y → item_at c.jobs j ≡ Some g → (r : Option Run) → y.run ≡ r → pace_in_run r ≡ IsOut j → g.worker ≡ w
+      by_job : (w j : ℕ) (y : Worker) (g : Given) → worker_at c w ≡ Some y → item_at c.jobs j ≡ Some g → (r : Option Run) → y.run ≡ r →
+          pace_in_run r ≡ IsOut j → g.worker ≡ w
       by_job w j y g at given None e out = absurd (cc)
       by_job w j y g at given (Some run) e out =
           let i = (leases.workers.each w y at).out run j e (out_phase run.phase j out) in
@@ -192,7 +202,7 @@ module _ (nodes slots : ℕ) where
   unfolding course_from
   opening_courses = record {
     told = λ later w. at_test (λ b. (w == 1) ≡ b → IsToldOf (if b then of_driver else of_nobody) start w) (w == 1)
-      (λ _ e. driver_told w (same_one w e)) (λ _ e. nobody_told w (swapped w e)) refl;
+        (λ _ e. driver_told w (same_one w e)) (λ _ e. nobody_told w (swapped w e)) refl;
     given = λ later w. at_test (λ b. (if b then of_driver else of_nobody).given ≡ 0) (w == 1) (λ _. refl) (λ _. refl);
   }
 
@@ -210,10 +220,12 @@ events_stay_in_step s apart log c e seat handed step right = record {
   sound = event_keeps_sound s apart log c e seat handed step.sound right;
   leases = events_keep c e handed step.leases;
   courses = to_courses (whole_after c (answer c e handed)) (log ++ logged e seat (answer c e handed))
-    (event_told (running c log) (record { event = e; seat = seat; handed = handed }) (disciplined s log c step.sound step.leases) (of_courses c log step.courses));
+      (event_told (running c log) (record { event = e; seat = seat; handed = handed }) (disciplined s log c step.sound step.leases)
+      (of_courses c log step.courses));
 }
 
-agrees_now : (s : Setting) (log : List Entry) (c : Whole) → IsInStep s log c → (w : ℕ) (x : Worker) → worker_at c w ≡ Some x → x.is_live ≡ true → IsAsTold (course (seen s (running c log)) w) x
+agrees_now : (s : Setting) (log : List Entry) (c : Whole) → IsInStep s log c → (w : ℕ) (x : Worker) → worker_at c w ≡ Some x → x.is_live ≡ true →
+    IsAsTold (course (seen s (running c log)) w) x
 agrees_now s log c step w x at live =
     subst (λ ls. IsAsTold (course_from ls w (opening_course w) log) x) (append-nil c.network) ((step.courses.told [] w).there x at live)
 
@@ -247,7 +259,8 @@ dead_nowhere w log e = ap (λ o. on_node o false (λ n. not (list_any (kills w n
 pub places : (s : Setting) (log : List Entry) (c : Whole) → Between s log c → (w : ℕ) (x : Worker) → worker_at c w ≡ Some x → node_of w log ≡ Some x.node
 places s log c b w x at = ap (λ ns. from_one ns w) b.knows.opened ∙ node_at_work c.workers w x at
 
-pub lives_there : (s : Setting) (log : List Entry) (c : Whole) → Between s log c → (w : ℕ) → is_live w log ≡ true → (x : Worker) × (worker_at c w ≡ Some x) × (x.is_live ≡ true)
+pub lives_there : (s : Setting) (log : List Entry) (c : Whole) → Between s log c → (w : ℕ) → is_live w log ≡ true →
+    (x : Worker) × (worker_at c w ≡ Some x) × (x.is_live ≡ true)
 lives_there s log c b w live = by_worker (worker_at c w) refl
   where
     by_worker : (o : Option Worker) → worker_at c w ≡ o → (x : Worker) × (worker_at c w ≡ Some x) × (x.is_live ≡ true)

@@ -1,5 +1,6 @@
 -- Every event leaves its slot to a worker whose turn it is.
-use Rattle.std.proofs.Common.{◌≡◌, ◌≢◌, ℕ, ◌+◌, List, [], ◌∷◌, ◌++◌, length, map, Some, None, Option, refl, ap, sym, subst, ◌∙◌, ◌⊎◌, inl, inr, append-nil, arith}
+use Rattle.std.proofs.Common.{◌≡◌, ◌≢◌, ℕ, ◌+◌, List, [], ◌∷◌, ◌++◌, length, map, Some, None, Option, refl, ap, sym, subst, ◌∙◌, ◌⊎◌, inl, inr, append-nil}
+use Rattle.std.proofs.Common.{arith}
 use Rattle.std.specs.Prelude.{Bool, true, false, if◌then◌else◌, not, ◌&&◌, ◌==◌}
 use Rattle.sequence.proofs.Places.{and_left, and_right}
 use Rattle.meaning.proofs.BirthLaws.{at_test}
@@ -16,14 +17,17 @@ use Rattle.protocol.specs.Steps.{Here}
 use Rattle.protocol.specs.Runs.{begins_run, is_free, push_reached}
 use Rattle.protocol.specs.Slots.{forgets, node_reached}
 use Rattle.protocol.specs.Releases.{release_step}
-use Rattle.protocol.specs.Whole.{Whole, Moved, moved, node_at, worker_at, there, here, after_node, after_worker, node_does, node_does_by, worker_does, worker_does_by, worker_does_at}
+use Rattle.protocol.specs.Whole.{Whole, Moved, moved, node_at, worker_at, there, here, after_node, after_worker, node_does, node_does_by, worker_does}
+use Rattle.protocol.specs.Whole.{worker_does_by, worker_does_at}
 use Rattle.protocol.specs.Commits.{claim_step, commit_step}
 use Rattle.protocol.specs.Notices.{notice_step, notice_node_step}
 use Rattle.protocol.specs.Ticks.{tick_step}
 use Rattle.protocol.specs.Deliveries.{reached}
-use Rattle.protocol.specs.Events.{claimed, committed_by, with_committed, delivered_by, delivered_to, with_delivered, is_live_worker, is_live_node, killed_by, dead, dies_with, happens}
+use Rattle.protocol.specs.Events.{claimed, committed_by, with_committed, delivered_by, delivered_to, with_delivered, is_live_worker, is_live_node, killed_by}
+use Rattle.protocol.specs.Events.{dead, dies_with, happens}
 use Rattle.protocol.specs.Answers.{Refuses, answer, decided, takes, given_out, whole_after}
-use Rattle.protocol.specs.Refusals.{commit_refusal, has_slot, is_of_job, is_out_by, is_ready, is_ready_on, is_ready_run, is_within_limits, no_worker, or_code, refusal, unless}
+use Rattle.protocol.specs.Refusals.{commit_refusal, has_slot, is_of_job, is_out_by, is_ready, is_ready_on, is_ready_run, is_within_limits, no_worker}
+use Rattle.protocol.specs.Refusals.{or_code, refusal, unless}
 use Rattle.protocol_owed.specs.Courses.{has_begun}
 use Rattle.protocol_owed.proofs.Nodes.{changed_cases, nothing_past, push_cases}
 use Rattle.protocol_owed.proofs.CourseEvents.{append_split, one_of}
@@ -36,7 +40,8 @@ use Rattle.lease_discipline.proofs.Moves.{notice_step-kept, notice_node_step-kep
 use Rattle.lease_discipline.proofs.Heres.{by_number}
 use Rattle.lease_discipline.proofs.Events.{OutAs, changed_same, out_as}
 use Rattle.lease_discipline.proofs.Laws.{promise}
-use Rattle.lease_discipline.proofs.Turns.{Anyone, NoLossBut, NoTurn, Others, Turns, claim_turns, commit_turns, forgets_lose, push_turns, reached_lose, stopped_no_turn, turns_after, turns_kept}
+use Rattle.lease_discipline.proofs.Turns.{Anyone, NoLossBut, NoTurn, Others, Turns, claim_turns, commit_turns, forgets_lose, push_turns, reached_lose}
+use Rattle.lease_discipline.proofs.Turns.{stopped_no_turn, turns_after, turns_kept}
 
 abbrev ToldBy : ℕ → Attempt → Type 0
 ToldBy w a = Unit {0}
@@ -48,7 +53,8 @@ abbrev GivenBy : ℕ → Attempt → ℕ → Type 0
 GivenBy n a w = Unit {0}
 
 -- workers of other nodes are the same
-other_turns : (look next : Look) (m : ℕ) (s : Scheduler) → ((w : ℕ) (y : Worker) → next w ≡ Some y → y.node ≡ m → look w ≡ Some y) → HasTurn look m s → HasTurn next m s
+other_turns : (look next : Look) (m : ℕ) (s : Scheduler) → ((w : ℕ) (y : Worker) → next w ≡ Some y → y.node ≡ m → look w ≡ Some y) → HasTurn look m s →
+    HasTurn next m s
 other_turns look next m s back t = record {
   out = λ w y j at home live out. t.out w y j (back w y at home) home live out;
   ready = λ w y at home live ready. t.ready w y (back w y at home) home live ready;
@@ -65,12 +71,13 @@ module _ (d : Whole) (old : Look) (n : ℕ) (t : There) (now : HasTurn (λ w. it
         subst (λ (i : ℕ). HasTurn (worker_at (after_node d n t).whole) i k.scheduler) (sym same)
         (subst (λ (x : Node). HasTurn (worker_at (after_node d n t).whole) n x.scheduler) (sym is) now)
     | inr (apart, at) ↦ other_turns old (worker_at (after_node d n t).whole) m k.scheduler
-      (λ w y there home. elim (back w y there) [ inl here ↦ absurd (apart (sym home ∙ here)) | inr before ↦ before ]) (others m k at)
+        (λ w y there home. elim (back w y there) [ inl here ↦ absurd (apart (sym home ∙ here)) | inr before ↦ before ]) (others m k at)
   ]
 
 -- ---- an event of a node
 
-node_back : (d : Whole) (n opened w : ℕ) (y : Worker) → item_at (d.workers ++ repeated opened (new_worker n)) w ≡ Some y → (new_worker n ≡ y) ⊎ (worker_at d w ≡ Some y)
+node_back : (d : Whole) (n opened w : ℕ) (y : Worker) → item_at (d.workers ++ repeated opened (new_worker n)) w ≡ Some y →
+    (new_worker n ≡ y) ⊎ (worker_at d w ≡ Some y)
 node_back d n opened w y e = elim (append_split d.workers (repeated opened (new_worker n)) w y e) [
   | inl f ↦ inr f
   | inr (_, (i, f)) ↦ inl (one_of i opened w (new_worker n) y f)
@@ -110,7 +117,8 @@ module _ (c : Whole) (me : ℕ) (x : Worker) (node : Node) (at : worker_at c me 
       let all : changed_at c.workers me (λ _. x) ++ [] ≡ c.workers = append-nil (changed_at c.workers me (λ _. x)) ∙ changed_same c.workers me x at in
       record { who = refl; home = refl; turns = subst (λ xs. HasTurn (λ w. item_at xs w) n node.scheduler) (sym all) (k n node home) }
 
-  worker_back : (h : Here) → h.worker.node ≡ n → (w : ℕ) (y : Worker) → item_at (changed_at c.workers me (λ _. h.worker) ++ repeated h.there.opened (new_worker n)) w ≡ Some y →
+  worker_back : (h : Here) → h.worker.node ≡ n → (w : ℕ) (y : Worker) →
+      item_at (changed_at c.workers me (λ _. h.worker) ++ repeated h.there.opened (new_worker n)) w ≡ Some y →
       (y.node ≡ n) ⊎ (worker_at c w ≡ Some y)
   worker_back h there w y e = elim (append_split (changed_at c.workers me (λ _. h.worker)) (repeated h.there.opened (new_worker n)) w y e) [
     | inl f ↦ elim (changed_cases c.workers me w (λ _. h.worker) y f) [
@@ -128,7 +136,8 @@ module _ (c : Whole) (me : ℕ) (x : Worker) (node : Node) (at : worker_at c me 
       turns_end (record c { workers = changed_at c.workers me (λ _. h.worker) }) (worker_at c) n h.there p.turns k (λ w y e. worker_back h p.home w y e)
 
 abbrev Steps : Whole → ℕ → (Here → Here) → Type 0
-Steps c w f = (x : Worker) (at : worker_at c w ≡ Some x) (node : Node) → node_at c x.node ≡ Some node → Turns c w x.node x at (here c w x node) → Turns c w x.node x at (f (here c w x node))
+Steps c w f = (x : Worker) (at : worker_at c w ≡ Some x) (node : Node) → node_at c x.node ≡ Some node → Turns c w x.node x at (here c w x node) →
+    Turns c w x.node x at (f (here c w x node))
 
 worker_turns : (c : Whole) (w : ℕ) (f : Here → Here) → Steps c w f → KeepsSlots c → KeepsSlots (worker_does c w f).whole
 worker_turns c w f steps k = by_worker (worker_at c w) refl
@@ -154,14 +163,16 @@ claim_event c w e k =
     let slot : has_slot w (Some node) ≡ true = ap (has_slot w) (sym home) ∙ and_right (x.is_live && is_ready_run x.run) (has_slot w (node_at c x.node)) f in
     claim_turns d w x.node x at (here d w x node) (length c.jobs + 1) slot t) k
 
-commit_event : (c : Whole) (j : ℕ) (handed : Handed) (g : Option Given) → commit_refusal c j handed g ≡ None → KeepsSlots c → KeepsSlots (committed_by c j handed g).whole
+commit_event : (c : Whole) (j : ℕ) (handed : Handed) (g : Option Given) → commit_refusal c j handed g ≡ None → KeepsSlots c →
+    KeepsSlots (committed_by c j handed g).whole
 commit_event c j Nothing g e k = k
 commit_event c j OfAnother g e k = k
 commit_event c j (OfJob o) None e k = k
 commit_event c j (OfJob o) (Some g) e k =
     let open_job : Bool = not g.is_committed && is_of_job (OfJob o) in
     let both = both_passed (unless (open_job && is_out_by (worker_at c g.worker) j) 32) (unless (is_live_worker (worker_at c g.worker)) 33) e in
-    let out : is_out_by (worker_at c g.worker) j ≡ true = and_right open_job (is_out_by (worker_at c g.worker) j) (passed (open_job && is_out_by (worker_at c g.worker) j) 32 both.0) in
+    let out : is_out_by (worker_at c g.worker) j ≡ true =
+    and_right open_job (is_out_by (worker_at c g.worker) j) (passed (open_job && is_out_by (worker_at c g.worker) j) 32 both.0) in
     let live : is_live_worker (worker_at c g.worker) ≡ true = passed (is_live_worker (worker_at c g.worker)) 33 both.1 in
     let d : Whole = with_committed c j (length o.births) in
     worker_turns d g.worker (λ h. commit_step h o)
@@ -171,7 +182,8 @@ commit_event c j (OfJob o) (Some g) e k =
 
 -- ---- deliveries
 
-module _ (c : Whole) (i w : ℕ) (from : Party) (x : Worker) (at : worker_at c w ≡ Some x) (node : Node) (home : node_at c x.node ≡ Some node) (live : x.is_live ≡ true) (leases : KeepsLeases c) where
+module _ (c : Whole) (i w : ℕ) (from : Party) (x : Worker) (at : worker_at c w ≡ Some x) (node : Node) (home : node_at c x.node ≡ Some node)
+    (live : x.is_live ≡ true) (leases : KeepsLeases c) where
   abbrev start : Here
   start = here c w x node
 
@@ -183,15 +195,18 @@ module _ (c : Whole) (i w : ℕ) (from : Party) (x : Worker) (at : worker_at c w
 
   push_heard : (a : Attempt) (spec : Birth) → item_at c.network i ≡ Some (letter from (TheWorker w) (Push a spec)) → Q start → Q (push_reached start a spec)
   push_heard a spec sent t =
-      at_test (λ b. (is_free x.run && not (has_begun a x.began)) ≡ b → Q (if b then begins_run start a spec else start)) (is_free x.run && not (has_begun a x.began))
-      (λ _ e. push_turns c w x.node x at start a spec (promise c leases i w from a spec x node sent at home live (negated (has_begun a x.began) (and_right (is_free x.run) (not (has_begun a x.began)) e))).slot t)
+      at_test (λ b. (is_free x.run && not (has_begun a x.began)) ≡ b → Q (if b then begins_run start a spec else start))
+      (is_free x.run && not (has_begun a x.began))
+      (λ _ e. push_turns c w x.node x at start a spec (promise c leases i w from a spec x node sent at home live
+      (negated (has_begun a x.began) (and_right (is_free x.run) (not (has_begun a x.began)) e))).slot t)
       (λ _ _. t) refl
     where
       negated : (b : Bool) → not b ≡ true → b ≡ false
       negated true e = absurd (cc)
       negated false e = refl
 
-  heard_worker : (u : ℕ) → from ≡ TheWorker u → (m : Message) → item_at c.network i ≡ Some (letter from (TheWorker w) m) → Q start → IsHeardFrom ToldBy OverOf GivenBy Q q_kept start (TheWorker u) m
+  heard_worker : (u : ℕ) → from ≡ TheWorker u → (m : Message) → item_at c.network i ≡ Some (letter from (TheWorker w) m) → Q start →
+      IsHeardFrom ToldBy OverOf GivenBy Q q_kept start (TheWorker u) m
   heard_worker u e (Push a spec) sent t = push_heard a spec sent t
   heard_worker u e (Finished a n ids) sent t = tt
   heard_worker u e (Failed a f) sent t = tt
@@ -238,9 +253,11 @@ module _ (c : Whole) (i w : ℕ) (from : Party) (x : Worker) (at : worker_at c w
       by_party (TheWorker u) e = reached-kept ToldBy OverOf GivenBy Q q_kept start (TheWorker u) m (heard_worker u e m sent t) t
       by_party (TheNode n) e = reached-kept ToldBy OverOf GivenBy Q q_kept start (TheNode n) m (heard_node n m) t
 
-letter_event : (c : Whole) (i : ℕ) (s to : Party) (m : Message) → item_at c.network i ≡ Some (letter s to m) → KeepsLeases c → KeepsSlots c → KeepsSlots (delivered_to c (letter s to m) to).whole
+letter_event : (c : Whole) (i : ℕ) (s to : Party) (m : Message) → item_at c.network i ≡ Some (letter s to m) → KeepsLeases c → KeepsSlots c →
+    KeepsSlots (delivered_to c (letter s to m) to).whole
 letter_event c i s (TheWorker w) m sent leases k =
-    at_test (λ b. is_live_worker (worker_at c w) ≡ b → KeepsSlots (if b then worker_does c w (λ h. reached h s m) else moved c).whole) (is_live_worker (worker_at c w))
+    at_test (λ b. is_live_worker (worker_at c w) ≡ b → KeepsSlots (if b then worker_does c w (λ h. reached h s m) else moved c).whole)
+    (is_live_worker (worker_at c w))
     (λ _ e. worker_turns c w (λ h. reached h s m) (λ x at node home t. reached_turns c i w s x at node home (ap is_live_worker (sym at) ∙ e) leases m sent t) k)
     (λ _ _. k) refl
 letter_event c i s (TheNode n) m sent leases k =
@@ -264,7 +281,11 @@ kill_event c w (Some x) at k =
     node_turns d x.node (λ t. forgets t w) (Others w) (λ t. forgets_lose t w)
     (λ v y there live same. elim (changed_cases c.workers w v dead y there) [ inl (_, z, _, is) ↦ not_dead z y is live | inr (apart, _) ↦ apart (sym same) ])
     (λ n node e. turns_after Anyone (worker_at c) (worker_at d) n node.scheduler node.scheduler
-    (λ v y there live. elim (changed_cases c.workers w v dead y there) [ inl (_, z, _, is) ↦ absurd (not_dead z y is live) | inr (_, before) ↦ inl (before, tt) ])
+    (λ v y there live. elim (changed_cases c.workers w v dead y there) [
+      | inl (_, z, _, is) ↦ absurd (not_dead z y is live)
+      | inr (_, before) ↦ inl
+          (before, tt)
+    ])
     (record { holders = λ v _ i. i; answered = λ v _ i. inr i }) (k n node e))
 
 survivor : (x y : Worker) (b : Bool) → y ≡ (if b then dead x else x) → y.is_live ≡ true → x ≡ y
@@ -287,7 +308,8 @@ kill_node_event c n f same k m node e =
       | inr (_, at) ↦ of_node node at refl
     ]
 
-store_event : (c : Whole) (n : ℕ) (f : Node → Node) → ((node : Node) → (f node).scheduler ≡ node.scheduler) → KeepsSlots c → KeepsSlots (record c { nodes = changed_at c.nodes n f })
+store_event : (c : Whole) (n : ℕ) (f : Node → Node) → ((node : Node) → (f node).scheduler ≡ node.scheduler) → KeepsSlots c →
+    KeepsSlots (record c { nodes = changed_at c.nodes n f })
 store_event c n f same k m node e = elim (changed_cases c.nodes n m f node e) [
   | inl (_, old, at, is) ↦ subst (HasTurn (worker_at c) m) (sym (ap (λ (y : Node). y.scheduler) is ∙ same old)) (k m old at)
   | inr (_, at) ↦ k m node at
@@ -316,22 +338,27 @@ happens_turns c (Claim w) handed e leases k = claim_event c w e k
 happens_turns c (Commit j) handed e leases k = commit_event c j handed (item_at c.jobs j) e k
 happens_turns c (Deliver i) handed e leases k = deliver_event c i (item_at c.network i) refl leases k
 happens_turns c (Tick w) handed e leases k =
-    worker_turns c w tick_step (λ x at node home t. tick_step-kept ToldBy OverOf GivenBy (Turns c w x.node x at) (turns_kept c w x.node x at ToldBy OverOf GivenBy) (here c w x node) t) k
+    worker_turns c w tick_step (λ x at node home t. tick_step-kept ToldBy OverOf GivenBy (Turns c w x.node x at)
+    (turns_kept c w x.node x at ToldBy OverOf GivenBy) (here c w x node) t) k
 happens_turns c (Notice w v) handed e leases k =
-    worker_turns c w (λ h. notice_step h v) (λ x at node home t. notice_step-kept ToldBy OverOf GivenBy (Turns c w x.node x at) (turns_kept c w x.node x at ToldBy OverOf GivenBy) (here c w x node) v t) k
+    worker_turns c w (λ h. notice_step h v) (λ x at node home t. notice_step-kept ToldBy OverOf GivenBy (Turns c w x.node x at)
+    (turns_kept c w x.node x at ToldBy OverOf GivenBy) (here c w x node) v t) k
 happens_turns c (NoticeNode w n) handed e leases k =
-    worker_turns c w (λ h. notice_node_step h n) (λ x at node home t. notice_node_step-kept ToldBy OverOf GivenBy (Turns c w x.node x at) (turns_kept c w x.node x at ToldBy OverOf GivenBy) (here c w x node) n t) k
+    worker_turns c w (λ h. notice_node_step h n) (λ x at node home t. notice_node_step-kept ToldBy OverOf GivenBy (Turns c w x.node x at)
+    (turns_kept c w x.node x at ToldBy OverOf GivenBy) (here c w x node) n t) k
 happens_turns c (Evict n o) handed e leases k = store_event c n _ (λ _. refl) k
 happens_turns c (Lose n o) handed e leases k = store_event c n _ (λ _. refl) k
 happens_turns c (Kill w) handed e leases k = kill_event c w (worker_at c w) refl k
 happens_turns c (KillNode n) handed e leases k = kill_node_event c n _ (λ _. refl) k
 happens_turns c Join handed e leases k = join_event c leases k
 
-limited_turns : (c : Whole) (m : Moved) (b : Bool) (given : Option Job) → KeepsSlots c → KeepsSlots m.whole → KeepsSlots (whole_after c (if b then takes m given else Refuses 37))
+limited_turns : (c : Whole) (m : Moved) (b : Bool) (given : Option Job) → KeepsSlots c → KeepsSlots m.whole →
+    KeepsSlots (whole_after c (if b then takes m given else Refuses 37))
 limited_turns c m true given k l = l
 limited_turns c m false given k l = k
 
-decided_turns : (c : Whole) (e : Event) (handed : Handed) (code : Option ℕ) → refusal c e handed ≡ code → KeepsLeases c → KeepsSlots c → KeepsSlots (whole_after c (decided c e handed code))
+decided_turns : (c : Whole) (e : Event) (handed : Handed) (code : Option ℕ) → refusal c e handed ≡ code → KeepsLeases c → KeepsSlots c →
+    KeepsSlots (whole_after c (decided c e handed code))
 decided_turns c e handed None unrefused leases k =
     limited_turns c (happens c e handed) (is_within_limits (happens c e handed).whole) (given_out c e) k (happens_turns c e handed unrefused leases k)
 decided_turns c e handed (Some code) refused leases k = k

@@ -15,8 +15,10 @@ use Rattle.protocol.specs.Messages.{Message, Party, TheWorker, TheNode, Ask, Giv
 use Rattle.protocol.specs.Messages.{Where, At, Gone, Fetch, CopyOf, Missing, Hold, HoldAck, Unhold}
 use Rattle.protocol.specs.Stores.{copy_in, with_primary}
 use Rattle.protocol.specs.Nodes.{AskKey, Reply, Scheduler, SentOn, There, with_scheduler}
-use Rattle.protocol.specs.Slots.{ask_key, asked_by, asks_slot, fetched, forgets, frees, gives_worker, grants, grants_next, grants_queued, has_free_slot, has_no_slot_for, leases_idle, may_be_idle}
-use Rattle.protocol.specs.Slots.{next_in_circle, node_reached, node_reached_from, queues, replies_anew, reply_to, with_answered, with_idle, without_slot, without_worker}
+use Rattle.protocol.specs.Slots.{ask_key, asked_by, asks_slot, fetched, forgets, frees, gives_worker, grants, grants_next, grants_queued, has_free_slot}
+use Rattle.protocol.specs.Slots.{has_no_slot_for, leases_idle, may_be_idle}
+use Rattle.protocol.specs.Slots.{next_in_circle, node_reached, node_reached_from, queues, replies_anew, reply_to, with_answered, with_idle, without_slot}
+use Rattle.protocol.specs.Slots.{without_worker}
 use Rattle.protocol.specs.Tables.{Fetching, HasEnded, HasFaulted, Out, OwnTask, Phase, Ready, Run, Waits, Worker, new_run, new_worker}
 use Rattle.protocol.specs.Steps.{Here, logs, logs_all, own_id, store_here, with_phase, with_run, with_store, with_task_of, with_worker}
 use Rattle.protocol.specs.Runs.{asks_for_slot, begins_run, gives_slot_back, leaves_if_free, with_answer}
@@ -114,7 +116,8 @@ frees_lose t w =
     let s : Scheduler = without_slot (sch t) w in
     at_test (λ b. NoLossBut (Others w) (sch t) (sch (if b then grants (with_scheduler t s) else t))) (has (sch t).holders w)
     (λ _. then_lost (Others w) (sch t) s (sch (grants (with_scheduler t s)))
-    (record { holders = λ v apart e. has-stays (sch t).holders w v apart e; answered = λ v _ e. inr e }) (but (Others w) s (sch (grants (with_scheduler t s))) (grants_lose (with_scheduler t s))))
+    (record { holders = λ v apart e. has-stays (sch t).holders w v apart e; answered = λ v _ e. inr e })
+    (but (Others w) s (sch (grants (with_scheduler t s))) (grants_lose (with_scheduler t s))))
     (λ _. but (Others w) (sch t) (sch t) (none_lost (sch t)))
 
 pub asks_lose : (t : There) (w : ℕ) → NoLoss (sch t) (sch (asks_slot t w))
@@ -129,7 +132,9 @@ asks_lose t w =
 pub asks_gains : (t : There) (w : ℕ) → (has (sch (asks_slot t w)).holders w ≡ true) ⊎ (has (sch (asks_slot t w)).answered w ≡ true)
 asks_gains t w =
     let s : Scheduler = with_answered (sch t) w in
-    at_test (λ b. (has (sch t).holders w || has (sch t).answered w) ≡ b → (has (sch (if b then t else grants (with_scheduler t s))).holders w ≡ true) ⊎ (has (sch (if b then t else grants (with_scheduler t s))).answered w ≡ true))
+    at_test (λ b. (has (sch t).holders w || has (sch t).answered w) ≡ b →
+    (has (sch (if b then t else grants (with_scheduler t s))).holders w ≡ true) ⊎
+    (has (sch (if b then t else grants (with_scheduler t s))).answered w ≡ true))
     (has (sch t).holders w || has (sch t).answered w)
     (λ _ e. elim (or_cases (has (sch t).holders w) (has (sch t).answered w) e) [ inl f ↦ inl f | inr f ↦ inr f ])
     (λ _ _. (grants_lose (with_scheduler t s)).answered w tt (has-last (sch t).answered w)) refl
@@ -199,10 +204,15 @@ pub stopped_no_turn : (x : Worker) → pace_by x.run ≡ HasStopped → NoTurn x
 stopped_no_turn x e = record { goes = λ f. stopped_goes (sym e ∙ f); out = λ j f. stopped_out j (sym e ∙ f) }
 
 -- the turns of workers that are the same, but for those whose turn it isn't
-pub turns_after : (b : ℕ → Type 0) (look next : Look) (n : ℕ) (s t : Scheduler) → ((w : ℕ) (y : Worker) → next w ≡ Some y → y.is_live ≡ true → ((look w ≡ Some y) × b w) ⊎ NoTurn y) →
+pub turns_after : (b : ℕ → Type 0) (look next : Look) (n : ℕ) (s t : Scheduler) →
+    ((w : ℕ) (y : Worker) → next w ≡ Some y → y.is_live ≡ true → ((look w ≡ Some y) × b w) ⊎ NoTurn y) →
     NoLossBut b s t → HasTurn look n s → HasTurn next n t
 turns_after b look next n s t back less turns = record {
-  out = λ w y j at home live out. elim (back w y at live) [ inl (f, is) ↦ less.holders w is (turns.out w y j f home live out) | inr none ↦ absurd (none.out j out) ];
+  out = λ w y j at home live out. elim (back w y at live) [
+    | inl (f, is) ↦ less.holders w is (turns.out w y j f home live out)
+    | inr none ↦ absurd
+        (none.out j out)
+  ];
   ready = λ w y at home live ready. elim (back w y at live) [
     | inl (f, is) ↦ elim (turns.ready w y f home live ready) [ inl g ↦ inl (less.holders w is g) | inr g ↦ less.answered w is g ]
     | inr none ↦ absurd (none.goes ready)
@@ -255,7 +265,8 @@ module _ (c : Whole) (me n : ℕ) (old : Worker) (there : item_at c.workers me �
       mine_out w z j same at lives out (inl alike) =
           let is : y ≡ z = is_me y z h.there.opened w same at in
           let pace : pace_by h.worker.run ≡ IsOut j = sym alike ∙ ap (λ (u : Worker). pace_by u.run) is ∙ out in
-          subst (λ v. has h.there.node.scheduler.holders v ≡ true) (sym same) (t.turns.out me h.worker j was t.home (live (ap (λ (u : Worker). u.is_live) is ∙ lives)) pace)
+          subst (λ v. has h.there.node.scheduler.holders v ≡ true) (sym same)
+          (t.turns.out me h.worker j was t.home (live (ap (λ (u : Worker). u.is_live) is ∙ lives)) pace)
       mine_out w z j same at lives out (inr (inl slot)) = subst (λ v. has h.there.node.scheduler.holders v ≡ true) (sym same) slot
       mine_out w z j same at lives out (inr (inr none)) = absurd (none.out j (ap (λ (u : Worker). pace_by u.run) (is_me y z h.there.opened w same at) ∙ out))
 
@@ -278,14 +289,15 @@ module _ (c : Whole) (me n : ℕ) (old : Worker) (there : item_at c.workers me �
         who = t.who;
         home = t.home;
         turns = turns_after (Others h.me) (look h.worker h.there.opened) (look h.worker k) n (sch h.there) (sch (frees h.there h.me))
-          (λ w y e _. elim (by_number w me) [
-            | inl same ↦ inr (subst NoTurn (is_me h.worker y k w same e) none)
-            | inr apart ↦ elim (grows h.worker h.there.opened k w y e) [ inl f ↦ inl (f, λ i. apart (sym i ∙ t.who)) | inr new ↦ inr new ]
-          ]) (frees_lose h.there h.me) t.turns;
+            (λ w y e _. elim (by_number w me) [
+              | inl same ↦ inr (subst NoTurn (is_me h.worker y k w same e) none)
+              | inr apart ↦ elim (grows h.worker h.there.opened k w y e) [ inl f ↦ inl (f, λ i. apart (sym i ∙ t.who)) | inr new ↦ inr new ]
+            ]) (frees_lose h.there h.me) t.turns;
       }
 
   -- whose turn it is anew asks for a slot; of all others it is known
-  pub asks_turns : (h : Here) (before : Worker) → h.me ≡ me → h.worker.node ≡ n → pace_by h.worker.run ≡ GoesOn → HasTurn (look before h.there.opened) n h.there.node.scheduler →
+  pub asks_turns : (h : Here) (before : Worker) → h.me ≡ me → h.worker.node ≡ n → pace_by h.worker.run ≡ GoesOn →
+      HasTurn (look before h.there.opened) n h.there.node.scheduler →
       Turns (asks_for_slot h)
   asks_turns h before who home goes t = record {
     who = who;
@@ -337,7 +349,8 @@ module _ (c : Whole) (me n : ℕ) (old : Worker) (there : item_at c.workers me �
         let g : Turns (with_task_of h o (with_begun task w m)) = worker_turns h (with_task_of h o (with_begun task w m)).worker refl (λ i. i) (inl refl) t in
         record { who = g.who; home = g.home; turns = g.turns };
     pushes_again = λ h k task w m _ _ t. record { who = t.who; home = t.home; turns = t.turns };
-    run = λ h run next e k t. worker_turns h (record h.worker { run = Some next }) refl (λ i. i) (inl (sym (to_pace next.phase) ∙ k.pace ∙ to_pace run.phase ∙ ap pace_by (sym e))) t;
+    run = λ h run next e k t. worker_turns h (record h.worker { run = Some next }) refl (λ i. i)
+        (inl (sym (to_pace next.phase) ∙ k.pace ∙ to_pace run.phase ∙ ap pace_by (sym e))) t;
     leaves = λ h run next e _ _ phase _ t. worker_turns h (record h.worker { run = Some next }) refl (λ i. i) (inl (ap pace_in phase ∙ ap pace_by (sym e))) t;
     gets = λ h run content y f e q t.
         let g : Here = logs (with_run h (with_answer run content)) (Got run.attempt y content) in
@@ -420,7 +433,8 @@ module _ (c : Whole) (me n : ℕ) (old : Worker) (there : item_at c.workers me �
       let ids : List Id = each_once (ids_in_outcome content) in
       let stored : Here = with_store g (with_primary (store_here h) o run.attempt.number content) in
       let ended : Turns g = worker_turns h g.worker refl (λ i. i) (inr (inr (stopped_no_turn g.worker refl))) t in
-      let left : Turns (leaves_if_free (holds_ids stored o ids)) = both stored Turns kept o ids (record { who = ended.who; home = ended.home; turns = ended.turns }) in
+      let left : Turns (leaves_if_free (holds_ids stored o ids)) =
+      both stored Turns kept o ids (record { who = ended.who; home = ended.home; turns = ended.turns }) in
       let stopped : StoppedHere (leaves_if_free (holds_ids stored o ids)) = both stored StoppedHere stopped_kept o ids refl in
       frees_turns (leaves_if_free (holds_ids stored o ids)) (stopped_no_turn _ (sym (run_pace _) ∙ stopped)) left
     where
@@ -435,7 +449,8 @@ module _ (c : Whole) (me n : ℕ) (old : Worker) (there : item_at c.workers me �
   stops_turns h (AtEnd content) (Some run) e t = ends_turns h run content t
 
   -- an attempt that is out has a slot, until it is committed
-  pub commit_turns : (h : Here) (o : Outcomes) (run : Run) (j : ℕ) → h.worker.run ≡ Some run → run.phase ≡ Out j → h.worker.is_live ≡ true → Turns h → Turns (commit_step h o)
+  pub commit_turns : (h : Here) (o : Outcomes) (run : Run) (j : ℕ) → h.worker.run ≡ Some run → run.phase ≡ Out j → h.worker.is_live ≡ true → Turns h →
+      Turns (commit_step h o)
   commit_turns h o run j e out live t = subst (λ r. Turns (commit_by h o r)) (sym e) by_run
     where
       slot : has h.there.node.scheduler.holders me ≡ true
@@ -448,4 +463,5 @@ module _ (c : Whole) (me n : ℕ) (old : Worker) (there : item_at c.workers me �
           let g : Here = logs_all (with_run h next) es in
           let started : Turns (with_run h next) = worker_turns h (record h.worker { run = Some next }) refl (λ i. i) (inr (inl slot)) t in
           let borne : Here = bears_all g run.attempt o.births in
-          stops_turns borne o.stop borne.worker.run refl (bears_all-kept T O V Turns kept g run.attempt o.births (record { who = started.who; home = started.home; turns = started.turns }))
+          stops_turns borne o.stop borne.worker.run refl (bears_all-kept T O V Turns kept g run.attempt o.births
+          (record { who = started.who; home = started.home; turns = started.turns }))

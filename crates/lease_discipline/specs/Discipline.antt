@@ -138,7 +138,8 @@ pub record WorkerKeeps (jobs : List Given) (sent : List Letter) (w : ℕ) (x : W
   pub stopped : (run : Run) → x.run ≡ Some run → run.is_over ≡ true → has_stopped run.phase ≡ true
   pub out : (run : Run) (j : ℕ) → x.run ≡ Some run → run.phase ≡ Out j → IsJobOf jobs w j
   -- as an owner: the worker on which a present attempt runs was given for it by that node
-  pub runs : (k : ℕ) (task : OwnTask) (v n : ℕ) → task_of (item_at x.objects k) ≡ Some task → task.progress ≡ RunsOn v n → Gave sent n (attempt (object_id w k) task.number) v
+  pub runs : (k : ℕ) (task : OwnTask) (v n : ℕ) → task_of (item_at x.objects k) ≡ Some task → task.progress ≡ RunsOn v n →
+      Gave sent n (attempt (object_id w k) task.number) v
 
 pub record WorkersKeep (jobs : List Given) (look : Look) (sent : List Letter) : Type 0 where
   pub each : (w : ℕ) (x : Worker) → look w ≡ Some x → WorkerKeeps jobs sent w x

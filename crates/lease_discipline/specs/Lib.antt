@@ -3,3 +3,4 @@ pub mod Law
 pub mod Told
 pub mod Owing
 pub mod Slots
+pub mod Examples

@@ -19,7 +19,8 @@ use Rattle.lease_discipline.specs.Told.{pace_by}
 -- of the node's live workers each whose job is out has a slot, and each whose attempt may go on has one or asks for it
 pub record HasTurn (look : Look) (n : ℕ) (s : Scheduler) : Type 0 where
   pub out : (w : ℕ) (x : Worker) (j : ℕ) → look w ≡ Some x → x.node ≡ n → x.is_live ≡ true → pace_by x.run ≡ IsOut j → has s.holders w ≡ true
-  pub ready : (w : ℕ) (x : Worker) → look w ≡ Some x → x.node ≡ n → x.is_live ≡ true → pace_by x.run ≡ GoesOn → (has s.holders w ≡ true) ⊎ (has s.answered w ≡ true)
+  pub ready : (w : ℕ) (x : Worker) → look w ≡ Some x → x.node ≡ n → x.is_live ≡ true → pace_by x.run ≡ GoesOn →
+      (has s.holders w ≡ true) ⊎ (has s.answered w ≡ true)
 
 abbrev pub KeepsSlots : Whole → Type 0
 KeepsSlots c = (n : ℕ) (node : Node) → node_at c n ≡ Some node → HasTurn (worker_at c) n node.scheduler
@@ -45,4 +46,5 @@ AreRight s r (g ∷ gs) = IsRight s r.whole g.event g.handed × AreRight s (afte
 abbrev pub LawOfKeptSlots : Type 0
 LawOfKeptSlots =
     (s : Setting) (slots : ℕ) → 0 < s.nodes → 1 ≤ slots → KeepsMainApart s.script → (gs : List Handing) → AreRight s (opening_run s.nodes slots) gs →
-    (n : ℕ) (node : Node) → node_at (after_events (opening_run s.nodes slots) gs).whole n ≡ Some node → SlotsAreKept (seen s (after_events (opening_run s.nodes slots) gs)) n
+    (n : ℕ) (node : Node) → node_at (after_events (opening_run s.nodes slots) gs).whole n ≡ Some node →
+    SlotsAreKept (seen s (after_events (opening_run s.nodes slots) gs)) n

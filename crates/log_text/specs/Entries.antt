@@ -11,7 +11,7 @@ use Rattle.log_words.specs.Faults.{fault_words}
 use Rattle.log_text.specs.Attempts.{named_text, begun_text}
 use Rattle.log_text.specs.Events.{event_line}
 use Rattle.log_text.specs.Refusals.{refusal_text}
-use Rattle.log_text.specs.Told.{Told}
+use Rattle.log_words.specs.Told.{Told}
 
 abbrev pub lack_head : Id → List ℕ
 lack_head y = codes " ends with a fault at get " ++ (id_text y ++ codes ": ")

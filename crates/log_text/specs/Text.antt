@@ -4,7 +4,7 @@ use Rattle.meaning.specs.Births.{Bearing}
 use Rattle.event_log.specs.Entries.{Entry}
 use Rattle.event_log.specs.Events.{refused_next}
 use Rattle.event_log.specs.Words.{births}
-use Rattle.log_text.specs.Told.{Told, nothing_told, told_after}
+use Rattle.log_words.specs.Told.{Told, nothing_told, told_after}
 use Rattle.log_text.specs.Entries.{line}
 
 -- the lines of the entries, where `told` is what was told before them

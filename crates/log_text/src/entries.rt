@@ -7,15 +7,14 @@ ghost use Rattle.event_log.specs.Views.{entry_of, fault_of, log_of};
 ghost use Rattle.log_words.specs.Index.{IsIndexOf};
 ghost use Rattle.log_text.specs.Entries.{act_text, entry_text, indent, lack_head, lack_text, line, print_text};
 ghost use Rattle.log_text.specs.Entries.{resolve_head, resolve_text};
-ghost use Rattle.log_text.specs.Told.{told_of};
+ghost use Rattle.log_words.specs.Told.{told_of};
 
 use crate::attempts::{write_begun, write_named};
 use crate::events::write_event;
 use crate::refusals::write_refusal;
-use crate::told::Told;
 use event_log::Entry;
 use ids::ObjectId;
-use log_words::{BirthIndex, write_birth, write_content, write_fault};
+use log_words::{BirthIndex, Told, write_birth, write_content, write_fault};
 use report::write_value;
 use std::alloc::AllocError;
 use values::{Fault, RunValue};

@@ -1,28 +1,14 @@
 // Events, and what they do.
 
-ghost use Rattle.std.specs.Prelude.{◌≡◌, ◌+◌, ◌++◌, OnOk, map, option_copied, string_bytes};
+ghost use Rattle.std.specs.Prelude.{◌≡◌, ◌++◌, OnOk, map, string_bytes};
 ghost use Rattle.std.specs.Option.{option_map};
-ghost use Rattle.event_log.specs.Events.{from_one};
 ghost use Rattle.event_log.specs.Views.{event_of};
 ghost use Rattle.log_text.specs.Events.{done_text, event_line, meaning_note, meaning_text, seat_note};
 
 use event_log::Event;
 use ids::WorkerId;
+use log_words::worker_of_job;
 use std::alloc::AllocError;
-
-/// The worker to which the job was given.
-fn worker_of_job(jobs: &[WorkerId], job: u64) -> Option<WorkerId>
-    ensures { option_map (λ w. w.0) result ≡ from_one (map (λ w. w.0) jobs.now) job }
-{
-    if job == 0 {
-        return None;
-    }
-    let place = (job - 1) as usize;
-    if place < jobs.len() {
-        return Some(jobs[place]);
-    }
-    None
-}
 
 fn write_done(text: &mut String, worker: Option<WorkerId>, job: u64) -> Result<(), AllocError>
     ensures { OnOk result (string_bytes text.new ≡ string_bytes text.old ++ done_text (option_map (λ w. w.0) worker) job) }

@@ -6,7 +6,6 @@ mod entries;
 mod events;
 mod refusals;
 mod text;
-mod told;
 
 pub use text::log_text;
 

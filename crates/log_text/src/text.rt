@@ -1,22 +1,13 @@
 // A log in words.
 
-ghost use Rattle.std.specs.Prelude.{◌≡◌, IfOk, drop, string_bytes};
-ghost use Rattle.event_log.specs.Events.{refused_next};
+ghost use Rattle.std.specs.Prelude.{◌≡◌, IfOk, string_bytes};
 ghost use Rattle.event_log.specs.Views.{log_of};
 ghost use Rattle.log_text.specs.Text.{log_text};
 
 use crate::entries::write_line;
-use crate::told::Told;
 use event_log::Entry;
-use log_words::BirthIndex;
+use log_words::{BirthIndex, Told, is_refusal_at};
 use std::alloc::{AllocError, Global};
-
-/// Whether a refusal stands at the place.
-fn is_refusal_at(log: &[Entry], place: usize) -> bool
-    ensures { result ≡ refused_next (log_of (drop place log.now)) }
-{
-    matches!(log.get(place), Some(Entry::Refused(_)))
-}
 
 /// The log in words: a line for each entry, each with a line feed, in the order of the log. Events are numbered from 1, and
 /// what came of an event stands below it, with four spaces in front; see docs/reading-a-log.md for what each line says.

@@ -2,3 +2,4 @@ pub mod Calls
 pub mod Contents
 pub mod Faults
 pub mod Index
+pub mod Told

@@ -5,8 +5,10 @@ mod births;
 mod calls;
 mod contents;
 mod faults;
+mod told;
 
 pub use births::BirthIndex;
 pub use calls::{write_birth, write_call};
 pub use contents::write_content;
 pub use faults::{kind_words, write_fault};
+pub use told::{Told, is_refusal_at, worker_of_job};

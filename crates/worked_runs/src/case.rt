@@ -21,14 +21,17 @@ impl Outcome {
     }
 }
 
-/// A command with its script and its events, and what has to come of it. The point says in words what the case shows; `line` is where the
-/// case begins in its file, counted from 1.
+/// A command with its script, its cluster and its events, and what has to come of it. The point says in words what the case shows; `line`
+/// is where the case begins in its file, counted from 1.
 #[derive(Drop)]
 pub struct Case {
     pub line: u64,
     pub command: String,
     pub point: String,
     pub script: String,
+    /// So many nodes, and so many slots at each: 1 and 4 where a case says nothing else.
+    pub nodes: u8,
+    pub slots: u8,
     pub events: String,
     pub wanted: Outcome,
 }
@@ -47,6 +50,8 @@ impl Case {
             command: String::from_str(alloc, command)?,
             point: String::from_str(alloc, point)?,
             script: String::from_str(alloc, functions)?,
+            nodes: 1,
+            slots: 4,
             events: String::new(alloc),
             wanted: Outcome::new(alloc),
         })

@@ -30,6 +30,13 @@ fn add_line(text: &mut String, line: &str) -> Result<(), AllocError> {
     Ok(())
 }
 
+fn add_lines(text: &mut String, times: u32, line: &str) -> Result<(), AllocError> {
+    for _ in 0..times {
+        add_line(text, line)?;
+    }
+    Ok(())
+}
+
 /// Adds a line of a case to it, and says whether it is one.
 fn add_to_case(case: &mut Case, line: Line<'_>) -> Result<bool, AllocError> {
     match line {
@@ -39,12 +46,13 @@ fn add_to_case(case: &mut Case, line: Line<'_>) -> Result<bool, AllocError> {
                 case.script.push_str(text)?;
             }
         }
-        Line::Event(text) => add_line(&mut case.events, text)?,
-        Line::Written { times, text } => {
-            for _ in 0..times {
-                add_line(&mut case.wanted.written, text)?;
-            }
+        Line::Event { times, text } => add_lines(&mut case.events, times, text)?,
+        Line::EventPart(text) => case.events.push_str(text)?,
+        Line::Cluster { nodes, slots } => {
+            case.nodes = nodes;
+            case.slots = slots;
         }
+        Line::Written { times, text } => add_lines(&mut case.wanted.written, times, text)?,
         Line::Refusal(text) => case.wanted.refusal.push_str(text)?,
         Line::Status(status) => case.wanted.status = status,
         _ => return Ok(false),

@@ -13,8 +13,12 @@ pub enum Line<'a> {
     Script(&'a str),
     /// `+ N "TEXT"`, or `+ "TEXT"` for once: a part of the script that stands there so many times, with no line feeds.
     Part { times: u32, text: &'a str },
-    /// `@ TEXT`: a line of the event file.
-    Event(&'a str),
+    /// `@ TEXT`, or `@* N TEXT`: a line of the event file, so many times.
+    Event { times: u32, text: &'a str },
+    /// `@+ "TEXT"`: a part of the event file, with no line feed behind it.
+    EventPart(&'a str),
+    /// `cluster N S`: so many nodes, and so many slots at each.
+    Cluster { nodes: u8, slots: u8 },
     /// `= TEXT`, or `* N TEXT`: a line that has to be written, so many times.
     Written { times: u32, text: &'a str },
     /// `! TEXT`: the refusal that has to be told.
@@ -47,11 +51,39 @@ fn part(text: &str) -> Option<Line<'_>> {
     Some(Line::Part { times, text })
 }
 
-fn status(text: &str) -> Option<Line<'_>> {
+fn small_number(text: &str) -> Option<u8> {
     match text.parse::<u8>() {
-        Ok(status) => Some(Line::Status(status)),
+        Ok(number) => Some(number),
         Err(_) => None,
     }
+}
+
+fn status(text: &str) -> Option<Line<'_>> {
+    let status = small_number(text)?;
+    Some(Line::Status(status))
+}
+
+fn cluster(text: &str) -> Option<Line<'_>> {
+    let (nodes, slots) = text.split_once(' ')?;
+    let nodes = small_number(nodes)?;
+    let slots = small_number(slots)?;
+    Some(Line::Cluster { nodes, slots })
+}
+
+/// What stands behind the mark of a line that is part of the event file.
+fn event<'a>(mark: &str, text: &'a str) -> Option<Line<'a>> {
+    if mark == "@" {
+        return Some(Line::Event { times: 1, text });
+    }
+    if mark == "@*" {
+        let (times, text) = counted(text)?;
+        return Some(Line::Event { times, text });
+    }
+    if mark == "@+" {
+        let text = quoted(text)?;
+        return Some(Line::EventPart(text));
+    }
+    None
 }
 
 /// A line with a mark in front.
@@ -61,9 +93,6 @@ fn marked<'a>(mark: &str, text: &'a str) -> Option<Line<'a>> {
     }
     if mark == "+" {
         return part(text);
-    }
-    if mark == "@" {
-        return Some(Line::Event(text));
     }
     if mark == "=" {
         return Some(Line::Written { times: 1, text });
@@ -78,7 +107,10 @@ fn marked<'a>(mark: &str, text: &'a str) -> Option<Line<'a>> {
     if mark == "status" {
         return status(text);
     }
-    None
+    if mark == "cluster" {
+        return cluster(text);
+    }
+    event(mark, text)
 }
 
 /// What a line says, or None where it is no line of such a file.

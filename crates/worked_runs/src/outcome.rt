@@ -1,12 +1,26 @@
 // What comes of a case. The program's commands are called here alone.
 
 use crate::case::{Case, Outcome};
-use raysim_commands::{Refusal, Tracked, check, run, serial};
+use raysim_commands::{Cluster, Form, Refusal, Tracked, check, run, serial, sim};
 use script_syntax::{parse, print_program};
 use std::alloc::{AllocError, Global};
 
-/// Does what a command of the program says, over a reader and a writer in memory. None where there is no such command.
-fn done(
+/// Replays the case's events on a run of its script.
+fn replayed(
+    alloc: Global,
+    case: &Case,
+    form: Form,
+    written: &mut Vec<u8>,
+) -> Option<Result<u8, Refusal>> {
+    let cluster = Cluster::new(case.nodes, case.slots)?;
+    let mut reader = Tracked::reader(case.script.as_bytes());
+    let mut events = Tracked::reader(case.events.as_bytes());
+    let mut writer = Tracked::writer(written);
+    Some(sim(alloc, &mut reader, &mut events, cluster, form, &mut writer))
+}
+
+/// Does what a command over a script alone says.
+fn done_with_script(
     alloc: Global,
     command: &str,
     script: &[u8],
@@ -26,11 +40,22 @@ fn done(
     None
 }
 
+/// Does what a command of the program says, over readers and a writer in memory. None where there is no such command or cluster.
+fn done(alloc: Global, case: &Case, written: &mut Vec<u8>) -> Option<Result<u8, Refusal>> {
+    let command = case.command.as_str();
+    if command == "sim" {
+        return replayed(alloc, case, Form::Text, written);
+    }
+    if command == "sim --json" {
+        return replayed(alloc, case, Form::Json, written);
+    }
+    done_with_script(alloc, command, case.script.as_bytes(), written)
+}
+
 /// What a command of the program comes to: a refusal is one line, with status 1.
 fn outcome_of_command(alloc: Global, case: &Case) -> Result<Option<Outcome>, AllocError> {
     let mut bytes = Vec::new(alloc);
-    let script = case.script.as_bytes();
-    let Some(answer) = done(alloc, case.command.as_str(), script, &mut bytes) else {
+    let Some(answer) = done(alloc, case, &mut bytes) else {
         return Ok(None);
     };
     let mut outcome = Outcome::new(alloc);

@@ -3,7 +3,7 @@ use Rattle.std.specs.Option.{option_map}
 use Rattle.std.proofs.lemmas.Option.{slice_get-map, slice_get-get_or, slice_get_past}
 use Rattle.ids.specs.declared.worker.WorkerId.{WorkerId}
 use Rattle.event_log.specs.Events.{from_one}
-use Rattle.log_text.proofs.events.worker_of_job.Goals as goal
+use Rattle.log_words.proofs.told.worker_of_job.Goals as goal
 
 given_out : (xs : List WorkerId) (j p : ℕ) → j ≡ suc p → from_one (map (λ (w : WorkerId). w.0) xs) j ≡ option_map (λ (w : WorkerId). w.0) (slice_get xs p)
 given_out xs j p e = ap (from_one (map (λ (w : WorkerId). w.0) xs)) e ∙ slice_get-map (λ (w : WorkerId). w.0) xs p

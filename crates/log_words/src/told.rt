@@ -1,9 +1,10 @@
 // What has been told when an entry comes.
 
-ghost use Rattle.std.specs.Prelude.{◌≡◌, ◌+◌, ◌++◌, ◌<◌, ◌≤◌, ◌^◌, OnOk, [], if◌then◌else◌, map};
-ghost use Rattle.event_log.specs.Events.{claim_in};
-ghost use Rattle.event_log.specs.Views.{entry_of, event_of};
-ghost use Rattle.log_text.specs.Told.{nothing_told, told_after, told_of};
+ghost use Rattle.std.specs.Prelude.{◌≡◌, ◌+◌, ◌++◌, ◌<◌, ◌≤◌, ◌^◌, OnOk, [], if◌then◌else◌, drop, map};
+ghost use Rattle.std.specs.Option.{option_map};
+ghost use Rattle.event_log.specs.Events.{claim_in, from_one, refused_next};
+ghost use Rattle.event_log.specs.Views.{entry_of, event_of, log_of};
+ghost use Rattle.log_words.specs.Told.{nothing_told, told_after, told_of};
 
 use event_log::{Entry, Event};
 use ids::WorkerId;
@@ -28,6 +29,27 @@ fn note_job(jobs: &mut Vec<WorkerId>, event: &Event, is_refused: bool) -> Result
         Event::Claim(worker) => Ok(jobs.push(*worker)?),
         _ => Ok(()),
     }
+}
+
+/// The worker to which the job was given, where `jobs` are those to which jobs were given, by job.
+pub fn worker_of_job(jobs: &[WorkerId], job: u64) -> Option<WorkerId>
+    ensures { option_map (λ w. w.0) result ≡ from_one (map (λ w. w.0) jobs.now) job }
+{
+    if job == 0 {
+        return None;
+    }
+    let place = (job - 1) as usize;
+    if place < jobs.len() {
+        return Some(jobs[place]);
+    }
+    None
+}
+
+/// Whether a refusal stands at the place.
+pub fn is_refusal_at(log: &[Entry], place: usize) -> bool
+    ensures { result ≡ refused_next (log_of (drop place log.now)) }
+{
+    matches!(log.get(place), Some(Entry::Refused(_)))
 }
 
 impl Told {

@@ -2,7 +2,7 @@
 use Rattle.std.specs.Prelude.{ℕ, ◌+◌, Bool, if◌then◌else◌, List, [], ◌++◌, map}
 use Rattle.event_log.specs.Entries.{Entry, In}
 use Rattle.event_log.specs.Events.{claim_in}
-use Rattle.log_text.specs.declared.told.Told.{Told as CodeTold}
+use Rattle.log_words.specs.declared.told.Told.{Told as CodeTold}
 
 -- how many events came, and the workers to which jobs were given, by job
 pub record Told : Type 0 where

@@ -1,0 +1,117 @@
+// Instructions that ask or tell something outside.
+
+ghost use Rattle.std.specs.Prelude.{◌≡◌, ◌+◌, ◌-◌, ℕ, IfOk, map, false, slice_index_or, string_bytes, vec_len};
+ghost use Rattle.meaning.specs.Values.{Task};
+ghost use Rattle.meaning.specs.Meaning.{mark};
+ghost use Rattle.frame_laws.specs.Instructions.{PutIn, Fetch, Show};
+ghost use Rattle.frame_laws.specs.Machine as laws;
+ghost use Rattle.frame_laws.specs.Machine.{values_at};
+ghost use Rattle.frame_code.specs.Views.{given_of, spawn_of};
+ghost use Rattle.frames.specs.Values.{value_of};
+ghost use Rattle.frames.specs.Machines.{argument_of, made_of, Met};
+
+use crate::halt::{Argument, Halt, Made};
+use crate::registers::State;
+use crate::value::Value;
+use crate::working::share_from;
+use frame_code::{Operand, Spawn};
+use std::alloc::{AllocError, Global};
+
+/// The mark of the argument at a place; there is none past the end.
+fn mark_at(marks: &[bool], place: usize) -> bool
+    ensures { result ≡ slice_index_or marks.now place false }
+{
+    if place < marks.len() {
+        return marks[place];
+    }
+    false
+}
+
+/// The arguments of a remote call, each with its mark.
+fn mark(alloc: Global, values: &[Value], marks: &[bool]) -> Result<Vec<Argument>, AllocError>
+    ensures { IfOk result (λ args. map argument_of args.items ≡ mark (map value_of values.now) marks.now) }
+{
+    let mut arguments = Vec::new(alloc);
+    for value in values {
+        let is_dereferenced = mark_at(marks, arguments.len());
+        let value = value.share()?;
+        arguments.push(Argument {
+            value,
+            is_dereferenced,
+        })?;
+    }
+    Ok(arguments)
+}
+
+impl State {
+    /// The depth of what is called from here, where as many calls may wait.
+    fn depth(&self, limit: usize) -> u32
+        ensures { result ≡ 33 - (limit - vec_len self.now.callers) }
+    {
+        let left = limit.saturating_sub(self.callers.len());
+        33usize.saturating_sub(left) as u32
+    }
+
+    /// The task that a remote call makes.
+    fn task(&self, limit: usize, spawn: &Spawn) -> Result<Made, AllocError>
+        ensures { IfOk result (λ m. made_of m ≡ Task (string_bytes spawn.now.function)
+            (mark (values_at (map value_of self.now.registers.items) (self.now.base + spawn.now.first) spawn.now.count) spawn.now.marks.items)
+            (33 - (limit - vec_len self.now.callers)) spawn.now.retries) }
+    {
+        let alloc = *self.registers.allocator();
+        let values = share_from(alloc, &self.registers, self.place(spawn.first), spawn.count)?;
+        let arguments = mark(alloc, &values, &spawn.marks)?;
+        let function = spawn.function.clone()?;
+        Ok(Made::Task {
+            function,
+            arguments,
+            depth: self.depth(limit),
+            retries: spawn.retries,
+        })
+    }
+
+    /// A remote call.
+    pub(crate) fn spawn(&self, limit: usize, spawn: &Spawn) -> Halt
+        ensures { (code : laws.Code) → Met code limit self.now (spawn_of spawn.now) result }
+    {
+        match self.task(limit, spawn) {
+            Ok(task) => Halt::Bears(task, self.place(spawn.to)),
+            Err(_) => Halt::NoMemory,
+        }
+    }
+
+    /// A put.
+    pub(crate) fn put_object(&self, to: u32, value: &Operand) -> Halt
+        ensures { (code : laws.Code) (limit : ℕ) → Met code limit self.now (PutIn to (given_of value.now)) result }
+    {
+        match self.operand(value) {
+            Ok(value) => Halt::Bears(Made::Put(value), self.place(to)),
+            Err(halt) => halt,
+        }
+    }
+
+    /// A get.
+    pub(crate) fn get(&self, to: u32, reference: &Operand) -> Halt
+        ensures { (code : laws.Code) (limit : ℕ) → Met code limit self.now (Fetch to (given_of reference.now)) result }
+    {
+        match self.operand(reference) {
+            Ok(reference) => {
+                if reference.is_reference() {
+                    return Halt::Asks(reference, self.place(to));
+                }
+                Halt::Broken
+            }
+            Err(halt) => halt,
+        }
+    }
+
+    /// A print.
+    pub(crate) fn print(&self, value: &Operand) -> Halt
+        ensures { (code : laws.Code) (limit : ℕ) → Met code limit self.now (Show (given_of value.now)) result }
+    {
+        match self.operand(value) {
+            Ok(value) => Halt::Shows(value),
+            Err(halt) => halt,
+        }
+    }
+}

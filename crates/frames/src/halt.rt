@@ -1,0 +1,59 @@
+// Why the machine stops between two instructions.
+ghost use Rattle.std.specs.Prelude.{◌≡◌};
+
+use crate::value::Value;
+use std::alloc::{AllocError, AllocFailed};
+use values::Trap;
+
+/// An argument of a remote call, and whether it is dereferenced before the body.
+#[derive(Drop)]
+pub(crate) struct Argument {
+    pub value: Value,
+    pub is_dereferenced: bool,
+}
+
+/// What makes an object.
+#[derive(Drop)]
+pub(crate) enum Made {
+    Put(Value),
+    Task {
+        function: String,
+        arguments: Vec<Argument>,
+        depth: u32,
+        retries: u8,
+    },
+}
+
+/// Why the machine stops: the run is over, it asks or tells something outside, or it is out of memory. A birth and a get say which
+/// register takes what they are given.
+#[derive(Drop)]
+pub(crate) enum Halt {
+    Over(Value),
+    Trap(Trap),
+    /// An operand of the wrong kind, which a checked script never meets.
+    Broken,
+    Bears(Made, usize),
+    Asks(Value, usize),
+    Shows(Value),
+    NoMemory,
+}
+
+impl From<AllocError> for Halt {
+    ghost use Rattle.frames.specs.declared.halt.Halt.TheVariants.{NoMemory};
+
+    ghost from_gives = { λ _ h. h ≡ NoMemory };
+
+    fn from(_: AllocError) -> Halt {
+        Halt::NoMemory
+    }
+}
+
+impl<T: Drop> From<AllocFailed<T>> for Halt {
+    ghost use Rattle.frames.specs.declared.halt.Halt.TheVariants.{NoMemory};
+
+    ghost from_gives = { λ _ h. h ≡ NoMemory };
+
+    fn from(_: AllocFailed<T>) -> Halt {
+        Halt::NoMemory
+    }
+}

@@ -1,0 +1,11 @@
+//! A register machine for scripts, whose state is a frame that can be kept.
+#![tactic(auto)]
+
+mod asking;
+mod halt;
+mod jumping;
+mod operators;
+mod registers;
+mod step;
+mod value;
+mod working;

@@ -1,0 +1,75 @@
+// Values of a run.
+
+ghost use Rattle.std.specs.Prelude.{◌≡◌, IfOk};
+ghost use Rattle.meaning.specs.Meaning.{is_reference};
+ghost use Rattle.frames.specs.Values.{value_of};
+
+use ids::ObjectId;
+use std::alloc::AllocError;
+use std::rc::Rc;
+use values::Trap;
+
+/// A value, as a run has it. Its lists, ids and outcomes are shared, so that an equal value costs no more than a count.
+#[derive(Drop)]
+#[cycle(value)]
+pub(crate) enum Value {
+    Int(i64),
+    List(Rc<Items>),
+    /// A reference in a run in pieces.
+    Id(Rc<ObjectId>),
+    /// A reference in a serial run.
+    Known(Rc<Outcome>),
+}
+
+/// The items of a list.
+#[derive(Drop)]
+#[cycle(value)]
+pub(crate) struct Items {
+    pub values: Vec<Value>,
+}
+
+/// How a call ends.
+#[derive(Drop)]
+#[cycle(value)]
+pub(crate) enum Outcome {
+    Value(Value),
+    Trap(Trap),
+    /// An operand of the wrong kind, which a checked script never meets.
+    Broken,
+}
+
+impl Value {
+    /// An equal value, which shares what this one holds.
+    pub(crate) fn share(&self) -> Result<Value, AllocError>
+        ensures { IfOk result (λ v. value_of v ≡ value_of self.now) }
+    {
+        match self {
+            Value::Int(n) => Ok(Value::Int(*n)),
+            Value::List(items) => Ok(Value::List(Rc::clone(items)?)),
+            Value::Id(object) => Ok(Value::Id(Rc::clone(object)?)),
+            Value::Known(outcome) => Ok(Value::Known(Rc::clone(outcome)?)),
+        }
+    }
+
+    /// Whether it is a reference.
+    pub(crate) fn is_reference(&self) -> bool
+        ensures { result ≡ is_reference (value_of self.now) }
+    {
+        match self {
+            Value::Int(_) => false,
+            Value::List(_) => false,
+            Value::Id(_) => true,
+            Value::Known(_) => true,
+        }
+    }
+
+    /// Whether it is a number.
+    pub(crate) fn is_number(&self) -> bool {
+        match self {
+            Value::Int(_) => true,
+            Value::List(_) => false,
+            Value::Id(_) => false,
+            Value::Known(_) => false,
+        }
+    }
+}

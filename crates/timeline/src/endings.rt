@@ -1,0 +1,188 @@
+// The spans that end with an entry.
+
+ghost use Rattle.std.specs.Prelude.{◌≡◌, ◌++◌, ◌==◌, [], IfOk, OnOk, if◌then◌else◌, map, string_bytes};
+ghost use Rattle.serde_json.specs.View.{view};
+ghost use Rattle.values.specs.Values.{content_of, id_of};
+ghost use Rattle.event_log.specs.Words.{births};
+ghost use Rattle.event_log.specs.Views.{fault_of, log_of};
+ghost use Rattle.history.specs.Texts.{fault_text};
+ghost use Rattle.log_words.specs.Index.{IsIndexOf};
+ghost use Rattle.log_words.specs.Contents.{content_text};
+ghost use Rattle.timeline.specs.Endings.{both_spans, death_data, event_data, get_name, open_data, row_data};
+
+use crate::marks::mark_json;
+use crate::rows::{Row, runs};
+use crate::spans::{add_attempt, add_wait};
+use event_log::{Entry, Event};
+use history::kind_name;
+use ids::ObjectId;
+use log_words::{BirthIndex, write_content};
+use serde_json::Value;
+use std::alloc::{AllocError, Global};
+use values::{Content, Fault};
+
+fn get_name(alloc: Global, object: ObjectId) -> Result<String, AllocError>
+    ensures { IfOk result (λ s. string_bytes s ≡ get_name (id_of object)) }
+{
+    format!(in alloc; "get {object}")
+}
+
+fn content_name(alloc: Global, content: &Content) -> Result<String, AllocError>
+    ensures { IfOk result (λ s. string_bytes s ≡ content_text (content_of content.now)) }
+{
+    let mut text = String::new(alloc);
+    write_content(&mut text, content)?;
+    Ok(text)
+}
+
+fn fault_name(alloc: Global, fault: Fault) -> Result<String, AllocError>
+    ensures { IfOk result (λ s. string_bytes s ≡ fault_text (fault_of fault)) }
+{
+    let kind = kind_name(fault.kind);
+    let object = fault.object;
+    format!(in alloc; "{kind} {object}")
+}
+
+/// Adds a wait and the attempt, both up to this event.
+fn add_both(
+    alloc: Global,
+    all: &mut Vec<Value>,
+    index: &BirthIndex,
+    log: &[Entry],
+    clock: usize,
+    name: &str,
+    ending: &str,
+    row: &Row,
+) -> Result<(), AllocError>
+    ensures { IsIndexOf index.now log.now → OnOk result
+        (map view all.new.items ≡ map view all.old.items ++ both_spans (births (log_of log.now)) clock name.now ending.now row.now) }
+{
+    add_wait(alloc, all, clock, name, ending, row)?;
+    add_attempt(alloc, all, index, log, clock, ending, row)
+}
+
+/// Adds what the death of the row's worker ends.
+fn add_death(
+    alloc: Global,
+    all: &mut Vec<Value>,
+    index: &BirthIndex,
+    log: &[Entry],
+    clock: usize,
+    row: &Row,
+) -> Result<(), AllocError>
+    ensures { IsIndexOf index.now log.now → OnOk result
+        (map view all.new.items ≡ map view all.old.items ++ death_data (births (log_of log.now)) clock row.now) }
+{
+    add_both(alloc, all, index, log, clock, "get", "killed", row)?;
+    all.push(mark_json(alloc, "dies", "t", row.node, row.worker.0, clock)?)?;
+    Ok(())
+}
+
+fn add_event(
+    alloc: Global,
+    all: &mut Vec<Value>,
+    index: &BirthIndex,
+    log: &[Entry],
+    clock: usize,
+    event: &Event,
+    row: &Row,
+) -> Result<(), AllocError>
+    ensures { IsIndexOf index.now log.now → OnOk result
+        (map view all.new.items ≡ map view all.old.items ++ event_data (births (log_of log.now)) clock event.now row.now) }
+{
+    match event {
+        Event::Kill(worker) => {
+            if worker.0 == row.worker.0 {
+                return add_death(alloc, all, index, log, clock, row);
+            }
+            Ok(())
+        }
+        Event::KillNode(node) => {
+            if node.0 == row.node.0 {
+                return add_death(alloc, all, index, log, clock, row);
+            }
+            Ok(())
+        }
+        _ => Ok(()),
+    }
+}
+
+/// Adds what an entry adds in a row.
+pub fn add_row(
+    alloc: Global,
+    all: &mut Vec<Value>,
+    index: &BirthIndex,
+    log: &[Entry],
+    clock: usize,
+    entry: &Entry,
+    is_refused: bool,
+    row: &Row,
+) -> Result<(), AllocError>
+    ensures { IsIndexOf index.now log.now → OnOk result
+        (map view all.new.items ≡ map view all.old.items ++ row_data (births (log_of log.now)) clock entry.now is_refused row.now) }
+{
+    match entry {
+        Entry::Got {
+            attempt,
+            object,
+            content,
+        } => {
+            if !runs(*attempt, row) {
+                return Ok(());
+            }
+            let name = get_name(alloc, *object)?;
+            let ending = content_name(alloc, content)?;
+            add_wait(alloc, all, clock, name.as_str(), ending.as_str(), row)
+        }
+        Entry::Ended { attempt, content } => {
+            if !runs(*attempt, row) {
+                return Ok(());
+            }
+            let ending = content_name(alloc, content)?;
+            add_attempt(alloc, all, index, log, clock, ending.as_str(), row)
+        }
+        Entry::Faulted {
+            attempt,
+            object,
+            fault,
+        } => {
+            if !runs(*attempt, row) {
+                return Ok(());
+            }
+            let name = get_name(alloc, *object)?;
+            let ending = fault_name(alloc, *fault)?;
+            add_both(
+                alloc,
+                all,
+                index,
+                log,
+                clock,
+                name.as_str(),
+                ending.as_str(),
+                row,
+            )
+        }
+        Entry::In { event, .. } => {
+            if is_refused {
+                return Ok(());
+            }
+            add_event(alloc, all, index, log, clock, event, row)
+        }
+        _ => Ok(()),
+    }
+}
+
+/// Adds what stands open in a row at the end of the log.
+pub fn add_open(
+    alloc: Global,
+    all: &mut Vec<Value>,
+    index: &BirthIndex,
+    log: &[Entry],
+    clock: usize,
+    row: &Row,
+) -> Result<(), AllocError>
+    ensures { IsIndexOf index.now log.now → OnOk result
+        (map view all.new.items ≡ map view all.old.items ++ open_data (births (log_of log.now)) clock row.now) }
+{
+    add_both(alloc, all, index, log, clock, "get", "open", row)
+}

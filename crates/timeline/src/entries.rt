@@ -1,0 +1,100 @@
+// What the entries add, one after the other.
+
+ghost use Rattle.std.specs.Prelude.{◌≡◌, ◌++◌, [], IfOk, OnOk, map};
+ghost use Rattle.std.specs.List.{flat_map};
+ghost use Rattle.serde_json.specs.View.{view};
+ghost use Rattle.event_log.specs.Words.{births};
+ghost use Rattle.event_log.specs.Views.{log_of};
+ghost use Rattle.log_words.specs.Index.{IsIndexOf};
+ghost use Rattle.log_words.specs.Told.{nothing_told, told_of};
+ghost use Rattle.timeline.specs.Endings.{open_data, row_data};
+ghost use Rattle.timeline.specs.Entries.{entries_data, entry_data};
+
+use crate::endings::{add_open, add_row};
+use crate::marks::add_marks;
+use crate::rows::{Row, rows_after};
+use event_log::Entry;
+use log_words::{BirthIndex, Told, is_refusal_at};
+use serde_json::Value;
+use std::alloc::{AllocError, Global};
+
+fn add_rows(
+    alloc: Global,
+    all: &mut Vec<Value>,
+    index: &BirthIndex,
+    log: &[Entry],
+    clock: usize,
+    rows: &[Row],
+    entry: &Entry,
+    is_refused: bool,
+) -> Result<(), AllocError>
+    ensures { IsIndexOf index.now log.now → OnOk result (map view all.new.items
+        ≡ map view all.old.items ++ flat_map (row_data (births (log_of log.now)) clock entry.now is_refused) rows.now) }
+{
+    for row in rows {
+        add_row(alloc, all, index, log, clock, entry, is_refused, row)?;
+    }
+    Ok(())
+}
+
+#[tactic(auto, unfolding(crate::specs::Entries::entry_data))]
+fn add_entry(
+    alloc: Global,
+    all: &mut Vec<Value>,
+    index: &BirthIndex,
+    log: &[Entry],
+    clock: usize,
+    rows: &[Row],
+    entry: &Entry,
+    is_refused: bool,
+) -> Result<(), AllocError>
+    ensures { IsIndexOf index.now log.now → OnOk result (map view all.new.items
+        ≡ map view all.old.items ++ entry_data (births (log_of log.now)) clock rows.now entry.now is_refused) }
+{
+    add_rows(alloc, all, index, log, clock, rows, entry, is_refused)?;
+    add_marks(alloc, all, clock, entry, is_refused)
+}
+
+fn add_all_open(
+    alloc: Global,
+    all: &mut Vec<Value>,
+    index: &BirthIndex,
+    log: &[Entry],
+    clock: usize,
+    rows: &[Row],
+) -> Result<(), AllocError>
+    ensures { IsIndexOf index.now log.now → OnOk result
+        (map view all.new.items ≡ map view all.old.items ++ flat_map (open_data (births (log_of log.now)) clock) rows.now) }
+{
+    for row in rows {
+        add_open(alloc, all, index, log, clock, row)?;
+    }
+    Ok(())
+}
+
+/// What the entries of a log add.
+pub fn entries_json(alloc: Global, log: &[Entry]) -> Result<Vec<Value>, AllocError>
+    ensures { IfOk result (λ all. map view all.items ≡ entries_data (births (log_of log.now)) nothing_told [] log.now) }
+{
+    let index = BirthIndex::of(alloc, log)?;
+    let mut all = Vec::new(alloc);
+    let mut told = Told::new(alloc);
+    let mut rows = Vec::new(alloc);
+    for (place, entry) in log.iter().enumerate() {
+        let is_refused = is_refusal_at(log, place + 1);
+        told.note(entry, is_refused)?;
+        add_entry(
+            alloc,
+            &mut all,
+            &index,
+            log,
+            told.events,
+            &rows,
+            entry,
+            is_refused,
+        )?;
+        rows = rows_after(alloc, &told, entry, is_refused, &rows)?;
+    }
+    add_all_open(alloc, &mut all, &index, log, told.events, &rows)?;
+    Ok(all)
+}

@@ -1,0 +1,128 @@
+// The names of rows, and what happens in a moment.
+
+ghost use Rattle.std.specs.Prelude.{◌≡◌, ◌++◌, ◌∷◌, [], IfOk, OnOk, codes, map, string_bytes};
+ghost use Rattle.serde_json.specs.View.{view};
+ghost use Rattle.ids.specs.Texts.{node_text, worker_text};
+ghost use Rattle.values.specs.Values.{id_of};
+ghost use Rattle.report.specs.Values.{id_text};
+ghost use Rattle.timeline.specs.Marks.{entry_marks, event_marks, mark_data, name_data};
+
+use event_log::{Entry, Event};
+use ids::{NodeId, ObjectId, WorkerId};
+use serde_json::{Value, json};
+use std::alloc::{AllocError, Global};
+
+fn name_json(
+    alloc: Global,
+    name: &str,
+    kind: &str,
+    node: NodeId,
+    worker: u32,
+) -> Result<Value, AllocError>
+    ensures { IfOk result (λ v. view v ≡ name_data name.now kind.now node.0 worker) }
+{
+    json!(in alloc; {
+        "args": {"name": name},
+        "name": kind,
+        "ph": "M",
+        "pid": node.0,
+        "tid": worker
+    })
+}
+
+/// A death or a loss.
+pub fn mark_json(
+    alloc: Global,
+    name: &str,
+    scope: &str,
+    node: NodeId,
+    worker: u32,
+    clock: usize,
+) -> Result<Value, AllocError>
+    ensures { IfOk result (λ v. view v ≡ mark_data name.now scope.now node.0 worker clock) }
+{
+    let time = clock as u64;
+    json!(in alloc; {
+        "cat": "failure",
+        "name": name,
+        "ph": "i",
+        "pid": node.0,
+        "s": scope,
+        "tid": worker,
+        "ts": time
+    })
+}
+
+fn node_name(alloc: Global, node: NodeId) -> Result<String, AllocError>
+    ensures { IfOk result (λ s. string_bytes s ≡ node_text node) }
+{
+    format!(in alloc; "{node}")
+}
+
+fn worker_name(alloc: Global, worker: WorkerId) -> Result<String, AllocError>
+    ensures { IfOk result (λ s. string_bytes s ≡ worker_text worker) }
+{
+    format!(in alloc; "{worker}")
+}
+
+fn loss_name(alloc: Global, object: ObjectId) -> Result<String, AllocError>
+    ensures { IfOk result (λ s. string_bytes s ≡ codes "loses " ++ id_text (id_of object)) }
+{
+    format!(in alloc; "loses {object}")
+}
+
+fn add_event_marks(
+    alloc: Global,
+    all: &mut Vec<Value>,
+    clock: usize,
+    event: &Event,
+) -> Result<(), AllocError>
+    ensures { OnOk result (map view all.new.items ≡ map view all.old.items ++ event_marks clock event.now) }
+{
+    match event {
+        Event::Lose { node, object } => {
+            let name = loss_name(alloc, *object)?;
+            Ok(all.push(mark_json(alloc, name.as_str(), "p", *node, 0, clock)?)?)
+        }
+        Event::KillNode(node) => Ok(all.push(mark_json(alloc, "dies", "p", *node, 0, clock)?)?),
+        _ => Ok(()),
+    }
+}
+
+fn add_names(
+    alloc: Global,
+    all: &mut Vec<Value>,
+    worker: WorkerId,
+    node: NodeId,
+) -> Result<(), AllocError>
+    ensures { OnOk result (map view all.new.items ≡ map view all.old.items
+        ++ (name_data (node_text node) (codes "process_name") node.0 0 ∷ name_data (worker_text worker) (codes "thread_name") node.0 worker.0 ∷ [])) }
+{
+    let name = node_name(alloc, node)?;
+    all.push(name_json(alloc, name.as_str(), "process_name", node, 0)?)?;
+    let name = worker_name(alloc, worker)?;
+    all.push(name_json(alloc, name.as_str(), "thread_name", node, worker.0)?)?;
+    Ok(())
+}
+
+/// Adds what an entry adds in no worker's row.
+pub fn add_marks(
+    alloc: Global,
+    all: &mut Vec<Value>,
+    clock: usize,
+    entry: &Entry,
+    is_refused: bool,
+) -> Result<(), AllocError>
+    ensures { OnOk result (map view all.new.items ≡ map view all.old.items ++ entry_marks clock entry.now is_refused) }
+{
+    match entry {
+        Entry::Opened { worker, node } => add_names(alloc, all, *worker, *node),
+        Entry::In { event, .. } => {
+            if is_refused {
+                return Ok(());
+            }
+            add_event_marks(alloc, all, clock, event)
+        }
+        _ => Ok(()),
+    }
+}

@@ -1,0 +1,133 @@
+// The spans of a row.
+
+ghost use Rattle.std.specs.Prelude.{◌≡◌, ◌++◌, IfOk, OnOk, map, option_copied, string_bytes};
+ghost use Rattle.std.specs.Option.{option_map};
+ghost use Rattle.serde_json.specs.View.{view};
+ghost use Rattle.task_spec.specs.Births.{birth_of};
+ghost use Rattle.event_log.specs.Words.{births};
+ghost use Rattle.event_log.specs.Views.{attempt_of, log_of};
+ghost use Rattle.history.specs.Texts.{attempt_text};
+ghost use Rattle.log_words.specs.Index.{IsIndexOf};
+ghost use Rattle.timeline.specs.Spans.{args_data, attempt_spans, called, span_data, wait_spans};
+
+use crate::rows::Row;
+use event_log::Entry;
+use ids::AttemptId;
+use log_words::{BirthIndex, write_call};
+use serde_json::{Value, json};
+use std::alloc::{AllocError, Global};
+use task_spec::Birth;
+
+fn attempt_name(alloc: Global, attempt: AttemptId) -> Result<String, AllocError>
+    ensures { IfOk result (λ s. string_bytes s ≡ attempt_text (attempt_of attempt)) }
+{
+    format!(in alloc; "{attempt}")
+}
+
+fn args_json(alloc: Global, attempt: AttemptId, ending: &str) -> Result<Value, AllocError>
+    ensures { IfOk result (λ v. view v ≡ args_data (attempt_of attempt) ending.now) }
+{
+    let attempt = attempt_name(alloc, attempt)?;
+    json!(in alloc; {"attempt": attempt, "end": ending})
+}
+
+/// A span from an event to another, in the row of a worker.
+fn span_json(
+    alloc: Global,
+    name: &str,
+    category: &str,
+    args: Value,
+    since: usize,
+    row: &Row,
+    clock: usize,
+) -> Result<Value, AllocError>
+    ensures { IfOk result (λ v. view v ≡ span_data name.now category.now (view args) since row.now clock) }
+{
+    let duration = clock.saturating_sub(since) as u64;
+    let start = since as u64;
+    json!(in alloc; {
+        "args": args,
+        "cat": category,
+        "dur": duration,
+        "name": name,
+        "ph": "X",
+        "pid": row.node.0,
+        "tid": row.worker.0,
+        "ts": start
+    })
+}
+
+/// The call that an attempt runs.
+fn called(alloc: Global, attempt: AttemptId, birth: Option<&Birth>) -> Result<String, AllocError>
+    ensures { IfOk result (λ s. string_bytes s ≡ called (attempt_of attempt) (option_map birth_of (option_copied birth.entry))) }
+{
+    let Some(
+        Birth::Task {
+            function,
+            arguments,
+            ..
+        },
+    ) = birth
+    else {
+        return attempt_name(alloc, attempt);
+    };
+    let mut text = String::new(alloc);
+    write_call(&mut text, function.as_str(), arguments)?;
+    Ok(text)
+}
+
+/// Adds the attempt that the row's worker runs, up to this event.
+pub fn add_attempt(
+    alloc: Global,
+    all: &mut Vec<Value>,
+    index: &BirthIndex,
+    log: &[Entry],
+    clock: usize,
+    ending: &str,
+    row: &Row,
+) -> Result<(), AllocError>
+    ensures { IsIndexOf index.now log.now → OnOk result
+        (map view all.new.items ≡ map view all.old.items ++ attempt_spans (births (log_of log.now)) clock ending.now row.now) }
+{
+    let Some(running) = &row.running else {
+        return Ok(());
+    };
+    let attempt = running.attempt;
+    let name = called(alloc, attempt, index.birth(log, attempt.object))?;
+    let args = args_json(alloc, attempt, ending)?;
+    all.push(span_json(
+        alloc,
+        name.as_str(),
+        "attempt",
+        args,
+        running.since,
+        row,
+        clock,
+    )?)?;
+    Ok(())
+}
+
+/// Adds the get for which the attempt waits that the row's worker runs, up to this event.
+pub fn add_wait(
+    alloc: Global,
+    all: &mut Vec<Value>,
+    clock: usize,
+    name: &str,
+    ending: &str,
+    row: &Row,
+) -> Result<(), AllocError>
+    ensures { OnOk result (map view all.new.items ≡ map view all.old.items ++ wait_spans clock name.now ending.now row.now) }
+{
+    let Some(running) = &row.running else {
+        return Ok(());
+    };
+    let Some(since) = running.waits else {
+        return Ok(());
+    };
+    if since == clock {
+        return Ok(());
+    }
+    let args = args_json(alloc, running.attempt, ending)?;
+    all.push(span_json(alloc, name, "get", args, since, row, clock)?)?;
+    Ok(())
+}

@@ -1,3 +1,4 @@
 pub mod Begun
 pub mod Reading
 pub mod Refused
+pub mod Simulated

@@ -3,12 +3,11 @@ use Rattle.std.proofs.Common.{◌≡◌, ◌∙◌, ◌<◌, ◌≤◌, ℕ, Lis
 use Rattle.std.specs.Prelude.{IfSome}
 use Rattle.std.proofs.lemmas.Bool.{cases_lt}
 use Rattle.std.proofs.lemmas.List.{take_all, length-take-le}
-use Rattle.meaning.specs.Syntax.{Script}
 use Rattle.script_tokens.specs.declared.error.SyntaxError.TheVariants as syntax
 use Rattle.script_syntax.specs.Trees.{Program}
 use Rattle.script_syntax.specs.Grammar.{Reads}
 use Rattle.raysim_streams.specs.declared.Refusal.TheVariants.{At}
-use Rattle.raysim_commands.specs.Scripts.{IsScript, IsNoScriptFor}
+use Rattle.raysim_commands.specs.Scripts.{IsNoScriptFor}
 
 -- a long text reads as no program
 too_long : (bytes : List ℕ) → 65536 < length bytes → (program : Program) → Reads bytes program → ⊥
@@ -43,4 +42,15 @@ known_short (Some b) all same less = elim (cases_lt 65536 (length b)) [
       let cut : length all ≡ 65537 = ap length same ∙ length-take-le 65537 b (omega arith) in
       let bad : ⊥ = omega arith in absurd bad
   | inr shorter ↦ same ∙ take_all 65537 b (omega arith)
+]
+
+-- where less was read than might have been, all was
+pub known_whole : (known : Option (List ℕ)) (all : List ℕ) (most : ℕ) → IfSome known (λ b. all ≡ take most b) → length all < most →
+    IfSome known (λ b. all ≡ b)
+known_whole None all most same less = tt
+known_whole (Some b) all most same less = elim (cases_lt (length b) most) [
+  | inl shorter ↦ same ∙ take_all most b (omega (arith, shorter))
+  | inr longer ↦
+      let cut : length all ≡ most = ap length same ∙ length-take-le most b longer in
+      let bad : ⊥ = omega (arith, cut, less) in absurd bad
 ]

@@ -12,7 +12,7 @@ use Rattle.script_check.specs.Rules.{IsCheckedOf}
 use Rattle.script_check.specs.declared.error.CheckError.{CheckError}
 use Rattle.script_check.specs.declared.error.CheckError.TheVariants as faults
 use Rattle.raysim_streams.specs.declared.Refusal.{Refusal}
-use Rattle.raysim_streams.specs.declared.Refusal.TheVariants.{At, NoMemory, Stopped, Failed}
+use Rattle.raysim_streams.specs.declared.Refusal.TheVariants.{At, NoMemory, Stopped, BadLine, Failed}
 use Rattle.raysim_commands.specs.Scripts.{IsNoScript, IsRefusalOf, IsNoScriptFor, syntax_refusal, check_refusal, Explains}
 use Rattle.raysim_commands.specs.RunReports.{ExplainsRun}
 
@@ -30,6 +30,7 @@ abbrev pub HasPlace : Refusal → Type 0
 HasPlace (At code span) = Unit {0}
 HasPlace NoMemory = ⊥
 HasPlace (Stopped code) = ⊥
+HasPlace (BadLine line) = ⊥
 HasPlace (Failed failure) = ⊥
 
 placed_syntax : (e : SyntaxError) → HasPlace (syntax_refusal e) → e ≡ syntax.NoMemory → ⊥
@@ -48,6 +49,7 @@ abbrev pub IsOfText : Refusal → Type 0
 IsOfText (At code span) = Unit {0}
 IsOfText NoMemory = Unit {0}
 IsOfText (Stopped code) = ⊥
+IsOfText (BadLine line) = ⊥
 IsOfText (Failed failure) = ⊥
 
 of_text_syntax : (e : SyntaxError) → IsOfText (syntax_refusal e)
@@ -79,6 +81,7 @@ explains_read None text a b (At code span) h k = tt
 explains_read (Some bytes) text a b (At code span) h k = subst (λ t. IsNoScriptFor t (At code span)) h (record { none = no_script text code span k; told = k })
 explains_read known text a b NoMemory h k = tt
 explains_read known text a b (Stopped code) h k = absurd (of_text text (Stopped code) k)
+explains_read known text a b (BadLine line) h k = absurd (of_text text (BadLine line) k)
 explains_read known text a b (Failed failure) h k = absurd (of_text text (Failed failure) k)
 
 -- `run` refuses for the other commands' causes
@@ -86,4 +89,5 @@ pub explains_as_others : (known : Option (List ℕ)) (read_failed write_failed :
 explains_as_others known a b (At code span) h = h
 explains_as_others known a b NoMemory h = h
 explains_as_others known a b (Stopped code) h = absurd h
+explains_as_others known a b (BadLine line) h = absurd h
 explains_as_others known a b (Failed failure) h = h

@@ -1,3 +1,4 @@
 pub mod RunReports
 pub mod Scripts
 pub mod SerialReports
+pub mod SimReports

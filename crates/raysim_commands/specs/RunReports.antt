@@ -10,7 +10,7 @@ use Rattle.board.specs.Stops.{stopped_code}
 use Rattle.board.specs.Meant.{IsSoundLog}
 use Rattle.board.specs.Drives.{EndsSo, StopsSo}
 use Rattle.raysim_streams.specs.declared.Refusal.{Refusal}
-use Rattle.raysim_streams.specs.declared.Refusal.TheVariants.{At, NoMemory, Stopped as Stops, Failed}
+use Rattle.raysim_streams.specs.declared.Refusal.TheVariants.{At, NoMemory, Stopped as Stops, BadLine, Failed}
 use Rattle.raysim_commands.specs.Scripts.{IsScript, Explains}
 
 -- a run of the script ends so: it was driven until no worker was ready, and what its log then means
@@ -29,6 +29,7 @@ IsRunStop script (At code span) = ⊥
 IsRunStop script NoMemory = Unit {0}
 IsRunStop script (Stops code) =
     (c : RunState) × (stopped : Stopped) × StopsSo script first_state c stopped × (code ≡ stopped_code stopped)
+IsRunStop script (BadLine line) = ⊥
 IsRunStop script (Failed failure) = ⊥
 
 -- the text is a script, and the report of its run was written
@@ -47,4 +48,5 @@ abbrev pub ExplainsRun : Option (List ℕ) → Bool → Bool → Refusal → Typ
 ExplainsRun text read_failed write_failed (Stops code) = IfSome text (λ bytes. (script : Script) × IsScript bytes script × IsRunStop script (Stops code))
 ExplainsRun text read_failed write_failed (At code span) = Explains text read_failed write_failed (At code span)
 ExplainsRun text read_failed write_failed NoMemory = Explains text read_failed write_failed NoMemory
+ExplainsRun text read_failed write_failed (BadLine line) = Explains text read_failed write_failed (BadLine line)
 ExplainsRun text read_failed write_failed (Failed failure) = Explains text read_failed write_failed (Failed failure)

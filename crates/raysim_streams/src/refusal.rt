@@ -18,6 +18,8 @@ pub enum Refusal {
     NoMemory,
     /// A run was stopped before its end, for the reason of this number (20 to 41): `refused 41`.
     Stopped { code: u16 },
+    /// The line of that number, counted from 1, of an event file or a plan is none of the format: `refused 40 line 2`.
+    BadLine { line: u64 },
     /// A read or a write failed: `refused 50`.
     Failed(Failure),
 }
@@ -31,6 +33,7 @@ impl Refusal {
             Refusal::At { code, span: _ } => code,
             Refusal::NoMemory => 39,
             Refusal::Stopped { code } => code,
+            Refusal::BadLine { line: _ } => 40,
             Refusal::Failed(_) => 50,
         }
     }
@@ -51,6 +54,7 @@ impl fmt::Display for Refusal {
             }
             Refusal::NoMemory => write!(f, "refused 39"),
             Refusal::Stopped { code } => write!(f, "refused {code}"),
+            Refusal::BadLine { line } => write!(f, "refused 40 line {line}"),
             Refusal::Failed(_) => write!(f, "refused 50"),
         }
     }

@@ -1,0 +1,3 @@
+mod Jobs
+mod Meant
+mod Playing

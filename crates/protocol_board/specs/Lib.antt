@@ -1,0 +1,5 @@
+pub mod Meant
+pub mod Replays
+pub mod Reports
+pub mod Stops
+pub mod Views

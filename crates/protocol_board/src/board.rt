@@ -1,0 +1,115 @@
+// Boards.
+
+ghost use Rattle.std.specs.Prelude.{◌≡◌, IfOk, string_bytes};
+ghost use Rattle.std.specs.Option.{option_map};
+ghost use Rattle.event_log.specs.Views.{event_of, log_of};
+ghost use Rattle.protocol.specs.Settling.{next};
+ghost use Rattle.protocol_core.specs.Steps.{Answers, reply_of};
+ghost use Rattle.protocol_core.specs.Views.{state_of};
+ghost use Rattle.history.specs.Main.{status_of};
+ghost use Rattle.history.specs.Report.{report_text};
+ghost use Rattle.protocol_board.specs.Meant.{IsSoundLog};
+ghost use Rattle.protocol_board.specs.Reports.{json_text};
+
+use event_log::{Entry, Event};
+use history::{report_text, status_of};
+use meaning_laws::law::{legal_logs_read_as_serial, main_begins_the_serial_run};
+use numbers::WorkerId;
+use protocol_core::{Core, Reply};
+use report_json::report_json;
+use segment::{Done, ScriptName};
+use sequence::Seq;
+use std::alloc::{AllocError, Global};
+use std::marker::Model;
+
+/// The run of the script `S`. Whatever events were applied, its log is legal: what main was answered and has printed begins what
+/// it is answered and prints when every remote call is a plain call, and so does what each attempt was answered and has printed
+/// begin the serial run of its own call.
+#[derive(Drop)]
+pub struct Board<S: ScriptName> {
+    core: Core<S>,
+}
+
+impl<S: ScriptName> Model for Board<S> {
+    ghost use Rattle.std.specs.Coded.{codes};
+    ghost use Rattle.held.specs.Codes.{value_code, outcome_code, birth_code, id_code};
+    ghost use Rattle.numbers.specs.Codes.{attempt_code, fault_code};
+    ghost use Rattle.values.specs.contracts.value.RunValue as run_values;
+    ghost use Rattle.event_log.specs.Views.{log_of};
+    ghost use Rattle.protocol_core.specs.Views.{RunData};
+    ghost use Rattle.protocol_board.specs.Meant.{IsSoundLog};
+
+    ghost Value = { RunData };
+
+    ghost coded = { Prim.hlevel (codes, run_values.the_row.coded, value_code, outcome_code, birth_code, id_code, attempt_code, fault_code) };
+
+    ghost view = { λ b. b.core };
+
+    ghost invariant = { λ b. IsSoundLog S.script b.core.first_nodes (log_of b.core.log) };
+}
+
+impl<S: ScriptName> Board<S> {
+    /// A board over the core.
+    pub fn new(core: Core<S>) -> Board<S>
+        ensures { result ≡ core }
+    {
+        legal_logs_read_as_serial();
+        main_begins_the_serial_run();
+        let _ = core.log();
+        Board { core }
+    }
+
+    /// One event, as the core takes it: see `Core::apply`.
+    pub fn apply(
+        &mut self,
+        alloc: Global,
+        event: Event,
+        seat: u8,
+        done: Option<Done<S>>,
+    ) -> Reply<S>
+        ensures answers { Answers (state_of self.old) (event_of event) seat done (state_of self.new) (reply_of result) }
+        ensures meant { IsSoundLog S.script self.new.first_nodes (log_of self.new.log) }
+    {
+        legal_logs_read_as_serial();
+        main_begins_the_serial_run();
+        self.core.apply(alloc, event, seat, done)
+    }
+
+    /// The next event where nothing else is asked for: see `Core::next`.
+    pub fn next(&self, but: &Seq<WorkerId>) -> Option<Event>
+        ensures { option_map event_of result ≡ next self.now.whole but.now }
+    {
+        self.core.next(but)
+    }
+
+    /// The entries so far, oldest first.
+    pub fn log(&self) -> &[Entry]
+        ensures log { result.now ≡ self.now.log }
+        ensures meant { IsSoundLog S.script self.now.first_nodes (log_of self.now.log) }
+    {
+        self.core.log()
+    }
+
+    /// The report of the log: see docs/runs.md for its lines. Where memory runs out there is none.
+    pub fn report(&self, alloc: Global) -> Result<String, AllocError>
+        ensures text { IfOk result (λ text. string_bytes text ≡ report_text (log_of self.now.log)) }
+        ensures meant { IsSoundLog S.script self.now.first_nodes (log_of self.now.log) }
+    {
+        report_text(alloc, self.log())
+    }
+
+    /// The report of the log as JSON, on one line that ends with a line feed: see `report_json::report_json`.
+    pub fn report_json(&self, alloc: Global) -> Result<String, AllocError>
+        ensures text { IfOk result (λ text. string_bytes text ≡ json_text (log_of self.now.log)) }
+        ensures meant { IsSoundLog S.script self.now.first_nodes (log_of self.now.log) }
+    {
+        report_json(alloc, self.log())
+    }
+
+    /// The status that a program ends with: 0 where main ended with a value, 1 where it ended with a trap, 2 where it is open or has a fault.
+    pub fn status(&self) -> u8
+        ensures { result ≡ status_of (log_of self.now.log) }
+    {
+        status_of(self.log())
+    }
+}

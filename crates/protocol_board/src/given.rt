@@ -1,0 +1,87 @@
+// The jobs that were given out and not handed in yet.
+
+ghost use Rattle.std.specs.Prelude.{◌≡◌, false, IfOk, OnOk, IfErr};
+ghost use Rattle.script_check.specs.Trees.{script_of};
+ghost use Rattle.event_log.specs.Views.{event_of};
+ghost use Rattle.protocol_core.specs.Steps.{reply_of};
+ghost use Rattle.protocol_board.specs.Replays.{IsDoneOn, found_no_memory, handed_in, is_no_memory, job_at, job_for, left_by, with_given};
+ghost use Rattle.protocol_board.specs.declared.stopped.Stopped.TheVariants.{NoMemory};
+
+use crate::stopped::Stopped;
+use event_log::{Event, Refusal};
+use number_lists::place_of;
+use protocol_core::Reply;
+use script_check::Checked;
+use segment::{Done, Job, ScriptName};
+use sequence::Seq;
+use std::alloc::Global;
+
+/// Takes out the job of that number, if it was given out and not handed in yet.
+#[tactic(auto, using(crate::proofs::Jobs::job_there, crate::proofs::Jobs::no_job, crate::proofs::Jobs::taken_out, crate::proofs::Jobs::none_out))]
+fn take_job<S: ScriptName>(jobs: &mut Seq<Option<Job<S>>>, number: u64) -> Option<Job<S>>
+    ensures job { result ≡ job_at jobs.old number }
+    ensures rest { jobs.new ≡ handed_in jobs.old number }
+{
+    let Some(place) = place_of(number, jobs.len()) else {
+        return None;
+    };
+    let job = &mut jobs.items[place];
+    job.take()
+}
+
+/// Takes out the job that the event hands in.
+pub fn hand_in<S: ScriptName>(jobs: &mut Seq<Option<Job<S>>>, event: Event) -> Option<Job<S>>
+    ensures job { result ≡ job_for (event_of event) jobs.old }
+    ensures rest { jobs.new ≡ left_by (event_of event) jobs.old }
+{
+    match event {
+        Event::Commit(number) => take_job(jobs, number),
+        _ => None,
+    }
+}
+
+/// Runs the job, if there is one.
+pub fn run_job<S: ScriptName>(
+    alloc: Global,
+    script: &Checked,
+    job: Option<Job<S>>,
+) -> Result<Option<Done<S>>, Stopped>
+    requires { script_of script.now ≡ S.script }
+    ensures done { IfOk result (λ done. IsDoneOn S.script job done) }
+    ensures stopped { IfErr result (λ stopped. stopped ≡ NoMemory) }
+{
+    let Some(job) = job else {
+        return Ok(None);
+    };
+    match job.run(alloc, script) {
+        Ok(done) => Ok(Some(done)),
+        Err(_) => Err(Stopped::NoMemory),
+    }
+}
+
+fn is_no_memory(refusal: Refusal) -> bool
+    ensures { result ≡ is_no_memory refusal }
+{
+    matches!(refusal, Refusal::NoMemory)
+}
+
+/// Keeps the job that is given out; it fails where the event or the job finds no memory.
+pub fn keep<S: ScriptName>(jobs: &mut Seq<Option<Job<S>>>, told: Reply<S>) -> Result<(), Stopped>
+    ensures jobs { OnOk result (jobs.new ≡ with_given (reply_of told) jobs.old) }
+    ensures goes_on { OnOk result (found_no_memory (reply_of told) ≡ false) }
+    ensures stopped { IfErr result (λ stopped. stopped ≡ NoMemory) }
+{
+    match told {
+        Reply::Job(job) => {
+            jobs.push(Some(job))?;
+            Ok(())
+        }
+        Reply::Ok => Ok(()),
+        Reply::Refused(refusal) => {
+            if is_no_memory(refusal) {
+                return Err(Stopped::NoMemory);
+            }
+            Ok(())
+        }
+    }
+}

@@ -1,0 +1,154 @@
+// The replay of an event file.
+
+ghost use Rattle.std.specs.Prelude.{◌≡◌, [], IfOk, OnOk, IfErr};
+ghost use Rattle.std.specs.Option.{option_map};
+ghost use Rattle.script_check.specs.Trees.{script_of};
+ghost use Rattle.event_log.specs.Views.{event_of};
+ghost use Rattle.protocol.specs.Settling.{next};
+ghost use Rattle.protocol_board.specs.Replays.{ComesToRest, LinePlays, LineStops, PlayStops, Plays, SettleStops, Step, StopsAt, numbers_of};
+ghost use Rattle.protocol_board.specs.Views.{play_of};
+
+use crate::board::Board;
+use crate::given::{hand_in, keep, run_job};
+use crate::stopped::Stopped;
+use event_files::{Line, MOST_EVENTS};
+use event_log::Event;
+use numbers::WorkerId;
+use protocol_core::Core;
+use script_check::Checked;
+use segment::{Job, ScriptName};
+use sequence::Seq;
+use std::alloc::{AllocError, Global};
+use std::marker::Model;
+
+/// A run to which the events of a file are applied, one after the other. With the first commit of a job comes what was done on it, and
+/// with every other event nothing.
+#[derive(Drop)]
+pub struct Replay<S: ScriptName> {
+    board: Board<S>,
+    /// The jobs that were given out, by number, and not handed in yet.
+    jobs: Seq<Option<Job<S>>>,
+    /// How many events were applied, refused ones too.
+    applied: usize,
+}
+
+impl<S: ScriptName> Model for Replay<S> {
+    ghost use Rattle.std.specs.Coded.{codes};
+    ghost use Rattle.held.specs.Codes.{value_code, outcome_code, birth_code, id_code};
+    ghost use Rattle.numbers.specs.Codes.{attempt_code, fault_code};
+    ghost use Rattle.values.specs.contracts.value.RunValue as run_values;
+    ghost use Rattle.protocol_board.specs.Views.{PlayData};
+
+    ghost Value = { PlayData };
+
+    ghost coded = { Prim.hlevel (codes, run_values.the_row.coded, value_code, outcome_code, birth_code, id_code, attempt_code, fault_code) };
+
+    ghost view = { λ r. record { run = r.board; jobs = r.jobs; applied = r.applied } };
+}
+
+/// The workers of a settle, as a run takes them.
+fn numbers_of(alloc: Global, workers: &Seq<ids::WorkerId>) -> Result<Seq<WorkerId>, AllocError>
+    ensures { IfOk result (λ numbers. numbers ≡ numbers_of workers.now) }
+{
+    let mut numbers = Seq::new(alloc);
+    for worker in &workers.items {
+        numbers.push(WorkerId(worker.0))?;
+    }
+    Ok(numbers)
+}
+
+impl<S: ScriptName> Replay<S> {
+    /// A replay that begins.
+    pub fn new(alloc: Global, core: Core<S>) -> Replay<S>
+        ensures { result ≡ record { run = core; jobs = []; applied = 0 } }
+    {
+        Replay {
+            board: Board::new(core),
+            jobs: Seq::new(alloc),
+            applied: 0,
+        }
+    }
+
+    /// The run as it is now.
+    pub fn board(&self) -> &Board<S>
+        ensures { result.now ≡ self.now.run }
+    {
+        &self.board
+    }
+
+    /// Applies one event.
+    fn apply(&mut self, alloc: Global, script: &Checked, event: Event) -> Result<(), Stopped>
+        requires { script_of script.now ≡ S.script }
+        ensures step { OnOk result (Step S.script (play_of self.old) (event_of event) (play_of self.new)) }
+        ensures stops { IfErr result (λ stopped. StopsAt S.script (play_of self.old) (event_of event) (play_of self.new) stopped) }
+    {
+        if self.applied >= MOST_EVENTS {
+            return Err(Stopped::TooLong);
+        }
+        let job = hand_in(&mut self.jobs, event);
+        let done = run_job(alloc, script, job)?;
+        self.applied += 1;
+        let told = self.board.apply(alloc, event, 0, done);
+        keep(&mut self.jobs, told)
+    }
+
+    /// The next event where nothing else is asked for.
+    fn next(&self, but: &Seq<WorkerId>) -> Option<Event>
+        ensures { option_map event_of result ≡ next self.now.run.whole but.now }
+    {
+        self.board.next(but)
+    }
+
+    /// Applies the events that the settle rule names, without those of some workers, until it names none.
+    fn settle(
+        &mut self,
+        alloc: Global,
+        script: &Checked,
+        but: &Seq<WorkerId>,
+    ) -> Result<(), Stopped>
+        requires { script_of script.now ≡ S.script }
+        ensures rests { OnOk result (ComesToRest S.script but.now (play_of self.old) (play_of self.new)) }
+        ensures stops { IfErr result (λ stopped. SettleStops S.script but.now (play_of self.old) (play_of self.new) stopped) }
+    {
+        while let Some(event) = self.next(but) {
+            self.apply(alloc, script, event)?;
+        }
+        Ok(())
+    }
+
+    /// Applies what a line says.
+    fn play_line(&mut self, alloc: Global, script: &Checked, line: &Line) -> Result<(), Stopped>
+        requires { script_of script.now ≡ S.script }
+        ensures plays { OnOk result (LinePlays S.script line.now (play_of self.old) (play_of self.new)) }
+        ensures stops { IfErr result (λ stopped. LineStops S.script line.now (play_of self.old) (play_of self.new) stopped) }
+    {
+        match line {
+            Line::Event(event) => self.apply(alloc, script, *event),
+            Line::Settle(workers) => {
+                let but = numbers_of(alloc, workers)?;
+                self.settle(alloc, script, &but)
+            }
+        }
+    }
+
+    /// Applies what the lines say, one after the other: an event line its event, and a settle line the events that the settle rule names,
+    /// until it names none; see docs/protocol.md, "The settle rule". Each event comes from seat 0, and with the first commit of a job
+    /// comes what was done on it.
+    ///
+    /// It stops with `NoMemory` where an event finds no memory, and with `TooLong` before event 100,001.
+    pub fn play(
+        &mut self,
+        alloc: Global,
+        script: &Checked,
+        lines: &Seq<Line>,
+    ) -> Result<(), Stopped>
+        requires { script_of script.now ≡ S.script }
+        ensures plays { OnOk result (Plays S.script lines.now (play_of self.old) (play_of self.new)) }
+        ensures stops { IfErr result (λ stopped. PlayStops S.script lines.now (play_of self.old) (play_of self.new) stopped) }
+    {
+        for line in &lines.items {
+            self.play_line(alloc, script, line)?;
+        }
+        Ok(())
+    }
+}

@@ -1,0 +1,37 @@
+// Why a replay is stopped.
+
+ghost use Rattle.std.specs.Prelude.{◌≡◌};
+ghost use Rattle.protocol_board.specs.Stops.{stopped_code};
+
+use std::alloc::AllocError;
+
+/// Why a replay is stopped before its last event.
+#[derive(Clone, Copy, PartialEq, Eq, Debug, Drop)]
+pub enum Stopped {
+    /// 39: a growth was refused.
+    NoMemory,
+    /// 41: more than 100,000 events would be applied.
+    TooLong,
+}
+
+impl Stopped {
+    /// The number that is printed.
+    pub fn number(self) -> u16
+        ensures { result ≡ stopped_code self }
+    {
+        match self {
+            Stopped::NoMemory => 39,
+            Stopped::TooLong => 41,
+        }
+    }
+}
+
+impl From<AllocError> for Stopped {
+    ghost use Rattle.protocol_board.specs.declared.stopped.Stopped.TheVariants.{NoMemory};
+
+    ghost from_gives = { λ _ e. e ≡ NoMemory };
+
+    fn from(_error: AllocError) -> Stopped {
+        Stopped::NoMemory
+    }
+}

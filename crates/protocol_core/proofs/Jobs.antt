@@ -1,0 +1,127 @@
+-- Jobs that are given out, and what is handed in as done on them.
+use Rattle.std.proofs.Common.{◌≡◌, ℕ, Bool, true, false, List, [], ◌++◌, map, Option, Some, None, IfSome, refl, sym, ap, ◌∙◌, subst, inl, inr, if◌then◌else◌}
+use Rattle.meaning.specs.Values as meant
+use Rattle.meaning.specs.Values.{Put, Task, main_birth}
+use Rattle.meaning.specs.Syntax.{Number, Parameter, Script}
+use Rattle.meaning.specs.Kinds.{IsBirthOf, MarkedOf}
+use Rattle.meaning.specs.Meaning.{replay}
+use Rattle.kind_laws.specs.Law.{HasKind}
+use Rattle.script_check.specs.Scripts.{IsWellTyped}
+use Rattle.values.specs.Values.{value_of}
+use Rattle.task_spec.specs.Births.{birth_of}
+use Rattle.evaluation.specs.declared.piece.Stop.{Stop}
+use Rattle.evaluation.specs.declared.piece.Stop.TheVariants as stops
+use Rattle.evaluation.specs.Pieces as pieces
+use Rattle.segment.specs.Jobs.{JobData, Done, IsTaskOf, IsBegun, IsTrueOf}
+use Rattle.event_log.specs.Entries.{Entry, Event, Claim, Commit, Deliver, Tick, Notice, NoticeNode, Evict, Lose, Kill, KillNode, Join}
+use Rattle.exchange.specs.Jobs.{job_in, stopped_of, work_of}
+use Rattle.protocol.specs.Answers.{Refuses, answer, decided, given_out, job_of, limited, takes}
+use Rattle.protocol.specs.Events.{happens}
+use Rattle.protocol.specs.Jobs.{Given, Handed, Job, Nothing, OfAnother, OfJob, Outcomes}
+use Rattle.protocol.specs.Jobs as jobs
+use Rattle.protocol.specs.Numbered.{item_at}
+use Rattle.protocol.specs.Refusals.{is_within_limits, refusal}
+use Rattle.protocol.specs.Tables.{Run, Worker}
+use Rattle.protocol.specs.Whole.{Moved, Whole, worker_at}
+use Rattle.protocol_legal.specs.Knows.{IsTask}
+use Rattle.protocol_laws.specs.Coming.{IsRight}
+use Rattle.protocol_laws.specs.Given.{IsGood, GivesGood, ClaimsGiveGoodJobs}
+use Rattle.protocol_laws.specs.Sound.{IsSound}
+use Rattle.protocol_core.specs.States.{beside}
+use Rattle.protocol_core.specs.Steps.{IsHanded, IsOut, IsOutAs}
+
+-- ---- jobs that are given out
+
+pub main_kind : (script : Script) → IsWellTyped script → IsBirthOf script main_birth Number
+main_kind script typed =
+    let f = typed.main.0 in
+    let P : List Parameter → Type 0 = λ ps. MarkedOf [] ps in
+    (f, typed.main.1, subst P (sym typed.main.2) tt, sym typed.main.3)
+
+task_of : (script : Script) (b : meant.Birth) → IsTask b → HasKind script b → IsTaskOf script b
+task_of script (Put v) t k = absurd t
+task_of script (Task g args depth retries) t k = let h = k.1 in (h.0, h.1, h.2)
+
+-- a good job is one that may be run
+pub begun : (script : Script) (d : JobData) → IsGood script (job_in d) → IsBegun script d
+begun script d h = record {
+  task = task_of script (birth_of d.spec) h.task h.kind;
+  answers = h.answers;
+  births = h.births;
+  printed = h.prints;
+}
+
+-- an event that is no claim gives out no job
+gives_none : (script : Script) (m : Moved) (b : Bool) → GivesGood script (if b then takes m None else Refuses 37)
+gives_none script m true = tt
+gives_none script m false = tt
+
+no_job : (script : Script) (c : Whole) (e : Event) (handed : Handed) → given_out c e ≡ None → (o : Option ℕ) → GivesGood script (decided c e handed o)
+no_job script c e handed none (Some code) = tt
+no_job script c e handed none None =
+    let m : Moved = happens c e handed in
+    subst (λ g. GivesGood script (limited m g)) (sym none) (gives_none script m (is_within_limits m.whole))
+
+-- each job that is given out may be run
+pub gives_good : (script : Script) → IsWellTyped script → ClaimsGiveGoodJobs → (nodes : ℕ) (log : List Entry) (c : Whole) → IsSound (beside script nodes []) log c →
+    (e : Event) (handed : Handed) → GivesGood script (answer c e handed)
+gives_good script typed law nodes log c sound (Claim w) handed = law (beside script nodes []) typed.checks (main_kind script typed) log c sound w handed
+gives_good script typed law nodes log c sound (Commit j) handed = no_job script c (Commit j) handed refl (refusal c (Commit j) handed)
+gives_good script typed law nodes log c sound (Deliver k) handed = no_job script c (Deliver k) handed refl (refusal c (Deliver k) handed)
+gives_good script typed law nodes log c sound (Tick w) handed = no_job script c (Tick w) handed refl (refusal c (Tick w) handed)
+gives_good script typed law nodes log c sound (Notice w v) handed = no_job script c (Notice w v) handed refl (refusal c (Notice w v) handed)
+gives_good script typed law nodes log c sound (NoticeNode w n) handed = no_job script c (NoticeNode w n) handed refl (refusal c (NoticeNode w n) handed)
+gives_good script typed law nodes log c sound (Evict n o) handed = no_job script c (Evict n o) handed refl (refusal c (Evict n o) handed)
+gives_good script typed law nodes log c sound (Lose n o) handed = no_job script c (Lose n o) handed refl (refusal c (Lose n o) handed)
+gives_good script typed law nodes log c sound (Kill w) handed = no_job script c (Kill w) handed refl (refusal c (Kill w) handed)
+gives_good script typed law nodes log c sound (KillNode n) handed = no_job script c (KillNode n) handed refl (refusal c (KillNode n) handed)
+gives_good script typed law nodes log c sound Join handed = no_job script c Join handed refl (refusal c Join handed)
+
+-- ---- what is handed in
+
+same_stop : (stop : Stop) → jobs.stop_of (stopped_of stop) ≡ pieces.stop_of stop
+same_stop (stops.Needs y) = refl
+same_stop (stops.Ends c) = refl
+
+-- what was done on a job goes on as the replay of its attempt does
+abbrev IsTrueOn : Script → Job → Outcomes → Type 0
+IsTrueOn script job d =
+    replay script job.spec job.base job.answers ≡ record { births = job.births ++ d.births; prints = job.prints ++ d.prints; stop = jobs.stop_of d.stop }
+
+true_on : (script : Script) (d : Done) → IsTrueOf script d → IsTrueOn script (job_in d.job) (work_of d.births d.prints d.stop)
+true_on script d h =
+    h ∙ ap (λ stop. record { births = map birth_of d.job.births ++ map birth_of d.births; prints = map value_of d.job.printed ++ map value_of d.prints; stop = stop }) (sym (same_stop d.stop))
+
+-- one attempt is out as that job
+one_out : (c : Whole) (j : ℕ) (run : Run) → IsOutAs c j run → (g : Given) (x : Worker) (other : Run) → item_at c.jobs j ≡ Some g → worker_at c g.worker ≡ Some x → x.run ≡ Some other → run ≡ other
+one_out c j run out g x other given worker runs =
+    let same_given : out.given ≡ g = some_of out.given g (sym out.was_given ∙ given) in
+    let same_worker : out.worker ≡ x = some_of out.worker x (sym out.of_worker ∙ (ap (λ (h : Given). worker_at c h.worker) same_given ∙ worker)) in
+    some_of run other (sym out.runs ∙ (ap (λ (w : Worker). w.run) same_worker ∙ runs))
+  where
+    some_of : {X : Type 0} (a b : X) → Some a ≡ Some b → a ≡ b
+    some_of a b e = cc
+
+right_job : (script : Script) (nodes : ℕ) (c : Whole) (j : ℕ) (d : Done) → IsTrueOf script d → IsOut c j (job_in d.job) → IsRight (beside script nodes []) c (Commit j) (OfJob (work_of d.births d.prints d.stop))
+right_job script nodes c j d is_true out g x run given worker runs is_out =
+    let same : job_in d.job ≡ job_of j run = out.2 ∙ ap (λ r. job_of j r) (one_out c j out.0 out.1 g x run given worker runs) in
+    subst (λ job. IsTrueOn script job (work_of d.births d.prints d.stop)) same (true_on script d is_true)
+
+right_for : (script : Script) (nodes : ℕ) (c : Whole) (j : ℕ) (d : Option Done) (h : Handed) → IsHanded c (Commit j) d h → IfSome d (λ x. IsTrueOf script x) → IsRight (beside script nodes []) c (Commit j) h
+right_for script nodes c j None h e is_true = subst (λ x. IsRight (beside script nodes []) c (Commit j) x) (sym e) tt
+right_for script nodes c j (Some d) h (inr e) is_true = subst (λ x. IsRight (beside script nodes []) c (Commit j) x) (sym e.0) tt
+right_for script nodes c j (Some d) h (inl e) is_true = subst (λ x. IsRight (beside script nodes []) c (Commit j) x) (sym e.0) (right_job script nodes c j d is_true e.1)
+
+-- what is handed in as done on a job of the run is true of it
+pub right : (script : Script) (nodes : ℕ) (c : Whole) (e : Event) (d : Option Done) (h : Handed) → IsHanded c e d h → IfSome d (λ x. IsTrueOf script x) → IsRight (beside script nodes []) c e h
+right script nodes c (Claim w) d h e is_true = tt
+right script nodes c (Commit j) d h e is_true = right_for script nodes c j d h e is_true
+right script nodes c (Deliver k) d h e is_true = tt
+right script nodes c (Tick w) d h e is_true = tt
+right script nodes c (Notice w v) d h e is_true = tt
+right script nodes c (NoticeNode w n) d h e is_true = tt
+right script nodes c (Evict n o) d h e is_true = tt
+right script nodes c (Lose n o) d h e is_true = tt
+right script nodes c (Kill w) d h e is_true = tt
+right script nodes c (KillNode n) d h e is_true = tt
+right script nodes c Join d h e is_true = tt

@@ -1,0 +1,156 @@
+-- What is kept of a run, event by event.
+use Rattle.std.proofs.Common.{◌≡◌, ℕ, ◌<◌, true, false, List, [], ◌++◌, Option, Some, None, IfSome, refl, sym, ap, ◌∙◌, subst}
+use Rattle.meaning.specs.Syntax.{Script}
+use Rattle.script_check.specs.Scripts.{IsWellTyped}
+use Rattle.event_log.specs.Entries.{Entry, Event}
+use Rattle.event_log.specs.Views.{code_of}
+use Rattle.event_log.specs.declared.refusal.Refusal.{Refusal}
+use Rattle.segment.specs.Jobs.{JobData, Done, IsBegun, IsTrueOf}
+use Rattle.answers.specs.Replies.{outcome_of, reply_of}
+use Rattle.answers.specs.declared.reply.Reply.{Reply}
+use Rattle.answers.specs.declared.reply.Outcome.{Outcome}
+use Rattle.answers.specs.declared.reply.Outcome.TheVariants.{Taken, Refused}
+use Rattle.exchange.specs.Jobs.{job_in}
+use Rattle.protocol.specs.Answers.{Answer, Takes, Refuses, answer, logged, whole_after}
+use Rattle.protocol.specs.Jobs.{Handed, Job}
+use Rattle.protocol_laws.specs.Given.{IsGood, IsGoodIfGiven, GivesGood, ClaimsGiveGoodJobs}
+use Rattle.protocol_laws.specs.Law.{EventsKeepSound, OpeningIsSound, SoundIsLegal}
+use Rattle.protocol_laws.specs.Sound.{IsSound}
+use Rattle.protocol_core.specs.States.{RunState, IsLegal, IsSoundRun, beside, first_state}
+use Rattle.protocol_core.specs.Steps.{Accepts, GivesJob, GivesThat, IsHanded, IsApplied, Applies, RunsOut, Tells}
+use Rattle.protocol_core.specs.Steps as told
+use Rattle.protocol_core.proofs.Jobs.{begun, gives_good, right}
+
+-- ---- what is kept
+
+pub kept_of : (script : Script) (c : RunState) → SoundIsLegal → IsWellTyped script → 0 < c.first_nodes → IsSound (beside script c.first_nodes []) c.log c.whole → IsSoundRun script c
+kept_of script c law typed nodes sound = record {
+  typed = typed;
+  nodes = nodes;
+  legal = (c.whole.network, law (beside script c.first_nodes []) c.log c.whole sound);
+  sound = λ e. sound;
+}
+
+-- a run that begins
+pub kept_first : (script : Script) (c : RunState) (nodes slots : ℕ) → OpeningIsSound → SoundIsLegal → IsWellTyped script → 0 < nodes → c ≡ first_state nodes slots → IsSoundRun script c
+kept_first script c nodes slots opening legal typed some e =
+    subst (λ x. IsSoundRun script x) (sym e) (kept_of script (first_state nodes slots) legal typed some (opening (beside script nodes []) slots some))
+
+-- a run that halted
+pub kept_halted : (script : Script) (before after : RunState) → IsSoundRun script before → after.log ≡ before.log → after.first_nodes ≡ before.first_nodes → after.is_halted ≡ true → IsSoundRun script after
+kept_halted script before after kept same nodes halted = record {
+  typed = kept.typed;
+  nodes = subst (λ n. 0 < n) (sym nodes) kept.nodes;
+  legal = subst (λ n. IsLegal script n after.log) (sym nodes) (subst (λ log. IsLegal script before.first_nodes log) (sym same) kept.legal);
+  sound = λ f. absurd (true_false (sym halted ∙ f));
+}
+  where
+    true_false : true ≡ false → ⊥
+    true_false e = cc
+
+-- ---- an event that is applied
+
+module _ (script : Script) (before after : RunState) (e : Event) (seat : ℕ) (work : Option Done) (handed : Handed)
+    (kept : IsSoundRun script before) (goes_on : before.is_halted ≡ false) (is_handed : IsHanded before.whole e work handed)
+    (is_true : IfSome work (λ d. IsTrueOf script d)) where
+  sound_before : IsSound (beside script before.first_nodes []) before.log before.whole
+  sound_before = kept.sound goes_on
+
+  -- the run is sound behind it
+  pub kept_applied : EventsKeepSound → SoundIsLegal → after.log ≡ before.log ++ logged e seat (answer before.whole e handed) →
+      after.whole ≡ whole_after before.whole (answer before.whole e handed) → after.first_nodes ≡ before.first_nodes → IsSoundRun script after
+  kept_applied law legal log whole nodes =
+      let s = beside script before.first_nodes [] in
+      let a : Answer = answer before.whole e handed in
+      let next = law s kept.typed.main_apart before.log before.whole e seat handed sound_before (right script before.first_nodes before.whole e work handed is_handed is_true) in
+      let there : IsSound s after.log after.whole = subst (λ l. IsSound s l after.whole) (sym log) (subst (λ c. IsSound s (before.log ++ logged e seat a) c) (sym whole) next) in
+      kept_of script after legal kept.typed (subst (λ n. 0 < n) (sym nodes) kept.nodes) (subst (λ n. IsSound (beside script n []) after.log after.whole) (sym nodes) there)
+
+  -- a job that it gives out may be run
+  pub job_begun : ClaimsGiveGoodJobs → (job : JobData) → outcome_of (answer before.whole e handed) ≡ Taken (Some (job_in job)) → IsBegun script job
+  job_begun law job gives = begun script job (is_good script (answer before.whole e handed) (job_in job) (gives_good script kept.typed law before.first_nodes before.log before.whole sound_before e handed) gives)
+    where
+      given_in : Outcome → Option Job
+      given_in (Taken g) = g
+      given_in (Refused code) = None
+
+      none_some : {X : Type 0} (x : X) → None ≡ Some x → ⊥
+      none_some x e = cc
+
+      is_good : (script : Script) (a : Answer) (j : Job) → GivesGood script a → outcome_of a ≡ Taken (Some j) → IsGood script j
+      is_good script (Takes s) j good e = subst (λ o. IsGoodIfGiven script o) (ap given_in e) good
+      is_good script (Refuses code) j good e = absurd (none_some j (ap given_in e))
+
+-- ---- what is told
+
+abbrev given_by : Outcome → Option Job
+given_by (Taken g) = g
+given_by (Refused code) = None
+
+abbrev code_by : Outcome → Option ℕ
+code_by (Taken g) = None
+code_by (Refused code) = Some code
+
+none_is_some : {X : Type 0} (x : X) → None ≡ Some x → ⊥
+none_is_some x e = cc
+
+some_is : {X : Type 0} (x y : X) → Some x ≡ Some y → x ≡ y
+some_is x y e = cc
+
+pub tells_refused : (a : Answer) (code : ℕ) (refusal : Refusal) → outcome_of a ≡ Refused code → code_of refusal ≡ code → Tells a (told.Refuses refusal)
+tells_refused (Takes s) code refusal e h = absurd (none_is_some code (ap code_by e))
+tells_refused (Refuses other) code refusal e h = (refusal, refl, h ∙ sym (some_is other code (ap code_by e)))
+
+pub tells_accepted : (a : Answer) → outcome_of a ≡ Taken None → Tells a Accepts
+tells_accepted (Takes s) e = subst (λ o. GivesThat o Accepts) (sym (ap given_by e)) refl
+tells_accepted (Refuses code) e = absurd (none_is_some code (sym (ap code_by e)))
+
+pub tells_job : (a : Answer) (job : JobData) → outcome_of a ≡ Taken (Some (job_in job)) → Tells a (GivesJob job)
+tells_job (Takes s) job e = subst (λ o. GivesThat o (GivesJob job)) (sym (ap given_by e)) (job, refl, refl)
+tells_job (Refuses code) job e = absurd (none_is_some code (sym (ap code_by e)))
+
+-- ---- an event that was answered, and stands in the log
+
+pub record Came (script : Script) (before after : RunState) (e : Event) (seat : ℕ) (work : Option Done) (outcome : Outcome) : Type 0 where
+  pub handed : Handed
+  pub is_handed : IsHanded before.whole e work handed
+  pub is_true : IfSome work (λ d. IsTrueOf script d)
+  pub log : after.log ≡ before.log ++ logged e seat (answer before.whole e handed)
+  pub whole : after.whole ≡ whole_after before.whole (answer before.whole e handed)
+  pub nodes : after.first_nodes ≡ before.first_nodes
+  pub goes_on : after.is_halted ≡ false
+  pub outcome_is : outcome ≡ outcome_of (answer before.whole e handed)
+
+-- what the whole answered to the event as it takes it
+pub came : (script : Script) (before after : RunState) (e taken : Event) (seat : ℕ) (work : Option Done) (handed : Handed) (reply : Reply) (chunk : List Entry) →
+    taken ≡ e → IsHanded before.whole e work handed → IfSome work (λ d. IsTrueOf script d) →
+    reply ≡ reply_of taken seat (answer before.whole taken handed) → chunk ≡ reply.entries →
+    after.log ≡ before.log ++ chunk → after.whole ≡ whole_after before.whole (answer before.whole taken handed) →
+    after.first_nodes ≡ before.first_nodes → after.is_halted ≡ false → Came script before after e seat work reply.outcome
+came script before after e taken seat work handed reply chunk same is_handed is_true replied logs log whole nodes goes_on =
+    let entries : chunk ≡ logged taken seat (answer before.whole taken handed) = logs ∙ ap (λ (r : Reply). r.entries) replied in
+    record {
+      handed = handed;
+      is_handed = is_handed;
+      is_true = is_true;
+      log = subst (λ x. after.log ≡ before.log ++ logged x seat (answer before.whole x handed)) same (log ∙ ap (λ es. before.log ++ es) entries);
+      whole = subst (λ x. after.whole ≡ whole_after before.whole (answer before.whole x handed)) same whole;
+      nodes = nodes;
+      goes_on = goes_on;
+      outcome_is = subst (λ x. reply.outcome ≡ outcome_of (answer before.whole x handed)) same (ap (λ (r : Reply). r.outcome) replied);
+    }
+
+pub applies : (script : Script) (before after : RunState) (e : Event) (seat : ℕ) (work : Option Done) (outcome : Outcome) (told : told.Reply) → (h : Came script before after e seat work outcome) →
+    Tells (answer before.whole e h.handed) told → Applies before e seat work after told
+applies script before after e seat work outcome told h tells =
+    (h.handed, h.is_handed, record { log = h.log; whole = h.whole; nodes = h.nodes; goes_on = h.goes_on; told_so = tells })
+
+pub kept_behind : (script : Script) (before after : RunState) (e : Event) (seat : ℕ) (work : Option Done) (outcome : Outcome) → IsSoundRun script before → before.is_halted ≡ false →
+    EventsKeepSound → SoundIsLegal → Came script before after e seat work outcome → IsSoundRun script after
+kept_behind script before after e seat work outcome kept goes_on law legal h =
+    kept_applied script before after e seat work h.handed kept goes_on h.is_handed h.is_true law legal h.log h.whole h.nodes
+
+pub begun_behind : (script : Script) (before after : RunState) (e : Event) (seat : ℕ) (work : Option Done) (outcome : Outcome) → IsSoundRun script before → before.is_halted ≡ false →
+    ClaimsGiveGoodJobs → Came script before after e seat work outcome → (job : JobData) → outcome ≡ Taken (Some (job_in job)) → IsBegun script job
+begun_behind script before after e seat work outcome kept goes_on law h job gives =
+    job_begun script before after e seat work h.handed kept goes_on h.is_handed h.is_true law job (sym h.outcome_is ∙ gives)

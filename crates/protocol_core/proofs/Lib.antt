@@ -1,0 +1,2 @@
+mod Jobs
+mod Kept

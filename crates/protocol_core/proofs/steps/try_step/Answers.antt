@@ -1,0 +1,89 @@
+use Rattle.std.proofs.Common.{◌≡◌, Some, sym, ap, ◌∙◌, subst, IfSome, map}
+use Rattle.event_log.specs.Views.{entry_of, event_of}
+use Rattle.segment.specs.Parts as parts
+use Rattle.protocol.specs.Answers.{answer}
+use Rattle.protocol_data.specs.Entries as entries
+use Rattle.answers.specs.declared.reply.Outcome.TheVariants.{Taken}
+use Rattle.protocol_core.specs.Steps.{Accepts, GivesJob}
+use Rattle.protocol_core.specs.Steps as told
+use Rattle.protocol_core.specs.Views.{data_of, state_of}
+use Rattle.protocol_core.proofs.Kept.{came, applies, kept_behind, begun_behind, tells_refused, tells_job}
+use Rattle.protocol_core.proofs.steps.try_step.Goals as goal
+
+pub returns-in-Refused-clause-applied : goal.returns-in-Refused-clause-applied
+returns-in-Refused-clause-applied g c =
+    let script = g.S.ScriptName.script in
+    let before = state_of (data_of c.args.state.now) in
+    let after = state_of (data_of c.add.new.self) in
+    let e = event_of c.args.event in
+    let known = subst (λ o. IfSome o (λ es. map entry_of es.items ≡ c.in_ok-reply.reply.entries)) c.in-Some.is c.in_ok-logged.ensures.known in
+    let h = came script before after e (entries.event_of c.happening_of-happening.result) c.args.seat c.args.done c.in_ok-handed.handed c.in_ok-reply.reply (map entry_of c.in-Some.logged.items)
+    c.happening_of-happening.ensures c.in_ok-handed.ensures.handed c.handed_with.ensures.is_true c.in_ok-reply.ensures.reply known
+    c.in_ok-add-in-Refused.ensures.ok (c.add.ensures.whole ∙ c.in_ok-reply.ensures.whole) c.add.ensures.nodes (c.add.ensures.halted ∙ c.requires.goes_on) in
+    applies script before after e c.args.seat c.args.done c.in_ok-reply.reply.outcome (told.Refuses c.in-Some-refusal_of.refusal) h
+    (tells_refused _ c.in-Refused.code c.in-Some-refusal_of.refusal (sym h.outcome_is ∙ c.in-Refused.is) c.in-Some-refusal_of.ensures.known)
+
+pub returns-in-Refused-clause-kept : goal.returns-in-Refused-clause-kept
+returns-in-Refused-clause-kept g c =
+    let script = g.S.ScriptName.script in
+    let before = state_of (data_of c.args.state.now) in
+    let after = state_of (data_of c.add.new.self) in
+    let e = event_of c.args.event in
+    let known = subst (λ o. IfSome o (λ es. map entry_of es.items ≡ c.in_ok-reply.reply.entries)) c.in-Some.is c.in_ok-logged.ensures.known in
+    let h = came script before after e (entries.event_of c.happening_of-happening.result) c.args.seat c.args.done c.in_ok-handed.handed c.in_ok-reply.reply (map entry_of c.in-Some.logged.items)
+    c.happening_of-happening.ensures c.in_ok-handed.ensures.handed c.handed_with.ensures.is_true c.in_ok-reply.ensures.reply known
+    c.in_ok-add-in-Refused.ensures.ok (c.add.ensures.whole ∙ c.in_ok-reply.ensures.whole) c.add.ensures.nodes (c.add.ensures.halted ∙ c.requires.goes_on) in
+    kept_behind script before after e c.args.seat c.args.done c.in_ok-reply.reply.outcome c.requires.kept c.requires.goes_on c.event_keeps_sound.ensures c.sound_is_legal.ensures h
+
+pub returns-in-Taken-None-clause-kept : goal.returns-in-Taken-None-clause-kept
+returns-in-Taken-None-clause-kept g c =
+    let script = g.S.ScriptName.script in
+    let before = state_of (data_of c.args.state.now) in
+    let after = state_of (data_of c.add-in-Taken-None.new.self) in
+    let e = event_of c.args.event in
+    let known = subst (λ o. IfSome o (λ es. map entry_of es.items ≡ c.in_ok-reply.reply.entries)) c.in-Some.is c.in_ok-logged.ensures.known in
+    let h = came script before after e (entries.event_of c.happening_of-happening.result) c.args.seat c.args.done c.in_ok-handed.handed c.in_ok-reply.reply (map entry_of c.in-Some.logged.items)
+    c.happening_of-happening.ensures c.in_ok-handed.ensures.handed c.handed_with.ensures.is_true c.in_ok-reply.ensures.reply known
+    c.in_ok-add-in-Taken-None.ensures.ok (c.add-in-Taken-None.ensures.whole ∙ c.in_ok-reply.ensures.whole) c.add-in-Taken-None.ensures.nodes (c.add-in-Taken-None.ensures.halted ∙ c.requires.goes_on) in
+    kept_behind script before after e c.args.seat c.args.done c.in_ok-reply.reply.outcome c.requires.kept c.requires.goes_on c.event_keeps_sound.ensures c.sound_is_legal.ensures h
+
+pub new-requires : goal.new-requires
+new-requires g c =
+    let script = g.S.ScriptName.script in
+    let before = state_of (data_of c.args.state.now) in
+    let after = state_of (data_of c.add-in-Taken-Some.new.self) in
+    let e = event_of c.args.event in
+    let known = subst (λ o. IfSome o (λ es. map entry_of es.items ≡ c.in_ok-reply.reply.entries)) c.in-Some.is c.in_ok-logged.ensures.known in
+    let h = came script before after e (entries.event_of c.happening_of-happening.result) c.args.seat c.args.done c.in_ok-handed.handed c.in_ok-reply.reply (map entry_of c.in-Some.logged.items)
+    c.happening_of-happening.ensures c.in_ok-handed.ensures.handed c.handed_with.ensures.is_true c.in_ok-reply.ensures.reply known
+    c.in_ok-add-in-Taken-Some.ensures.ok (c.add-in-Taken-Some.ensures.whole ∙ c.in_ok-reply.ensures.whole) c.add-in-Taken-Some.ensures.nodes (c.add-in-Taken-Some.ensures.halted ∙ c.requires.goes_on) in
+    let job = parts.data_of c.in_ok-parts-in-Taken-Some.parts in
+    let gives = c.in-Taken-Some.is ∙ ap (λ x. Taken x) (c.in-Taken-Some.field-0-is ∙ ap (λ x. Some x) (sym c.in_ok-parts-in-Taken-Some.ensures)) in
+    begun_behind script before after e c.args.seat c.args.done c.in_ok-reply.reply.outcome c.requires.kept c.requires.goes_on c.claims_give_good_jobs.ensures h job gives
+
+pub returns-clause-applied : goal.returns-clause-applied
+returns-clause-applied g c =
+    let script = g.S.ScriptName.script in
+    let before = state_of (data_of c.args.state.now) in
+    let after = state_of (data_of c.add-in-Taken-Some.new.self) in
+    let e = event_of c.args.event in
+    let known = subst (λ o. IfSome o (λ es. map entry_of es.items ≡ c.in_ok-reply.reply.entries)) c.in-Some.is c.in_ok-logged.ensures.known in
+    let h = came script before after e (entries.event_of c.happening_of-happening.result) c.args.seat c.args.done c.in_ok-handed.handed c.in_ok-reply.reply (map entry_of c.in-Some.logged.items)
+    c.happening_of-happening.ensures c.in_ok-handed.ensures.handed c.handed_with.ensures.is_true c.in_ok-reply.ensures.reply known
+    c.in_ok-add-in-Taken-Some.ensures.ok (c.add-in-Taken-Some.ensures.whole ∙ c.in_ok-reply.ensures.whole) c.add-in-Taken-Some.ensures.nodes (c.add-in-Taken-Some.ensures.halted ∙ c.requires.goes_on) in
+    let job = parts.data_of c.in_ok-parts-in-Taken-Some.parts in
+    let gives = c.in-Taken-Some.is ∙ ap (λ x. Taken x) (c.in-Taken-Some.field-0-is ∙ ap (λ x. Some x) (sym c.in_ok-parts-in-Taken-Some.ensures)) in
+    let tells = tells_job _ job (sym h.outcome_is ∙ gives) in
+    applies script before after e c.args.seat c.args.done c.in_ok-reply.reply.outcome (GivesJob c.new.result) h (subst (λ j. told.Tells (answer before.whole e h.handed) (GivesJob j)) (sym c.new.ensures) tells)
+
+pub returns-clause-kept : goal.returns-clause-kept
+returns-clause-kept g c =
+    let script = g.S.ScriptName.script in
+    let before = state_of (data_of c.args.state.now) in
+    let after = state_of (data_of c.add-in-Taken-Some.new.self) in
+    let e = event_of c.args.event in
+    let known = subst (λ o. IfSome o (λ es. map entry_of es.items ≡ c.in_ok-reply.reply.entries)) c.in-Some.is c.in_ok-logged.ensures.known in
+    let h = came script before after e (entries.event_of c.happening_of-happening.result) c.args.seat c.args.done c.in_ok-handed.handed c.in_ok-reply.reply (map entry_of c.in-Some.logged.items)
+    c.happening_of-happening.ensures c.in_ok-handed.ensures.handed c.handed_with.ensures.is_true c.in_ok-reply.ensures.reply known
+    c.in_ok-add-in-Taken-Some.ensures.ok (c.add-in-Taken-Some.ensures.whole ∙ c.in_ok-reply.ensures.whole) c.add-in-Taken-Some.ensures.nodes (c.add-in-Taken-Some.ensures.halted ∙ c.requires.goes_on) in
+    kept_behind script before after e c.args.seat c.args.done c.in_ok-reply.reply.outcome c.requires.kept c.requires.goes_on c.event_keeps_sound.ensures c.sound_is_legal.ensures h

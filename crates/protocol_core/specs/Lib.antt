@@ -1,0 +1,5 @@
+pub mod Clusters
+pub mod States
+pub mod Views
+pub mod Steps
+pub mod Opening

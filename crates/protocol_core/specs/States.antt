@@ -1,0 +1,36 @@
+-- The state of a run.
+use Rattle.std.specs.Prelude.{◌≡◌, ◌<◌, ℕ, Bool, false, List, []}
+use Rattle.meaning.specs.Syntax.{Script}
+use Rattle.script_check.specs.Scripts.{IsWellTyped}
+use Rattle.event_log.specs.Entries.{Entry}
+use Rattle.event_log.specs.Rules.{Setting}
+use Rattle.event_log.specs.Legal.{Legal, opening}
+use Rattle.protocol.specs.Messages.{Letter, receiver_in}
+use Rattle.protocol.specs.Whole.{Whole, first_whole}
+use Rattle.protocol_laws.specs.Sound.{IsSound}
+
+-- what the log is read beside: the script, how many nodes there were at first, and the messages that were sent
+abbrev pub beside : Script → ℕ → List Letter → Setting
+beside script nodes network = record { script = script; nodes = nodes; receiver = receiver_in network }
+
+-- the log is legal beside a network
+abbrev pub IsLegal : Script → ℕ → List Entry → Type 0
+IsLegal script nodes log = (network : List Letter) × Legal (beside script nodes network) log
+
+-- the log, the workers, nodes and messages, how many nodes there were at first, and whether an event found no memory
+pub record RunState : Type 0 where
+  pub log : List Entry
+  pub whole : Whole
+  pub first_nodes : ℕ
+  pub is_halted : Bool
+
+-- a run that begins, on so many nodes with so many slots each
+abbrev pub first_state : ℕ → ℕ → RunState
+first_state nodes slots = record { log = opening; whole = first_whole nodes slots; first_nodes = nodes; is_halted = false }
+
+-- the script is well typed, there is a node, and the log is legal; unless an event found no memory, the run is sound, whose own network counts
+pub record IsSoundRun (script : Script) (c : RunState) : Type 0 where
+  pub typed : IsWellTyped script
+  pub nodes : 0 < c.first_nodes
+  pub legal : IsLegal script c.first_nodes c.log
+  pub sound : c.is_halted ≡ false → IsSound (beside script c.first_nodes []) c.log c.whole

@@ -1,0 +1,89 @@
+-- What an event makes of the state, and what is answered to it.
+use Rattle.std.specs.Prelude.{◌≡◌, ◌⊎◌, ℕ, true, false, ◌++◌, Option, Some, None}
+use Rattle.segment.specs.Jobs.{JobData, Done}
+use Rattle.event_log.specs.Entries.{Commit, Event}
+use Rattle.event_log.specs.Views.{code_of}
+use Rattle.event_log.specs.declared.refusal.Refusal.{Refusal}
+use Rattle.event_log.specs.declared.refusal.Refusal.TheVariants as refusals
+use Rattle.exchange.specs.Jobs.{job_in, work_of}
+use Rattle.protocol.specs.Answers.{Answer, answer, job_of, logged, whole_after}
+use Rattle.protocol.specs.Answers as answers
+use Rattle.protocol.specs.Jobs.{Given, Handed, Job, Nothing, OfAnother, OfJob}
+use Rattle.protocol.specs.Numbered.{item_at}
+use Rattle.protocol.specs.Tables.{Out, Run, Worker}
+use Rattle.protocol.specs.Whole.{Whole, worker_at}
+use Rattle.protocol_core.specs.declared.reply.Reply as coded
+use Rattle.protocol_core.specs.declared.reply.Reply.TheVariants as replies
+use Rattle.protocol_core.specs.States.{RunState}
+
+-- the attempt is out as the job of that number
+pub record IsOutAs (c : Whole) (j : ℕ) (run : Run) : Type 0 where
+  pub given : Given
+  pub worker : Worker
+  pub was_given : item_at c.jobs j ≡ Some given
+  pub of_worker : worker_at c given.worker ≡ Some worker
+  pub runs : worker.run ≡ Some run
+  pub is_out : run.phase ≡ Out j
+
+-- the job is the one that is out with that number
+abbrev pub IsOut : Whole → ℕ → Job → Type 0
+IsOut c j job = (run : Run) × IsOutAs c j run × (job ≡ job_of j run)
+
+-- what is handed in with the commit of a job: nothing, what was done on the job that is out with that number, or on another
+abbrev pub IsHandedFor : Whole → ℕ → Option Done → Handed → Type 0
+IsHandedFor c j None handed = handed ≡ Nothing
+IsHandedFor c j (Some d) handed =
+    ((handed ≡ OfJob (work_of d.births d.prints d.stop)) × IsOut c j (job_in d.job)) ⊎ ((handed ≡ OfAnother) × (IsOut c j (job_in d.job) → ⊥))
+
+-- what is handed in with an event: with any but a commit nothing
+abbrev pub IsHanded : Whole → Event → Option Done → Handed → Type 0
+IsHanded c (Commit j) d handed = IsHandedFor c j d handed
+IsHanded c _ d handed = handed ≡ Nothing
+
+-- what is answered: the job that is given out, that the event is accepted, or why it is refused
+pub data Reply : Type 0 where
+  GivesJob : (j : JobData) → Reply
+  Accepts : Reply
+  Refuses : (refusal : Refusal) → Reply
+
+abbrev pub GivesThat : Option Job → Reply → Type 0
+GivesThat None told = told ≡ Accepts
+GivesThat (Some job) told = (j : JobData) × (told ≡ GivesJob j) × (job_in j ≡ job)
+
+-- it tells of the pure step's answer
+abbrev pub Tells : Answer → Reply → Type 0
+Tells (answers.Takes s) told = GivesThat s.given told
+Tells (answers.Refuses code) told = (refusal : Refusal) × (told ≡ Refuses refusal) × (code_of refusal ≡ code)
+
+abbrev pub reply_of : {X : Type 0} → coded.Reply X → Reply
+reply_of (replies.Job j) = GivesJob j
+reply_of replies.Ok = Accepts
+reply_of (replies.Refused refusal) = Refuses refusal
+
+-- the event found no memory: it is refused 39, no later one is accepted, and the log is as it was
+pub record RunsOut (before after : RunState) (told : Reply) : Type 0 where
+  pub told_so : told ≡ Refuses refusals.NoMemory
+  pub halted : after.is_halted ≡ true
+  pub nodes : after.first_nodes ≡ before.first_nodes
+  pub same : after.log ≡ before.log
+
+-- the event, with its seat and what was handed in, was taken or refused as the pure step says, and stands in the log with what came of it
+pub record IsApplied (before after : RunState) (e : Event) (seat : ℕ) (handed : Handed) (told : Reply) : Type 0 where
+  pub log : after.log ≡ before.log ++ logged e seat (answer before.whole e handed)
+  pub whole : after.whole ≡ whole_after before.whole (answer before.whole e handed)
+  pub nodes : after.first_nodes ≡ before.first_nodes
+  pub goes_on : after.is_halted ≡ false
+  pub told_so : Tells (answer before.whole e handed) told
+
+-- what an event may make of a state that isn't halted, where nothing wants memory
+abbrev pub Applies : RunState → Event → ℕ → Option Done → RunState → Reply → Type 0
+Applies before e seat done after told = (handed : Handed) × IsHanded before.whole e done handed × IsApplied before after e seat handed told
+
+-- what an event may make of a state that isn't halted
+abbrev pub Follows : RunState → Event → ℕ → Option Done → RunState → Reply → Type 0
+Follows before e seat done after told = RunsOut before after told ⊎ Applies before e seat done after told
+
+-- what an event makes of a state, and what is answered: once halted nothing changes, and every event is refused 38
+pub record Answers (before : RunState) (e : Event) (seat : ℕ) (done : Option Done) (after : RunState) (told : Reply) : Type 0 where
+  pub halted : before.is_halted ≡ true → (after ≡ before) × (told ≡ Refuses refusals.Halted)
+  pub follows : before.is_halted ≡ false → Follows before e seat done after told

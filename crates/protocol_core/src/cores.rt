@@ -1,0 +1,107 @@
+// Runs.
+
+ghost use Rattle.std.specs.Prelude.{◌≡◌, IfOk};
+ghost use Rattle.std.specs.Option.{option_map};
+ghost use Rattle.script_check.specs.Trees.{script_of};
+ghost use Rattle.event_log.specs.Views.{event_of, log_of};
+ghost use Rattle.protocol.specs.Settling.{next};
+ghost use Rattle.protocol_core.specs.States.{IsLegal, first_state};
+ghost use Rattle.protocol_core.specs.Steps.{Answers, reply_of};
+ghost use Rattle.protocol_core.specs.Views.{state_of};
+
+use crate::cluster::Cluster;
+use crate::reply::Reply;
+use crate::state::State;
+use crate::steps::step;
+use event_log::{Entry, Event, Refusal};
+use exchange::event_out;
+use numbers::WorkerId;
+use protocol_laws::law::{opening_is_sound, sound_is_legal};
+use script_check::Checked;
+use segment::{Done, ScriptName};
+use sequence::Seq;
+use settling::next;
+use std::alloc::{AllocError, Global};
+use std::marker::{Model, PhantomData};
+
+/// The run of the script `S` on any number of nodes: its log, and the workers, nodes and messages that say which event comes to what. The
+/// log is legal.
+#[derive(Drop)]
+pub struct Core<S: ScriptName> {
+    state: State,
+    script: PhantomData<S>,
+}
+
+impl<S: ScriptName> Model for Core<S> {
+    ghost use Rattle.std.specs.Coded.{codes};
+    ghost use Rattle.held.specs.Codes.{value_code, outcome_code, birth_code, id_code};
+    ghost use Rattle.numbers.specs.Codes.{attempt_code, fault_code};
+    ghost use Rattle.values.specs.contracts.value.RunValue as run_values;
+    ghost use Rattle.protocol_core.specs.States.{IsSoundRun};
+    ghost use Rattle.protocol_core.specs.Views.{RunData, data_of, state_of};
+
+    ghost Value = { RunData };
+
+    ghost coded = { Prim.hlevel (codes, run_values.the_row.coded, value_code, outcome_code, birth_code, id_code, attempt_code, fault_code) };
+
+    ghost view = { λ c. data_of c.state };
+
+    ghost invariant = { λ c. IsSoundRun S.script (state_of (data_of c.state)) };
+}
+
+impl<S: ScriptName> Core<S> {
+    /// A run of the script that begins: worker 1 is opened on node 1 and runs main.
+    pub fn new(alloc: Global, script: &Checked, cluster: Cluster) -> Result<Core<S>, AllocError>
+        requires { script_of script.now ≡ S.script }
+        ensures { IfOk result (λ c. state_of c ≡ first_state cluster.nodes cluster.slots) }
+    {
+        opening_is_sound();
+        sound_is_legal();
+        let _ = script.functions();
+        let _ = cluster.nodes();
+        let state = State::new(alloc, cluster)?;
+        Ok(Core {
+            state,
+            script: PhantomData,
+        })
+    }
+
+    /// The entries so far, oldest first.
+    pub fn log(&self) -> &[Entry]
+        ensures log { result.now ≡ self.now.log }
+        ensures legal { IsLegal S.script self.now.first_nodes (log_of self.now.log) }
+    {
+        self.state.log.as_slice()
+    }
+
+    /// The next event where nothing else is asked for; see docs/protocol.md, "The settle rule". These workers neither claim nor commit.
+    pub fn next(&self, but: &Seq<WorkerId>) -> Option<Event>
+        ensures { option_map event_of result ≡ next self.now.whole but.now }
+    {
+        match next(&self.state.whole, but) {
+            Some(event) => Some(event_out(&event)),
+            None => None,
+        }
+    }
+
+    /// One event, with the seat from which it comes. With a commit comes what was done on its job, if anything was.
+    ///
+    /// A claim answers the job that is given out, any other event `Ok`. Refused are the events of docs/protocol.md, which change nothing
+    /// but the log, in which the event and its refusal stand; `NoMemory`, which leaves the log as it was and halts the run; and `Halted`,
+    /// which every later event is answered, and which changes nothing.
+    pub fn apply(
+        &mut self,
+        alloc: Global,
+        event: Event,
+        seat: u8,
+        done: Option<Done<S>>,
+    ) -> Reply<S>
+        ensures answers { Answers (state_of self.old) (event_of event) seat done (state_of self.new) (reply_of result) }
+        ensures legal { IsLegal S.script self.new.first_nodes (log_of self.new.log) }
+    {
+        if self.state.is_halted {
+            return Reply::Refused(Refusal::Halted);
+        }
+        step(alloc, &mut self.state, event, seat, done)
+    }
+}

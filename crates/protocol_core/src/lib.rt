@@ -1,0 +1,14 @@
+//! The run of a script on any number of nodes: one event at a time.
+#![tactic(auto)]
+
+mod cluster;
+mod cores;
+mod handed;
+mod opening;
+mod reply;
+mod state;
+mod steps;
+
+pub use cluster::Cluster;
+pub use cores::Core;
+pub use reply::Reply;

@@ -1,0 +1,112 @@
+// The whole as a run begins.
+
+ghost use Rattle.std.specs.Prelude.{◌≡◌, ◌<◌, ◌∷◌, [], IfOk, OnOk, length};
+ghost use Rattle.meaning.specs.Values.{main_birth};
+ghost use Rattle.protocol.specs.Whole.{driver, first_whole, main_run, with_driver};
+ghost use Rattle.protocol_core.specs.Opening.{new_nodes};
+
+use held::Origin;
+use numbers::{NodeId, ObjectId, WorkerId};
+use protocol_data::{Node, Phase, Run, Whole, Worker};
+use sequence::Seq;
+use std::alloc::{AllocError, Global};
+use task_spec::Birth;
+use whole_steps::new_node;
+use worker_steps::main_attempt;
+
+/// So many nodes with so many slots each.
+fn first_nodes(alloc: Global, nodes: u8, slots: u32) -> Result<Seq<Node>, AllocError>
+    ensures { IfOk result (λ all. all ≡ new_nodes nodes slots) }
+{
+    let mut all = Seq::new(alloc);
+    for turn in 0..nodes {
+        let _ = turn;
+        all.push(new_node(alloc, slots))?;
+    }
+    Ok(all)
+}
+
+/// The first of these nodes has given the driver a slot.
+fn give_driver_a_slot(alloc: Global, nodes: &mut Seq<Node>) -> Result<(), AllocError>
+    requires { 0 < length nodes.old }
+    ensures { OnOk result (nodes.new ≡ with_driver nodes.old) }
+{
+    let mut holders = Seq::new(alloc);
+    holders.push(WorkerId(1))?;
+    let node = &mut nodes.items[0];
+    node.scheduler.holders = holders;
+    Ok(())
+}
+
+/// Main as a task: with no arguments, at depth 0, and run once.
+fn main_task(alloc: Global) -> Result<Origin, AllocError>
+    ensures { IfOk result (λ spec. spec ≡ main_birth) }
+{
+    let function = String::from_str(alloc, "main")?;
+    let inner = Birth::Task {
+        function,
+        arguments: Vec::new(alloc),
+        depth: 0,
+        retries: 0,
+    };
+    Ok(Origin { inner })
+}
+
+/// Main's attempt as it begins.
+fn main_run(alloc: Global) -> Result<Run, AllocError>
+    ensures { IfOk result (λ run. run ≡ main_run) }
+{
+    let spec = main_task(alloc)?;
+    let owner = WorkerId(1);
+    Ok(Run {
+        attempt: main_attempt(),
+        spec,
+        base: ObjectId { owner, serial: 1 },
+        births: Seq::new(alloc),
+        prints: Seq::new(alloc),
+        answers: Seq::new(alloc),
+        phase: Phase::Ready,
+        holds: Seq::new(alloc),
+        is_over: false,
+        is_acknowledged: false,
+    })
+}
+
+/// The worker on node 1 that runs main.
+fn driver(alloc: Global) -> Result<Worker, AllocError>
+    ensures { IfOk result (λ worker. worker ≡ driver) }
+{
+    let run = main_run(alloc)?;
+    let mut began = Seq::new(alloc);
+    began.push(main_attempt())?;
+    Ok(Worker {
+        node: NodeId(1),
+        is_live: true,
+        objects: Seq::new(alloc),
+        run: Some(run),
+        began,
+        dead_workers: Seq::new(alloc),
+        dead_nodes: Seq::new(alloc),
+    })
+}
+
+/// So many nodes with so many slots each, as a run begins.
+pub fn first_whole(alloc: Global, nodes: u8, slots: u8) -> Result<Whole, AllocError>
+    requires { 0 < nodes }
+    ensures { IfOk result (λ whole. whole ≡ first_whole nodes slots) }
+{
+    let slots = u32::from(slots);
+    let mut all = first_nodes(alloc, nodes, slots)?;
+    give_driver_a_slot(alloc, &mut all)?;
+    let mut workers = Seq::new(alloc);
+    workers.push(driver(alloc)?)?;
+    Ok(Whole {
+        slots,
+        nodes: all,
+        workers,
+        made: 1,
+        network: Seq::new(alloc),
+        delivered: Seq::new(alloc),
+        jobs: Seq::new(alloc),
+    })
+}

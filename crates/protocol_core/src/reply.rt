@@ -1,0 +1,15 @@
+// Answers to events.
+
+use event_log::Refusal;
+use segment::{Job, ScriptName};
+
+/// What is answered to an event.
+#[derive(Drop)]
+pub enum Reply<S: ScriptName> {
+    /// The claim's job.
+    Job(Job<S>),
+    /// The event is accepted.
+    Ok,
+    /// The event is refused.
+    Refused(Refusal),
+}

@@ -1,0 +1,90 @@
+// The events of a run that isn't halted.
+
+ghost use Rattle.std.specs.Prelude.{◌≡◌, false, IfOk, OnOk, OnErr};
+ghost use Rattle.event_log.specs.Views.{event_of};
+ghost use Rattle.protocol_core.specs.States.{IsSoundRun};
+ghost use Rattle.protocol_core.specs.Steps.{Applies, Follows, RunsOut, reply_of};
+ghost use Rattle.protocol_core.specs.Views.{data_of, state_of};
+
+use crate::handed::handed_with;
+use crate::reply::Reply as Told;
+use crate::state::State;
+use answers::{Outcome, Reply, answer};
+use event_log::{Event, Refusal};
+use exchange::{happening_of, job_parts, logged_entries, refusal_of};
+use protocol_data::Halt;
+use protocol_laws::law::{claims_give_good_jobs, event_keeps_sound, sound_is_legal};
+use segment::{Done, Job, ScriptName};
+use std::alloc::Global;
+
+/// An event that found no memory.
+fn run_out<S: ScriptName>(state: &mut State) -> Told<S>
+    ensures { RunsOut (state_of (data_of state.old)) (state_of (data_of state.new)) (reply_of result) }
+{
+    state.halt();
+    Told::Refused(Refusal::NoMemory)
+}
+
+/// One event. On an error the log is as it was.
+fn try_step<S: ScriptName>(
+    alloc: Global,
+    state: &mut State,
+    event: Event,
+    seat: u8,
+    done: Option<Done<S>>,
+) -> Result<Told<S>, Halt>
+    requires kept { IsSoundRun S.script (state_of (data_of state.old)) }
+    requires goes_on { state.old.is_halted ≡ false }
+    ensures applied { IfOk result (λ told. Applies (state_of (data_of state.old)) (event_of event) seat done (state_of (data_of state.new)) (reply_of told)) }
+    ensures kept { OnOk result (IsSoundRun S.script (state_of (data_of state.new))) }
+    ensures same { OnErr result (state.new.log ≡ state.old.log) }
+    ensures nodes { state.new.first_nodes ≡ state.old.first_nodes }
+{
+    event_keeps_sound();
+    claims_give_good_jobs();
+    sound_is_legal();
+    let handed = handed_with(alloc, &state.whole, event, done)?;
+    let happening = happening_of(event);
+    let reply = answer(alloc, &mut state.whole, &happening, seat, handed)?;
+    let Reply { entries, outcome } = reply;
+    let Some(logged) = logged_entries(alloc, &entries)? else {
+        return Err(Halt::NoNumber);
+    };
+    match outcome {
+        Outcome::Refused(code) => {
+            let Some(refusal) = refusal_of(code) else {
+                return Err(Halt::NoNumber);
+            };
+            state.add(logged)?;
+            Ok(Told::Refused(refusal))
+        }
+        Outcome::Taken(None) => {
+            state.add(logged)?;
+            Ok(Told::Ok)
+        }
+        Outcome::Taken(Some(job)) => {
+            let parts = job_parts(alloc, job)?;
+            state.add(logged)?;
+            Ok(Told::Job(Job::new(parts)))
+        }
+    }
+}
+
+/// One event, with what was done on its job, if it is a commit.
+pub fn step<S: ScriptName>(
+    alloc: Global,
+    state: &mut State,
+    event: Event,
+    seat: u8,
+    done: Option<Done<S>>,
+) -> Told<S>
+    requires kept { IsSoundRun S.script (state_of (data_of state.old)) }
+    requires goes_on { state.old.is_halted ≡ false }
+    ensures follows { Follows (state_of (data_of state.old)) (event_of event) seat done (state_of (data_of state.new)) (reply_of result) }
+    ensures kept { IsSoundRun S.script (state_of (data_of state.new)) }
+{
+    match try_step(alloc, state, event, seat, done) {
+        Ok(told) => told,
+        Err(_) => run_out(state),
+    }
+}

@@ -1,0 +1,56 @@
+-- What `sim` reads, refuses and writes.
+use Rattle.std.proofs.Common.{◌≡◌, ◌⊎◌, ◌<◌, ◌*◌, ℕ, Bool, List, Option, None, Some, inl, inr, subst, take, length, arith}
+use Rattle.std.specs.Prelude.{IfSome}
+use Rattle.std.specs.Io.KnownBytes.{Appends}
+use Rattle.meaning.specs.Syntax.{Script}
+use Rattle.event_files.specs.declared.line.Line.{Line}
+use Rattle.protocol_core.specs.Clusters.{Size}
+use Rattle.raysim_streams.specs.declared.Failure.TheVariants.{Read, Write, Closed}
+use Rattle.raysim_streams.specs.declared.Refusal.{Refusal}
+use Rattle.raysim_streams.specs.declared.Refusal.TheVariants.{At, NoMemory, Stopped, BadLine, Failed}
+use Rattle.raysim_commands.specs.declared.sim_command.Form.{Form}
+use Rattle.raysim_commands.specs.Scripts.{Explains, IsScript}
+use Rattle.raysim_commands.specs.SimReports.{ExplainsSim, IfBoth, IsEvents, IsSimBegun, IsSimReportOf}
+use Rattle.raysim_commands.proofs.Reading.{known_whole}
+
+of_known : (P : List ℕ → Type 0) (known : Option (List ℕ)) (text : List ℕ) → IfSome known (λ b. text ≡ b) → P text → IfSome known P
+of_known P None text same h = tt
+of_known P (Some b) text same h = subst P same h
+
+-- what holds of the text that was read holds of what was left to read
+pub of_read : (P : List ℕ → Type 0) (known : Option (List ℕ)) (text shown : List ℕ) → IfSome known (λ b. text ≡ take 18446744073709551615 b) →
+    shown ≡ text → length shown * 1 < 9223372036854775808 → P shown → IfSome known P
+of_read P known text shown same value bound h =
+    let short : length shown * 1 < 9223372036854775808 → length shown < 18446744073709551615 = λ b. omega (arith, b) in
+    let less : length text < 18446744073709551615 = subst (λ t. length t < 18446744073709551615) value (short bound) in
+    of_known P known text (known_whole known text 18446744073709551615 same less) (subst P value h)
+
+-- `sim` refuses a script for the other commands' causes
+pub explains_script : (size : Size) (known events : Option (List ℕ)) (script_failed events_failed write_failed : Bool) (r : Refusal) →
+    Explains known script_failed write_failed r → ExplainsSim size known events script_failed events_failed write_failed r
+explains_script size known events a b w (At code span) h = h
+explains_script size known events a b w NoMemory h = tt
+explains_script size known events a b w (Stopped code) h = absurd h
+explains_script size known events a b w (BadLine line) h = absurd h
+explains_script size known events a b w (Failed Read) h = inl h
+explains_script size known events a b w (Failed Write) h = h
+explains_script size known events a b w (Failed Closed) h = h
+
+-- what was written is a beginning of the report of what was read, where that is known
+pub sim_begun_so : (size : Size) (form : Form) (known events : Option (List ℕ)) (text : List ℕ) (script : Script) (lines : List Line)
+    (report bytes : List ℕ) (status : ℕ) (before after : Option (List ℕ)) → IfSome known (λ b. text ≡ b) → IsScript text script →
+    IfSome events (λ e. IsEvents e lines) → IsSimReportOf script size form lines report status → bytes ≡ report →
+    (k : ℕ) × Appends before after (take k bytes) → IfBoth known events (λ t e. (after ≡ before) ⊎ IsSimBegun size form t e before after)
+sim_begun_so size form None events text script lines report bytes status before after same is ls r written a = tt
+sim_begun_so size form (Some b) None text script lines report bytes status before after same is ls r written a = tt
+sim_begun_so size form (Some b) (Some e) text script lines report bytes status before after same is ls r written (k, a) = inr (record {
+  script = script;
+  lines = lines;
+  report = report;
+  status = status;
+  is_script = subst (λ t. IsScript t script) same is;
+  are_events = ls;
+  reported = r;
+  count = k;
+  written = subst (λ l. Appends before after (take k l)) written a;
+})

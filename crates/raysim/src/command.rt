@@ -1,8 +1,12 @@
 // From the words to the exit status.
 
-use raysim_commands::{Failure, Refusal, Tracked, check, exit_status, read_script, run, serial};
+ghost use Rattle.raysim_options.specs.Reads.{IsCluster};
+
+use raysim_commands::{
+    Cluster, Failure, Form, Refusal, Tracked, check, exit_status, read_script, run, serial, sim,
+};
 use raysim_explain::{Reason, Shown};
-use raysim_options::{Request, RunOptions, ScriptOptions, missing_option, options};
+use raysim_options::{Request, RunOptions, ScriptOptions, SimOptions, missing_option, options};
 use std::process::ExitCode;
 use std::rt::Files;
 use std::{fs, io};
@@ -28,9 +32,9 @@ pub fn answer<R: Files + Print + Eprint + AllocGlobal>(
         }
     };
     match request {
-        Request::Check(options) => over_script(rt, Command::Check, options),
-        Request::Serial(options) => over_script(rt, Command::Serial, options),
-        Request::Sim(_) => not_there(rt, "raysim sim"),
+        Request::Check(options) => over_script(rt, &Command::Check, &options),
+        Request::Serial(options) => over_script(rt, &Command::Serial, &options),
+        Request::Sim(options) => over_events(rt, &options),
         Request::Run(options) => over_run(rt, &options),
         Request::Explain(number) => explain(rt, number),
     }
@@ -40,6 +44,21 @@ pub fn answer<R: Files + Print + Eprint + AllocGlobal>(
 fn not_there<R: Eprint>(rt: &R, what: &str) -> io::Result<ExitCode> {
     eprintln!(rt; "{what} is not there yet")?;
     Ok(ExitCode::from(1))
+}
+
+/// The cluster with these numbers.
+fn cluster_of(nodes: u8, slots: u8) -> Cluster
+    requires { IsCluster nodes slots }
+{
+    let Some(cluster) = Cluster::new(nodes, slots) else {
+        unreachable!();
+    };
+    cluster
+}
+
+/// How a report is written.
+fn report_form(json: bool) -> Form {
+    if json { Form::Json } else { Form::Text }
 }
 
 fn over_run<R: Files + Print + Eprint + AllocGlobal>(
@@ -53,19 +72,80 @@ fn over_run<R: Files + Print + Eprint + AllocGlobal>(
         script: options.script,
         explain: options.explain,
     };
-    over_script(rt, Command::Run, script)
+    over_script(rt, &Command::Run, &script)
+}
+
+/// Replays an event file, and tells the refusal on standard error where there is one.
+fn over_events<R: Files + Print + Eprint + AllocGlobal>(
+    rt: &R,
+    options: &SimOptions<'_>,
+) -> io::Result<ExitCode>
+    requires { IsCluster options.now.nodes options.now.slots }
+{
+    let done = replayed(rt, options);
+    if let Err(refusal) = &done {
+        tell_of_replay(rt, *refusal, options)?;
+    }
+    Ok(ExitCode::from(exit_status(&done)))
+}
+
+/// Replays an event file. The script is read and checked before the events are read.
+fn replayed<R: Files + Print + AllocGlobal>(rt: &R, options: &SimOptions<'_>) -> Result<u8, Refusal>
+    requires { IsCluster options.now.nodes options.now.slots }
+{
+    let Ok(events) = fs::open(rt, options.events) else {
+        return without_events(rt, options.script);
+    };
+    let Ok(script) = fs::open(rt, options.script) else {
+        return Err(Refusal::Failed(Failure::Read));
+    };
+    let cluster = cluster_of(options.nodes, options.slots);
+    let form = report_form(options.json);
+    let mut script = Tracked::reader(script);
+    let mut events = Tracked::reader(events);
+    let mut writer = Tracked::writer(io::writer(rt));
+    sim(
+        rt.alloc(),
+        &mut script,
+        &mut events,
+        cluster,
+        form,
+        &mut writer,
+    )
+}
+
+/// What is told where there is no event file: the script's refusal, if it has one.
+fn without_events<R: Files + AllocGlobal>(rt: &R, path: &str) -> Result<u8, Refusal> {
+    let Ok(file) = fs::open(rt, path) else {
+        return Err(Refusal::Failed(Failure::Read));
+    };
+    let mut unseen = Vec::new(rt.alloc());
+    let mut writer = Tracked::writer(&mut unseen);
+    check(rt.alloc(), &mut Tracked::reader(file), &mut writer)?;
+    Err(Refusal::Failed(Failure::Read))
+}
+
+/// Tells a replay's refusal on standard error.
+fn tell_of_replay<R: Eprint>(rt: &R, refusal: Refusal, options: &SimOptions<'_>) -> io::Result<()> {
+    let script = options.script;
+    if let Refusal::Failed(Failure::Read) = refusal {
+        let events = options.events;
+        return eprintln!(rt; "{refusal}\nreading {script} or {events} failed");
+    }
+    let explain = false;
+    tell(rt, refusal, &ScriptOptions { script, explain }, b"")
 }
 
 /// Does a command, and tells its refusal on standard error where it has one.
 fn over_script<R: Files + Print + Eprint + AllocGlobal>(
     rt: &R,
-    command: Command,
-    options: ScriptOptions<'_>,
+    command: &Command,
+    options: &ScriptOptions<'_>,
 ) -> io::Result<ExitCode> {
     let mut text = Vec::new(rt.alloc());
     let done = done(rt, command, options.script, &mut text);
     if let Err(refusal) = &done {
-        tell(rt, *refusal, &options, text.as_slice())?;
+        tell(rt, *refusal, options, text.as_slice())?;
     }
     Ok(ExitCode::from(exit_status(&done)))
 }
@@ -73,7 +153,7 @@ fn over_script<R: Files + Print + Eprint + AllocGlobal>(
 /// Does a command. The script's text is left in `text` as far as it was read.
 fn done<R: Files + Print + AllocGlobal>(
     rt: &R,
-    command: Command,
+    command: &Command,
     path: &str,
     text: &mut Vec<u8>,
 ) -> Result<u8, Refusal> {

@@ -7,7 +7,7 @@ ghost use Rattle.protocol.specs.Events.{delivered, delivered_to};
 
 use crate::counting::nothing;
 use crate::node_events::deliver_to_node_within;
-use crate::worker_events::let_act;
+use crate::within_limits::let_act;
 use number_lists::{item_at_number, place_of};
 use protocol_data::{Halt, Letter, LogEntry, Message, Party, Whole};
 use refusals::{is_live_node, is_live_worker};

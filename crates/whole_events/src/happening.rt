@@ -9,7 +9,7 @@ use crate::deaths::{join, kill, kill_node};
 use crate::deliveries::deliver;
 use crate::jobs::{claim, commit};
 use crate::stores::{evict_at, lose_at};
-use crate::worker_events::let_worker_act;
+use crate::within_limits::let_worker_act;
 use protocol_data::{Halt, Handed, Happening, LogEntry, Whole};
 use sequence::Seq;
 use std::alloc::Global;

@@ -8,7 +8,7 @@ ghost use Rattle.protocol.specs.Numbered.{changed_at};
 ghost use Rattle.protocol.specs.Whole.{moved};
 
 use crate::counting::nothing;
-use crate::worker_events::let_act;
+use crate::within_limits::let_act;
 use number_lists::place_of;
 use numbers::WorkerId;
 use protocol_data::{Given, Halt, Handed, LogEntry, Outcomes, Whole};

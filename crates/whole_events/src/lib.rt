@@ -9,7 +9,7 @@ mod happening;
 mod jobs;
 mod node_events;
 mod stores;
-mod worker_events;
+mod within_limits;
 
 pub use happening::happen;
 pub use jobs::next_job;

@@ -4,7 +4,7 @@ use Rattle.limit_laws.proofs.Taken.{taken_entries, taken_whole}
 use Rattle.protocol.specs.Whole.{worker_does}
 use Rattle.worker_acts.specs.Acts.{act_step}
 use Rattle.whole_events.proofs.Room.{room}
-use Rattle.whole_events.proofs.worker_events.let_act.Goals as goal
+use Rattle.whole_events.proofs.within_limits.let_act.Goals as goal
 
 pub returns-then-len-lt1024-clause-whole : goal.returns-then-len-lt1024-clause-whole
 returns-then-len-lt1024-clause-whole c =

@@ -1,0 +1,38 @@
+// What is answered to an event.
+
+ghost use Rattle.std.specs.Prelude.{◌≡◌, IfOk, OnOk};
+ghost use Rattle.answers.specs.Replies.{reply_of};
+ghost use Rattle.protocol.specs.Answers.{answer, whole_after};
+ghost use Rattle.protocol_data.specs.Entries.{event_of};
+
+use crate::given::given_out;
+use crate::reply::{Reply, refused, taken};
+use protocol_data::{Halt, Handed, Happening, Whole};
+use refusals::refusal;
+use std::alloc::Global;
+use whole_events::happen;
+
+/// One event of the whole run, with the seat from which it came and what is handed in. It is refused, and nothing changes; or it is taken.
+/// After an error, which is want of memory or of a number, nothing is said of the whole.
+pub fn answer(
+    alloc: Global,
+    whole: &mut Whole,
+    event: &Happening,
+    seat: u8,
+    handed: Handed,
+) -> Result<Reply, Halt>
+    ensures whole { OnOk result (whole.new ≡ whole_after whole.old (answer whole.old (event_of event.now) handed)) }
+    ensures reply { IfOk result (λ reply. reply ≡ reply_of (event_of event.now) seat (answer whole.old (event_of event.now) handed)) }
+{
+    if let Some(code) = refusal(whole, event, &handed) {
+        let reply = refused(alloc, event, seat, code)?;
+        return Ok(reply);
+    }
+    let given = given_out(alloc, whole, event)?;
+    let Some(entries) = happen(alloc, whole, event, handed)? else {
+        let reply = refused(alloc, event, seat, 37)?;
+        return Ok(reply);
+    };
+    let reply = taken(alloc, event, seat, entries, given)?;
+    Ok(reply)
+}

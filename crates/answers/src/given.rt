@@ -1,0 +1,58 @@
+// The job that a claim gives out.
+
+ghost use Rattle.std.specs.Prelude.{◌≡◌, IfOk};
+ghost use Rattle.protocol.specs.Answers.{given_out, job_at, job_of};
+ghost use Rattle.protocol.specs.Whole.{worker_at};
+ghost use Rattle.protocol_data.specs.Entries.{event_of};
+
+use number_lists::item_at_number;
+use numbers::WorkerId;
+use protocol_data::{Halt, Happening, Job, Run, Whole};
+use std::alloc::Global;
+use table_copies::{copy_answers, copy_births, copy_prints};
+use whole_events::next_job;
+
+/// The job of that number, of the attempt.
+fn job_of(alloc: Global, number: u64, run: &Run) -> Result<Job, Halt>
+    ensures { IfOk result (λ job. job ≡ job_of number run.now) }
+{
+    let spec = run.spec.copy(alloc)?;
+    let births = copy_births(alloc, &run.births)?;
+    let prints = copy_prints(alloc, &run.prints)?;
+    let answers = copy_answers(alloc, &run.answers)?;
+    Ok(Job {
+        number,
+        attempt: run.attempt,
+        spec,
+        base: run.base,
+        births,
+        prints,
+        answers,
+    })
+}
+
+/// The job of that number, of the worker's attempt.
+fn job_at(alloc: Global, whole: &Whole, number: u64, worker: WorkerId) -> Result<Option<Job>, Halt>
+    ensures { IfOk result (λ job. job ≡ job_at number (worker_at whole.now worker)) }
+{
+    let Some(found) = item_at_number(&whole.workers, u64::from(worker.0)) else {
+        return Ok(None);
+    };
+    match &found.run {
+        None => Ok(None),
+        Some(run) => Ok(Some(job_of(alloc, number, run)?)),
+    }
+}
+
+/// The job that the event gives out, if it is a claim.
+pub fn given_out(alloc: Global, whole: &Whole, event: &Happening) -> Result<Option<Job>, Halt>
+    ensures { IfOk result (λ job. job ≡ given_out whole.now (event_of event.now)) }
+{
+    match event {
+        Happening::Claim(worker) => {
+            let number = next_job(whole)?;
+            job_at(alloc, whole, number, *worker)
+        }
+        _ => Ok(None),
+    }
+}

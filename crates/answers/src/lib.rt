@@ -1,0 +1,9 @@
+//! What is answered to an event of the whole run.
+#![tactic(auto, unfolding(meaning::specs::Births::same_id, event_log::specs::Words::same_attempt))]
+
+mod answering;
+mod given;
+mod reply;
+
+pub use answering::answer;
+pub use reply::{Outcome, Reply};

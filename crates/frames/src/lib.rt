@@ -2,6 +2,7 @@
 #![tactic(auto)]
 
 mod asking;
+mod course;
 mod halt;
 mod jumping;
 mod operators;

@@ -5,3 +5,4 @@ pub mod Calling
 pub mod Stepping
 pub mod Going
 pub mod Meeting
+pub mod Starting

@@ -7,6 +7,7 @@ mod halt;
 mod jumping;
 mod operators;
 mod registers;
+mod start;
 mod step;
 mod value;
 mod working;

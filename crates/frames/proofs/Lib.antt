@@ -3,3 +3,6 @@ pub mod Written
 pub mod Doing
 pub mod Calling
 pub mod Stepping
+pub mod Going
+pub mod Meeting
+pub mod Starting

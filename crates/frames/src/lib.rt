@@ -2,10 +2,12 @@
 #![tactic(auto)]
 
 mod asking;
+mod course;
 mod halt;
 mod jumping;
 mod operators;
 mod registers;
+mod start;
 mod step;
 mod value;
 mod working;

@@ -62,14 +62,4 @@ impl Value {
             Value::Known(_) => true,
         }
     }
-
-    /// Whether it is a number.
-    pub(crate) fn is_number(&self) -> bool {
-        match self {
-            Value::Int(_) => true,
-            Value::List(_) => false,
-            Value::Id(_) => false,
-            Value::Known(_) => false,
-        }
-    }
 }

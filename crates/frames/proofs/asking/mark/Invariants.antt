@@ -7,5 +7,6 @@ use Rattle.frames.proofs.asking.mark.Given as goal
 abbrev pub invariant-loop-value : goal.invariant-loop-value
 invariant-loop-value l = record {
   count : vec_len l.arguments ≡ l.value-index;
-  left : mark (map value_of l.values) l.marks ≡ map argument_of l.arguments.items ++ mark (map value_of (drop l.value-index l.values)) (drop l.value-index l.marks);
+  left : mark (map value_of l.values) l.marks ≡ map argument_of l.arguments.items ++ mark (map value_of (drop l.value-index l.values))
+      (drop l.value-index l.marks);
 }

@@ -1,0 +1,82 @@
+// The beginning of a task.
+
+ghost use Rattle.std.specs.Prelude.{◌≡◌, ◌+◌, ◌-◌, ◌≤◌, ◌++◌, ℕ, [], IfOk, Some, map, length, slice_get};
+ghost use Rattle.meaning.specs.Values.{Name, Task};
+ghost use Rattle.meaning.specs.Syntax.{Function, Script};
+ghost use Rattle.meaning.specs.Meaning.{find};
+ghost use Rattle.values.specs.Values.{id_of};
+ghost use Rattle.frame_laws.specs.Compile.{number_of};
+ghost use Rattle.frame_laws.specs.Law as laws;
+ghost use Rattle.frame_laws.specs.Law.{entry_or, values_in, marks_in};
+ghost use Rattle.frame_code.specs.Views.{code_of};
+ghost use Rattle.frames.specs.Values.{value_of};
+ghost use Rattle.frames.specs.Machines.{argument_of};
+ghost use Rattle.frames.specs.Courses.{Standing, answers_of};
+ghost use Rattle.frames.specs.Values.{outcome_of};
+
+use crate::course::Course;
+use crate::halt::{Argument, Halt};
+use crate::registers::State;
+use crate::value::{Outcome, Value};
+use frame_code::Code;
+use ids::ObjectId;
+use std::alloc::{AllocError, Global};
+
+/// A task's first registers: its arguments, and then their marks.
+fn first_registers(alloc: Global, arguments: &[Argument]) -> Result<Vec<Value>, AllocError>
+    ensures { IfOk result (λ rs. map value_of rs.items ≡ values_in (map argument_of arguments.now) ++ marks_in (map argument_of arguments.now)) }
+{
+    let mut registers = Vec::new(alloc);
+    for argument in arguments {
+        registers.push(argument.value.share()?)?;
+    }
+    for argument in arguments {
+        let mark = if argument.is_dereferenced { 1 } else { 0 };
+        registers.push(Value::Int(mark))?;
+    }
+    Ok(registers)
+}
+
+/// Where a task of the function with that number begins: two instructions for each argument before a plain call.
+fn task_entry(code: &Code, function: usize, arguments: usize) -> Result<usize, Halt>
+    ensures { IfOk result (λ pc. pc ≡ entry_or 0 (slice_get (code_of code.now).entries function) - (arguments + arguments)) }
+{
+    let Some(entry) = code.entries.get(function) else {
+        return Err(Halt::Broken);
+    };
+    Ok(entry.saturating_sub(arguments).saturating_sub(arguments))
+}
+
+impl Course {
+    /// A task of the function with that number begins, where it is one of the script and takes as many arguments.
+    pub(crate) fn for_task(
+        alloc: Global,
+        code: &Code,
+        function: usize,
+        arguments: &[Argument],
+        base: ObjectId,
+        answers: Vec<Outcome>,
+    ) -> Result<Course, Halt>
+        ensures stands { IfOk result (λ k. (script : Script) (g : Name) (f : Function) (depth retries : ℕ) → code_of code.now ≡ laws.code_of script →
+            function ≡ number_of script g (length arguments.now) → find script g ≡ Some f → length arguments.now ≡ length f.parameters → depth ≤ 32 →
+            Standing script (32 - depth) (Task g (map argument_of arguments.now) depth retries) (id_of base) [] k) }
+        ensures answers { IfOk result (λ k. answers_of k ≡ map outcome_of answers.items) }
+    {
+        let pc = task_entry(code, function, arguments.len())?;
+        let registers = first_registers(alloc, arguments)?;
+        let state = State {
+            pc,
+            base: 0,
+            registers,
+            callers: Vec::new(alloc),
+        };
+        Ok(Course {
+            state,
+            births: Vec::new(alloc),
+            prints: Vec::new(alloc),
+            next: base,
+            answers,
+            used: 0,
+        })
+    }
+}

@@ -28,7 +28,10 @@ use Rattle.protocol_owed.proofs.RunMoves.{pace_in_phase}
 use Rattle.lease_discipline.specs.Discipline.{Look, Gave, IsBack, IsDone, IsJobOf, IsTrue, IsTrueBetween, WorkerKeeps}
 use Rattle.lease_discipline.proofs.Tame.{IsTame, same_number}
 use Rattle.lease_discipline.proofs.Follows.{AllFollow, Follows, More, follow_grows, gave_more, never_busy, node_follows, not_both, is_false, stays, true_more}
-use Rattle.lease_discipline.proofs.Moves.{IsKept, is_plain}
+use Rattle.lease_discipline.proofs.Moves.{Anyhow, IsKept, is_plain}
+use Rattle.protocol.specs.Asking.{asks_at}
+use Rattle.protocol.specs.Tables.{AskedAt}
+use Rattle.lease_discipline.proofs.Tame.{asked_not_run, task_tame}
 use Rattle.lease_discipline.proofs.Nodes.{IsUnwanted}
 use Rattle.lease_discipline.proofs.Theres.{Goes, asks_slot_goes, frees_goes, logs_goes, look_in, store_goes, worker_says_goes}
 
@@ -95,7 +98,7 @@ plain_true look sent from to (Finished a n ids) e = absurd (cc)
 plain_true look sent from to (Failed a f) e = absurd (cc)
 plain_true look sent from to (FinishedAck a) e = absurd (cc)
 plain_true look sent from to (Back a) e = absurd (cc)
-plain_true look sent from to (Ask a t) e = tt
+plain_true look sent from to (Ask a t) e = absurd (cc)
 plain_true look sent from to (Elsewhere a t n) e = tt
 plain_true look sent from to (Wait a t) e = tt
 plain_true look sent from to (Where o) e = tt
@@ -338,7 +341,14 @@ module _ (c : Whole) (me n : ℕ) (old : Worker) (there : item_at c.workers me �
   pushes_does : (h : Here) (a : Attempt) (spec : Birth) (w m : ℕ) → Gave (sent_here h) m a w → Does h → Does (says h w (Push a spec))
   pushes_does h a spec w m given d = says_does h (TheWorker w) (Push a spec) (record { owner = h.me; from_worker = refl; node = m; given = given }) d
 
-  pub does_kept : IsKept IsToldBy IsOverOf IsGivenBy Does
+  -- an own attempt is asked for
+  asked_does : (h : Here) (o : Id) (task : OwnTask) (t m : ℕ) → Does h → Does (asks_at h o task t m)
+  asked_does h o task t m d =
+      let next : OwnTask = record task { progress = AskedAt t m } in
+      says_does (with_task_of h o next) (TheNode m) (Ask (attempt o task.number) t) tt
+      (tame_does h (with_task_of h o next).worker (task_tame h.worker o.serial next (λ v k e. asked_not_run t m v k e)) d)
+
+  pub does_kept : IsKept IsToldBy IsOverOf IsGivenBy Anyhow Does
   does_kept = record {
     writes = λ h es d. logs_does h es d;
     says_plain = λ h w m plain d. says_does h (TheWorker w) m (plain_true (look_here h) (sent_here h) (TheWorker h.me) (TheWorker w) m plain) d;
@@ -353,6 +363,9 @@ module _ (c : Whole) (me n : ℕ) (old : Worker) (there : item_at c.workers me �
     pushes_again = λ h k task w m e q d.
         pushes_does h (attempt (own_id h k) task.number) task.spec w m
         (subst (λ u. Gave (sent_here h) m (attempt (object_id u k) task.number) w) (sym d.who) ((mine h d).runs k task w m e q)) d;
+    asks_anew = λ h o old task _ _ d. asked_does h o task 0 h.worker.node d;
+    asks_on = λ h o task t m k _ _ _ d. asked_does h o task (t + 1) k d;
+    asks_again = λ h k task t m _ _ d. says_does h (TheNode m) (Ask (attempt (own_id h k) task.number) t) tt d;
     run = λ h run next e k d.
         run_does h run next e k.attempt (λ o. k.over ∙ o)
         (λ o. pace_stopped next.phase (k.pace ∙ stopped_pace run.phase ((mine h d).stopped run e (sym k.over ∙ o))))

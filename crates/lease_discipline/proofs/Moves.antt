@@ -41,8 +41,11 @@ use Rattle.protocol.specs.Ticks.{sends_task_at, sends_task, sends_tasks, asks_pl
 use Rattle.protocol.specs.Releases.{lets_go_of, lets_go, drops_copies, releases, releases_by, release_pass, release_passes, release_step, entries_made}
 use Rattle.protocol.specs.Deliveries.{reached_from_worker, reached_from_node, reached}
 use Rattle.event_log.specs.Words.{attempt}
-use Rattle.protocol.specs.Asking.{if_asked}
+use Rattle.protocol.specs.Asking.{asks_next, if_asked, requests}
+use Rattle.protocol.specs.Commits.{with_object}
+use Rattle.std.proofs.Common.{inl, inr}
 use Rattle.protocol_owed.proofs.RunMoves.{Alike, pace_in_phase}
+use Rattle.lease_discipline.proofs.Tame.{IsNextOf, asked_where, held_task, new_there, own_there, same_number, task_now}
 use Rattle.lease_discipline.proofs.Tame.{IsTame, asked_not_run, rest_not_run, put_not_task, new_not_run, same_tame, untouched_tame, task_tame, new_tame}
 use Rattle.lease_discipline.proofs.Tame.{places_tame, own_at, present_is, waiting}
 use Rattle.protocol.specs.Tables.{ByTask, is_waiting_for, new_object, put_object, released, with_asker, with_content, with_fault, with_holder, with_place}
@@ -50,6 +53,7 @@ use Rattle.protocol.specs.Tables.{without_askers, without_holder, without_places
 
 -- a message that says nothing of leases, and nothing of an attempt that is over
 abbrev pub is_plain : Message → Bool
+is_plain (Ask a t) = false
 is_plain (Give a t w) = false
 is_plain (Push a spec) = false
 is_plain (Finished a n ids) = false
@@ -104,11 +108,16 @@ sends_tasks-worker : (h : Here) → (sends_tasks h).worker ≡ h.worker
 sends_tasks-worker h = each_from-worker (λ g k. sends_task g k (task_of (own_object g k))) (λ g k. sends_task-worker g k (task_of (own_object g k))) h 1
     (length h.worker.objects)
 
+-- nothing is known of asks that were passed
+abbrev pub Anyhow : Attempt → ℕ → ℕ → Type 0
+Anyhow a t n = Unit {0}
+
 -- ---- the smallest steps
 
 -- IsToldBy w a: worker w told that attempt a is over there. IsOverOf a: the worker was told that its owner heard of attempt a. IsGivenBy n a w:
 -- node n told the worker that it gave w for attempt a.
-pub record IsKept (IsToldBy : ℕ → Attempt → Type 0) (IsOverOf : Attempt → Type 0) (IsGivenBy : ℕ → Attempt → ℕ → Type 0) (P : Here → Type 0) : Type 0 where
+pub record IsKept (IsToldBy : ℕ → Attempt → Type 0) (IsOverOf : Attempt → Type 0) (IsGivenBy : ℕ → Attempt → ℕ → Type 0)
+    (IsPassedBy : Attempt → ℕ → ℕ → Type 0) (P : Here → Type 0) : Type 0 where
   pub writes : (h : Here) (es : List Entry) → P h → P (logs_all h es)
   pub says_plain : (h : Here) (w : ℕ) (m : Message) → is_plain m ≡ true → P h → P (says h w m)
   pub says_plain_to_node : (h : Here) (n : ℕ) (m : Message) → is_plain m ≡ true → P h → P (says_to_node h n m)
@@ -119,6 +128,12 @@ pub record IsKept (IsToldBy : ℕ → Attempt → Type 0) (IsOverOf : Attempt �
       P (pushes h o (with_begun task w n) w)
   pub pushes_again : (h : Here) (k : ℕ) (task : OwnTask) (w n : ℕ) → task_of (own_object h k) ≡ Some task → task.progress ≡ RunsOn w n →
       P h → P (says h w (Push (attempt (own_id h k) task.number) task.spec))
+  -- an own attempt is asked for, the first or the next; its ask is sent on, or goes out again
+  pub asks_anew : (h : Here) (o : Id) (old task : OwnTask) → task_of (object_at h o) ≡ Some old → IsNextOf old task → P h → P (requests h o task)
+  pub asks_on : (h : Here) (o : Id) (task : OwnTask) (t m n : ℕ) → task_of (object_at h o) ≡ Some task → task.progress ≡ AskedAt t m →
+      IsPassedBy (attempt o task.number) t m → P h → P (asks_at h o task (t + 1) n)
+  pub asks_again : (h : Here) (k : ℕ) (task : OwnTask) (t n : ℕ) → task_of (own_object h k) ≡ Some task → task.progress ≡ AskedAt t n →
+      P h → P (says_to_node h n (Ask (attempt (own_id h k) task.number) t))
   -- the attempt is as far as it was; it is over; it is answered, and asks for its slot; it has a fault, and gives its slot back; it waits, and does
   pub run : (h : Here) (run next : Run) → h.worker.run ≡ Some run → Alike run next → P h → P (with_run h next)
   pub leaves : (h : Here) (run next : Run) → h.worker.run ≡ Some run → has_stopped run.phase ≡ true → next.attempt ≡ run.attempt → next.phase ≡ run.phase →
@@ -136,8 +151,8 @@ pub record IsKept (IsToldBy : ℕ → Attempt → Type 0) (IsOverOf : Attempt �
   pub hears : (h : Here) (w : ℕ) (a : Attempt) → IsToldBy w a → P h → P (says h w (FinishedAck a))
   pub back_of : (h : Here) (n : ℕ) (a : Attempt) → n ≡ h.worker.node → IsOverOf a → P h → P (says_to_node h n (Back a))
 
-module _ (IsToldBy : ℕ → Attempt → Type 0) (IsOverOf : Attempt → Type 0) (IsGivenBy : ℕ → Attempt → ℕ → Type 0) (P : Here → Type 0)
-    (kept : IsKept IsToldBy IsOverOf IsGivenBy P) where
+module _ (IsToldBy : ℕ → Attempt → Type 0) (IsOverOf : Attempt → Type 0) (IsGivenBy : ℕ → Attempt → ℕ → Type 0)
+    (IsPassedBy : Attempt → ℕ → ℕ → Type 0) (P : Here → Type 0) (kept : IsKept IsToldBy IsOverOf IsGivenBy IsPassedBy P) where
   either : (b : Bool) (x y : Here) → P x → P y → P (if b then x else y)
   either true x y p q = p
   either false x y p q = q
@@ -238,9 +253,8 @@ module _ (IsToldBy : ℕ → Attempt → Type 0) (IsOverOf : Attempt → Type 0)
   finished_ack_reached-kept h a o p = kept.back_of (hears_by h a h.worker.run) h.worker.node a (hears_by-node h a h.worker.run) o
       (hears_by-kept h a h.worker.run refl p)
 
-  pub asks_at-kept : (h : Here) (o : Id) (task : OwnTask) (t n : ℕ) → P h → P (asks_at h o task t n)
-  asks_at-kept h o task t n p = kept.says_plain_to_node _ _ _ refl
-      (kept.objects h _ (task_tame h.worker o.serial (record task { progress = AskedAt t n }) (λ v m e. asked_not_run t n v m e)) p)
+  pub requests-kept : (h : Here) (o : Id) (old task : OwnTask) → task_of (object_at h o) ≡ Some old → IsNextOf old task → P h → P (requests h o task)
+  requests-kept h o old task at next p = kept.asks_anew h o old task at next p
 
   pub tells_gone-kept : (h : Here) (ws : List ℕ) (o : Id) (f : Fault) → P h → P (tells_gone h ws o f)
   tells_gone-kept h [] o f p = p
@@ -267,13 +281,14 @@ module _ (IsToldBy : ℕ → Attempt → Type 0) (IsOverOf : Attempt → Type 0)
   pub uses_up-kept : (h : Here) (o : Id) (task : OwnTask) → P h → P (uses_up h o task)
   uses_up-kept h o task p = answers_faulted-kept _ o (resolves-kept _ o _ (kept.objects h _ (task_tame h.worker o.serial (rests task) rest_not_run) p))
 
-  pub breaks-kept : (h : Here) (o : Id) (task : OwnTask) → P h → P (breaks h o task)
-  breaks-kept h o task p = either _ _ _ (asks_at-kept h o (next_attempt task) _ _ p) (uses_up-kept h o task p)
+  pub breaks-kept : (h : Here) (o : Id) (task : OwnTask) → task_of (object_at h o) ≡ Some task → P h → P (breaks h o task)
+  breaks-kept h o task at p = either _ _ _ (kept.asks_anew h o task (next_attempt task) at (inl refl) p) (uses_up-kept h o task p)
 
-  pub begins-kept : (h : Here) (o : Id) (task : OwnTask) (w n : ℕ) → o.owner ≡ h.me → IsGivenBy n (attempt o task.number) w → P h → P (begins h o task w n)
-  begins-kept h o task w n own given p =
+  pub begins-kept : (h : Here) (o : Id) (task old : OwnTask) (w n : ℕ) → o.owner ≡ h.me → task_of (object_at h o) ≡ Some old →
+      IsGivenBy n (attempt o task.number) w → P h → P (begins h o task w n)
+  begins-kept h o task old w n own at given p =
       let q : P (pushes h o (with_begun task w n) w) = kept.begins h o task w n own given p in
-      either (knows_dead h.worker w) _ _ (breaks-kept (pushes h o (with_begun task w n) w) o (with_begun task w n) q) q
+      either (knows_dead h.worker w) _ _ (breaks-kept (pushes h o (with_begun task w n) w) o (with_begun task w n) (task_now h o old (with_begun task w n) at) q) q
 
   pub given_by-kept : (h : Here) (a : Attempt) (t w n : ℕ) (task : Option OwnTask) → task_of (object_at h a.object) ≡ task →
       (a.object.owner ≡ h.me → IsGivenBy n a w) → P h → P (given_by h a t w n task)
@@ -281,25 +296,34 @@ module _ (IsToldBy : ℕ → Attempt → Type 0) (IsOverOf : Attempt → Type 0)
   given_by-kept h a t w n (Some task) e given p =
       let own : a.object.owner ≡ h.me = own_at h a.object task e in
       either_by (if_asked t a task) (begins h a.object task w n) h
-      (λ asked. begins-kept h a.object task w n own (subst (λ b. IsGivenBy n b w) (present_is t a task asked) (given own)) p) (λ _. p)
+      (λ asked. begins-kept h a.object task task w n own e (subst (λ b. IsGivenBy n b w) (present_is t a task asked) (given own)) p) (λ _. p)
 
   pub given_reached-kept : (h : Here) (n : ℕ) (a : Attempt) (t w : ℕ) → (a.object.owner ≡ h.me → IsGivenBy n a w) → P h → P (given_reached h n a t w)
   given_reached-kept h n a t w given p = given_by-kept h a t w n (task_of (object_at h a.object)) refl given p
 
-  pub elsewhere_by-kept : (h : Here) (a : Attempt) (t n : ℕ) (task : Option OwnTask) → P h → P (elsewhere_by h a t n task)
-  elsewhere_by-kept h a t n None p = p
-  elsewhere_by-kept h a t n (Some task) p = either _ _ _ (asks_at-kept h a.object task _ _ p) p
+  pub elsewhere_by-kept : (h : Here) (a : Attempt) (t n : ℕ) (task : Option OwnTask) → task_of (object_at h a.object) ≡ task →
+      ((own : OwnTask) (m : ℕ) → a.object.owner ≡ h.me → task_of (object_at h a.object) ≡ Some own → own.progress ≡ AskedAt t m → own.number ≡ a.number → IsPassedBy a t m) →
+      P h → P (elsewhere_by h a t n task)
+  elsewhere_by-kept h a t n None e passed p = p
+  elsewhere_by-kept h a t n (Some task) e passed p =
+      either_by (if_asked t a task) (asks_next h a.object task t n) h
+      (λ asked.
+      let there = asked_where t a task asked in
+      kept.asks_on h a.object task t there.0 _ e there.1
+      (subst (λ b. IsPassedBy b t there.0) (present_is t a task asked) (passed task there.0 (own_at h a.object task e) e there.1 there.2)) p) (λ _. p)
 
-  pub elsewhere_reached-kept : (h : Here) (a : Attempt) (t n : ℕ) → P h → P (elsewhere_reached h a t n)
-  elsewhere_reached-kept h a t n p = elsewhere_by-kept h a t n (task_of (object_at h a.object)) p
+  pub elsewhere_reached-kept : (h : Here) (a : Attempt) (t n : ℕ) →
+      ((own : OwnTask) (m : ℕ) → a.object.owner ≡ h.me → task_of (object_at h a.object) ≡ Some own → own.progress ≡ AskedAt t m → own.number ≡ a.number → IsPassedBy a t m) →
+      P h → P (elsewhere_reached h a t n)
+  elsewhere_reached-kept h a t n passed p = elsewhere_by-kept h a t n (task_of (object_at h a.object)) refl passed p
 
-  pub remakes_by-kept : (h : Here) (k : ℕ) (task : Option OwnTask) → P h → P (remakes_by h k task)
-  remakes_by-kept h k None p = p
-  remakes_by-kept h k (Some task) p = asks_at-kept h (own_id h k) (next_attempt task) _ _ p
+  pub remakes_by-kept : (h : Here) (k : ℕ) (task : Option OwnTask) → task_of (own_object h k) ≡ task → P h → P (remakes_by h k task)
+  remakes_by-kept h k None e p = p
+  remakes_by-kept h k (Some task) e p = kept.asks_anew h (own_id h k) task (next_attempt task) (own_there h k ∙ e) (inl refl) p
 
   pub remakes-kept : (h : Here) (ks : List ℕ) → P h → P (remakes h ks)
   remakes-kept h [] p = p
-  remakes-kept h (k ∷ ks) p = remakes-kept (remakes_by h k (task_of (own_object h k))) ks (remakes_by-kept h k (task_of (own_object h k)) p)
+  remakes-kept h (k ∷ ks) p = remakes-kept (remakes_by h k (task_of (own_object h k))) ks (remakes_by-kept h k (task_of (own_object h k)) refl p)
 
   pub gives_up-kept : (h : Here) (o : Id) (f : Fault) → P h → P (gives_up h o f)
   gives_up-kept h o f p = either _ _ _ (answers_faulted-kept _ o (resolves-kept h o f p))
@@ -457,17 +481,19 @@ module _ (IsToldBy : ℕ → Attempt → Type 0) (IsOverOf : Attempt → Type 0)
   bears_put-kept h a o v ids p = holds_ids-kept _ o ids
       (kept.store _ _ (kept.objects h _ (new_tame h.worker (put_object a ids h.worker.node) (λ task v n e _. put_not_task task e)) p))
 
-  pub bears_task-kept : (h : Here) (a : Attempt) (o : Id) (spec : Birth) (ids : List Id) → P h → P (bears_task h a o spec ids)
-  bears_task-kept h a o spec ids p = asks_at-kept _ o (new_task spec) _ _
-      (holds_ids-kept _ o ids (kept.objects h _ (new_tame h.worker (new_object (ByTask (new_task spec)) a ids)
-      (λ task v n e q. new_not_run spec task v n e q)) p))
+  pub bears_task-kept : (h : Here) (a : Attempt) (o : Id) (spec : Birth) (ids : List Id) → o ≡ next_id_here h → P h → P (bears_task h a o spec ids)
+  bears_task-kept h a o spec ids next p =
+      let x : Object = new_object (ByTask (new_task spec)) a ids in
+      let g : Here = with_object h x in
+      kept.asks_anew (holds_ids g o ids) o (new_task spec) (new_task spec) (held_task g o o ids ∙ ap (λ i. task_of (object_at g i)) next ∙ new_there h x) (inr (spec, refl, refl))
+      (holds_ids-kept g o ids (kept.objects h _ (new_tame h.worker x (λ task v n e q. new_not_run spec task v n e q)) p))
 
-  pub bears_as-kept : (h : Here) (a : Attempt) (o : Id) (b : Birth) (ids : List Id) → P h → P (bears_as h a o b ids)
-  bears_as-kept h a o (Put v) ids p = bears_put-kept h a o v ids p
-  bears_as-kept h a o (Task g args depth retries) ids p = bears_task-kept h a o (Task g args depth retries) ids p
+  pub bears_as-kept : (h : Here) (a : Attempt) (o : Id) (b : Birth) (ids : List Id) → o ≡ next_id_here h → P h → P (bears_as h a o b ids)
+  bears_as-kept h a o (Put v) ids next p = bears_put-kept h a o v ids p
+  bears_as-kept h a o (Task g args depth retries) ids next p = bears_task-kept h a o (Task g args depth retries) ids next p
 
   pub bears-kept : (h : Here) (a : Attempt) (b : Birth) → P h → P (bears h a b)
-  bears-kept h a b p = bears_as-kept h a (next_id_here h) b (each_once (ids_of_birth b)) p
+  bears-kept h a b p = bears_as-kept h a (next_id_here h) b (each_once (ids_of_birth b)) refl p
 
   pub bears_all-kept : (h : Here) (a : Attempt) (bs : List Birth) → P h → P (bears_all h a bs)
   bears_all-kept h a [] p = p
@@ -506,13 +532,13 @@ module _ (IsToldBy : ℕ → Attempt → Type 0) (IsOverOf : Attempt → Type 0)
   pub failed_reached-kept : (h : Here) (w : ℕ) (a : Attempt) (f : Fault) → IsToldBy w a → P h → P (failed_reached h w a f)
   failed_reached-kept h w a f s p = failed_by-kept h w a f (task_of (object_at h a.object)) s p
 
-  breaks_if-kept : (test : Progress → Bool) (h : Here) (k : ℕ) (task : Option OwnTask) → P h → P (breaks_if test h k task)
-  breaks_if-kept test h k None p = p
-  breaks_if-kept test h k (Some task) p = either _ _ _ (breaks-kept h (own_id h k) task p) p
+  breaks_if-kept : (test : Progress → Bool) (h : Here) (k : ℕ) (task : Option OwnTask) → task_of (own_object h k) ≡ task → P h → P (breaks_if test h k task)
+  breaks_if-kept test h k None e p = p
+  breaks_if-kept test h k (Some task) e p = either _ _ _ (breaks-kept h (own_id h k) task (own_there h k ∙ e) p) p
 
   breaks_where-kept : (test : Progress → Bool) (h : Here) → P h → P (breaks_where test h)
   breaks_where-kept test h p = each_from-kept (λ g k. breaks_if test g k (task_of (own_object g k)))
-      (λ g k q. breaks_if-kept test g k (task_of (own_object g k)) q) h 1 (length h.worker.objects) p
+      (λ g k q. breaks_if-kept test g k (task_of (own_object g k)) refl q) h 1 (length h.worker.objects) p
 
   pub loses_owner_of-kept : (h : Here) (v : ℕ) (y : Option Id) → P h → P (loses_owner_of h v y)
   loses_owner_of-kept h v None p = p
@@ -547,18 +573,23 @@ module _ (IsToldBy : ℕ → Attempt → Type 0) (IsOverOf : Attempt → Type 0)
   pub notice_step-kept : (h : Here) (v : ℕ) → P h → P (notice_step h v)
   notice_step-kept h v p = either _ _ _ p (hears_of_worker-kept h v p)
 
-  pub moves_ask_at-kept : (h : Here) (m : ℕ) (o : Id) (task : OwnTask) (q : Progress) → P h → P (moves_ask_at h m o task q)
-  moves_ask_at-kept h m o task (AskedAt t n) p = either _ _ _ (asks_at-kept h o task _ _ p) p
-  moves_ask_at-kept h m o task AtRest p = p
-  moves_ask_at-kept h m o task (RunsOn w n) p = p
+  pub moves_ask_at-kept : (h : Here) (m k : ℕ) (task : OwnTask) (q : Progress) → task_of (own_object h k) ≡ Some task → task.progress ≡ q →
+      ((a : Attempt) (t : ℕ) → IsPassedBy a t m) → P h → P (moves_ask_at h m (own_id h k) task q)
+  moves_ask_at-kept h m k task (AskedAt t n) e f dead p =
+      either_by (n == m) (asks_next h (own_id h k) task t m) h
+      (λ same. kept.asks_on h (own_id h k) task t n _ (own_there h k ∙ e) f (subst (IsPassedBy (attempt (own_id h k) task.number) t) (sym (same_number n m same)) (dead _ t)) p) (λ _. p)
+  moves_ask_at-kept h m k task AtRest e f dead p = p
+  moves_ask_at-kept h m k task (RunsOn w n) e f dead p = p
 
-  pub moves_ask-kept : (h : Here) (m k : ℕ) (task : Option OwnTask) → P h → P (moves_ask h m k task)
-  moves_ask-kept h m k None p = p
-  moves_ask-kept h m k (Some task) p = moves_ask_at-kept h m (own_id h k) task task.progress p
+  pub moves_ask-kept : (h : Here) (m k : ℕ) (task : Option OwnTask) → task_of (own_object h k) ≡ task → ((a : Attempt) (t : ℕ) → IsPassedBy a t m) →
+      P h → P (moves_ask h m k task)
+  moves_ask-kept h m k None e dead p = p
+  moves_ask-kept h m k (Some task) e dead p = moves_ask_at-kept h m k task task.progress e refl dead p
 
-  pub moves_asks-kept : (h : Here) (m : ℕ) → P h → P (moves_asks h m)
-  moves_asks-kept h m p = each_from-kept (λ g k. moves_ask g m k (task_of (own_object g k)))
-      (λ g k q. moves_ask-kept g m k (task_of (own_object g k)) q) h 1 (length h.worker.objects) p
+  pub moves_asks-kept : (h : Here) (m : ℕ) → ((a : Attempt) (t : ℕ) → IsPassedBy a t m) → P h → P (moves_asks h m)
+  moves_asks-kept h m dead p =
+      each_from-kept (λ g k. moves_ask g m k (task_of (own_object g k))) (λ g k q. moves_ask-kept g m k (task_of (own_object g k)) refl dead q)
+      h 1 (length h.worker.objects) p
 
   pub loses_fetch_by-kept : (h : Here) (m : ℕ) (y : Id) (f : Option Fetching) → P h → P (loses_fetch_by h m y f)
   loses_fetch_by-kept h m y None p = p
@@ -578,20 +609,20 @@ module _ (IsToldBy : ℕ → Attempt → Type 0) (IsOverOf : Attempt → Type 0)
   pub loses_fetch-kept : (h : Here) (m : ℕ) → P h → P (loses_fetch h m)
   loses_fetch-kept h m p = loses_fetch_of-kept h m h.worker.run p
 
-  pub hears_of_node-kept : (h : Here) (m : ℕ) → P h → P (hears_of_node h m)
-  hears_of_node-kept h m p = let g : Here = breaks_where (runs_on_node m) (with_dead_node h m) in
-      loses_fetch-kept (moves_asks (loses_places g m) m) m
-      (moves_asks-kept (loses_places g m) m (kept.objects g _ (places_tame g.worker m)
-      (breaks_where-kept (runs_on_node m) (with_dead_node h m)
-      (kept.objects h _ (same_tame h.worker (with_dead_node h m).worker refl refl refl refl refl) p))))
+  pub hears_of_node-kept : (h : Here) (m : ℕ) → ((a : Attempt) (t : ℕ) → IsPassedBy a t m) → P h → P (hears_of_node h m)
+  hears_of_node-kept h m dead p =
+      let g : Here = breaks_where (runs_on_node m) (with_dead_node h m) in
+      let first : P g = breaks_where-kept (runs_on_node m) (with_dead_node h m)
+        (kept.objects h _ (same_tame h.worker (with_dead_node h m).worker refl refl refl refl refl) p) in
+      loses_fetch-kept (moves_asks (loses_places g m) m) m (moves_asks-kept (loses_places g m) m dead (kept.objects g _ (places_tame g.worker m) first))
 
-  pub notice_node_step-kept : (h : Here) (m : ℕ) → P h → P (notice_node_step h m)
-  notice_node_step-kept h m p = either _ _ _ p (hears_of_node-kept h m p)
+  pub notice_node_step-kept : (h : Here) (m : ℕ) → ((a : Attempt) (t : ℕ) → IsPassedBy a t m) → P h → P (notice_node_step h m)
+  notice_node_step-kept h m dead p = either _ _ _ p (hears_of_node-kept h m dead p)
 
   pub sends_task_at-kept : (h : Here) (k : ℕ) (task : OwnTask) (q : Progress) → task_of (own_object h k) ≡ Some task → task.progress ≡ q → P h →
       P (sends_task_at h (own_id h k) task q)
   sends_task_at-kept h k task AtRest e f p = p
-  sends_task_at-kept h k task (AskedAt t n) e f p = kept.says_plain_to_node h _ _ refl p
+  sends_task_at-kept h k task (AskedAt t n) e f p = kept.asks_again h k task t n e f p
   sends_task_at-kept h k task (RunsOn w n) e f p = kept.pushes_again h k task w n e f p
 
   pub sends_task-kept : (h : Here) (k : ℕ) (task : Option OwnTask) → task_of (own_object h k) ≡ task → P h → P (sends_task h k task)
@@ -693,12 +724,14 @@ module _ (IsToldBy : ℕ → Attempt → Type 0) (IsOverOf : Attempt → Type 0)
   -- what is known of a message from a node
   abbrev pub IsHeardOf : Here → ℕ → Message → Type 0
   IsHeardOf h n (Give a t w) = a.object.owner ≡ h.me → IsGivenBy n a w
+  IsHeardOf h n (Elsewhere a t m) =
+      (own : OwnTask) (i : ℕ) → a.object.owner ≡ h.me → task_of (object_at h a.object) ≡ Some own → own.progress ≡ AskedAt t i → own.number ≡ a.number → IsPassedBy a t i
   IsHeardOf h n m = Unit {0}
 
   pub reached_from_node-kept : (h : Here) (n : ℕ) (m : Message) → IsHeardOf h n m → P h → P (reached_from_node h n m)
   reached_from_node-kept h n (Ask a t) s p = p
   reached_from_node-kept h n (Give a t w) s p = given_reached-kept h n a t w s p
-  reached_from_node-kept h n (Elsewhere a t m) s p = elsewhere_reached-kept h a t m p
+  reached_from_node-kept h n (Elsewhere a t m) s p = elsewhere_reached-kept h a t m s p
   reached_from_node-kept h n (Wait a t) s p = p
   reached_from_node-kept h n (Back a) s p = p
   reached_from_node-kept h n (Push a spec) s p = p

@@ -275,9 +275,11 @@ module _ (c : Whole) (me n : ℕ) (old : Worker) (there : item_at c.workers me �
     writes = λ h es p. p;
     says_plain = λ h w m _ p. p;
     says_plain_to_node = λ h k m _ p. p;
-    objects = λ h x t p. ap pace_in_run t.run ∙ p;
+    objects = λ h x t p. ap pace_in_run t.tame.run ∙ p;
+    bears_new = λ h x spec _ p. p;
+    comes_to_rest = λ h o task _ _ p. p;
     store = λ h s p. p;
-    begins = λ h o task w m _ _ p. p;
+    begins = λ h o task w m _ _ _ _ _ _ p. p;
     pushes_again = λ h k task w m _ _ p. p;
     asks_anew = λ h o old task _ _ p. p;
     asks_on = λ h o task t m k _ _ _ p. p;
@@ -321,11 +323,13 @@ module _ (c : Whole) (me n : ℕ) (old : Worker) (there : item_at c.workers me �
     says_plain = λ h w m _ p. says_stops h (TheWorker w) m p;
     says_plain_to_node = λ h k m _ p. says_stops h (TheNode k) m p;
     objects = λ h x t p. record {
-      pace = ap pace_in_run t.run ∙ p.pace;
-      unwanted = λ a live gave unbegun. p.unwanted a (sym t.live ∙ live) gave (ap (has_begun a) (sym t.began) ∙ unbegun);
+      pace = ap pace_in_run t.tame.run ∙ p.pace;
+      unwanted = λ a live gave unbegun. p.unwanted a (sym t.tame.live ∙ live) gave (ap (has_begun a) (sym t.tame.began) ∙ unbegun);
     };
+    bears_new = λ h x spec _ p. record { pace = p.pace; unwanted = p.unwanted };
+    comes_to_rest = λ h o task _ _ p. record { pace = p.pace; unwanted = p.unwanted };
     store = λ h s p. record { pace = p.pace; unwanted = p.unwanted };
-    begins = λ h o task w m _ _ p. says_stops _ (TheWorker w) _ (record { pace = p.pace; unwanted = p.unwanted });
+    begins = λ h o task w m _ _ _ _ _ _ p. says_stops _ (TheWorker w) _ (record { pace = p.pace; unwanted = p.unwanted });
     pushes_again = λ h k task w m _ _ p. says_stops h (TheWorker w) _ p;
     asks_anew = λ h o old task _ _ p. says_stops _ (TheNode _) _ (record { pace = p.pace; unwanted = p.unwanted });
     asks_on = λ h o task t m k _ _ _ p. says_stops _ (TheNode _) _ (record { pace = p.pace; unwanted = p.unwanted });

@@ -22,8 +22,11 @@ use Rattle.protocol.specs.Commits.{next_id_here, with_object}
 use Rattle.protocol.specs.Tables.{knows_dead, with_holder}
 use Rattle.protocol.specs.Steps.{changes, own_id, with_task_of}
 use Rattle.sequence.proofs.Places.{slice_get-last}
-use Rattle.protocol_owed.proofs.CourseEvents.{changed_none}
-use Rattle.protocol_owed.proofs.Nodes.{changed_cases, push_cases, there_still}
+use Rattle.protocol.specs.Notices.{runs_on_node, runs_on_worker}
+use Rattle.protocol.specs.Ends.{if_present}
+use Rattle.protocol.specs.Tables.{is_pending_task}
+use Rattle.protocol_owed.proofs.CourseEvents.{append_none, changed_none}
+use Rattle.protocol_owed.proofs.Nodes.{changed_cases, push_cases, there_more, there_still}
 
 pub same_number : (m n : ℕ) → (m == n) ≡ true → m ≡ n
 same_number m n e = grind (arith, nat_tests)
@@ -259,3 +262,60 @@ item_last xs x =
 
 pub new_there : (h : Here) (x : Object) → task_of (object_at (with_object h x) (next_id_here h)) ≡ task_in x.maker
 new_there h x = own_there (with_object h x) (length h.worker.objects + 1) ∙ ap task_of (item_last h.worker.objects x)
+
+-- ---- changes that leave tasks as they are
+
+pub record LeavesTasks (x y : Worker) : Type 0 where
+  pub tame : IsTame x y
+  pub tasks : (k : ℕ) → task_of (item_at y.objects k) ≡ task_of (item_at x.objects k)
+
+pub same_left : (x y : Worker) → y.node ≡ x.node → y.is_live ≡ x.is_live → y.run ≡ x.run → y.began ≡ x.began → y.objects ≡ x.objects → LeavesTasks x y
+same_left x y node live run began objects = record { tame = same_tame x y node live run began objects; tasks = λ k. ap (λ ys. task_of (item_at ys k)) objects }
+
+pub untouched_left : (x : Worker) (k : ℕ) (f : Object → Object) → ((y : Object) → (f y).maker ≡ y.maker) →
+    LeavesTasks x (record x { objects = changed_at x.objects k f })
+untouched_left x k f same = record { tame = untouched_tame x k f same; tasks = λ m. same_tasks x.objects k m f same }
+
+pub put_left : (x : Worker) (y : Object) → y.maker ≡ WasPut → LeavesTasks x (record x { objects = x.objects ++ y ∷ [] })
+put_left x y put = record {
+  tame = new_tame x y (λ task v n e _. put_not_task task (ap task_in (sym put) ∙ e));
+  tasks = λ k. by_item k (item_at (x.objects ++ y ∷ []) k) refl (item_at x.objects k) refl;
+}
+  where
+    by_item : (k : ℕ) (o : Option Object) → item_at (x.objects ++ y ∷ []) k ≡ o → (q : Option Object) → item_at x.objects k ≡ q →
+        task_of (item_at (x.objects ++ y ∷ []) k) ≡ task_of (item_at x.objects k)
+    by_item k None e q f = ap task_of e ∙ ap task_of (sym (append_none x.objects (y ∷ []) k e))
+    by_item k (Some z) e (Some u) f = ap task_of (there_more x.objects (y ∷ []) k u f) ∙ ap task_of (sym f)
+    by_item k (Some z) e None f = elim (push_cases x.objects k y z e) [
+      | inl at ↦ ap task_of e ∙ ap task_of (sym at)
+      | inr (last, is) ↦ ap task_of e ∙ ap (λ (u : Object). task_in u.maker) (sym is) ∙ ap task_in put ∙ ap task_of (sym f)
+    ]
+
+pub places_left : (x : Worker) (m : ℕ) → LeavesTasks x (record x { objects = map (without_place m) x.objects })
+places_left x m = record { tame = places_tame x m; tasks = λ k. by_item k (item_at x.objects k) refl }
+  where
+    get_map : (xs : List Object) (i : ℕ) → task_of (slice_get (map (without_place m) xs) i) ≡ task_of (slice_get xs i)
+    get_map [] i = refl
+    get_map (y ∷ xs) zero = refl
+    get_map (y ∷ xs) (suc i) = get_map xs i
+
+    by_item : (k : ℕ) (o : Option Object) → item_at x.objects k ≡ o → task_of (item_at (map (without_place m) x.objects) k) ≡ task_of (item_at x.objects k)
+    by_item zero o e = refl
+    by_item (suc i) o e = get_map x.objects i
+
+-- a running attempt
+abbrev pub IsRunning : OwnTask → Type 0
+IsRunning task = (w n : ℕ) × (task.progress ≡ RunsOn w n)
+
+pub on_worker : (v : ℕ) (q : Progress) → runs_on_worker v q ≡ true → (w n : ℕ) × (q ≡ RunsOn w n)
+on_worker v (RunsOn w n) e = (w, n, refl)
+on_worker v AtRest e = absurd (cc)
+on_worker v (AskedAt t n) e = absurd (cc)
+
+pub on_node : (m : ℕ) (q : Progress) → runs_on_node m q ≡ true → (w n : ℕ) × (q ≡ RunsOn w n)
+on_node m (RunsOn w n) e = (w, n, refl)
+on_node m AtRest e = absurd (cc)
+on_node m (AskedAt t n) e = absurd (cc)
+
+pub present_was : (a : Attempt) (task : OwnTask) → if_present a task ≡ true → a ≡ attempt a.object task.number
+present_was a task e = ap (attempt a.object) (sym (same_number task.number a.number (and_right (is_pending_task task) (task.number == a.number) e)))

@@ -49,8 +49,8 @@ ToldBy w a = Unit {0}
 abbrev OverOf : Attempt → Type 0
 OverOf a = Unit {0}
 
-abbrev GivenBy : ℕ → Attempt → ℕ → Type 0
-GivenBy n a w = Unit {0}
+abbrev GivenBy : ℕ → ℕ → Attempt → ℕ → Type 0
+GivenBy n t a w = Unit {0}
 
 -- workers of other nodes are the same
 other_turns : (look next : Look) (m : ℕ) (s : Scheduler) → ((w : ℕ) (y : Worker) → next w ≡ Some y → y.node ≡ m → look w ≡ Some y) → HasTurn look m s →

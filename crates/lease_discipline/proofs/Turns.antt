@@ -22,10 +22,10 @@ use Rattle.protocol.specs.Slots.{without_worker}
 use Rattle.protocol.specs.Tables.{Fetching, HasEnded, HasFaulted, Out, OwnTask, Phase, Ready, Run, Waits, Worker, new_run, new_worker}
 use Rattle.protocol.specs.Steps.{Here, logs, logs_all, own_id, store_here, with_phase, with_run, with_store, with_task_of, with_worker}
 use Rattle.protocol.specs.Runs.{asks_for_slot, begins_run, gives_slot_back, leaves_if_free, with_answer}
-use Rattle.protocol.specs.Asking.{asks_at, with_begun}
+use Rattle.protocol.specs.Asking.{asks_at, rests, with_begun}
 use Rattle.protocol.specs.Tables.{AskedAt}
 use Rattle.protocol.specs.Holders.{holds_ids}
-use Rattle.protocol.specs.Commits.{bears_all, claim_by, claim_step, commit_by, commit_step, ends, next_id_here, stops_by, with_outcomes}
+use Rattle.protocol.specs.Commits.{bears_all, with_object, claim_by, claim_step, commit_by, commit_step, ends, next_id_here, stops_by, with_outcomes}
 use Rattle.protocol.specs.Whole.{Whole}
 use Rattle.protocol_owed.specs.Courses.{GoesOn, HasStopped, IsOut, Pace, Rests}
 use Rattle.protocol_owed.proofs.CourseEvents.{append_split, one_of}
@@ -345,14 +345,16 @@ module _ (c : Whole) (me n : ℕ) (old : Worker) (there : item_at c.workers me �
         worker_turns h (with_task_of h o (record task { progress = AskedAt i m })).worker refl (λ e. e) (inl refl) t in
       record { who = g.who; home = g.home; turns = g.turns }
 
-  pub turns_kept : (ToldBy : ℕ → Attempt → Type 0) (OverOf : Attempt → Type 0) (GivenBy : ℕ → Attempt → ℕ → Type 0) → IsKept ToldBy OverOf GivenBy Anyhow Turns
+  pub turns_kept : (ToldBy : ℕ → Attempt → Type 0) (OverOf : Attempt → Type 0) (GivenBy : ℕ → ℕ → Attempt → ℕ → Type 0) → IsKept ToldBy OverOf GivenBy Anyhow Turns
   turns_kept ToldBy OverOf GivenBy = record {
     writes = λ h es t. record { who = t.who; home = t.home; turns = t.turns };
     says_plain = λ h w m _ t. record { who = t.who; home = t.home; turns = t.turns };
     says_plain_to_node = λ h k m _ t. record { who = t.who; home = t.home; turns = t.turns };
-    objects = λ h x tame t. worker_turns h x tame.node (λ i. sym tame.live ∙ i) (inl (ap pace_by tame.run)) t;
+    objects = λ h x tame t. worker_turns h x tame.tame.node (λ i. sym tame.tame.live ∙ i) (inl (ap pace_by tame.tame.run)) t;
+    bears_new = λ h x spec _ t. worker_turns h (with_object h x).worker refl (λ i. i) (inl refl) t;
+    comes_to_rest = λ h o task _ _ t. worker_turns h (with_task_of h o (rests task)).worker refl (λ i. i) (inl refl) t;
     store = λ h s t. record { who = t.who; home = t.home; turns = t.turns };
-    begins = λ h o task w m _ _ t.
+    begins = λ h o task w m _ _ _ _ _ _ t.
         let g : Turns (with_task_of h o (with_begun task w m)) = worker_turns h (with_task_of h o (with_begun task w m)).worker refl (λ i. i) (inl refl) t in
         record { who = g.who; home = g.home; turns = g.turns };
     pushes_again = λ h k task w m _ _ t. record { who = t.who; home = t.home; turns = t.turns };
@@ -387,8 +389,8 @@ module _ (c : Whole) (me n : ℕ) (old : Worker) (there : item_at c.workers me �
   abbrev O : Attempt → Type 0
   O a = Unit {0}
 
-  abbrev V : ℕ → Attempt → ℕ → Type 0
-  V k a w = Unit {0}
+  abbrev V : ℕ → ℕ → Attempt → ℕ → Type 0
+  V k i a w = Unit {0}
 
   kept : IsKept T O V Anyhow Turns
   kept = turns_kept T O V
@@ -420,9 +422,11 @@ module _ (c : Whole) (me n : ℕ) (old : Worker) (there : item_at c.workers me �
     writes = λ h es p. p;
     says_plain = λ h w m _ p. p;
     says_plain_to_node = λ h k m _ p. p;
-    objects = λ h x t p. ap pace_in_run t.run ∙ p;
+    objects = λ h x t p. ap pace_in_run t.tame.run ∙ p;
+    bears_new = λ h x spec _ p. p;
+    comes_to_rest = λ h o task _ _ p. p;
     store = λ h s p. p;
-    begins = λ h o task w m _ _ p. p;
+    begins = λ h o task w m _ _ _ _ _ _ p. p;
     pushes_again = λ h k task w m _ _ p. p;
     asks_anew = λ h o old task _ _ p. p;
     asks_on = λ h o task t m k _ _ _ p. p;

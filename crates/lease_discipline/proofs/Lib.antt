@@ -13,3 +13,4 @@ pub mod Turns
 pub mod TurnEvents
 pub mod SlotLaw
 pub mod Judged
+pub mod Asking

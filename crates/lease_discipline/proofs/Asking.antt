@@ -13,13 +13,16 @@ use Rattle.protocol.specs.Messages.{Where, At, Gone, Fetch, CopyOf, Missing, Hol
 use Rattle.protocol.specs.Nodes.{There}
 use Rattle.protocol.specs.Slots.{asks_slot, frees}
 use Rattle.protocol.specs.Tables.{AskedAt, AtRest, ByTask, Object, OwnTask, Progress, RunsOn, Worker, new_task, task_in, task_of, with_task}
-use Rattle.protocol.specs.Steps.{Here, is_own, object_at, own_id, own_object, with_task_of}
-use Rattle.protocol.specs.Asking.{asks_at, next_attempt, rests, with_begun}
+use Rattle.protocol.specs.Steps.{Here, is_own, logs, object_at, own_id, own_object, with_phase, with_run, with_task_of}
+use Rattle.protocol.specs.Asking.{asks_at, pushes, rests, with_begun}
 use Rattle.protocol.specs.Commits.{with_object}
+use Rattle.protocol.specs.Runs.{with_answer}
+use Rattle.protocol.specs.Tables.{HasFaulted}
+use Rattle.protocol_owed.proofs.Nodes as N
 use Rattle.protocol.specs.Whole.{Whole, worker_at}
 use Rattle.protocol_owed.proofs.CourseEvents.{append_none, changed_none}
 use Rattle.protocol_owed.proofs.NodeMoves.{IsKeptThere, asks_slot-kept, frees-kept}
-use Rattle.protocol_owed.proofs.Nodes.{changed_cases, push_cases, there_more}
+use Rattle.protocol_owed.proofs.Nodes.{changed_cases, there_more}
 use Rattle.protocol_owed.proofs.Letters.{among-append_cases, among-behind, among-more, among-push_cases}
 use Rattle.lease_discipline.specs.Asks.{Asked, IsClosed, IsLast, IsPassed, IsSentOn, OwnsAsks, Touched}
 use Rattle.lease_discipline.specs.Discipline.{Pushed}
@@ -72,6 +75,9 @@ touched_before : (b : Attempt → Type 0) (s t : List Letter) (a : Attempt) → 
 touched_before b s t a o (inl (i, n, e)) = elim (o.asked a i n e) [ inl f ↦ inl (inl (i, n, f)) | inr f ↦ inr f ]
 touched_before b s t a o (inr (w, e)) = elim (o.pushed a w e) [ inl f ↦ inl (inr (w, f)) | inr f ↦ inr f ]
 
+pub pushed_more : (s t : List Letter) (a : Attempt) (w : ℕ) → More s t → Pushed s a w → Pushed t a w
+pushed_more s t a w more e = (e.0, e.1, more _ e.2)
+
 pub passed_more : (dead : ℕ → Type 0) (s t : List Letter) (a : Attempt) (i n : ℕ) → More s t → IsPassed dead s a i n → IsPassed dead t a i n
 passed_more dead s t a i n more (inl e) = inl (e.0, more _ e.1)
 passed_more dead s t a i n more (inr d) = inr d
@@ -91,6 +97,7 @@ owns_more dead b s t v x o not q = record {
   newborn = λ k spec e f. elim (touched_before b s t _ o f) [ inl g ↦ q.newborn k spec e g | inr g ↦ not k 0 g ];
   stands = λ k task i n e p. last_more dead b s t _ i n o (not k task.number) (q.stands k task i n e p);
   unpushed = λ k task i n w e p f. elim (o.pushed _ w f) [ inl g ↦ q.unpushed k task i n w e p g | inr g ↦ not k task.number g ];
+  runs = λ k task w n e p. pushed_more s t _ w o.more (q.runs k task w n e p);
   begun = q.begun;
 }
 
@@ -107,6 +114,7 @@ owns_same dead s v x y same q = record {
   newborn = λ k spec e f. q.newborn k spec (sym (same k) ∙ e) f;
   stands = λ k task i n e p. q.stands k task i n (sym (same k) ∙ e) p;
   unpushed = λ k task i n w e p f. q.unpushed k task i n w (sym (same k) ∙ e) p f;
+  runs = λ k task w n e p. q.runs k task w n (sym (same k) ∙ e) p;
   begun = λ k task w n e p f. q.begun k task w n (sym (same k) ∙ e) p f;
 }
 
@@ -131,6 +139,7 @@ owns_born dead s v x y spec born q = record {
   newborn = λ k sp e f. elim (born k) [ inl same ↦ q.newborn k sp (sym same ∙ e) f | inr (none, _) ↦ q.none k 0 none f ];
   stands = λ k task i n e p. elim (born k) [ inl same ↦ q.stands k task i n (sym same ∙ e) p | inr (_, now) ↦ absurd (rests_not_asked task spec i n (same_task _ _ (sym now ∙ e)) p) ];
   unpushed = λ k task i n w e p f. elim (born k) [ inl same ↦ q.unpushed k task i n w (sym same ∙ e) p f | inr (_, now) ↦ rests_not_asked task spec i n (same_task _ _ (sym now ∙ e)) p ];
+  runs = λ k task w n e p. elim (born k) [ inl same ↦ q.runs k task w n (sym same ∙ e) p | inr (_, now) ↦ absurd (rests_not_runs task spec w n (same_task _ _ (sym now ∙ e)) p) ];
   begun = λ k task w n e p f. elim (born k) [ inl same ↦ q.begun k task w n (sym same ∙ e) p f | inr (_, now) ↦ rests_not_runs task spec w n (same_task _ _ (sym now ∙ e)) p ];
 }
 
@@ -149,8 +158,9 @@ owns_put : (dead : ℕ → Type 0) (s t : List Letter) (v k0 : ℕ) (x y : Worke
     ((spec : Birth) → task ≡ new_task spec → Touched t (attempt (object_id v k0) 0) → ⊥) →
     ((i n : ℕ) → task.progress ≡ AskedAt i n → IsLast dead t (attempt (object_id v k0) task.number) i n) →
     ((i n w : ℕ) → task.progress ≡ AskedAt i n → Pushed t (attempt (object_id v k0) task.number) w → ⊥) →
+    ((w n : ℕ) → task.progress ≡ RunsOn w n → Pushed t (attempt (object_id v k0) task.number) w) →
     ((w n : ℕ) → task.progress ≡ RunsOn w n → task.begun ≡ [] → ⊥) → OwnsAsks dead s v x → OwnsAsks dead t v y
-owns_put dead s t v k0 x y old task put le o newborn stands unpushed begun q = record {
+owns_put dead s t v k0 x y old task put le o newborn stands unpushed runs begun q = record {
   none = λ k i e f. elim (by_number k k0) [
     | inl same ↦ not_none same e
     | inr apart ↦ elim (touched_before _ s t _ o f) [ inl g ↦ q.none k i (sym (put.apart k apart) ∙ e) g | inr g ↦ apart (serials v k0 task.number v k i g).1 ]
@@ -179,6 +189,13 @@ owns_put dead s t v k0 x y old task put le o newborn stands unpushed begun q = r
       | inl g ↦ q.unpushed k other i n w (sym (put.apart k apart) ∙ e) p g
       | inr g ↦ apart (serials v k0 task.number v k other.number g).1
     ]
+  ];
+  runs = λ k other w n e p. elim (by_number k k0) [
+    | inl same ↦
+        let is : task ≡ other = is_task k same other e in
+        subst (λ j. Pushed t (attempt (object_id v j) other.number) w) (sym same)
+        (subst (λ (u : OwnTask). Pushed t (attempt (object_id v k0) u.number) w) is (runs w n (ap (λ (u : OwnTask). u.progress) is ∙ p)))
+    | inr apart ↦ pushed_more s t _ w o.more (q.runs k other w n (sym (put.apart k apart) ∙ e) p)
   ];
   begun = λ k other w n e p f. elim (by_number k k0) [
     | inl same ↦
@@ -387,6 +404,7 @@ module _ (c : Whole) (me : ℕ) (old : Worker) (there : item_at c.workers me ≡
           (λ spec e _. let f : AtRest ≡ AskedAt t n = sym (ap (λ (u : OwnTask). u.progress) e) ∙ progress in absurd (cc))
           (λ i m e. last_now s s' o i m (sym progress ∙ e))
           (λ i m w e f. elim (o.pushed a w f) [ inl g ↦ unpushed w g | inr g ↦ pushed_new w f ])
+          (λ w m e. let f : AskedAt t n ≡ RunsOn w m = sym progress ∙ e in absurd (cc))
           (λ w m e _. let f : AskedAt t n ≡ RunsOn w m = sym progress ∙ e in absurd (cc)) q.mine;
         others = λ v y apart at. owns_more dead (This a) s s' v y o (λ k i e. apart (serials me k0 task.number v k i e).0) (q.others v y apart at);
         closed = λ b w e. elim (o.pushed b w e) [
@@ -422,3 +440,249 @@ module _ (c : Whole) (me : ℕ) (old : Worker) (there : item_at c.workers me ≡
             ]
             | inr g ↦ inl g
           ]))
+
+  -- ---- an own attempt begins
+
+  push_letter : (h : Here) (w : ℕ) (a : Attempt) (spec : Birth) → TouchesOnly (This a) (sent_so h) (with_letter c.network h.there.out.letters (letter (TheWorker h.me) (TheWorker w) (Push a spec)))
+  push_letter h w a spec = record {
+    more = letter_more c.network h.there.out.letters _;
+    asked = λ b i m e. elim (letter_cases c.network h.there.out.letters _ _ e.1) [ inl f ↦ inl (e.0, f) | inr f ↦ absurd (no_ask b i (ap (λ (l : Letter). l.message) f)) ];
+    pushed = λ b v e. elim (letter_cases c.network h.there.out.letters _ _ e.2) [ inl f ↦ inl (e.0, e.1, f) | inr f ↦ inr (attempts b e.1 (ap (λ (l : Letter). l.message) f)) ];
+  }
+    where
+      no_ask : (b : Attempt) (i : ℕ) → Ask b i ≡ Push a spec → ⊥
+      no_ask b i e = absurd (cc)
+
+      attempts : (b : Attempt) (sp : Birth) → Push b sp ≡ Push a spec → b ≡ a
+      attempts b sp e = cc
+
+  -- a Push adds no ask, and goes to that worker
+  push_asked : (h : Here) (w : ℕ) (a b : Attempt) (spec : Birth) (i m : ℕ) → Asked (with_letter c.network h.there.out.letters (letter (TheWorker h.me) (TheWorker w) (Push a spec))) b i m → Asked (sent_so h) b i m
+  push_asked h w a b spec i m e = elim (letter_cases c.network h.there.out.letters _ _ e.1) [ inl f ↦ (e.0, f) | inr f ↦ absurd (no_ask (ap (λ (l : Letter). l.message) f)) ]
+    where
+      no_ask : Ask b i ≡ Push a spec → ⊥
+      no_ask f = absurd (cc)
+
+  push_cases : (h : Here) (w v : ℕ) (a b : Attempt) (spec : Birth) → Pushed (with_letter c.network h.there.out.letters (letter (TheWorker h.me) (TheWorker w) (Push a spec))) b v → Pushed (sent_so h) b v ⊎ ((b ≡ a) × (v ≡ w))
+  push_cases h w v a b spec e = elim (letter_cases c.network h.there.out.letters _ _ e.2) [
+    | inl f ↦ inl (e.0, e.1, f)
+    | inr f ↦ inr (attempts e.1 (ap (λ (l : Letter). l.message) f), workers (ap (λ (l : Letter). l.receiver) f))
+  ]
+    where
+      attempts : (sp : Birth) → Push b sp ≡ Push a spec → b ≡ a
+      attempts sp f = cc
+
+      workers : ◌≡◌ {A = Party} (TheWorker v) (TheWorker w) → v ≡ w
+      workers f = cc
+
+  -- a task that runs on w is put at k0, and pushed to w, which was given for its last ask
+  pushed_asks : (h : Here) (x : Worker) (k0 w n : ℕ) (before task : OwnTask) (spec : Birth) → IsPut h.worker x k0 before task → before.number ≤ task.number → task.progress ≡ RunsOn w n →
+      (task.begun ≡ [] → ⊥) →
+      IsClosed dead (sent_so h) (attempt (object_id me k0) task.number) w →
+      Asks h → AsksOf h.me x (with_letter c.network h.there.out.letters (letter (TheWorker h.me) (TheWorker w) (Push (attempt (object_id me k0) task.number) spec)))
+  pushed_asks h x k0 w n before task spec put le progress some closed q =
+      let o : TouchesOnly (This a) (sent_so h) s' = push_letter h w a spec in
+      record {
+        who = q.who;
+        mine = owns_put dead (sent_so h) s' me k0 h.worker x before task put le o
+          (λ sp e _. let f : AtRest ≡ RunsOn w n = sym (ap (λ (u : OwnTask). u.progress) e) ∙ progress in absurd (cc))
+          (λ i m e. let f : RunsOn w n ≡ AskedAt i m = sym progress ∙ e in absurd (cc))
+          (λ i m v e _. let f : RunsOn w n ≡ AskedAt i m = sym progress ∙ e in absurd (cc))
+          (λ v m e. runs v m (sym progress ∙ e)) (λ v m e f. some f) q.mine;
+        others = λ v y apart at. owns_more dead (This a) (sent_so h) s' v y o (λ k i e. apart (serials me k0 task.number v k i e).0) (q.others v y apart at);
+        closed = λ b v e. elim (push_cases h w v a b spec e) [
+          | inl f ↦ closed_so b v (q.closed b v f)
+          | inr (same, to) ↦ subst (λ i. IsClosed dead s' i v) (sym same) (subst (λ i. IsClosed dead s' a i) (sym to) (closed_so a w closed))
+        ];
+        owned = λ b e. elim (touched_before (This a) (sent_so h) s' b o e) [
+          | inl f ↦ q.owned b f
+          | inr f ↦ (old, subst (λ (i : Attempt). worker_at c i.object.owner ≡ Some old) (sym f) there)
+        ];
+      }
+    where
+      a : Attempt
+      a = attempt (object_id me k0) task.number
+
+      s' : List Letter
+      s' = with_letter c.network h.there.out.letters (letter (TheWorker h.me) (TheWorker w) (Push a spec))
+
+      closed_so : (b : Attempt) (v : ℕ) → IsClosed dead (sent_so h) b v → IsClosed dead s' b v
+      closed_so b v k = record {
+        t = k.t;
+        node = k.node;
+        given = letter_more c.network h.there.out.letters _ _ k.given;
+        last = λ i m e. elim (k.last i m (push_asked h w a b spec i m e)) [
+          | inl f ↦ inl f
+          | inr (f, p) ↦ inr (f, passed_more dead (sent_so h) s' b i m (letter_more c.network h.there.out.letters _) p)
+        ];
+      }
+
+      runs : (v m : ℕ) → RunsOn w n ≡ RunsOn v m → Pushed s' a v
+      runs v m e = let same : w ≡ v = cc in subst (λ i. Pushed s' a i) same (h.me, spec, letter_last c.network h.there.out.letters _)
+
+  -- ---- all the smallest steps
+
+  own_id_is : (h : Here) (o : Id) → o.owner ≡ h.me → Asks h → o ≡ object_id me o.serial
+  own_id_is h o own q = ap (λ u. object_id u o.serial) (own ∙ q.who)
+
+  same_put : (x : Worker) (k0 : ℕ) (task : OwnTask) → task_of (item_at x.objects k0) ≡ Some task → IsPut x x k0 task task
+  same_put x k0 task at = record { before = at; now = at; apart = λ k other. refl }
+
+  no_zero : (h : Here) (o : Id) (task : OwnTask) → task_of (object_at h o) ≡ Some task → attempt o task.number ≡ main_attempt → ⊥
+  no_zero h o task at main =
+      let zero_serial : o.serial ≡ 0 = ap (λ (a : Attempt). a.object.serial) main in
+      let f : ◌≡◌ {A = Option OwnTask} None (Some task) = subst (λ k. task_of (item_at h.worker.objects k) ≡ Some task) zero_serial (own_task h o task at) in
+      absurd (cc)
+
+  untouched_next : (h : Here) (k0 : ℕ) (before task : OwnTask) → task_of (item_at h.worker.objects k0) ≡ Some before → IsNextOf before task → Asks h → Touched (sent_so h) (attempt (object_id me k0) task.number) → ⊥
+  untouched_next h k0 before task at (inl next) q e =
+      let number : task.number ≡ before.number + 1 = ap (λ (u : OwnTask). u.number) next in
+      q.mine.later k0 task.number before at (omega (arith, number)) e
+  untouched_next h k0 before task at (inr (spec, new, was)) q e =
+      let number : task.number ≡ 0 = ap (λ (u : OwnTask). u.number) new in
+      q.mine.newborn k0 spec (at ∙ ap (λ u. Some u) was) (subst (λ i. Touched (sent_so h) (attempt (object_id me k0) i)) number e)
+
+  next_more : (before task : OwnTask) → IsNextOf before task → before.number ≤ task.number
+  next_more before task (inl next) = let number : task.number ≡ before.number + 1 = ap (λ (u : OwnTask). u.number) next in omega (arith, number)
+  next_more before task (inr (spec, new, was)) =
+      let a : task.number ≡ 0 = ap (λ (u : OwnTask). u.number) new in
+      let b : before.number ≡ 0 = ap (λ (u : OwnTask). u.number) was in
+      omega (arith, a, b)
+
+  ask_anew : (h : Here) (o : Id) (before task : OwnTask) (n : ℕ) → task_of (object_at h o) ≡ Some before → IsNextOf before task → Asks h → Asks (asks_at h o task 0 n)
+  ask_anew h o before task n at next q =
+      let k0 : ℕ = o.serial in
+      let here_at : task_of (item_at h.worker.objects k0) ≡ Some before = own_task h o before at in
+      let asked : OwnTask = record task { progress = AskedAt 0 n } in
+      let x : Worker = record h.worker { objects = changed_at h.worker.objects k0 (with_task asked) } in
+      let untouched : Touched (sent_so h) (attempt (object_id me k0) task.number) → ⊥ = untouched_next h k0 before task here_at next q in
+      subst (λ i. AsksOf h.me x (with_letter c.network h.there.out.letters (letter (TheWorker h.me) (TheNode n) (Ask (attempt i task.number) 0)))) (sym (own_id_is h o (own_at h o before at) q))
+      (asked_asks h x k0 before asked 0 n (put_task h.worker k0 before asked here_at) (next_more before task next) refl
+      (λ w e. untouched (inr (w, e))) (λ i m e. absurd (untouched (inl (i, m, e)))) q)
+
+  ask_on : (h : Here) (o : Id) (task : OwnTask) (t m n : ℕ) → task_of (object_at h o) ≡ Some task → task.progress ≡ AskedAt t m → PassedBy (attempt o task.number) t m →
+      Asks h → Asks (asks_at h o task (t + 1) n)
+  ask_on h o task t m n at progress passed q =
+      let k0 : ℕ = o.serial in
+      let here_at : task_of (item_at h.worker.objects k0) ≡ Some task = own_task h o task at in
+      let asked : OwnTask = record task { progress = AskedAt (t + 1) n } in
+      let x : Worker = record h.worker { objects = changed_at h.worker.objects k0 (with_task asked) } in
+      let is : o ≡ object_id me k0 = own_id_is h o (own_at h o task at) q in
+      let a : Attempt = attempt (object_id me k0) task.number in
+      let now : IsPassed dead (sent_so h) a t m = subst (λ i. IsPassed dead (sent_so h) (attempt i task.number) t m) is (passed_more dead c.network (sent_so h) _ t m (so_more h) passed) in
+      subst (λ i. AsksOf h.me x (with_letter c.network h.there.out.letters (letter (TheWorker h.me) (TheNode n) (Ask (attempt i task.number) (t + 1))))) (sym is)
+      (asked_asks h x k0 task asked (t + 1) n (put_task h.worker k0 task asked here_at) (omega arith) refl
+      (λ w e. q.mine.unpushed k0 task t m w here_at progress e)
+      (λ i j e. elim (q.mine.stands k0 task t m here_at progress i j e) [
+        | inl (same, node) ↦ inr (omega (arith, same), subst (λ u. IsPassed dead (sent_so h) a u j) (sym same) (subst (λ u. IsPassed dead (sent_so h) a t u) (sym node) now))
+        | inr (less, p) ↦ inr (omega (arith, less), p)
+      ]) q)
+
+  rest : (h : Here) (o : Id) (task : OwnTask) → task_of (object_at h o) ≡ Some task → ((w n : ℕ) × (task.progress ≡ RunsOn w n)) ⊎ ((w : ℕ) × ToldOf w (attempt o task.number)) →
+      Asks h → Asks (with_task_of h o (rests task))
+  rest h o task at why q =
+      let k0 : ℕ = o.serial in
+      let here_at : task_of (item_at h.worker.objects k0) ≡ Some task = own_task h o task at in
+      let s : List Letter = sent_so h in
+      record {
+        who = q.who;
+        mine = owns_put dead s s me k0 h.worker _ task (rests task) (put_task h.worker k0 task (rests task) here_at) (omega arith)
+          (record { more = λ l e. e; asked = λ a i n e. inl e; pushed = λ a w e. inl e })
+          (λ spec e f. newborn k0 here_at spec task.progress refl e f)
+          (λ i n e. let f : AtRest ≡ AskedAt i n = e in absurd (cc)) (λ i n w e _. let f : AtRest ≡ AskedAt i n = e in absurd (cc))
+          (λ w n e. let f : AtRest ≡ RunsOn w n = e in absurd (cc)) (λ w n e _. let f : AtRest ≡ RunsOn w n = e in absurd (cc)) q.mine;
+        others = q.others;
+        closed = q.closed;
+        owned = q.owned;
+      }
+    where
+      told_pushed : (k0 : ℕ) → k0 ≡ o.serial → (w : ℕ) → ToldOf w (attempt o task.number) → Pushed (sent_so h) (attempt (object_id me o.serial) task.number) w
+      told_pushed k0 e w (inl p) = subst (λ i. Pushed (sent_so h) (attempt i task.number) w) (own_id_is h o (own_at h o task at) q) (pushed_more c.network (sent_so h) _ w (so_more h) p)
+      told_pushed k0 e w (inr main) = absurd (no_zero h o task at main)
+
+      newborn : (k0 : ℕ) → task_of (item_at h.worker.objects o.serial) ≡ Some task → (spec : Birth) (p : Progress) → task.progress ≡ p → rests task ≡ new_task spec → Touched (sent_so h) (attempt (object_id me o.serial) 0) → ⊥
+      newborn k0 here_at spec AtRest p e f =
+          let is : task ≡ rests task = ap (λ u. record task { progress = u }) p in
+          q.mine.newborn o.serial spec (here_at ∙ ap (λ u. Some u) (is ∙ e)) f
+      newborn k0 here_at spec (RunsOn w n) p e f = q.mine.begun o.serial task w n here_at p (ap (λ (u : OwnTask). u.begun) e)
+      newborn k0 here_at spec (AskedAt t n) p e f = elim why [
+        | inl (w, m, runs) ↦ let g : AskedAt t n ≡ RunsOn w m = sym p ∙ runs in absurd (cc)
+        | inr (w, told) ↦ q.mine.unpushed o.serial task t n w here_at p (told_pushed o.serial refl w told)
+      ]
+
+  not_nil : (ws : List ℕ) (w : ℕ) → ws ++ w ∷ [] ≡ [] → ⊥
+  not_nil [] w e = absurd (cc)
+  not_nil (x ∷ ws) w e = absurd (cc)
+
+  begin : (h : Here) (o : Id) (task : OwnTask) (w n t m : ℕ) → o.owner ≡ h.me → task_of (object_at h o) ≡ Some task → task.progress ≡ AskedAt t m →
+      GivenOf n t (attempt o task.number) w → Asks h → Asks (pushes h o (with_begun task w n) w)
+  begin h o task w n t m own at progress given q =
+      let k0 : ℕ = o.serial in
+      let here_at : task_of (item_at h.worker.objects k0) ≡ Some task = own_task h o task at in
+      let begun : OwnTask = with_begun task w n in
+      let x : Worker = record h.worker { objects = changed_at h.worker.objects k0 (with_task begun) } in
+      let is : o ≡ object_id me k0 = own_id_is h o own q in
+      let a : Attempt = attempt (object_id me k0) task.number in
+      let last : IsLast dead (sent_so h) a t m = q.mine.stands k0 task t m here_at progress in
+      let asked : Asked (sent_so h) a t n = subst (λ i. Asked (sent_so h) (attempt i task.number) t n) is (given.asked.0, so_more h _ given.asked.1) in
+      let node : n ≡ m = elim (last t n asked) [ inl (_, same) ↦ same | inr (less, _) ↦ absurd (omega (arith, less)) ] in
+      let gave : Among (letter (TheNode n) (TheWorker a.object.owner) (Give a t w)) (sent_so h) =
+        subst (λ i. Among (letter (TheNode n) (TheWorker (attempt i task.number).object.owner) (Give (attempt i task.number) t w)) (sent_so h)) is (so_more h _ given.given) in
+      let closed : IsClosed dead (sent_so h) a w = record { t = t; node = n; given = gave; last = subst (λ j. IsLast dead (sent_so h) a t j) (sym node) last } in
+      subst (λ i. AsksOf h.me x (with_letter c.network h.there.out.letters (letter (TheWorker h.me) (TheWorker w) (Push (attempt i task.number) task.spec)))) (sym is)
+      (pushed_asks h x k0 w n task begun task.spec (put_task h.worker k0 task begun here_at) (omega arith) refl (not_nil task.begun w)
+      closed q)
+
+  push_again : (h : Here) (k : ℕ) (task : OwnTask) (w n : ℕ) → task_of (own_object h k) ≡ Some task → task.progress ≡ RunsOn w n → Asks h →
+      AsksOf h.me h.worker (with_letter c.network h.there.out.letters (letter (TheWorker h.me) (TheWorker w) (Push (attempt (own_id h k) task.number) task.spec)))
+  push_again h k task w n at progress q =
+      subst (λ u. AsksOf h.me h.worker (with_letter c.network h.there.out.letters (letter (TheWorker h.me) (TheWorker w) (Push (attempt (object_id u k) task.number) task.spec)))) (sym q.who)
+      (pushed_asks h h.worker k w n task task task.spec (same_put h.worker k task at) (omega arith) progress (q.mine.begun k task w n at progress) closed q)
+    where
+      closed : IsClosed dead (sent_so h) (attempt (object_id me k) task.number) w
+      closed = q.closed _ w (q.mine.runs k task w n at progress)
+
+  ask_again : (h : Here) (k : ℕ) (task : OwnTask) (t n : ℕ) → task_of (own_object h k) ≡ Some task → task.progress ≡ AskedAt t n → Asks h →
+      AsksOf h.me h.worker (with_letter c.network h.there.out.letters (letter (TheWorker h.me) (TheNode n) (Ask (attempt (own_id h k) task.number) t)))
+  ask_again h k task t n at progress q =
+      subst (λ u. AsksOf h.me h.worker (with_letter c.network h.there.out.letters (letter (TheWorker h.me) (TheNode n) (Ask (attempt (object_id u k) task.number) t)))) (sym q.who)
+      (asked_asks h h.worker k task task t n (same_put h.worker k task at) (omega arith) progress (λ w e. q.mine.unpushed k task t n w at progress e) (q.mine.stands k task t n at progress) q)
+
+  born : (h : Here) (x : Object) (spec : Birth) → x.maker ≡ ByTask (new_task spec) → IsBornOf h.worker (with_object h x).worker spec
+  born h x spec is k = by_item (item_at h.worker.objects k) refl (item_at (h.worker.objects ++ x ∷ []) k) refl
+    where
+      by_item : (o : Option Object) → item_at h.worker.objects k ≡ o → (p : Option Object) → item_at (h.worker.objects ++ x ∷ []) k ≡ p →
+          (task_of (item_at (h.worker.objects ++ x ∷ []) k) ≡ task_of (item_at h.worker.objects k)) ⊎
+          ((task_of (item_at h.worker.objects k) ≡ None) × (task_of (item_at (h.worker.objects ++ x ∷ []) k) ≡ Some (new_task spec)))
+      by_item (Some u) e p f = inl (ap task_of (there_more h.worker.objects (x ∷ []) k u e) ∙ ap task_of (sym e))
+      by_item None e None f = inl (ap task_of f ∙ ap task_of (sym e))
+      by_item None e (Some z) f = elim (N.push_cases h.worker.objects k x z f) [
+        | inl at ↦ inl (ap task_of f ∙ ap task_of (sym at))
+        | inr (_, same) ↦ inr (ap task_of e, ap task_of f ∙ ap (λ (u : Object). task_in u.maker) (sym same) ∙ ap task_in is)
+      ]
+
+  pub asks_kept : IsKept ToldOf OverBy GivenOf PassedBy Asks
+  asks_kept = record {
+    writes = λ h es q. q;
+    says_plain = λ h w m plain q. says_asks h (TheWorker w) m (plain_quiet m plain) q;
+    says_plain_to_node = λ h n m plain q. says_asks h (TheNode n) m (plain_quiet m plain) q;
+    objects = λ h x t q. same_asks h.me h.worker x (sent_so h) t.tasks q;
+    store = λ h s q. q;
+    begins = begin;
+    bears_new = λ h x spec is q. record { who = q.who; mine = owns_born dead (sent_so h) me h.worker _ spec (born h x spec is) q.mine; others = q.others; closed = q.closed; owned = q.owned };
+    comes_to_rest = rest;
+    pushes_again = push_again;
+    asks_anew = λ h o before task at next q. ask_anew h o before task h.worker.node at next q;
+    asks_on = λ h o task t m n at progress passed q. ask_on h o task t m n at progress passed q;
+    asks_again = ask_again;
+    run = λ h run next e k q. same_asks h.me h.worker _ (sent_so h) (λ i. refl) q;
+    leaves = λ h run next e _ _ _ _ q. same_asks h.me h.worker _ (sent_so h) (λ i. refl) q;
+    gets = λ h run content y f e w q. slot_asks (logs (with_run h (with_answer run content)) (Got run.attempt y content)) (same_asks h.me h.worker _ (sent_so h) (λ i. refl) q);
+    faults = λ h run fault y f e w q. frees_asks (logs (with_phase h run (HasFaulted fault)) (Faulted run.attempt y fault)) (same_asks h.me h.worker _ (sent_so h) (λ i. refl) q);
+    frees = λ h run y f e w q. frees_asks h q;
+    tells_end = λ h run n ids _ _ q. says_asks h _ _ refl q;
+    tells_fault = λ h run f _ _ q. says_asks h _ _ refl q;
+    back = λ h run _ _ q. says_asks h _ _ refl q;
+    hears = λ h w a _ q. says_asks h _ _ refl q;
+    back_of = λ h n a _ _ q. says_asks h _ _ refl q;
+  }

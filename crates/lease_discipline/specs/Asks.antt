@@ -57,7 +57,9 @@ pub record OwnsAsks (dead : ℕ → Type 0) (sent : List Letter) (v : ℕ) (x : 
       IsLast dead sent (attempt (object_id v k) task.number) t n
   pub unpushed : (k : ℕ) (task : OwnTask) (t n w : ℕ) → task_of (item_at x.objects k) ≡ Some task → task.progress ≡ AskedAt t n →
       Pushed sent (attempt (object_id v k) task.number) w → ⊥
-  -- a task that runs was begun
+  -- a task that runs was pushed to its worker, and begun
+  pub runs : (k : ℕ) (task : OwnTask) (w n : ℕ) → task_of (item_at x.objects k) ≡ Some task → task.progress ≡ RunsOn w n →
+      Pushed sent (attempt (object_id v k) task.number) w
   pub begun : (k : ℕ) (task : OwnTask) (w n : ℕ) → task_of (item_at x.objects k) ≡ Some task → task.progress ≡ RunsOn w n → task.begun ≡ [] → ⊥
 
 -- ---- the whole

@@ -14,3 +14,4 @@ pub mod TurnEvents
 pub mod SlotLaw
 pub mod Judged
 pub mod Asking
+pub mod AskEvents

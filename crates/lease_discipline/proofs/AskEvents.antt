@@ -30,6 +30,27 @@ use Rattle.protocol_owed.proofs.Answering.{NodeTells}
 use Rattle.protocol_owed.proofs.Asks.{QueueIsRight, Stands, has_key, reply_in, reply-other, same_key-refl, same_key-true, with_reply_in}
 use Rattle.protocol_owed.proofs.Nodes.{NodesAreRight}
 use Rattle.lease_discipline.specs.Asks as A
+use Rattle.values.specs.Listed.{each_once, ids_in_outcome}
+use Rattle.meaning.specs.Values.{Birth}
+use Rattle.std.specs.Prelude.{◌&&◌}
+use Rattle.event_log.specs.Commits.{commit_entries}
+use Rattle.event_log.specs.Entries.{Entry}
+use Rattle.event_log.specs.Words.{same_attempt}
+use Rattle.protocol.specs.Commits.{bears_all, claim_by, claim_step, commit_by, commit_step, ends, next_id_here, stops_by, with_outcomes}
+use Rattle.protocol.specs.Deliveries.{reached}
+use Rattle.protocol.specs.Holders.{holds_ids}
+use Rattle.protocol.specs.Jobs.{AtEnd, AtGet, Stopped, stop_of}
+use Rattle.protocol.specs.Releases.{release_step}
+use Rattle.protocol.specs.Runs.{begins_run, is_free, leaves_if_free, push_reached}
+use Rattle.protocol.specs.Steps.{logs_all, store_here, with_phase, with_run, with_store}
+use Rattle.protocol.specs.Stores.{with_primary}
+use Rattle.protocol.specs.Tables.{HasEnded, Out, Run, Waits}
+use Rattle.protocol.specs.Whole.{worker_does, worker_does_at, worker_does_by}
+use Rattle.protocol_owed.proofs.Moves as M
+use Rattle.protocol_owed.proofs.Nodes as N
+use Rattle.protocol_owed.proofs.NodeMoves.{IsKeptThere, asks_slot-kept, frees-kept}
+use Rattle.lease_discipline.proofs.Moves.{IsHeardFrom, IsKept, bears_all-kept, holds_ids-kept, leaves_if_free-kept, needs-kept, reached-kept, release_step-kept}
+use Rattle.lease_discipline.proofs.Asking.{Asks, AsksOf, GivenOf, OverBy, PassedBy, ToldOf, asks_kept, frees_asks, own_task, same_asks}
 use Rattle.lease_discipline.specs.Asks.{IsDeadNode, IsLast, IsPassed, KeepsAsks, OwnsAsks}
 use Rattle.lease_discipline.specs.Discipline.{IsDone, KeepsLeases, Pushed}
 
@@ -42,10 +63,10 @@ Keys s t = (j : AskKey) (x : Reply) → reply_to t j ≡ Some x → (y : Reply) 
 abbrev pub KeysAnd : AskKey → Scheduler → Scheduler → Type 0
 KeysAnd k s t = (j : AskKey) (x : Reply) → reply_to t j ≡ Some x → ((y : Reply) × (reply_to s j ≡ Some y)) ⊎ (k ≡ j)
 
-abbrev sch : There → Scheduler
+abbrev pub sch : There → Scheduler
 sch t = t.node.scheduler
 
-same_keys : (s : Scheduler) → Keys s s
+pub same_keys : (s : Scheduler) → Keys s s
 same_keys s j x e = (x, e)
 
 replied_keys : (asks : List Asked) (k : AskKey) (x : Reply) (j : AskKey) (y : Reply) → reply_in (with_reply_in asks k x) j ≡ Some y → ((z : Reply) × (reply_in asks j ≡ Some z)) ⊎ (k ≡ j)
@@ -57,7 +78,7 @@ leases_keys : (t : There) (k : AskKey) (o : Option ℕ) → KeysAnd k (sch t) (s
 leases_keys t k None j x e = replied_keys (sch t).asks k _ j x e
 leases_keys t k (Some w) j x e = replied_keys (sch t).asks k _ j x e
 
-asked_keys : (t : There) (k : AskKey) (o : Option Reply) → KeysAnd k (sch t) (sch (asked_by t k o))
+pub asked_keys : (t : There) (k : AskKey) (o : Option Reply) → KeysAnd k (sch t) (sch (asked_by t k o))
 asked_keys t k None =
     at_test (λ b. KeysAnd k (sch t) (sch (if b then gives_worker t k else has_no_slot_for t k))) (has_free_slot (sch t))
     (λ _. leases_keys t k (least (sch t).idle))
@@ -116,14 +137,14 @@ answer_asked c right keeps n t a m is came =
 
 -- ---- the end of an event
 
-last_dead : (dead next : ℕ → Type 0) (s : List Letter) (a : Attempt) (t n : ℕ) → ((m : ℕ) → dead m → next m) → IsLast dead s a t n → IsLast next s a t n
+pub last_dead : (dead next : ℕ → Type 0) (s : List Letter) (a : Attempt) (t n : ℕ) → ((m : ℕ) → dead m → next m) → IsLast dead s a t n → IsLast next s a t n
 last_dead dead next s a t n more l i m e = elim (l i m e) [
   | inl f ↦ inl f
   | inr (f, p) ↦ inr (f, elim p [ inl sent ↦ inl sent | inr d ↦ inr (more m d) ])
 ]
 
 -- owners' clauses stay as more nodes are dead
-owns_dead : (dead next : ℕ → Type 0) (s : List Letter) (v : ℕ) (x : Worker) → ((n : ℕ) → dead n → next n) → OwnsAsks dead s v x → OwnsAsks next s v x
+pub owns_dead : (dead next : ℕ → Type 0) (s : List Letter) (v : ℕ) (x : Worker) → ((n : ℕ) → dead n → next n) → OwnsAsks dead s v x → OwnsAsks next s v x
 owns_dead dead next s v x more q = record {
   none = q.none;
   later = q.later;
@@ -176,7 +197,7 @@ module _ (c d : Whole) (n : ℕ) (node : Node) (t : There) (stood : node_at d n 
           let g : k ≡ x = cc in
           ap (λ (y : Node). y.is_live) (sym g) ∙ off
 
-  asks_end : KeepsAsks after
+  pub asks_end : KeepsAsks after
   asks_end = record {
     nodes = λ m node_m k x e r. elim (changed_cases d.nodes n m (λ _. t.node) node_m e) [
       | inl (same, _, _, is) ↦ subst (λ i. A.Asked after.network k.attempt k.t i) (sym same) (asked k x (ap (λ (y : Node). reply_to y.scheduler k) (sym is) ∙ r))
@@ -198,3 +219,228 @@ module _ (c d : Whole) (n : ℕ) (node : Node) (t : There) (stood : node_at d n 
 
       not_there : (v : ℕ) → worker_at d v ≡ None → (y : Worker) × (worker_at c v ≡ Some y) → ⊥
       not_there v none (y, at) = let z = there_too v y at in let f = z.1 in cc
+
+-- ---- beside an event
+
+abbrev Lives : Bool → There → Type 0
+Lives b t = t.node.is_live ≡ b
+
+lives_there : (b : Bool) → IsKeptThere (Lives b)
+lives_there b = record { opens = λ t w e. e; says = λ t w m e. e; scheduler = λ t s e. e; store = λ t s e. e }
+
+keys_then : (s t u : Scheduler) → Keys s t → Keys t u → Keys s u
+keys_then s t u p q j x e = let f = q j x e in p j f.0 f.1
+
+module _ (c : Whole) (n : ℕ) (node : Node) where
+  pub record Beside (h : Here) : Type 0 where
+    pub tells : N.Goes c.network c.slots n h
+    pub keys : Keys node.scheduler h.there.node.scheduler
+    pub lives : h.there.node.is_live ≡ node.is_live
+
+  beside_kept : M.IsKept Beside
+  beside_kept =
+      let g : M.IsKept (N.Goes c.network c.slots n) = N.goes c.network c.slots n in
+      record {
+        logs = λ h es quiet b. record { tells = g.logs h es quiet b.tells; keys = b.keys; lives = b.lives };
+        says = λ h w m b. record { tells = g.says h w m b.tells; keys = b.keys; lives = b.lives };
+        says_to_node = λ h k m b. record { tells = g.says_to_node h k m b.tells; keys = b.keys; lives = b.lives };
+        worker = λ h x e f b. record { tells = g.worker h x e f b.tells; keys = b.keys; lives = b.lives };
+        store = λ h s b. record { tells = g.store h s b.tells; keys = b.keys; lives = b.lives };
+        frees = λ h b. record {
+          tells = g.frees h b.tells;
+          keys = keys_then node.scheduler h.there.node.scheduler (sch (frees h.there h.me)) b.keys (frees_keys h.there h.me b.tells.0.queue);
+          lives = frees-kept (Lives node.is_live) (lives_there node.is_live) h.there h.me b.lives;
+        };
+        asks = λ h b. record {
+          tells = g.asks h b.tells;
+          keys = keys_then node.scheduler h.there.node.scheduler (sch (asks_slot h.there h.me)) b.keys (slot_keys h.there h.me b.tells.0.queue);
+          lives = asks_slot-kept (Lives node.is_live) (lives_there node.is_live) h.there h.me b.lives;
+        };
+      }
+
+-- ---- an event of a worker
+
+module _ (c : Whole) (me : ℕ) (x : Worker) (at : worker_at c me ≡ Some x) where
+  abbrev Q : Here → Type 0
+  Q = Asks c me x at (IsDeadNode c)
+
+  abbrev Kept : (Here → Type 0) → Type 0
+  Kept P = IsKept (ToldOf c me x at (IsDeadNode c)) (OverBy c me x at (IsDeadNode c)) (GivenOf c me x at (IsDeadNode c)) (PassedBy c me x at (IsDeadNode c)) P
+
+  q_kept : Kept Q
+  q_kept = asks_kept c me x at (IsDeadNode c)
+
+  module _ (node : Node) (home : node_at c x.node ≡ Some node) (keeps : KeepsAsks c) (right : NodesAreRight c) where
+    abbrev start : Here
+    start = here c me x node
+
+    begins : Q start
+    begins = subst (λ ls. AsksOf c me x at (IsDeadNode c) me x ls) (sym (append-nil c.network))
+      (record { who = refl; mine = keeps.owners me x at; others = λ v y _ e. keeps.owners v y e; closed = keeps.closed; owned = keeps.owned })
+
+    begins_beside : Beside c x.node node start
+    begins_beside = record { tells = N.at_rest c x.node node home right; keys = same_keys node.scheduler; lives = refl }
+
+    pub worker_asks : (f : Here → Here) → N.Keeps f → (Q start → Q (f start)) → KeepsAsks (worker_does_at c me x f (Some node)).whole
+    worker_asks f moves step =
+        let g : Here = release_step (f start) in
+        let a : Q g = release_step-kept (ToldOf c me x at (IsDeadNode c)) (OverBy c me x at (IsDeadNode c)) (GivenOf c me x at (IsDeadNode c)) (PassedBy c me x at (IsDeadNode c))
+          Q q_kept (f start) (step begins) in
+        let b : Beside c x.node node g = M.release_step-kept (Beside c x.node node) (beside_kept c x.node node) (f start)
+          (moves (Beside c x.node node) (beside_kept c x.node node) start begins_beside) in
+        asks_end c (record c { workers = changed_at c.workers me (λ _. g.worker) }) x.node node g.there home refl refl b.lives keeps
+        (λ v y e. elim (changed_cases c.workers me v (λ _. g.worker) y e) [
+          | inl (same, _, _, is) ↦ subst (λ i. OwnsAsks (IsDeadNode c) (c.network ++ g.there.out.letters) i y) (sym same) (subst (OwnsAsks (IsDeadNode c) (c.network ++ g.there.out.letters) me) (sym is) a.mine)
+          | inr (apart, before) ↦ a.others v y apart before
+        ])
+        (λ v y e. there_still c.workers me v (λ _. g.worker) y e) a.closed a.owned
+        (λ k r e.
+        let old = b.keys k r e in
+        let asked = keeps.nodes x.node node k old.0 home old.1 in
+        (asked.0, among-more c.network g.there.out.letters (letter (TheWorker asked.0) (TheNode x.node) (Ask k.attempt k.t)) asked.1))
+
+abbrev pub Steps : Whole → ℕ → (Here → Here) → Type 0
+Steps c w f = (x : Worker) (at : worker_at c w ≡ Some x) (node : Node) → node_at c x.node ≡ Some node → Q c w x at (here c w x node) → Q c w x at (f (here c w x node))
+
+pub worker_event : (c : Whole) (w : ℕ) (f : Here → Here) → N.Keeps f → Steps c w f → NodesAreRight c → KeepsAsks c → KeepsAsks (worker_does c w f).whole
+worker_event c w f moves steps right k = by_worker (worker_at c w) refl
+  where
+    by_node : (x : Worker) → worker_at c w ≡ Some x → (o : Option Node) → node_at c x.node ≡ o → KeepsAsks (worker_does_at c w x f o).whole
+    by_node x at None e = k
+    by_node x at (Some node) e = worker_asks c w x at node e k right f moves (steps x at node e)
+
+    by_worker : (o : Option Worker) → worker_at c w ≡ o → KeepsAsks (worker_does_by c w f o).whole
+    by_worker None at = k
+    by_worker (Some x) at = by_node x at (node_at c x.node) refl
+
+-- ---- the worker's own steps
+
+module _ (c : Whole) (me : ℕ) (x : Worker) (at : worker_at c me ≡ Some x) where
+  abbrev R : Here → Type 0
+  R = Q c me x at
+
+  same : (h : Here) (y : Worker) → y.objects ≡ h.worker.objects → R h → AsksOf c me x at (IsDeadNode c) h.me y (c.network ++ h.there.out.letters)
+  same h y e q = same_asks c me x at (IsDeadNode c) h.me h.worker y (c.network ++ h.there.out.letters) (λ k. ap (λ ys. task_of (item_at ys k)) e) q
+
+  push_step : (h : Here) (a : Attempt) (spec : Birth) → R h → R (push_reached h a spec)
+  push_step h a spec q =
+      at_test (λ b. R (if b then begins_run h a spec else h)) (is_free h.worker.run && not (list_any (λ b. same_attempt b a) h.worker.began))
+      (λ _. same h (begins_run h a spec).worker refl q) (λ _. q)
+
+  pub claim_asks : (h : Here) (j : ℕ) → R h → R (claim_step h j)
+  claim_asks h j q = by_run h.worker.run
+    where
+      by_run : (r : Option Run) → R (claim_by h j r)
+      by_run None = q
+      by_run (Some run) = same h (with_phase h run (Out j)).worker refl q
+
+  T : Kept c me x at R
+  T = q_kept c me x at
+
+  ends_asks : (h : Here) (run : Run) (content : Outcome) → R h → R (ends h run content)
+  ends_asks h run content q =
+      let g : Here = with_phase h run (HasEnded content) in
+      let o : Id = run.attempt.object in
+      let ids : List Id = each_once (ids_in_outcome content) in
+      let stored : Here = with_store g (with_primary (store_here h) o run.attempt.number content) in
+      let held : Here = holds_ids stored o ids in
+      frees_asks c me x at (IsDeadNode c) (leaves_if_free held)
+      (leaves_if_free-kept (ToldOf c me x at (IsDeadNode c)) (OverBy c me x at (IsDeadNode c)) (GivenOf c me x at (IsDeadNode c)) (PassedBy c me x at (IsDeadNode c)) R T held
+      (holds_ids-kept (ToldOf c me x at (IsDeadNode c)) (OverBy c me x at (IsDeadNode c)) (GivenOf c me x at (IsDeadNode c)) (PassedBy c me x at (IsDeadNode c)) R T stored o ids (same h g.worker refl q)))
+
+  stops_asks : (h : Here) (stop : Stopped) (r : Option Run) → R h → R (stops_by h stop r)
+  stops_asks h stop None q = q
+  stops_asks h (AtGet y) (Some run) q =
+      needs-kept (ToldOf c me x at (IsDeadNode c)) (OverBy c me x at (IsDeadNode c)) (GivenOf c me x at (IsDeadNode c)) (PassedBy c me x at (IsDeadNode c)) R T h run y
+      (same h (with_phase h run (Waits y None)).worker refl q)
+  stops_asks h (AtEnd content) (Some run) q = ends_asks h run content q
+
+  pub commit_asks : (h : Here) (o : Outcomes) → R h → R (commit_step h o)
+  commit_asks h o q = by_run h.worker.run
+    where
+      by_run : (r : Option Run) → R (commit_by h o r)
+      by_run None = q
+      by_run (Some run) =
+          let es : List Entry = commit_entries run.attempt (next_id_here h) o.births o.prints (stop_of o.stop) in
+          let g : Here = logs_all (with_run h (with_outcomes run o)) es in
+          let borne : Here = bears_all g run.attempt o.births in
+          stops_asks borne o.stop borne.worker.run
+          (bears_all-kept (ToldOf c me x at (IsDeadNode c)) (OverBy c me x at (IsDeadNode c)) (GivenOf c me x at (IsDeadNode c)) (PassedBy c me x at (IsDeadNode c)) R T g run.attempt o.births
+          (same h (with_run h (with_outcomes run o)).worker refl q))
+
+  -- ---- what comes
+
+  module _ (node : Node) (home : node_at c x.node ≡ Some node) (keeps : KeepsAsks c) (right : NodesAreRight c) (leases : KeepsLeases c) where
+    abbrev first : Here
+    first = here c me x node
+
+    abbrev Heard : Party → Message → Type 0
+    Heard = IsHeardFrom (ToldOf c me x at (IsDeadNode c)) (OverBy c me x at (IsDeadNode c)) (GivenOf c me x at (IsDeadNode c)) (PassedBy c me x at (IsDeadNode c)) R T first
+
+    told : (u : ℕ) (a : Attempt) → IsDone (worker_at c) u a → ToldOf c me x at (IsDeadNode c) u a
+    told u a d = elim ((leases.workers.each u d.worker d.there).began a d.done.listed) [ inl (main, _) ↦ inr main | inr p ↦ inl p ]
+
+    heard_worker : (u : ℕ) (m : Message) → Among (letter (TheWorker u) (TheWorker me) m) c.network → R first → Heard (TheWorker u) m
+    heard_worker u (Push a spec) came q = push_step first a spec q
+    heard_worker u (Finished a n ids) came q = told u a (leases.workers.letters _ came)
+    heard_worker u (Failed a f) came q = told u a (leases.workers.letters _ came)
+    heard_worker u (FinishedAck a) came q = tt
+    heard_worker u (Ask a t) came q = tt
+    heard_worker u (Give a t v) came q = tt
+    heard_worker u (Elsewhere a t n) came q = tt
+    heard_worker u (Wait a t) came q = tt
+    heard_worker u (Back a) came q = tt
+    heard_worker u (Where o) came q = tt
+    heard_worker u (At o number ns) came q = tt
+    heard_worker u (Gone o f) came q = tt
+    heard_worker u (Fetch o number) came q = tt
+    heard_worker u (CopyOf o number b) came q = tt
+    heard_worker u (Missing o number n) came q = tt
+    heard_worker u (Hold e o) came q = tt
+    heard_worker u (HoldAck e o) came q = tt
+    heard_worker u (Unhold e o) came q = tt
+
+    -- the node that sent the ask on is the one that was asked
+    passed : (n t m : ℕ) (a : Attempt) → Among (letter (TheNode n) (TheWorker a.object.owner) (Elsewhere a t m)) c.network → (own : OwnTask) (i : ℕ) → a.object.owner ≡ me →
+        task_of (object_at first a.object) ≡ Some own → own.progress ≡ AskedAt t i → own.number ≡ a.number → IsPassed (IsDeadNode c) c.network a t i
+    passed n t m a came own i mine there progress number =
+        let asked : A.Asked c.network a t n = answer_asked c right keeps n t a (Elsewhere a t m) (inr (inl (m, refl))) came in
+        let last : IsLast (IsDeadNode c) c.network (attempt (object_id me a.object.serial) own.number) t i =
+          (keeps.owners me x at).stands a.object.serial own t i (own_task first a.object own there) progress in
+        let is : attempt (object_id me a.object.serial) own.number ≡ a = ap (λ u. attempt (object_id u a.object.serial) own.number) (sym mine) ∙ ap (attempt a.object) number in
+        let here_last : IsLast (IsDeadNode c) c.network a t i = subst (λ b. IsLast (IsDeadNode c) c.network b t i) is last in
+        elim (here_last t n asked) [
+          | inl (_, node_is) ↦ subst (λ j. IsPassed (IsDeadNode c) c.network a t j) node_is (inl (m, came))
+          | inr (less, _) ↦ absurd (omega (arith, less))
+        ]
+
+    heard_node : (n : ℕ) (m : Message) → Among (letter (TheNode n) (TheWorker me) m) c.network → Heard (TheNode n) m
+    heard_node n (Give a t v) came = λ own.
+        let sent : Among (letter (TheNode n) (TheWorker a.object.owner) (Give a t v)) c.network = subst (λ u. Among (letter (TheNode n) (TheWorker u) (Give a t v)) c.network) (sym own) came in
+        record { given = sent; asked = answer_asked c right keeps n t a (Give a t v) (inl (v, refl)) sent }
+    heard_node n (Elsewhere a t m) came = λ own i mine there progress number.
+        passed n t m a (subst (λ u. Among (letter (TheNode n) (TheWorker u) (Elsewhere a t m)) c.network) (sym mine) came) own i mine there progress number
+    heard_node n (Push a spec) came = tt
+    heard_node n (Finished a m ids) came = tt
+    heard_node n (Failed a f) came = tt
+    heard_node n (FinishedAck a) came = tt
+    heard_node n (Ask a t) came = tt
+    heard_node n (Wait a t) came = tt
+    heard_node n (Back a) came = tt
+    heard_node n (Where o) came = tt
+    heard_node n (At o number ns) came = tt
+    heard_node n (Gone o f) came = tt
+    heard_node n (Fetch o number) came = tt
+    heard_node n (CopyOf o number b) came = tt
+    heard_node n (Missing o number m) came = tt
+    heard_node n (Hold e o) came = tt
+    heard_node n (HoldAck e o) came = tt
+    heard_node n (Unhold e o) came = tt
+
+    heard_from : (from : Party) (m : Message) → Among (letter from (TheWorker me) m) c.network → R first → Heard from m
+    heard_from (TheWorker u) m came q = heard_worker u m came q
+    heard_from (TheNode n) m came q = heard_node n m came
+
+    pub reached_asks : (from : Party) (m : Message) → Among (letter from (TheWorker me) m) c.network → R first → R (reached first from m)
+    reached_asks from m came q =
+        reached-kept (ToldOf c me x at (IsDeadNode c)) (OverBy c me x at (IsDeadNode c)) (GivenOf c me x at (IsDeadNode c)) (PassedBy c me x at (IsDeadNode c)) R T first from m (heard_from from m came q) q

@@ -71,7 +71,7 @@ Nobody a = ⊥
 abbrev pub This : Attempt → Attempt → Type 0
 This a b = b ≡ a
 
-touched_before : (b : Attempt → Type 0) (s t : List Letter) (a : Attempt) → TouchesOnly b s t → Touched t a → Touched s a ⊎ b a
+pub touched_before : (b : Attempt → Type 0) (s t : List Letter) (a : Attempt) → TouchesOnly b s t → Touched t a → Touched s a ⊎ b a
 touched_before b s t a o (inl (i, n, e)) = elim (o.asked a i n e) [ inl f ↦ inl (inl (i, n, f)) | inr f ↦ inr f ]
 touched_before b s t a o (inr (w, e)) = elim (o.pushed a w e) [ inl f ↦ inl (inr (w, f)) | inr f ↦ inr f ]
 
@@ -89,7 +89,7 @@ last_more dead b s t a i n o not l j m e = elim (o.asked a j m e) [
 ]
 
 -- an owner whose attempts weren't touched
-owns_more : (dead : ℕ → Type 0) (b : Attempt → Type 0) (s t : List Letter) (v : ℕ) (x : Worker) → TouchesOnly b s t → ((k i : ℕ) → b (attempt (object_id v k) i) → ⊥) →
+pub owns_more : (dead : ℕ → Type 0) (b : Attempt → Type 0) (s t : List Letter) (v : ℕ) (x : Worker) → TouchesOnly b s t → ((k i : ℕ) → b (attempt (object_id v k) i) → ⊥) →
     OwnsAsks dead s v x → OwnsAsks dead t v x
 owns_more dead b s t v x o not q = record {
   none = λ k i e f. elim (touched_before b s t _ o f) [ inl g ↦ q.none k i e g | inr g ↦ not k i g ];
@@ -101,13 +101,13 @@ owns_more dead b s t v x o not q = record {
   begun = q.begun;
 }
 
-closed_more : (dead : ℕ → Type 0) (b : Attempt → Type 0) (s t : List Letter) (a : Attempt) (w : ℕ) → TouchesOnly b s t → (b a → ⊥) → IsClosed dead s a w → IsClosed dead t a w
+pub closed_more : (dead : ℕ → Type 0) (b : Attempt → Type 0) (s t : List Letter) (a : Attempt) (w : ℕ) → TouchesOnly b s t → (b a → ⊥) → IsClosed dead s a w → IsClosed dead t a w
 closed_more dead b s t a w o not q = record { t = q.t; node = q.node; given = o.more _ q.given; last = last_more dead b s t a q.t q.node o not q.last }
 
 -- ---- tables
 
 -- the same tasks
-owns_same : (dead : ℕ → Type 0) (s : List Letter) (v : ℕ) (x y : Worker) → ((k : ℕ) → task_of (item_at y.objects k) ≡ task_of (item_at x.objects k)) → OwnsAsks dead s v x → OwnsAsks dead s v y
+pub owns_same : (dead : ℕ → Type 0) (s : List Letter) (v : ℕ) (x y : Worker) → ((k : ℕ) → task_of (item_at y.objects k) ≡ task_of (item_at x.objects k)) → OwnsAsks dead s v x → OwnsAsks dead s v y
 owns_same dead s v x y same q = record {
   none = λ k i e f. q.none k i (sym (same k) ∙ e) f;
   later = λ k i task e less f. q.later k i task (sym (same k) ∙ e) less f;
@@ -242,7 +242,7 @@ put_task x k0 old task at = record {
     by_item (Some y) e f = ap task_of (changed_here x.objects k0 (with_task task) y e)
 
 -- an own object that has a task
-own_task : (h : Here) (o : Id) (task : OwnTask) → task_of (object_at h o) ≡ Some task → task_of (item_at h.worker.objects o.serial) ≡ Some task
+pub own_task : (h : Here) (o : Id) (task : OwnTask) → task_of (object_at h o) ≡ Some task → task_of (item_at h.worker.objects o.serial) ≡ Some task
 own_task h o task e =
     at_test (λ b. task_of (if b then own_object h o.serial else None) ≡ Some task → task_of (own_object h o.serial) ≡ Some task) (is_own h o) (λ _ f. f) (λ _ f. absurd (cc)) e
 
@@ -323,7 +323,7 @@ module _ (c : Whole) (me : ℕ) (old : Worker) (there : item_at c.workers me ≡
     ];
   }
 
-  frees_asks : (h : Here) → Asks h → AsksOf h.me h.worker (c.network ++ (frees h.there h.me).out.letters)
+  pub frees_asks : (h : Here) → Asks h → AsksOf h.me h.worker (c.network ++ (frees h.there h.me).out.letters)
   frees_asks h q =
       let base : List Letter = h.there.out.letters in
       more_asks h.me h.worker (sent_so h) (c.network ++ (frees h.there h.me).out.letters)
@@ -336,7 +336,7 @@ module _ (c : Whole) (me : ℕ) (old : Worker) (there : item_at c.workers me ≡
       (node_quiet h (asks_slot h.there h.me) (asks_slot-kept (OnlyNode base) (only_node base) h.there h.me ((λ l e. e), (λ l e. inl e)))) q
 
   -- the tables change, and leave tasks as they are
-  same_asks : (m : ℕ) (x y : Worker) (s : List Letter) → ((k : ℕ) → task_of (item_at y.objects k) ≡ task_of (item_at x.objects k)) → AsksOf m x s → AsksOf m y s
+  pub same_asks : (m : ℕ) (x y : Worker) (s : List Letter) → ((k : ℕ) → task_of (item_at y.objects k) ≡ task_of (item_at x.objects k)) → AsksOf m x s → AsksOf m y s
   same_asks m x y s same q = record { who = q.who; mine = owns_same dead s me x y same q.mine; others = q.others; closed = q.closed; owned = q.owned }
 
   -- ---- what is known of messages that come

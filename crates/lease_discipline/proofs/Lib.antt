@@ -15,3 +15,4 @@ pub mod SlotLaw
 pub mod Judged
 pub mod Asking
 pub mod AskEvents
+pub mod AskLaw

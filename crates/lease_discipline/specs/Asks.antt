@@ -1,5 +1,5 @@
 -- Asks for attempts, by tables and network: each attempt was asked for last at one node, and whatever was pushed was given by that node.
-use Rattle.std.specs.Prelude.{◌≡◌, ◌<◌, ℕ, false, List, [], None, Some, ◌⊎◌}
+use Rattle.std.specs.Prelude.{◌≡◌, ◌<◌, ◌≤◌, ℕ, false, List, [], None, Some, ◌⊎◌}
 use Rattle.meaning.specs.Values.{Birth}
 use Rattle.event_log.specs.Entries.{Attempt}
 use Rattle.event_log.specs.Words.{attempt}
@@ -10,6 +10,7 @@ use Rattle.protocol.specs.Sets.{object_id}
 use Rattle.protocol.specs.Slots.{reply_to}
 use Rattle.protocol.specs.Tables.{AskedAt, OwnTask, RunsOn, Worker, new_task, task_of}
 use Rattle.protocol.specs.Whole.{Whole, node_at, worker_at}
+use Rattle.protocol_owed.specs.Runs.{Handing, after_events, opening_run}
 use Rattle.protocol_owed.specs.Seen.{Sends}
 use Rattle.lease_discipline.specs.Discipline.{Pushed}
 
@@ -71,3 +72,7 @@ pub record KeepsAsks (c : Whole) : Type 0 where
   pub closed : (a : Attempt) (w : ℕ) → Pushed c.network a w → IsClosed (IsDeadNode c) c.network a w
   -- only the attempts of workers that are there were asked for or pushed
   pub owned : (a : Attempt) → Touched c.network a → (x : Worker) × (worker_at c a.object.owner ≡ Some x)
+
+-- whatever events come
+abbrev pub LawOfLastAsks : Type 0
+LawOfLastAsks = (nodes slots : ℕ) → 0 < nodes → 1 ≤ slots → (gs : List Handing) → KeepsAsks (after_events (opening_run nodes slots) gs).whole

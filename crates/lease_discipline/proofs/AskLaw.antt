@@ -1,0 +1,180 @@
+-- Asks are in order in every run.
+use Rattle.std.proofs.Common.{◌≡◌, ◌≢◌, ℕ, zero, suc, ◌+◌, ◌<◌, ◌≤◌, List, [], ◌∷◌, ◌++◌, length, map, Some, None, Option, refl, ap, sym, subst, ◌∙◌, ◌⊎◌, inl, inr, arith, append-nil}
+use Rattle.std.specs.Prelude.{Bool, true, false, if◌then◌else◌, not}
+use Rattle.meaning.proofs.BirthLaws.{at_test}
+use Rattle.event_log.specs.Entries.{Attempt, Event, Claim, Commit, Deliver, Tick, Notice, NoticeNode, Evict, Lose, Kill, KillNode, Join}
+use Rattle.event_log.specs.Words.{attempt}
+use Rattle.event_log.specs.Breaks.{Among}
+use Rattle.protocol.specs.Numbered.{item_at, changed_at}
+use Rattle.protocol.specs.Sets.{object_id, repeated}
+use Rattle.protocol.specs.Messages.{Letter, letter, Message, Party, TheWorker, TheNode, Ask, Give, Elsewhere, Wait, Back, Push, Finished, FinishedAck, Failed}
+use Rattle.protocol.specs.Messages.{Where, At, Gone, Fetch, CopyOf, Missing, Hold, HoldAck, Unhold}
+use Rattle.protocol.specs.Jobs.{Given, Handed, Job, Nothing, OfAnother, OfJob}
+use Rattle.protocol.specs.Nodes.{AskKey, Node, Reply, There, new_node}
+use Rattle.meaning.specs.Values.{Outcome}
+use Rattle.protocol.specs.Nodes.{with_scheduler}
+use Rattle.protocol.specs.Stores.{copy_in}
+use Rattle.protocol.specs.Slots.{fetched, may_be_idle, with_idle}
+use Rattle.protocol.specs.Slots.{ask_key, forgets, node_reached, reply_to}
+use Rattle.protocol.specs.Tables.{OwnTask, Worker, task_of}
+use Rattle.protocol.specs.Steps.{Here}
+use Rattle.protocol.specs.Whole.{Whole, Moved, driver, first_whole, moved, node_at, node_does, node_does_by, there, worker_at, worker_does}
+use Rattle.protocol.specs.Commits.{claim_step, commit_step}
+use Rattle.protocol.specs.Notices.{notice_step, notice_node_step}
+use Rattle.protocol.specs.Ticks.{tick_step}
+use Rattle.protocol.specs.Deliveries.{reached}
+use Rattle.protocol.specs.Events.{claimed, committed_by, with_committed, delivered_by, delivered_to, with_delivered, is_live_worker, is_live_node, killed_by, dead, dies_with, happens}
+use Rattle.protocol.specs.Answers.{Refuses, answer, decided, takes, given_out, whole_after}
+use Rattle.protocol.specs.Refusals.{is_dead_node, is_within_limits, no_worker, refusal, unless}
+use Rattle.protocol_owed.specs.Runs.{Handing, Running, after_event, after_events, opening_run}
+use Rattle.protocol_owed.proofs.CourseAll.{both_passed, passed}
+use Rattle.protocol_owed.proofs.Letters.{among-append_cases, among-more, among-nothing, among-push_cases}
+use Rattle.protocol_owed.proofs.Moves as M
+use Rattle.protocol_owed.proofs.Nodes as N
+use Rattle.protocol_owed.proofs.Nodes.{NodesAreRight, answered-right, changed_cases, there_more, there_still}
+use Rattle.protocol_owed.proofs.NodeMoves.{IsKeptThere, forgets-kept, node_reached-kept}
+use Rattle.protocol_owed.proofs.Opening.{opens-right}
+use Rattle.lease_discipline.specs.Asks as A
+use Rattle.lease_discipline.specs.Asks.{IsDeadNode, KeepsAsks, LawOfLastAsks, OwnsAsks}
+use Rattle.lease_discipline.specs.Discipline.{KeepsLeases, Pushed}
+use Rattle.lease_discipline.proofs.Tame.{item_mapped}
+use Rattle.lease_discipline.proofs.Moves.{notice_step-kept, notice_node_step-kept, tick_step-kept}
+use Rattle.lease_discipline.proofs.Asking.{Asks, GivenOf, OverBy, PassedBy, ToldOf, TouchesOnly, Nobody, asks_kept, closed_more, owns_more, owns_same, touched_before}
+use Rattle.lease_discipline.proofs.AskEvents.{Keys, Steps, asked_keys, asks_end, claim_asks, commit_asks, forgets_keys, last_dead, owns_dead, reached_asks, same_keys, sch, worker_event}
+use Rattle.lease_discipline.proofs.Events.{among_at, events_keep}
+use Rattle.lease_discipline.proofs.Opening.{only_driver, opens}
+
+-- ---- an event of a node
+
+abbrev Says : There → Type 0
+Says t = (l : Letter) → Among l t.out.letters → (k : ℕ) × (l.sender ≡ TheNode k)
+
+says_only : IsKeptThere Says
+says_only = record {
+  opens = λ t w q. q;
+  says = λ t w m q l e. elim (among-push_cases t.out.letters _ l e) [ inl f ↦ q l f | inr f ↦ (t.number, ap (λ (x : Letter). x.sender) f) ];
+  scheduler = λ t s q. q;
+  store = λ t s q. q;
+}
+
+no_node : (u k : ℕ) → ◌≡◌ {A = Party} (TheWorker u) (TheNode k) → ⊥
+no_node u k e = cc
+
+says_quiet : (net : List Letter) (t : There) → Says t → TouchesOnly Nobody net (net ++ t.out.letters)
+says_quiet net t q = record {
+  more = λ l e. among-more net t.out.letters l e;
+  asked = λ a i n e. elim (among-append_cases net t.out.letters _ e.1) [ inl f ↦ inl (e.0, f) | inr f ↦ let s = q _ f in absurd (no_node e.0 s.0 s.1) ];
+  pushed = λ a w e. elim (among-append_cases net t.out.letters _ e.2) [ inl f ↦ inl (e.0, e.1, f) | inr f ↦ let s = q _ f in absurd (no_node e.0 s.0 s.1) ];
+}
+
+abbrev Alive : Bool → There → Type 0
+Alive b t = t.node.is_live ≡ b
+
+alive_kept : (b : Bool) → IsKeptThere (Alive b)
+alive_kept b = record { opens = λ t w e. e; says = λ t w m e. e; scheduler = λ t s e. e; store = λ t s e. e }
+
+-- a node's step beside workers whose tasks are the same
+node_asks : (c d : Whole) (n : ℕ) (f : There → There) → d.nodes ≡ c.nodes → d.network ≡ c.network → ((Q : There → Type 0) → IsKeptThere Q → (t : There) → Q t → Q (f t)) →
+    ((v : ℕ) (y : Worker) → worker_at d v ≡ Some y → OwnsAsks (IsDeadNode c) d.network v y) →
+    ((v : ℕ) (y : Worker) → worker_at c v ≡ Some y → (z : Worker) × (worker_at d v ≡ Some z)) →
+    ((node : Node) → node_at d n ≡ Some node → (k : AskKey) (x : Reply) → reply_to (sch (f (there d n node))) k ≡ Some x → A.Asked d.network k.attempt k.t n) →
+    KeepsAsks c → KeepsAsks d → KeepsAsks (node_does d n f).whole
+node_asks c d n f nodes network moves mine too asked k kd = by_node (node_at d n) refl
+  where
+    by_node : (o : Option Node) → node_at d n ≡ o → KeepsAsks (node_does_by d n f o).whole
+    by_node None e = kd
+    by_node (Some node) e =
+        let t : There = f (there d n node) in
+        let quiet : TouchesOnly Nobody d.network (d.network ++ t.out.letters) = says_quiet d.network t (moves Says says_only (there d n node) (λ l i. absurd (among-nothing l i))) in
+        asks_end c d n node t e nodes network (moves (Alive node.is_live) (alive_kept node.is_live) (there d n node) refl) k
+        (λ v y at. owns_more (IsDeadNode c) Nobody d.network (d.network ++ t.out.letters) v y quiet (λ i j g. g) (mine v y at)) too
+        (λ a w g. elim (quiet.pushed a w g) [
+          | inl h ↦ closed_more (IsDeadNode c) Nobody d.network (d.network ++ t.out.letters) a w quiet (λ i. i) (subst (λ ls. A.IsClosed (IsDeadNode c) ls a w) (sym network) (k.closed a w (subst (λ ls. Pushed ls a w) network h)))
+          | inr h ↦ absurd h
+        ])
+        (λ a g. elim (touched_before Nobody d.network (d.network ++ t.out.letters) a quiet g) [ inl h ↦ k.owned a (subst (λ ls. A.Touched ls a) network h) | inr h ↦ absurd h ])
+        (λ key x r. let q = asked node e key x r in (q.0, among-more d.network t.out.letters (letter (TheWorker q.0) (TheNode n) (Ask key.attempt key.t)) q.1))
+
+-- what a node answers after a message, it was asked
+reached_keys : (d : Whole) (n : ℕ) (node : Node) (from : Party) (m : Message) → node_at d n ≡ Some node → KeepsAsks d → Among (letter from (TheNode n) m) d.network →
+    (k : AskKey) (x : Reply) → reply_to (sch (node_reached (there d n node) from m)) k ≡ Some x → A.Asked d.network k.attempt k.t n
+reached_keys d n node (TheNode i) m at keeps came k x e = keeps.nodes n node k x at e
+reached_keys d n node (TheWorker u) (Ask a i) at keeps came k x e = elim (asked_keys (there d n node) (ask_key a i) (reply_to node.scheduler (ask_key a i)) k x e) [
+  | inl f ↦ keeps.nodes n node k f.0 at f.1
+  | inr same ↦ subst (λ (j : AskKey). A.Asked d.network j.attempt j.t n) same (u, came)
+]
+reached_keys d n node (TheWorker u) (Back a) at keeps came k x e =
+    at_test (λ b. reply_to (sch (if b then with_scheduler (there d n node) (with_idle node.scheduler u) else there d n node)) k ≡ Some x → A.Asked d.network k.attempt k.t n)
+    (may_be_idle node.scheduler u a) (λ _ f. keeps.nodes n node k x at f) (λ _ f. keeps.nodes n node k x at f) e
+reached_keys d n node (TheWorker u) (Fetch o number) at keeps came k x e = by_copy (copy_in node.store o number) e
+  where
+    by_copy : (o' : Option Outcome) → reply_to (sch (fetched (there d n node) o number u o')) k ≡ Some x → A.Asked d.network k.attempt k.t n
+    by_copy None f = keeps.nodes n node k x at f
+    by_copy (Some y) f = keeps.nodes n node k x at f
+reached_keys d n node (TheWorker u) (Unhold i o) at keeps came k x e = keeps.nodes n node k x at e
+reached_keys d n node (TheWorker u) (Give a i v) at keeps came k x e = keeps.nodes n node k x at e
+reached_keys d n node (TheWorker u) (Elsewhere a i v) at keeps came k x e = keeps.nodes n node k x at e
+reached_keys d n node (TheWorker u) (Wait a i) at keeps came k x e = keeps.nodes n node k x at e
+reached_keys d n node (TheWorker u) (Push a i) at keeps came k x e = keeps.nodes n node k x at e
+reached_keys d n node (TheWorker u) (Finished a i v) at keeps came k x e = keeps.nodes n node k x at e
+reached_keys d n node (TheWorker u) (FinishedAck a) at keeps came k x e = keeps.nodes n node k x at e
+reached_keys d n node (TheWorker u) (Failed a i) at keeps came k x e = keeps.nodes n node k x at e
+reached_keys d n node (TheWorker u) (Where o) at keeps came k x e = keeps.nodes n node k x at e
+reached_keys d n node (TheWorker u) (At o i v) at keeps came k x e = keeps.nodes n node k x at e
+reached_keys d n node (TheWorker u) (Gone o i) at keeps came k x e = keeps.nodes n node k x at e
+reached_keys d n node (TheWorker u) (CopyOf o i v) at keeps came k x e = keeps.nodes n node k x at e
+reached_keys d n node (TheWorker u) (Missing o i v) at keeps came k x e = keeps.nodes n node k x at e
+reached_keys d n node (TheWorker u) (Hold i o) at keeps came k x e = keeps.nodes n node k x at e
+reached_keys d n node (TheWorker u) (HoldAck i o) at keeps came k x e = keeps.nodes n node k x at e
+
+-- ---- each event
+
+as_before : (c : Whole) (jobs : List Given) (made : ℕ) (delivered : List Bool) → KeepsAsks c → KeepsAsks (record c { jobs = jobs; made = made; delivered = delivered })
+as_before c jobs made delivered k = record { nodes = k.nodes; owners = k.owners; closed = k.closed; owned = k.owned }
+
+right_still : (c : Whole) (jobs : List Given) (made : ℕ) (delivered : List Bool) → NodesAreRight c → NodesAreRight (record c { jobs = jobs; made = made; delivered = delivered })
+right_still c jobs made delivered r = record { each = r.each; senders = r.senders }
+
+letter_event : (c : Whole) (s to : Party) (m : Message) → Among (letter s to m) c.network → NodesAreRight c → KeepsLeases c → KeepsAsks c → KeepsAsks (delivered_to c (letter s to m) to).whole
+letter_event c s (TheWorker w) m came right leases k =
+    at_test (λ b. KeepsAsks (if b then worker_does c w (λ h. reached h s m) else moved c).whole) (is_live_worker (worker_at c w))
+    (λ _. worker_event c w (λ h. reached h s m) (λ P kept h p. M.reached-kept P kept h s m p) (λ x at node home q. reached_asks c w x at node home k right leases s m came q) right k) (λ _. k)
+letter_event c s (TheNode n) m came right leases k =
+    at_test (λ b. KeepsAsks (if b then node_does c n (λ h. node_reached h s m) else moved c).whole) (is_live_node (node_at c n))
+    (λ _. node_asks c c n (λ h. node_reached h s m) refl refl (λ Q kept t q. node_reached-kept Q kept t s m q) k.owners (λ v y e. (y, e))
+    (λ node e key x r. reached_keys c n node s m e k came key x r) k k) (λ _. k)
+
+-- the same asks beside workers and nodes that changed otherwise
+changed_asks : (c : Whole) (workers : List Worker) (nodes : List Node) →
+    ((v : ℕ) (y : Worker) → item_at workers v ≡ Some y → (x : Worker) × (worker_at c v ≡ Some x) × (y.objects ≡ x.objects)) →
+    ((v : ℕ) (x : Worker) → worker_at c v ≡ Some x → (y : Worker) × (item_at workers v ≡ Some y)) →
+    ((n : ℕ) (node : Node) (k : AskKey) (x : Reply) → item_at nodes n ≡ Some node → reply_to node.scheduler k ≡ Some x → (old : Node) × (node_at c n ≡ Some old) × (reply_to old.scheduler k ≡ Some x)) →
+    ((n : ℕ) → IsDeadNode c n → IsDeadNode (record c { workers = workers; nodes = nodes }) n) → KeepsAsks c → KeepsAsks (record c { workers = workers; nodes = nodes })
+changed_asks c workers nodes back forth replies dead_too k =
+    let d : Whole = record c { workers = workers; nodes = nodes } in
+    record {
+      nodes = λ n node key x e r. let o = replies n node key x e r in k.nodes n o.0 key x o.1 o.2;
+      owners = λ v y e.
+          let b = back v y e in
+          owns_dead (IsDeadNode c) (IsDeadNode d) c.network v y dead_too
+          (owns_same (IsDeadNode c) c.network v b.0 y (λ i. ap (λ ys. task_of (item_at ys i)) b.2) (k.owners v b.0 b.1));
+      closed = λ a w e. let q = k.closed a w e in record { t = q.t; node = q.node; given = q.given; last = last_dead (IsDeadNode c) (IsDeadNode d) c.network a q.t q.node dead_too q.last };
+      owned = λ a e. let y = k.owned a e in forth _ y.0 y.1;
+    }
+
+same_dead : (c : Whole) (n : ℕ) (f : Node → Node) → ((node : Node) → node.is_live ≡ false → (f node).is_live ≡ false) → (workers : List Worker) (m : ℕ) → IsDeadNode c m →
+    IsDeadNode (record c { workers = workers; nodes = changed_at c.nodes n f }) m
+same_dead c n f stays workers m (k, at, off) =
+    let g = there_still c.nodes n m f k at in
+    (g.0, g.1, by_case g.0 (elim (changed_cases c.nodes n m f g.0 g.1) [ inl (_, x, e, is) ↦ inl (x, e, is) | inr (_, e) ↦ inr e ]))
+  where
+    by_case : (y : Node) → ((x : Node) × (node_at c m ≡ Some x) × (y ≡ f x)) ⊎ (node_at c m ≡ Some y) → y.is_live ≡ false
+    by_case y (inl (x, e, is)) = let h : ◌≡◌ {A = Option Node} (Some k) (Some x) = sym at ∙ e in let i : k ≡ x = cc in ap (λ (z : Node). z.is_live) is ∙ stays x (ap (λ (z : Node). z.is_live) (sym i) ∙ off)
+    by_case y (inr e) = let h : ◌≡◌ {A = Option Node} (Some k) (Some y) = sym at ∙ e in let i : k ≡ y = cc in ap (λ (z : Node). z.is_live) (sym i) ∙ off
+
+same_replies : (c : Whole) (n : ℕ) (f : Node → Node) → ((node : Node) → (f node).scheduler ≡ node.scheduler) → (m : ℕ) (node : Node) (k : AskKey) (x : Reply) →
+    item_at (changed_at c.nodes n f) m ≡ Some node → reply_to node.scheduler k ≡ Some x → (old : Node) × (node_at c m ≡ Some old) × (reply_to old.scheduler k ≡ Some x)
+same_replies c n f same m node k x e r = elim (changed_cases c.nodes n m f node e) [
+  | inl (_, old, at, is) ↦ (old, at, ap (λ s. reply_to s k) (sym (ap (λ (y : Node). y.scheduler) is ∙ same old)) ∙ r)
+  | inr (_, at) ↦ (node, at, r)
+]

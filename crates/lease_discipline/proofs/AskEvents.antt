@@ -1,5 +1,6 @@
 -- Every event keeps asks in order.
-use Rattle.std.proofs.Common.{◌≡◌, ◌≢◌, ℕ, zero, suc, ◌+◌, ◌<◌, List, [], ◌∷◌, ◌++◌, length, map, Some, None, Option, refl, ap, sym, subst, ◌∙◌, ◌⊎◌, inl, inr, arith, append-nil}
+use Rattle.std.proofs.Common.{◌≡◌, ◌≢◌, ℕ, zero, suc, ◌+◌, ◌<◌, List, [], ◌∷◌, ◌++◌, length, map, Some, None, Option, refl, ap, sym, subst, ◌∙◌, ◌⊎◌, inl}
+use Rattle.std.proofs.Common.{inr, arith, append-nil}
 use Rattle.std.specs.Prelude.{Bool, true, false, if◌then◌else◌, ◌||◌, nat_lt, not}
 use Rattle.std.specs.List.{list_any}
 use Rattle.sequence.proofs.Places.{or_left}
@@ -19,8 +20,10 @@ use Rattle.protocol.specs.Messages.{Where, At, Gone, Fetch, CopyOf, Missing, Hol
 use Rattle.protocol.specs.Jobs.{Given, Handed, Job, Nothing, OfAnother, OfJob, Outcomes}
 use Rattle.protocol.specs.Nodes.{AskKey, Asked, Node, Queued, Reply, Scheduler, SentOn, There, new_node, with_scheduler}
 use Rattle.protocol.specs.Stores.{copy_in}
-use Rattle.protocol.specs.Slots.{ask_key, asked_by, asks_slot, fetched, forgets, frees, gives_worker, grants, grants_next, grants_queued, has_free_slot, has_no_slot_for, leases_idle, may_be_idle}
-use Rattle.protocol.specs.Slots.{next_in_circle, node_reached, node_reached_from, queues, replies_anew, reply_to, same_key, with_answered, with_idle, without_slot, without_worker}
+use Rattle.protocol.specs.Slots.{ask_key, asked_by, asks_slot, fetched, forgets, frees, gives_worker, grants, grants_next, grants_queued, has_free_slot}
+use Rattle.protocol.specs.Slots.{has_no_slot_for, leases_idle, may_be_idle}
+use Rattle.protocol.specs.Slots.{next_in_circle, node_reached, node_reached_from, queues, replies_anew, reply_to, same_key, with_answered, with_idle}
+use Rattle.protocol.specs.Slots.{without_slot, without_worker}
 use Rattle.protocol.specs.Tables.{AskedAt, OwnTask, Worker, new_worker, task_of}
 use Rattle.protocol.specs.Steps.{Here, object_at}
 use Rattle.protocol.specs.Whole.{Whole, node_at, worker_at, there, here, after_node, after_worker}
@@ -69,7 +72,8 @@ sch t = t.node.scheduler
 pub same_keys : (s : Scheduler) → Keys s s
 same_keys s j x e = (x, e)
 
-replied_keys : (asks : List Asked) (k : AskKey) (x : Reply) (j : AskKey) (y : Reply) → reply_in (with_reply_in asks k x) j ≡ Some y → ((z : Reply) × (reply_in asks j ≡ Some z)) ⊎ (k ≡ j)
+replied_keys : (asks : List Asked) (k : AskKey) (x : Reply) (j : AskKey) (y : Reply) → reply_in (with_reply_in asks k x) j ≡ Some y →
+    ((z : Reply) × (reply_in asks j ≡ Some z)) ⊎ (k ≡ j)
 replied_keys asks k x j y e =
     at_test (λ b. same_key k j ≡ b → ((z : Reply) × (reply_in asks j ≡ Some z)) ⊎ (k ≡ j)) (same_key k j)
     (λ _ f. inr (same_key-true k j f)) (λ _ f. inl (y, sym (reply-other asks k j x f) ∙ e)) refl
@@ -82,7 +86,8 @@ pub asked_keys : (t : There) (k : AskKey) (o : Option Reply) → KeysAnd k (sch 
 asked_keys t k None =
     at_test (λ b. KeysAnd k (sch t) (sch (if b then gives_worker t k else has_no_slot_for t k))) (has_free_slot (sch t))
     (λ _. leases_keys t k (least (sch t).idle))
-    (λ _. at_test (λ b. KeysAnd k (sch t) (sch (if b then replies_anew t k (SentOn (next_in_circle t.nodes t.number)) else queues t k))) (nat_lt (k.t + 1) t.nodes)
+    (λ _. at_test (λ b. KeysAnd k (sch t) (sch (if b then replies_anew t k (SentOn (next_in_circle t.nodes t.number)) else queues t k)))
+    (nat_lt (k.t + 1) t.nodes)
     (λ _ j x e. replied_keys (sch t).asks k _ j x e) (λ _ j x e. replied_keys (sch t).asks k _ j x e))
 asked_keys t k (Some y) = λ j x e. inl (x, e)
 
@@ -90,12 +95,14 @@ asked_keys t k (Some y) = λ j x e. inl (x, e)
 known : (s t : Scheduler) (k : AskKey) (y : Reply) → reply_to s k ≡ Some y → KeysAnd k s t → Keys s t
 known s t k y e keys j x f = elim (keys j x f) [ inl g ↦ g | inr same ↦ (y, ap (reply_to s) (sym same) ∙ e) ]
 
-grants_queued_keys : (t : There) (queue : List AskKey) → (sch t).queue ≡ queue → QueueIsRight (sch t).asks (sch t).queue → Keys (sch t) (sch (grants_queued t (first_item queue)))
+grants_queued_keys : (t : There) (queue : List AskKey) → (sch t).queue ≡ queue → QueueIsRight (sch t).asks (sch t).queue →
+    Keys (sch t) (sch (grants_queued t (first_item queue)))
 grants_queued_keys t [] e q = same_keys (sch t)
 grants_queued_keys t (k ∷ ks) e q =
     let u : Scheduler = record (sch t) { queue = rest_of (sch t).queue } in
     let there : has_key k (sch t).queue ≡ true = ap (has_key k) e ∙ or_left (same_key k k) (has_key k ks) (same_key-refl k) in
-    known (sch t) (sch (leases_idle (with_scheduler t u) k (least u.idle))) k Queued (q.waiting k there) (λ j x f. leases_keys (with_scheduler t u) k (least u.idle) j x f)
+    known (sch t) (sch (leases_idle (with_scheduler t u) k (least u.idle))) k Queued (q.waiting k there)
+    (λ j x f. leases_keys (with_scheduler t u) k (least u.idle) j x f)
 
 grants_keys : (t : There) → QueueIsRight (sch t).asks (sch t).queue → Keys (sch t) (sch (grants t))
 grants_keys t q =
@@ -171,7 +178,8 @@ new_owns dead s v m untouched = record {
     no_task (suc i) task e = cc
 
 -- a node is put back, with letters and workers that it made
-module _ (c d : Whole) (n : ℕ) (node : Node) (t : There) (stood : node_at d n ≡ Some node) (same_nodes : d.nodes ≡ c.nodes) (same_network : d.network ≡ c.network)
+module _ (c d : Whole) (n : ℕ) (node : Node) (t : There) (stood : node_at d n ≡ Some node) (same_nodes : d.nodes ≡ c.nodes)
+    (same_network : d.network ≡ c.network)
     (lives : t.node.is_live ≡ node.is_live) (keeps : KeepsAsks c)
     (mine : (v : ℕ) (y : Worker) → worker_at d v ≡ Some y → OwnsAsks (IsDeadNode c) (d.network ++ t.out.letters) v y)
     (there_too : (v : ℕ) (y : Worker) → worker_at c v ≡ Some y → (z : Worker) × (worker_at d v ≡ Some z))
@@ -189,7 +197,8 @@ module _ (c d : Whole) (n : ℕ) (node : Node) (t : There) (stood : node_at d n 
     where
       off_still : (x : Node) → ((m ≡ n) × (x ≡ t.node)) ⊎ (node_at d m ≡ Some x) → x.is_live ≡ false
       off_still x (inl (same, is)) =
-          let f : ◌≡◌ {A = Option Node} (Some k) (Some node) = sym (subst (λ ns. item_at ns m ≡ Some k) (sym same_nodes) at) ∙ subst (λ i. node_at d i ≡ Some node) (sym same) stood in
+          let f : ◌≡◌ {A = Option Node} (Some k) (Some node) =
+          sym (subst (λ ns. item_at ns m ≡ Some k) (sym same_nodes) at) ∙ subst (λ i. node_at d i ≡ Some node) (sym same) stood in
           let g : k ≡ node = cc in
           ap (λ (y : Node). y.is_live) is ∙ lives ∙ ap (λ (y : Node). y.is_live) (sym g) ∙ off
       off_still x (inr e) =
@@ -200,22 +209,31 @@ module _ (c d : Whole) (n : ℕ) (node : Node) (t : There) (stood : node_at d n 
   pub asks_end : KeepsAsks after
   asks_end = record {
     nodes = λ m node_m k x e r. elim (changed_cases d.nodes n m (λ _. t.node) node_m e) [
-      | inl (same, _, _, is) ↦ subst (λ i. A.Asked after.network k.attempt k.t i) (sym same) (asked k x (ap (λ (y : Node). reply_to y.scheduler k) (sym is) ∙ r))
+      | inl (same, _, _, is) ↦ subst (λ i. A.Asked after.network k.attempt k.t i) (sym same)
+          (asked k x (ap (λ (y : Node). reply_to y.scheduler k) (sym is) ∙ r))
       | inr (_, at) ↦ earlier m node_m k x at r
     ];
     owners = λ v y e. elim (append_split d.workers (repeated t.opened (new_worker n)) v y e) [
       | inl f ↦ owns_dead (IsDeadNode c) (IsDeadNode after) after.network v y dead_more (mine v y f)
-      | inr (none, (i, f)) ↦ subst (OwnsAsks (IsDeadNode after) after.network v) (one_of i t.opened v (new_worker n) y f) (new_owns (IsDeadNode after) after.network v n (λ k j touched. not_there v none (owned _ touched)))
+      | inr (none, (i, f)) ↦ subst (OwnsAsks (IsDeadNode after) after.network v) (one_of i t.opened v (new_worker n) y f)
+          (new_owns (IsDeadNode after) after.network v n (λ k j touched. not_there v none (owned _ touched)))
     ];
-    closed = λ a w e. let k = closed a w e in record { t = k.t; node = k.node; given = k.given; last = last_dead (IsDeadNode c) (IsDeadNode after) after.network a k.t k.node dead_more k.last };
+    closed = λ a w e. let k = closed a w e in record {
+      t = k.t;
+      node = k.node;
+      given = k.given;
+      last = last_dead (IsDeadNode c) (IsDeadNode after) after.network a k.t k.node dead_more k.last;
+    };
     owned = λ a e. let y = owned a e in let z = there_too _ y.0 y.1 in (z.0, there_more d.workers (repeated t.opened (new_worker n)) _ z.0 z.1);
   }
     where
       earlier : (m : ℕ) (k' : Node) (k : AskKey) (x : Reply) → node_at d m ≡ Some k' → reply_to k'.scheduler k ≡ Some x → A.Asked after.network k.attempt k.t m
       earlier m k' k x at r =
-          let old = keeps.nodes m k' k x (subst (λ ns. item_at ns m ≡ Some k') same_nodes at) r in
-          (old.0, among-more d.network t.out.letters (letter (TheWorker old.0) (TheNode m) (Ask k.attempt k.t))
-          (subst (λ ls. Among (letter (TheWorker old.0) (TheNode m) (Ask k.attempt k.t)) ls) (sym same_network) old.1))
+          let old = keeps.nodes m k' k x (subst (λ ns. item_at ns m ≡ Some k') same_nodes at) r in (
+            old.0,
+            among-more d.network t.out.letters (letter (TheWorker old.0) (TheNode m) (Ask k.attempt k.t))
+                (subst (λ ls. Among (letter (TheWorker old.0) (TheNode m) (Ask k.attempt k.t)) ls) (sym same_network) old.1),
+          )
 
       not_there : (v : ℕ) → worker_at d v ≡ None → (y : Worker) × (worker_at c v ≡ Some y) → ⊥
       not_there v none (y, at) = let z = there_too v y at in let f = z.1 in cc
@@ -276,7 +294,7 @@ module _ (c : Whole) (me : ℕ) (x : Worker) (at : worker_at c me ≡ Some x) wh
 
     begins : Q start
     begins = subst (λ ls. AsksOf c me x at (IsDeadNode c) me x ls) (sym (append-nil c.network))
-      (record { who = refl; mine = keeps.owners me x at; others = λ v y _ e. keeps.owners v y e; closed = keeps.closed; owned = keeps.owned })
+        (record { who = refl; mine = keeps.owners me x at; others = λ v y _ e. keeps.owners v y e; closed = keeps.closed; owned = keeps.owned })
 
     begins_beside : Beside c x.node node start
     begins_beside = record { tells = N.at_rest c x.node node home right; keys = same_keys node.scheduler; lives = refl }
@@ -284,13 +302,15 @@ module _ (c : Whole) (me : ℕ) (x : Worker) (at : worker_at c me ≡ Some x) wh
     pub worker_asks : (f : Here → Here) → N.Keeps f → (Q start → Q (f start)) → KeepsAsks (worker_does_at c me x f (Some node)).whole
     worker_asks f moves step =
         let g : Here = release_step (f start) in
-        let a : Q g = release_step-kept (ToldOf c me x at (IsDeadNode c)) (OverBy c me x at (IsDeadNode c)) (GivenOf c me x at (IsDeadNode c)) (PassedBy c me x at (IsDeadNode c))
-          Q q_kept (f start) (step begins) in
+        let a : Q g = release_step-kept (ToldOf c me x at (IsDeadNode c)) (OverBy c me x at (IsDeadNode c)) (GivenOf c me x at (IsDeadNode c))
+        (PassedBy c me x at (IsDeadNode c))
+        Q q_kept (f start) (step begins) in
         let b : Beside c x.node node g = M.release_step-kept (Beside c x.node node) (beside_kept c x.node node) (f start)
-          (moves (Beside c x.node node) (beside_kept c x.node node) start begins_beside) in
+        (moves (Beside c x.node node) (beside_kept c x.node node) start begins_beside) in
         asks_end c (record c { workers = changed_at c.workers me (λ _. g.worker) }) x.node node g.there home refl refl b.lives keeps
         (λ v y e. elim (changed_cases c.workers me v (λ _. g.worker) y e) [
-          | inl (same, _, _, is) ↦ subst (λ i. OwnsAsks (IsDeadNode c) (c.network ++ g.there.out.letters) i y) (sym same) (subst (OwnsAsks (IsDeadNode c) (c.network ++ g.there.out.letters) me) (sym is) a.mine)
+          | inl (same, _, _, is) ↦ subst (λ i. OwnsAsks (IsDeadNode c) (c.network ++ g.there.out.letters) i y) (sym same)
+              (subst (OwnsAsks (IsDeadNode c) (c.network ++ g.there.out.letters) me) (sym is) a.mine)
           | inr (apart, before) ↦ a.others v y apart before
         ])
         (λ v y e. there_still c.workers me v (λ _. g.worker) y e) a.closed a.owned
@@ -300,7 +320,8 @@ module _ (c : Whole) (me : ℕ) (x : Worker) (at : worker_at c me ≡ Some x) wh
         (asked.0, among-more c.network g.there.out.letters (letter (TheWorker asked.0) (TheNode x.node) (Ask k.attempt k.t)) asked.1))
 
 abbrev pub Steps : Whole → ℕ → (Here → Here) → Type 0
-Steps c w f = (x : Worker) (at : worker_at c w ≡ Some x) (node : Node) → node_at c x.node ≡ Some node → Q c w x at (here c w x node) → Q c w x at (f (here c w x node))
+Steps c w f = (x : Worker) (at : worker_at c w ≡ Some x) (node : Node) → node_at c x.node ≡ Some node → Q c w x at (here c w x node) →
+    Q c w x at (f (here c w x node))
 
 pub worker_event : (c : Whole) (w : ℕ) (f : Here → Here) → N.Keeps f → Steps c w f → NodesAreRight c → KeepsAsks c → KeepsAsks (worker_does c w f).whole
 worker_event c w f moves steps right k = by_worker (worker_at c w) refl
@@ -345,13 +366,16 @@ module _ (c : Whole) (me : ℕ) (x : Worker) (at : worker_at c me ≡ Some x) wh
       let stored : Here = with_store g (with_primary (store_here h) o run.attempt.number content) in
       let held : Here = holds_ids stored o ids in
       frees_asks c me x at (IsDeadNode c) (leaves_if_free held)
-      (leaves_if_free-kept (ToldOf c me x at (IsDeadNode c)) (OverBy c me x at (IsDeadNode c)) (GivenOf c me x at (IsDeadNode c)) (PassedBy c me x at (IsDeadNode c)) R T held
-      (holds_ids-kept (ToldOf c me x at (IsDeadNode c)) (OverBy c me x at (IsDeadNode c)) (GivenOf c me x at (IsDeadNode c)) (PassedBy c me x at (IsDeadNode c)) R T stored o ids (same h g.worker refl q)))
+      (leaves_if_free-kept (ToldOf c me x at (IsDeadNode c)) (OverBy c me x at (IsDeadNode c)) (GivenOf c me x at (IsDeadNode c))
+      (PassedBy c me x at (IsDeadNode c)) R T held
+      (holds_ids-kept (ToldOf c me x at (IsDeadNode c)) (OverBy c me x at (IsDeadNode c)) (GivenOf c me x at (IsDeadNode c))
+      (PassedBy c me x at (IsDeadNode c)) R T stored o ids (same h g.worker refl q)))
 
   stops_asks : (h : Here) (stop : Stopped) (r : Option Run) → R h → R (stops_by h stop r)
   stops_asks h stop None q = q
   stops_asks h (AtGet y) (Some run) q =
-      needs-kept (ToldOf c me x at (IsDeadNode c)) (OverBy c me x at (IsDeadNode c)) (GivenOf c me x at (IsDeadNode c)) (PassedBy c me x at (IsDeadNode c)) R T h run y
+      needs-kept (ToldOf c me x at (IsDeadNode c)) (OverBy c me x at (IsDeadNode c)) (GivenOf c me x at (IsDeadNode c))
+      (PassedBy c me x at (IsDeadNode c)) R T h run y
       (same h (with_phase h run (Waits y None)).worker refl q)
   stops_asks h (AtEnd content) (Some run) q = ends_asks h run content q
 
@@ -365,7 +389,8 @@ module _ (c : Whole) (me : ℕ) (x : Worker) (at : worker_at c me ≡ Some x) wh
           let g : Here = logs_all (with_run h (with_outcomes run o)) es in
           let borne : Here = bears_all g run.attempt o.births in
           stops_asks borne o.stop borne.worker.run
-          (bears_all-kept (ToldOf c me x at (IsDeadNode c)) (OverBy c me x at (IsDeadNode c)) (GivenOf c me x at (IsDeadNode c)) (PassedBy c me x at (IsDeadNode c)) R T g run.attempt o.births
+          (bears_all-kept (ToldOf c me x at (IsDeadNode c)) (OverBy c me x at (IsDeadNode c)) (GivenOf c me x at (IsDeadNode c))
+          (PassedBy c me x at (IsDeadNode c)) R T g run.attempt o.births
           (same h (with_run h (with_outcomes run o)).worker refl q))
 
   -- ---- what comes
@@ -375,7 +400,8 @@ module _ (c : Whole) (me : ℕ) (x : Worker) (at : worker_at c me ≡ Some x) wh
     first = here c me x node
 
     abbrev Heard : Party → Message → Type 0
-    Heard = IsHeardFrom (ToldOf c me x at (IsDeadNode c)) (OverBy c me x at (IsDeadNode c)) (GivenOf c me x at (IsDeadNode c)) (PassedBy c me x at (IsDeadNode c)) R T first
+    Heard = IsHeardFrom (ToldOf c me x at (IsDeadNode c)) (OverBy c me x at (IsDeadNode c)) (GivenOf c me x at (IsDeadNode c))
+        (PassedBy c me x at (IsDeadNode c)) R T first
 
     told : (u : ℕ) (a : Attempt) → IsDone (worker_at c) u a → ToldOf c me x at (IsDeadNode c) u a
     told u a d = elim ((leases.workers.each u d.worker d.there).began a d.done.listed) [ inl (main, _) ↦ inr main | inr p ↦ inl p ]
@@ -401,13 +427,15 @@ module _ (c : Whole) (me : ℕ) (x : Worker) (at : worker_at c me ≡ Some x) wh
     heard_worker u (Unhold e o) came q = tt
 
     -- the node that sent the ask on is the one that was asked
-    passed : (n t m : ℕ) (a : Attempt) → Among (letter (TheNode n) (TheWorker a.object.owner) (Elsewhere a t m)) c.network → (own : OwnTask) (i : ℕ) → a.object.owner ≡ me →
+    passed : (n t m : ℕ) (a : Attempt) → Among (letter (TheNode n) (TheWorker a.object.owner) (Elsewhere a t m)) c.network → (own : OwnTask) (i : ℕ) →
+        a.object.owner ≡ me →
         task_of (object_at first a.object) ≡ Some own → own.progress ≡ AskedAt t i → own.number ≡ a.number → IsPassed (IsDeadNode c) c.network a t i
     passed n t m a came own i mine there progress number =
         let asked : A.Asked c.network a t n = answer_asked c right keeps n t a (Elsewhere a t m) (inr (inl (m, refl))) came in
         let last : IsLast (IsDeadNode c) c.network (attempt (object_id me a.object.serial) own.number) t i =
-          (keeps.owners me x at).stands a.object.serial own t i (own_task first a.object own there) progress in
-        let is : attempt (object_id me a.object.serial) own.number ≡ a = ap (λ u. attempt (object_id u a.object.serial) own.number) (sym mine) ∙ ap (attempt a.object) number in
+        (keeps.owners me x at).stands a.object.serial own t i (own_task first a.object own there) progress in
+        let is : attempt (object_id me a.object.serial) own.number ≡ a =
+        ap (λ u. attempt (object_id u a.object.serial) own.number) (sym mine) ∙ ap (attempt a.object) number in
         let here_last : IsLast (IsDeadNode c) c.network a t i = subst (λ b. IsLast (IsDeadNode c) c.network b t i) is last in
         elim (here_last t n asked) [
           | inl (_, node_is) ↦ subst (λ j. IsPassed (IsDeadNode c) c.network a t j) node_is (inl (m, came))
@@ -416,7 +444,8 @@ module _ (c : Whole) (me : ℕ) (x : Worker) (at : worker_at c me ≡ Some x) wh
 
     heard_node : (n : ℕ) (m : Message) → Among (letter (TheNode n) (TheWorker me) m) c.network → Heard (TheNode n) m
     heard_node n (Give a t v) came = λ own.
-        let sent : Among (letter (TheNode n) (TheWorker a.object.owner) (Give a t v)) c.network = subst (λ u. Among (letter (TheNode n) (TheWorker u) (Give a t v)) c.network) (sym own) came in
+        let sent : Among (letter (TheNode n) (TheWorker a.object.owner) (Give a t v)) c.network =
+        subst (λ u. Among (letter (TheNode n) (TheWorker u) (Give a t v)) c.network) (sym own) came in
         record { given = sent; asked = answer_asked c right keeps n t a (Give a t v) (inl (v, refl)) sent }
     heard_node n (Elsewhere a t m) came = λ own i mine there progress number.
         passed n t m a (subst (λ u. Among (letter (TheNode n) (TheWorker u) (Elsewhere a t m)) c.network) (sym mine) came) own i mine there progress number
@@ -443,4 +472,5 @@ module _ (c : Whole) (me : ℕ) (x : Worker) (at : worker_at c me ≡ Some x) wh
 
     pub reached_asks : (from : Party) (m : Message) → Among (letter from (TheWorker me) m) c.network → R first → R (reached first from m)
     reached_asks from m came q =
-        reached-kept (ToldOf c me x at (IsDeadNode c)) (OverBy c me x at (IsDeadNode c)) (GivenOf c me x at (IsDeadNode c)) (PassedBy c me x at (IsDeadNode c)) R T first from m (heard_from from m came q) q
+        reached-kept (ToldOf c me x at (IsDeadNode c)) (OverBy c me x at (IsDeadNode c)) (GivenOf c me x at (IsDeadNode c))
+        (PassedBy c me x at (IsDeadNode c)) R T first from m (heard_from from m came q) q

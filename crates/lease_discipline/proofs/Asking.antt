@@ -82,14 +82,16 @@ pub passed_more : (dead : ℕ → Type 0) (s t : List Letter) (a : Attempt) (i n
 passed_more dead s t a i n more (inl e) = inl (e.0, more _ e.1)
 passed_more dead s t a i n more (inr d) = inr d
 
-last_more : (dead : ℕ → Type 0) (b : Attempt → Type 0) (s t : List Letter) (a : Attempt) (i n : ℕ) → TouchesOnly b s t → (b a → ⊥) → IsLast dead s a i n → IsLast dead t a i n
+last_more : (dead : ℕ → Type 0) (b : Attempt → Type 0) (s t : List Letter) (a : Attempt) (i n : ℕ) → TouchesOnly b s t → (b a → ⊥) → IsLast dead s a i n →
+    IsLast dead t a i n
 last_more dead b s t a i n o not l j m e = elim (o.asked a j m e) [
   | inl f ↦ elim (l j m f) [ inl g ↦ inl g | inr (g, p) ↦ inr (g, passed_more dead s t a j m o.more p) ]
   | inr f ↦ absurd (not f)
 ]
 
 -- an owner whose attempts weren't touched
-pub owns_more : (dead : ℕ → Type 0) (b : Attempt → Type 0) (s t : List Letter) (v : ℕ) (x : Worker) → TouchesOnly b s t → ((k i : ℕ) → b (attempt (object_id v k) i) → ⊥) →
+pub owns_more : (dead : ℕ → Type 0) (b : Attempt → Type 0) (s t : List Letter) (v : ℕ) (x : Worker) → TouchesOnly b s t →
+    ((k i : ℕ) → b (attempt (object_id v k) i) → ⊥) →
     OwnsAsks dead s v x → OwnsAsks dead t v x
 owns_more dead b s t v x o not q = record {
   none = λ k i e f. elim (touched_before b s t _ o f) [ inl g ↦ q.none k i e g | inr g ↦ not k i g ];
@@ -101,13 +103,15 @@ owns_more dead b s t v x o not q = record {
   begun = q.begun;
 }
 
-pub closed_more : (dead : ℕ → Type 0) (b : Attempt → Type 0) (s t : List Letter) (a : Attempt) (w : ℕ) → TouchesOnly b s t → (b a → ⊥) → IsClosed dead s a w → IsClosed dead t a w
+pub closed_more : (dead : ℕ → Type 0) (b : Attempt → Type 0) (s t : List Letter) (a : Attempt) (w : ℕ) → TouchesOnly b s t → (b a → ⊥) →
+    IsClosed dead s a w → IsClosed dead t a w
 closed_more dead b s t a w o not q = record { t = q.t; node = q.node; given = o.more _ q.given; last = last_more dead b s t a q.t q.node o not q.last }
 
 -- ---- tables
 
 -- the same tasks
-pub owns_same : (dead : ℕ → Type 0) (s : List Letter) (v : ℕ) (x y : Worker) → ((k : ℕ) → task_of (item_at y.objects k) ≡ task_of (item_at x.objects k)) → OwnsAsks dead s v x → OwnsAsks dead s v y
+pub owns_same : (dead : ℕ → Type 0) (s : List Letter) (v : ℕ) (x y : Worker) → ((k : ℕ) → task_of (item_at y.objects k) ≡ task_of (item_at x.objects k)) →
+    OwnsAsks dead s v x → OwnsAsks dead s v y
 owns_same dead s v x y same q = record {
   none = λ k i e f. q.none k i (sym (same k) ∙ e) f;
   later = λ k i task e less f. q.later k i task (sym (same k) ∙ e) less f;
@@ -121,7 +125,8 @@ owns_same dead s v x y same q = record {
 -- one more task, a new one
 abbrev IsBornOf : Worker → Worker → Birth → Type 0
 IsBornOf x y spec =
-    (k : ℕ) → (task_of (item_at y.objects k) ≡ task_of (item_at x.objects k)) ⊎ ((task_of (item_at x.objects k) ≡ None) × (task_of (item_at y.objects k) ≡ Some (new_task spec)))
+    (k : ℕ) → (task_of (item_at y.objects k) ≡ task_of (item_at x.objects k)) ⊎
+    ((task_of (item_at x.objects k) ≡ None) × (task_of (item_at y.objects k) ≡ Some (new_task spec)))
 
 same_task : (a b : OwnTask) → ◌≡◌ {A = Option OwnTask} (Some a) (Some b) → a ≡ b
 same_task a b e = cc
@@ -137,10 +142,26 @@ owns_born dead s v x y spec born q = record {
   none = λ k i e f. elim (born k) [ inl same ↦ q.none k i (sym same ∙ e) f | inr (none, _) ↦ q.none k i none f ];
   later = λ k i task e less f. elim (born k) [ inl same ↦ q.later k i task (sym same ∙ e) less f | inr (none, _) ↦ q.none k i none f ];
   newborn = λ k sp e f. elim (born k) [ inl same ↦ q.newborn k sp (sym same ∙ e) f | inr (none, _) ↦ q.none k 0 none f ];
-  stands = λ k task i n e p. elim (born k) [ inl same ↦ q.stands k task i n (sym same ∙ e) p | inr (_, now) ↦ absurd (rests_not_asked task spec i n (same_task _ _ (sym now ∙ e)) p) ];
-  unpushed = λ k task i n w e p f. elim (born k) [ inl same ↦ q.unpushed k task i n w (sym same ∙ e) p f | inr (_, now) ↦ rests_not_asked task spec i n (same_task _ _ (sym now ∙ e)) p ];
-  runs = λ k task w n e p. elim (born k) [ inl same ↦ q.runs k task w n (sym same ∙ e) p | inr (_, now) ↦ absurd (rests_not_runs task spec w n (same_task _ _ (sym now ∙ e)) p) ];
-  begun = λ k task w n e p f. elim (born k) [ inl same ↦ q.begun k task w n (sym same ∙ e) p f | inr (_, now) ↦ rests_not_runs task spec w n (same_task _ _ (sym now ∙ e)) p ];
+  stands = λ k task i n e p. elim (born k) [
+    | inl same ↦ q.stands k task i n (sym same ∙ e) p
+    | inr (_, now) ↦ absurd
+        (rests_not_asked task spec i n (same_task _ _ (sym now ∙ e)) p)
+  ];
+  unpushed = λ k task i n w e p f. elim (born k) [
+    | inl same ↦ q.unpushed k task i n w (sym same ∙ e) p f
+    | inr (_, now) ↦ rests_not_asked task spec i n
+        (same_task _ _ (sym now ∙ e)) p
+  ];
+  runs = λ k task w n e p. elim (born k) [
+    | inl same ↦ q.runs k task w n (sym same ∙ e) p
+    | inr (_, now) ↦ absurd
+        (rests_not_runs task spec w n (same_task _ _ (sym now ∙ e)) p)
+  ];
+  begun = λ k task w n e p f. elim (born k) [
+    | inl same ↦ q.begun k task w n (sym same ∙ e) p f
+    | inr (_, now) ↦ rests_not_runs task spec w n
+        (same_task _ _ (sym now ∙ e)) p
+  ];
 }
 
 -- one task takes the place of another
@@ -167,24 +188,34 @@ owns_put dead s t v k0 x y old task put le o newborn stands unpushed runs begun 
   ];
   later = λ k i other e less f. elim (by_number k k0) [
     | inl same ↦ later_here k i other same e less f
-    | inr apart ↦ elim (touched_before _ s t _ o f) [ inl g ↦ q.later k i other (sym (put.apart k apart) ∙ e) less g | inr g ↦ apart (serials v k0 task.number v k i g).1 ]
+    | inr apart ↦ elim (touched_before _ s t _ o f) [
+      | inl g ↦ q.later k i other (sym (put.apart k apart) ∙ e) less g
+      | inr g ↦ apart
+          (serials v k0 task.number v k i g).1
+    ]
   ];
   newborn = λ k spec e f. elim (by_number k k0) [
     | inl same ↦ newborn spec (is_task k same _ e) (subst (λ j. Touched t (attempt (object_id v j) 0)) same f)
-    | inr apart ↦ elim (touched_before _ s t _ o f) [ inl g ↦ q.newborn k spec (sym (put.apart k apart) ∙ e) g | inr g ↦ apart (serials v k0 task.number v k 0 g).1 ]
+    | inr apart ↦ elim (touched_before _ s t _ o f) [
+      | inl g ↦ q.newborn k spec (sym (put.apart k apart) ∙ e) g
+      | inr g ↦ apart
+          (serials v k0 task.number v k 0 g).1
+    ]
   ];
   stands = λ k other i n e p. elim (by_number k k0) [
     | inl same ↦
         let is : task ≡ other = is_task k same other e in
         subst (λ j. IsLast dead t (attempt (object_id v j) other.number) i n) (sym same)
         (subst (λ (u : OwnTask). IsLast dead t (attempt (object_id v k0) u.number) i n) is (stands i n (ap (λ (u : OwnTask). u.progress) is ∙ p)))
-    | inr apart ↦ last_more dead _ s t _ i n o (λ g. apart (serials v k0 task.number v k other.number g).1) (q.stands k other i n (sym (put.apart k apart) ∙ e) p)
+    | inr apart ↦ last_more dead _ s t _ i n o (λ g. apart (serials v k0 task.number v k other.number g).1)
+        (q.stands k other i n (sym (put.apart k apart) ∙ e) p)
   ];
   unpushed = λ k other i n w e p f. elim (by_number k k0) [
     | inl same ↦
         let is : task ≡ other = is_task k same other e in
         unpushed i n w (ap (λ (u : OwnTask). u.progress) is ∙ p)
-        (subst (λ (u : OwnTask). Pushed t (attempt (object_id v k0) u.number) w) (sym is) (subst (λ j. Pushed t (attempt (object_id v j) other.number) w) same f))
+        (subst (λ (u : OwnTask). Pushed t (attempt (object_id v k0) u.number) w) (sym is)
+        (subst (λ j. Pushed t (attempt (object_id v j) other.number) w) same f))
     | inr apart ↦ elim (o.pushed _ w f) [
       | inl g ↦ q.unpushed k other i n w (sym (put.apart k apart) ∙ e) p g
       | inr g ↦ apart (serials v k0 task.number v k other.number g).1
@@ -211,7 +242,8 @@ owns_put dead s t v k0 x y old task put le o newborn stands unpushed runs begun 
     not_none : {k : ℕ} → k ≡ k0 → task_of (item_at y.objects k) ≡ None → ⊥
     not_none same e = let f : ◌≡◌ {A = Option OwnTask} None (Some task) = sym (subst (λ j. task_of (item_at y.objects j) ≡ None) same e) ∙ put.now in cc
 
-    later_here : (k i : ℕ) (other : OwnTask) → k ≡ k0 → task_of (item_at y.objects k) ≡ Some other → other.number < i → Touched t (attempt (object_id v k) i) → ⊥
+    later_here : (k i : ℕ) (other : OwnTask) → k ≡ k0 → task_of (item_at y.objects k) ≡ Some other → other.number < i →
+        Touched t (attempt (object_id v k) i) → ⊥
     later_here k i other same e less f =
         let is : task ≡ other = is_task k same other e in
         let number : task.number ≡ other.number = ap (λ (u : OwnTask). u.number) is in
@@ -230,21 +262,24 @@ item_apart xs n m f apart = by_item (item_at (changed_at xs n f) m) refl
     by_item None e = e ∙ sym (changed_none xs n m f e)
     by_item (Some y) e = elim (changed_cases xs n m f y e) [ inl (same, _, _, _) ↦ absurd (apart same) | inr (_, at) ↦ e ∙ sym at ]
 
-put_task : (x : Worker) (k0 : ℕ) (old task : OwnTask) → task_of (item_at x.objects k0) ≡ Some old → IsPut x (record x { objects = changed_at x.objects k0 (with_task task) }) k0 old task
+put_task : (x : Worker) (k0 : ℕ) (old task : OwnTask) → task_of (item_at x.objects k0) ≡ Some old →
+    IsPut x (record x { objects = changed_at x.objects k0 (with_task task) }) k0 old task
 put_task x k0 old task at = record {
   before = at;
   now = by_item (item_at x.objects k0) refl at;
   apart = λ k other. ap task_of (item_apart x.objects k0 k (with_task task) other);
 }
   where
-    by_item : (o : Option Object) → item_at x.objects k0 ≡ o → task_of o ≡ Some old → task_of (item_at (changed_at x.objects k0 (with_task task)) k0) ≡ Some task
+    by_item : (o : Option Object) → item_at x.objects k0 ≡ o → task_of o ≡ Some old →
+        task_of (item_at (changed_at x.objects k0 (with_task task)) k0) ≡ Some task
     by_item None e f = absurd (cc)
     by_item (Some y) e f = ap task_of (changed_here x.objects k0 (with_task task) y e)
 
 -- an own object that has a task
 pub own_task : (h : Here) (o : Id) (task : OwnTask) → task_of (object_at h o) ≡ Some task → task_of (item_at h.worker.objects o.serial) ≡ Some task
 own_task h o task e =
-    at_test (λ b. task_of (if b then own_object h o.serial else None) ≡ Some task → task_of (own_object h o.serial) ≡ Some task) (is_own h o) (λ _ f. f) (λ _ f. absurd (cc)) e
+    at_test (λ b. task_of (if b then own_object h o.serial else None) ≡ Some task → task_of (own_object h o.serial) ≡ Some task) (is_own h o) (λ _ f. f)
+    (λ _ f. absurd (cc)) e
 
 module _ (c : Whole) (me : ℕ) (old : Worker) (there : item_at c.workers me ≡ Some old) (dead : ℕ → Type 0) where
   pub record AsksOf (m : ℕ) (x : Worker) (s : List Letter) : Type 0 where
@@ -273,7 +308,8 @@ module _ (c : Whole) (me : ℕ) (old : Worker) (there : item_at c.workers me ≡
     owned = λ a e. elim (touched_before Nobody s t a o e) [ inl f ↦ q.owned a f | inr f ↦ absurd f ];
   }
 
-  quiet_letter : (h : Here) (from to : Party) (m : Message) → is_touch m ≡ false → TouchesOnly Nobody (sent_so h) (with_letter c.network h.there.out.letters (letter from to m))
+  quiet_letter : (h : Here) (from to : Party) (m : Message) → is_touch m ≡ false →
+      TouchesOnly Nobody (sent_so h) (with_letter c.network h.there.out.letters (letter from to m))
   quiet_letter h from to m quiet = record {
     more = letter_more c.network h.there.out.letters (letter from to m);
     asked = λ a i n e. elim (letter_cases c.network h.there.out.letters (letter from to m) _ e.1) [
@@ -286,12 +322,15 @@ module _ (c : Whole) (me : ℕ) (old : Worker) (there : item_at c.workers me ≡
     ];
   }
 
-  says_asks : (h : Here) (to : Party) (m : Message) → is_touch m ≡ false → Asks h → AsksOf h.me h.worker (with_letter c.network h.there.out.letters (letter (TheWorker h.me) to m))
-  says_asks h to m quiet q = more_asks h.me h.worker (sent_so h) (with_letter c.network h.there.out.letters (letter (TheWorker h.me) to m)) (quiet_letter h (TheWorker h.me) to m quiet) q
+  says_asks : (h : Here) (to : Party) (m : Message) → is_touch m ≡ false → Asks h →
+      AsksOf h.me h.worker (with_letter c.network h.there.out.letters (letter (TheWorker h.me) to m))
+  says_asks h to m quiet q = more_asks h.me h.worker (sent_so h) (with_letter c.network h.there.out.letters (letter (TheWorker h.me) to m))
+      (quiet_letter h (TheWorker h.me) to m quiet) q
 
   -- what the node says touches no attempt
   abbrev OnlyNode : List Letter → There → Type 0
-  OnlyNode base t = ((l : Letter) → Among l base → Among l t.out.letters) × ((l : Letter) → Among l t.out.letters → Among l base ⊎ ((k : ℕ) × (l.sender ≡ TheNode k)))
+  OnlyNode base t = ((l : Letter) → Among l base → Among l t.out.letters) ×
+      ((l : Letter) → Among l t.out.letters → Among l base ⊎ ((k : ℕ) × (l.sender ≡ TheNode k)))
 
   only_node : (base : List Letter) → IsKeptThere (OnlyNode base)
   only_node base = record {
@@ -336,7 +375,8 @@ module _ (c : Whole) (me : ℕ) (old : Worker) (there : item_at c.workers me ≡
       (node_quiet h (asks_slot h.there h.me) (asks_slot-kept (OnlyNode base) (only_node base) h.there h.me ((λ l e. e), (λ l e. inl e)))) q
 
   -- the tables change, and leave tasks as they are
-  pub same_asks : (m : ℕ) (x y : Worker) (s : List Letter) → ((k : ℕ) → task_of (item_at y.objects k) ≡ task_of (item_at x.objects k)) → AsksOf m x s → AsksOf m y s
+  pub same_asks : (m : ℕ) (x y : Worker) (s : List Letter) → ((k : ℕ) → task_of (item_at y.objects k) ≡ task_of (item_at x.objects k)) → AsksOf m x s →
+      AsksOf m y s
   same_asks m x y s same q = record { who = q.who; mine = owns_same dead s me x y same q.mine; others = q.others; closed = q.closed; owned = q.owned }
 
   -- ---- what is known of messages that come
@@ -361,11 +401,20 @@ module _ (c : Whole) (me : ℕ) (old : Worker) (there : item_at c.workers me ≡
   -- ---- an own attempt is asked for
 
   -- the letter of an ask
-  ask_letter : (h : Here) (n : ℕ) (a : Attempt) (t : ℕ) → TouchesOnly (This a) (sent_so h) (with_letter c.network h.there.out.letters (letter (TheWorker h.me) (TheNode n) (Ask a t)))
+  ask_letter : (h : Here) (n : ℕ) (a : Attempt) (t : ℕ) →
+      TouchesOnly (This a) (sent_so h) (with_letter c.network h.there.out.letters (letter (TheWorker h.me) (TheNode n) (Ask a t)))
   ask_letter h n a t = record {
     more = letter_more c.network h.there.out.letters _;
-    asked = λ b i m e. elim (letter_cases c.network h.there.out.letters _ _ e.1) [ inl f ↦ inl (e.0, f) | inr f ↦ inr (attempts b i (ap (λ (l : Letter). l.message) f)) ];
-    pushed = λ b w e. elim (letter_cases c.network h.there.out.letters _ _ e.2) [ inl f ↦ inl (e.0, e.1, f) | inr f ↦ absurd (other b e.1 (ap (λ (l : Letter). l.message) f)) ];
+    asked = λ b i m e. elim (letter_cases c.network h.there.out.letters _ _ e.1) [
+      | inl f ↦ inl (e.0, f)
+      | inr f ↦ inr
+          (attempts b i (ap (λ (l : Letter). l.message) f))
+    ];
+    pushed = λ b w e. elim (letter_cases c.network h.there.out.letters _ _ e.2) [
+      | inl f ↦ inl (e.0, e.1, f)
+      | inr f ↦ absurd
+          (other b e.1 (ap (λ (l : Letter). l.message) f))
+    ];
   }
     where
       attempts : (b : Attempt) (i : ℕ) → Ask b i ≡ Ask a t → b ≡ a
@@ -375,7 +424,8 @@ module _ (c : Whole) (me : ℕ) (old : Worker) (there : item_at c.workers me ≡
       other b spec e = absurd (cc)
 
   -- which ask of it was sent
-  ask_cases : (h : Here) (n : ℕ) (a : Attempt) (t i m : ℕ) → Asked (with_letter c.network h.there.out.letters (letter (TheWorker h.me) (TheNode n) (Ask a t))) a i m →
+  ask_cases : (h : Here) (n : ℕ) (a : Attempt) (t i m : ℕ) →
+      Asked (with_letter c.network h.there.out.letters (letter (TheWorker h.me) (TheNode n) (Ask a t))) a i m →
       Asked (sent_so h) a i m ⊎ ((i ≡ t) × (m ≡ n))
   ask_cases h n a t i m e = elim (letter_cases c.network h.there.out.letters _ _ e.1) [
     | inl f ↦ inl (e.0, f)
@@ -389,9 +439,11 @@ module _ (c : Whole) (me : ℕ) (old : Worker) (there : item_at c.workers me ≡
       nodes f = cc
 
   -- the attempt a0 of the task that is put at k0 is asked for, which wasn't pushed
-  asked_asks : (h : Here) (x : Worker) (k0 : ℕ) (before task : OwnTask) (t n : ℕ) → IsPut h.worker x k0 before task → before.number ≤ task.number → task.progress ≡ AskedAt t n →
+  asked_asks : (h : Here) (x : Worker) (k0 : ℕ) (before task : OwnTask) (t n : ℕ) → IsPut h.worker x k0 before task → before.number ≤ task.number →
+      task.progress ≡ AskedAt t n →
       ((w : ℕ) → Pushed (sent_so h) (attempt (object_id me k0) task.number) w → ⊥) →
-      ((i m : ℕ) → Asked (sent_so h) (attempt (object_id me k0) task.number) i m → ((i ≡ t) × (m ≡ n)) ⊎ ((i < t) × IsPassed dead (sent_so h) (attempt (object_id me k0) task.number) i m)) →
+      ((i m : ℕ) → Asked (sent_so h) (attempt (object_id me k0) task.number) i m →
+      ((i ≡ t) × (m ≡ n)) ⊎ ((i < t) × IsPassed dead (sent_so h) (attempt (object_id me k0) task.number) i m)) →
       Asks h → AsksOf h.me x (with_letter c.network h.there.out.letters (letter (TheWorker h.me) (TheNode n) (Ask (attempt (object_id me k0) task.number) t)))
   asked_asks h x k0 before task t n put le progress unpushed last q =
       let a : Attempt = attempt (object_id me k0) task.number in
@@ -401,11 +453,11 @@ module _ (c : Whole) (me : ℕ) (old : Worker) (there : item_at c.workers me ≡
       record {
         who = q.who;
         mine = owns_put dead s s' me k0 h.worker x before task put le o
-          (λ spec e _. let f : AtRest ≡ AskedAt t n = sym (ap (λ (u : OwnTask). u.progress) e) ∙ progress in absurd (cc))
-          (λ i m e. last_now s s' o i m (sym progress ∙ e))
-          (λ i m w e f. elim (o.pushed a w f) [ inl g ↦ unpushed w g | inr g ↦ pushed_new w f ])
-          (λ w m e. let f : AskedAt t n ≡ RunsOn w m = sym progress ∙ e in absurd (cc))
-          (λ w m e _. let f : AskedAt t n ≡ RunsOn w m = sym progress ∙ e in absurd (cc)) q.mine;
+            (λ spec e _. let f : AtRest ≡ AskedAt t n = sym (ap (λ (u : OwnTask). u.progress) e) ∙ progress in absurd (cc))
+            (λ i m e. last_now s s' o i m (sym progress ∙ e))
+            (λ i m w e f. elim (o.pushed a w f) [ inl g ↦ unpushed w g | inr g ↦ pushed_new w f ])
+            (λ w m e. let f : AskedAt t n ≡ RunsOn w m = sym progress ∙ e in absurd (cc))
+            (λ w m e _. let f : AskedAt t n ≡ RunsOn w m = sym progress ∙ e in absurd (cc)) q.mine;
         others = λ v y apart at. owns_more dead (This a) s s' v y o (λ k i e. apart (serials me k0 task.number v k i e).0) (q.others v y apart at);
         closed = λ b w e. elim (o.pushed b w e) [
           | inl f ↦ closed_more dead (This a) s s' b w o (λ same. unpushed w (subst (λ i. Pushed s i w) same f)) (q.closed b w f)
@@ -420,34 +472,56 @@ module _ (c : Whole) (me : ℕ) (old : Worker) (there : item_at c.workers me ≡
       a0 : Attempt
       a0 = attempt (object_id me k0) task.number
 
-      pushed_new : (w : ℕ) → Pushed (with_letter c.network h.there.out.letters (letter (TheWorker h.me) (TheNode n) (Ask (attempt (object_id me k0) task.number) t))) (attempt (object_id me k0) task.number) w → ⊥
-      pushed_new w e = elim (letter_cases c.network h.there.out.letters _ _ e.2) [ inl f ↦ unpushed w (e.0, e.1, f) | inr f ↦ no_push e.1 (ap (λ (l : Letter). l.message) f) ]
+      pushed_new : (w : ℕ) →
+          Pushed (with_letter c.network h.there.out.letters (letter (TheWorker h.me) (TheNode n) (Ask (attempt (object_id me k0) task.number) t)))
+          (attempt (object_id me k0) task.number) w → ⊥
+      pushed_new w e = elim (letter_cases c.network h.there.out.letters _ _ e.2) [
+        | inl f ↦ unpushed w (e.0, e.1, f)
+        | inr f ↦ no_push e.1
+            (ap (λ (l : Letter). l.message) f)
+      ]
         where
           no_push : (spec : Birth) → Push (attempt (object_id me k0) task.number) spec ≡ Ask (attempt (object_id me k0) task.number) t → ⊥
           no_push spec f = absurd (cc)
 
       last_now : (s s' : List Letter) → TouchesOnly (This (attempt (object_id me k0) task.number)) s s' → (i m : ℕ) → AskedAt t n ≡ AskedAt i m →
-          IsLast dead (with_letter c.network h.there.out.letters (letter (TheWorker h.me) (TheNode n) (Ask (attempt (object_id me k0) task.number) t))) (attempt (object_id me k0) task.number) i m
+          IsLast dead (with_letter c.network h.there.out.letters (letter (TheWorker h.me) (TheNode n) (Ask (attempt (object_id me k0) task.number) t)))
+          (attempt (object_id me k0) task.number) i m
       last_now s s' o i m e =
           let numbers : t ≡ i = cc in
           let nodes : n ≡ m = cc in
-          subst (λ j. IsLast dead (with_letter c.network h.there.out.letters (letter (TheWorker h.me) (TheNode n) (Ask (attempt (object_id me k0) task.number) t))) (attempt (object_id me k0) task.number) j m) numbers
-          (subst (λ j. IsLast dead (with_letter c.network h.there.out.letters (letter (TheWorker h.me) (TheNode n) (Ask (attempt (object_id me k0) task.number) t))) (attempt (object_id me k0) task.number) t j) nodes
+          subst (λ j. IsLast dead (with_letter c.network h.there.out.letters
+          (letter (TheWorker h.me) (TheNode n) (Ask (attempt (object_id me k0) task.number) t))) (attempt (object_id me k0) task.number) j m) numbers
+          (subst (λ j. IsLast dead (with_letter c.network h.there.out.letters
+          (letter (TheWorker h.me) (TheNode n) (Ask (attempt (object_id me k0) task.number) t))) (attempt (object_id me k0) task.number) t j) nodes
           (λ j k f. elim (ask_cases h n (attempt (object_id me k0) task.number) t j k f) [
             | inl g ↦ elim (last j k g) [
               | inl same ↦ inl same
-              | inr (less, p) ↦ inr (less, passed_more dead (sent_so h) _ (attempt (object_id me k0) task.number) j k (letter_more c.network h.there.out.letters _) p)
+              | inr (less, p) ↦ inr (
+                less,
+                passed_more dead (sent_so h) _ (attempt (object_id me k0) task.number) j k
+                    (letter_more c.network h.there.out.letters _) p,
+              )
             ]
             | inr g ↦ inl g
           ]))
 
   -- ---- an own attempt begins
 
-  push_letter : (h : Here) (w : ℕ) (a : Attempt) (spec : Birth) → TouchesOnly (This a) (sent_so h) (with_letter c.network h.there.out.letters (letter (TheWorker h.me) (TheWorker w) (Push a spec)))
+  push_letter : (h : Here) (w : ℕ) (a : Attempt) (spec : Birth) →
+      TouchesOnly (This a) (sent_so h) (with_letter c.network h.there.out.letters (letter (TheWorker h.me) (TheWorker w) (Push a spec)))
   push_letter h w a spec = record {
     more = letter_more c.network h.there.out.letters _;
-    asked = λ b i m e. elim (letter_cases c.network h.there.out.letters _ _ e.1) [ inl f ↦ inl (e.0, f) | inr f ↦ absurd (no_ask b i (ap (λ (l : Letter). l.message) f)) ];
-    pushed = λ b v e. elim (letter_cases c.network h.there.out.letters _ _ e.2) [ inl f ↦ inl (e.0, e.1, f) | inr f ↦ inr (attempts b e.1 (ap (λ (l : Letter). l.message) f)) ];
+    asked = λ b i m e. elim (letter_cases c.network h.there.out.letters _ _ e.1) [
+      | inl f ↦ inl (e.0, f)
+      | inr f ↦ absurd
+          (no_ask b i (ap (λ (l : Letter). l.message) f))
+    ];
+    pushed = λ b v e. elim (letter_cases c.network h.there.out.letters _ _ e.2) [
+      | inl f ↦ inl (e.0, e.1, f)
+      | inr f ↦ inr
+          (attempts b e.1 (ap (λ (l : Letter). l.message) f))
+    ];
   }
     where
       no_ask : (b : Attempt) (i : ℕ) → Ask b i ≡ Push a spec → ⊥
@@ -457,13 +531,20 @@ module _ (c : Whole) (me : ℕ) (old : Worker) (there : item_at c.workers me ≡
       attempts b sp e = cc
 
   -- a Push adds no ask, and goes to that worker
-  push_asked : (h : Here) (w : ℕ) (a b : Attempt) (spec : Birth) (i m : ℕ) → Asked (with_letter c.network h.there.out.letters (letter (TheWorker h.me) (TheWorker w) (Push a spec))) b i m → Asked (sent_so h) b i m
-  push_asked h w a b spec i m e = elim (letter_cases c.network h.there.out.letters _ _ e.1) [ inl f ↦ (e.0, f) | inr f ↦ absurd (no_ask (ap (λ (l : Letter). l.message) f)) ]
+  push_asked : (h : Here) (w : ℕ) (a b : Attempt) (spec : Birth) (i m : ℕ) →
+      Asked (with_letter c.network h.there.out.letters (letter (TheWorker h.me) (TheWorker w) (Push a spec))) b i m → Asked (sent_so h) b i m
+  push_asked h w a b spec i m e = elim (letter_cases c.network h.there.out.letters _ _ e.1) [
+    | inl f ↦ (e.0, f)
+    | inr f ↦ absurd
+        (no_ask (ap (λ (l : Letter). l.message) f))
+  ]
     where
       no_ask : Ask b i ≡ Push a spec → ⊥
       no_ask f = absurd (cc)
 
-  push_cases : (h : Here) (w v : ℕ) (a b : Attempt) (spec : Birth) → Pushed (with_letter c.network h.there.out.letters (letter (TheWorker h.me) (TheWorker w) (Push a spec))) b v → Pushed (sent_so h) b v ⊎ ((b ≡ a) × (v ≡ w))
+  push_cases : (h : Here) (w v : ℕ) (a b : Attempt) (spec : Birth) →
+      Pushed (with_letter c.network h.there.out.letters (letter (TheWorker h.me) (TheWorker w) (Push a spec))) b v →
+      Pushed (sent_so h) b v ⊎ ((b ≡ a) × (v ≡ w))
   push_cases h w v a b spec e = elim (letter_cases c.network h.there.out.letters _ _ e.2) [
     | inl f ↦ inl (e.0, e.1, f)
     | inr f ↦ inr (attempts e.1 (ap (λ (l : Letter). l.message) f), workers (ap (λ (l : Letter). l.receiver) f))
@@ -476,19 +557,21 @@ module _ (c : Whole) (me : ℕ) (old : Worker) (there : item_at c.workers me ≡
       workers f = cc
 
   -- a task that runs on w is put at k0, and pushed to w, which was given for its last ask
-  pushed_asks : (h : Here) (x : Worker) (k0 w n : ℕ) (before task : OwnTask) (spec : Birth) → IsPut h.worker x k0 before task → before.number ≤ task.number → task.progress ≡ RunsOn w n →
+  pushed_asks : (h : Here) (x : Worker) (k0 w n : ℕ) (before task : OwnTask) (spec : Birth) → IsPut h.worker x k0 before task →
+      before.number ≤ task.number → task.progress ≡ RunsOn w n →
       (task.begun ≡ [] → ⊥) →
       IsClosed dead (sent_so h) (attempt (object_id me k0) task.number) w →
-      Asks h → AsksOf h.me x (with_letter c.network h.there.out.letters (letter (TheWorker h.me) (TheWorker w) (Push (attempt (object_id me k0) task.number) spec)))
+      Asks h → AsksOf h.me x (with_letter c.network h.there.out.letters
+      (letter (TheWorker h.me) (TheWorker w) (Push (attempt (object_id me k0) task.number) spec)))
   pushed_asks h x k0 w n before task spec put le progress some closed q =
       let o : TouchesOnly (This a) (sent_so h) s' = push_letter h w a spec in
       record {
         who = q.who;
         mine = owns_put dead (sent_so h) s' me k0 h.worker x before task put le o
-          (λ sp e _. let f : AtRest ≡ RunsOn w n = sym (ap (λ (u : OwnTask). u.progress) e) ∙ progress in absurd (cc))
-          (λ i m e. let f : RunsOn w n ≡ AskedAt i m = sym progress ∙ e in absurd (cc))
-          (λ i m v e _. let f : RunsOn w n ≡ AskedAt i m = sym progress ∙ e in absurd (cc))
-          (λ v m e. runs v m (sym progress ∙ e)) (λ v m e f. some f) q.mine;
+            (λ sp e _. let f : AtRest ≡ RunsOn w n = sym (ap (λ (u : OwnTask). u.progress) e) ∙ progress in absurd (cc))
+            (λ i m e. let f : RunsOn w n ≡ AskedAt i m = sym progress ∙ e in absurd (cc))
+            (λ i m v e _. let f : RunsOn w n ≡ AskedAt i m = sym progress ∙ e in absurd (cc))
+            (λ v m e. runs v m (sym progress ∙ e)) (λ v m e f. some f) q.mine;
         others = λ v y apart at. owns_more dead (This a) (sent_so h) s' v y o (λ k i e. apart (serials me k0 task.number v k i e).0) (q.others v y apart at);
         closed = λ b v e. elim (push_cases h w v a b spec e) [
           | inl f ↦ closed_so b v (q.closed b v f)
@@ -534,7 +617,8 @@ module _ (c : Whole) (me : ℕ) (old : Worker) (there : item_at c.workers me ≡
       let f : ◌≡◌ {A = Option OwnTask} None (Some task) = subst (λ k. task_of (item_at h.worker.objects k) ≡ Some task) zero_serial (own_task h o task at) in
       absurd (cc)
 
-  untouched_next : (h : Here) (k0 : ℕ) (before task : OwnTask) → task_of (item_at h.worker.objects k0) ≡ Some before → IsNextOf before task → Asks h → Touched (sent_so h) (attempt (object_id me k0) task.number) → ⊥
+  untouched_next : (h : Here) (k0 : ℕ) (before task : OwnTask) → task_of (item_at h.worker.objects k0) ≡ Some before → IsNextOf before task → Asks h →
+      Touched (sent_so h) (attempt (object_id me k0) task.number) → ⊥
   untouched_next h k0 before task at (inl next) q e =
       let number : task.number ≡ before.number + 1 = ap (λ (u : OwnTask). u.number) next in
       q.mine.later k0 task.number before at (omega (arith, number)) e
@@ -549,18 +633,21 @@ module _ (c : Whole) (me : ℕ) (old : Worker) (there : item_at c.workers me ≡
       let b : before.number ≡ 0 = ap (λ (u : OwnTask). u.number) was in
       omega (arith, a, b)
 
-  ask_anew : (h : Here) (o : Id) (before task : OwnTask) (n : ℕ) → task_of (object_at h o) ≡ Some before → IsNextOf before task → Asks h → Asks (asks_at h o task 0 n)
+  ask_anew : (h : Here) (o : Id) (before task : OwnTask) (n : ℕ) → task_of (object_at h o) ≡ Some before → IsNextOf before task → Asks h →
+      Asks (asks_at h o task 0 n)
   ask_anew h o before task n at next q =
       let k0 : ℕ = o.serial in
       let here_at : task_of (item_at h.worker.objects k0) ≡ Some before = own_task h o before at in
       let asked : OwnTask = record task { progress = AskedAt 0 n } in
       let x : Worker = record h.worker { objects = changed_at h.worker.objects k0 (with_task asked) } in
       let untouched : Touched (sent_so h) (attempt (object_id me k0) task.number) → ⊥ = untouched_next h k0 before task here_at next q in
-      subst (λ i. AsksOf h.me x (with_letter c.network h.there.out.letters (letter (TheWorker h.me) (TheNode n) (Ask (attempt i task.number) 0)))) (sym (own_id_is h o (own_at h o before at) q))
+      subst (λ i. AsksOf h.me x (with_letter c.network h.there.out.letters (letter (TheWorker h.me) (TheNode n) (Ask (attempt i task.number) 0))))
+      (sym (own_id_is h o (own_at h o before at) q))
       (asked_asks h x k0 before asked 0 n (put_task h.worker k0 before asked here_at) (next_more before task next) refl
       (λ w e. untouched (inr (w, e))) (λ i m e. absurd (untouched (inl (i, m, e)))) q)
 
-  ask_on : (h : Here) (o : Id) (task : OwnTask) (t m n : ℕ) → task_of (object_at h o) ≡ Some task → task.progress ≡ AskedAt t m → PassedBy (attempt o task.number) t m →
+  ask_on : (h : Here) (o : Id) (task : OwnTask) (t m n : ℕ) → task_of (object_at h o) ≡ Some task → task.progress ≡ AskedAt t m →
+      PassedBy (attempt o task.number) t m →
       Asks h → Asks (asks_at h o task (t + 1) n)
   ask_on h o task t m n at progress passed q =
       let k0 : ℕ = o.serial in
@@ -569,16 +656,23 @@ module _ (c : Whole) (me : ℕ) (old : Worker) (there : item_at c.workers me ≡
       let x : Worker = record h.worker { objects = changed_at h.worker.objects k0 (with_task asked) } in
       let is : o ≡ object_id me k0 = own_id_is h o (own_at h o task at) q in
       let a : Attempt = attempt (object_id me k0) task.number in
-      let now : IsPassed dead (sent_so h) a t m = subst (λ i. IsPassed dead (sent_so h) (attempt i task.number) t m) is (passed_more dead c.network (sent_so h) _ t m (so_more h) passed) in
-      subst (λ i. AsksOf h.me x (with_letter c.network h.there.out.letters (letter (TheWorker h.me) (TheNode n) (Ask (attempt i task.number) (t + 1))))) (sym is)
+      let now : IsPassed dead (sent_so h) a t m = subst (λ i. IsPassed dead (sent_so h) (attempt i task.number) t m) is
+      (passed_more dead c.network (sent_so h) _ t m (so_more h) passed) in
+      subst (λ i. AsksOf h.me x (with_letter c.network h.there.out.letters (letter (TheWorker h.me) (TheNode n) (Ask (attempt i task.number) (t + 1)))))
+      (sym is)
       (asked_asks h x k0 task asked (t + 1) n (put_task h.worker k0 task asked here_at) (omega arith) refl
       (λ w e. q.mine.unpushed k0 task t m w here_at progress e)
       (λ i j e. elim (q.mine.stands k0 task t m here_at progress i j e) [
-        | inl (same, node) ↦ inr (omega (arith, same), subst (λ u. IsPassed dead (sent_so h) a u j) (sym same) (subst (λ u. IsPassed dead (sent_so h) a t u) (sym node) now))
+        | inl (same, node) ↦ inr (
+          omega (arith, same),
+          subst (λ u. IsPassed dead (sent_so h) a u j) (sym same)
+              (subst (λ u. IsPassed dead (sent_so h) a t u) (sym node) now),
+        )
         | inr (less, p) ↦ inr (omega (arith, less), p)
       ]) q)
 
-  rest : (h : Here) (o : Id) (task : OwnTask) → task_of (object_at h o) ≡ Some task → ((w n : ℕ) × (task.progress ≡ RunsOn w n)) ⊎ ((w : ℕ) × ToldOf w (attempt o task.number)) →
+  rest : (h : Here) (o : Id) (task : OwnTask) → task_of (object_at h o) ≡ Some task →
+      ((w n : ℕ) × (task.progress ≡ RunsOn w n)) ⊎ ((w : ℕ) × ToldOf w (attempt o task.number)) →
       Asks h → Asks (with_task_of h o (rests task))
   rest h o task at why q =
       let k0 : ℕ = o.serial in
@@ -587,20 +681,22 @@ module _ (c : Whole) (me : ℕ) (old : Worker) (there : item_at c.workers me ≡
       record {
         who = q.who;
         mine = owns_put dead s s me k0 h.worker _ task (rests task) (put_task h.worker k0 task (rests task) here_at) (omega arith)
-          (record { more = λ l e. e; asked = λ a i n e. inl e; pushed = λ a w e. inl e })
-          (λ spec e f. newborn k0 here_at spec task.progress refl e f)
-          (λ i n e. let f : AtRest ≡ AskedAt i n = e in absurd (cc)) (λ i n w e _. let f : AtRest ≡ AskedAt i n = e in absurd (cc))
-          (λ w n e. let f : AtRest ≡ RunsOn w n = e in absurd (cc)) (λ w n e _. let f : AtRest ≡ RunsOn w n = e in absurd (cc)) q.mine;
+            (record { more = λ l e. e; asked = λ a i n e. inl e; pushed = λ a w e. inl e })
+            (λ spec e f. newborn k0 here_at spec task.progress refl e f)
+            (λ i n e. let f : AtRest ≡ AskedAt i n = e in absurd (cc)) (λ i n w e _. let f : AtRest ≡ AskedAt i n = e in absurd (cc))
+            (λ w n e. let f : AtRest ≡ RunsOn w n = e in absurd (cc)) (λ w n e _. let f : AtRest ≡ RunsOn w n = e in absurd (cc)) q.mine;
         others = q.others;
         closed = q.closed;
         owned = q.owned;
       }
     where
       told_pushed : (k0 : ℕ) → k0 ≡ o.serial → (w : ℕ) → ToldOf w (attempt o task.number) → Pushed (sent_so h) (attempt (object_id me o.serial) task.number) w
-      told_pushed k0 e w (inl p) = subst (λ i. Pushed (sent_so h) (attempt i task.number) w) (own_id_is h o (own_at h o task at) q) (pushed_more c.network (sent_so h) _ w (so_more h) p)
+      told_pushed k0 e w (inl p) = subst (λ i. Pushed (sent_so h) (attempt i task.number) w) (own_id_is h o (own_at h o task at) q)
+          (pushed_more c.network (sent_so h) _ w (so_more h) p)
       told_pushed k0 e w (inr main) = absurd (no_zero h o task at main)
 
-      newborn : (k0 : ℕ) → task_of (item_at h.worker.objects o.serial) ≡ Some task → (spec : Birth) (p : Progress) → task.progress ≡ p → rests task ≡ new_task spec → Touched (sent_so h) (attempt (object_id me o.serial) 0) → ⊥
+      newborn : (k0 : ℕ) → task_of (item_at h.worker.objects o.serial) ≡ Some task → (spec : Birth) (p : Progress) → task.progress ≡ p →
+          rests task ≡ new_task spec → Touched (sent_so h) (attempt (object_id me o.serial) 0) → ⊥
       newborn k0 here_at spec AtRest p e f =
           let is : task ≡ rests task = ap (λ u. record task { progress = u }) p in
           q.mine.newborn o.serial spec (here_at ∙ ap (λ u. Some u) (is ∙ e)) f
@@ -627,16 +723,25 @@ module _ (c : Whole) (me : ℕ) (old : Worker) (there : item_at c.workers me ≡
       let asked : Asked (sent_so h) a t n = subst (λ i. Asked (sent_so h) (attempt i task.number) t n) is (given.asked.0, so_more h _ given.asked.1) in
       let node : n ≡ m = elim (last t n asked) [ inl (_, same) ↦ same | inr (less, _) ↦ absurd (omega (arith, less)) ] in
       let gave : Among (letter (TheNode n) (TheWorker a.object.owner) (Give a t w)) (sent_so h) =
-        subst (λ i. Among (letter (TheNode n) (TheWorker (attempt i task.number).object.owner) (Give (attempt i task.number) t w)) (sent_so h)) is (so_more h _ given.given) in
-      let closed : IsClosed dead (sent_so h) a w = record { t = t; node = n; given = gave; last = subst (λ j. IsLast dead (sent_so h) a t j) (sym node) last } in
-      subst (λ i. AsksOf h.me x (with_letter c.network h.there.out.letters (letter (TheWorker h.me) (TheWorker w) (Push (attempt i task.number) task.spec)))) (sym is)
+      subst (λ i. Among (letter (TheNode n) (TheWorker (attempt i task.number).object.owner) (Give (attempt i task.number) t w)) (sent_so h)) is
+      (so_more h _ given.given) in
+      let closed : IsClosed dead (sent_so h) a w = record {
+        t = t;
+        node = n;
+        given = gave;
+        last = subst (λ j. IsLast dead (sent_so h) a t j) (sym node) last;
+      } in
+      subst (λ i. AsksOf h.me x (with_letter c.network h.there.out.letters
+      (letter (TheWorker h.me) (TheWorker w) (Push (attempt i task.number) task.spec)))) (sym is)
       (pushed_asks h x k0 w n task begun task.spec (put_task h.worker k0 task begun here_at) (omega arith) refl (not_nil task.begun w)
       closed q)
 
   push_again : (h : Here) (k : ℕ) (task : OwnTask) (w n : ℕ) → task_of (own_object h k) ≡ Some task → task.progress ≡ RunsOn w n → Asks h →
-      AsksOf h.me h.worker (with_letter c.network h.there.out.letters (letter (TheWorker h.me) (TheWorker w) (Push (attempt (own_id h k) task.number) task.spec)))
+      AsksOf h.me h.worker (with_letter c.network h.there.out.letters
+      (letter (TheWorker h.me) (TheWorker w) (Push (attempt (own_id h k) task.number) task.spec)))
   push_again h k task w n at progress q =
-      subst (λ u. AsksOf h.me h.worker (with_letter c.network h.there.out.letters (letter (TheWorker h.me) (TheWorker w) (Push (attempt (object_id u k) task.number) task.spec)))) (sym q.who)
+      subst (λ u. AsksOf h.me h.worker (with_letter c.network h.there.out.letters
+      (letter (TheWorker h.me) (TheWorker w) (Push (attempt (object_id u k) task.number) task.spec)))) (sym q.who)
       (pushed_asks h h.worker k w n task task task.spec (same_put h.worker k task at) (omega arith) progress (q.mine.begun k task w n at progress) closed q)
     where
       closed : IsClosed dead (sent_so h) (attempt (object_id me k) task.number) w
@@ -645,8 +750,10 @@ module _ (c : Whole) (me : ℕ) (old : Worker) (there : item_at c.workers me ≡
   ask_again : (h : Here) (k : ℕ) (task : OwnTask) (t n : ℕ) → task_of (own_object h k) ≡ Some task → task.progress ≡ AskedAt t n → Asks h →
       AsksOf h.me h.worker (with_letter c.network h.there.out.letters (letter (TheWorker h.me) (TheNode n) (Ask (attempt (own_id h k) task.number) t)))
   ask_again h k task t n at progress q =
-      subst (λ u. AsksOf h.me h.worker (with_letter c.network h.there.out.letters (letter (TheWorker h.me) (TheNode n) (Ask (attempt (object_id u k) task.number) t)))) (sym q.who)
-      (asked_asks h h.worker k task task t n (same_put h.worker k task at) (omega arith) progress (λ w e. q.mine.unpushed k task t n w at progress e) (q.mine.stands k task t n at progress) q)
+      subst (λ u. AsksOf h.me h.worker (with_letter c.network h.there.out.letters
+      (letter (TheWorker h.me) (TheNode n) (Ask (attempt (object_id u k) task.number) t)))) (sym q.who)
+      (asked_asks h h.worker k task task t n (same_put h.worker k task at) (omega arith) progress (λ w e. q.mine.unpushed k task t n w at progress e)
+      (q.mine.stands k task t n at progress) q)
 
   born : (h : Here) (x : Object) (spec : Birth) → x.maker ≡ ByTask (new_task spec) → IsBornOf h.worker (with_object h x).worker spec
   born h x spec is k = by_item (item_at h.worker.objects k) refl (item_at (h.worker.objects ++ x ∷ []) k) refl
@@ -669,7 +776,13 @@ module _ (c : Whole) (me : ℕ) (old : Worker) (there : item_at c.workers me ≡
     objects = λ h x t q. same_asks h.me h.worker x (sent_so h) t.tasks q;
     store = λ h s q. q;
     begins = begin;
-    bears_new = λ h x spec is q. record { who = q.who; mine = owns_born dead (sent_so h) me h.worker _ spec (born h x spec is) q.mine; others = q.others; closed = q.closed; owned = q.owned };
+    bears_new = λ h x spec is q. record {
+      who = q.who;
+      mine = owns_born dead (sent_so h) me h.worker _ spec (born h x spec is) q.mine;
+      others = q.others;
+      closed = q.closed;
+      owned = q.owned;
+    };
     comes_to_rest = rest;
     pushes_again = push_again;
     asks_anew = λ h o before task at next q. ask_anew h o before task h.worker.node at next q;
@@ -677,8 +790,10 @@ module _ (c : Whole) (me : ℕ) (old : Worker) (there : item_at c.workers me ≡
     asks_again = ask_again;
     run = λ h run next e k q. same_asks h.me h.worker _ (sent_so h) (λ i. refl) q;
     leaves = λ h run next e _ _ _ _ q. same_asks h.me h.worker _ (sent_so h) (λ i. refl) q;
-    gets = λ h run content y f e w q. slot_asks (logs (with_run h (with_answer run content)) (Got run.attempt y content)) (same_asks h.me h.worker _ (sent_so h) (λ i. refl) q);
-    faults = λ h run fault y f e w q. frees_asks (logs (with_phase h run (HasFaulted fault)) (Faulted run.attempt y fault)) (same_asks h.me h.worker _ (sent_so h) (λ i. refl) q);
+    gets = λ h run content y f e w q. slot_asks (logs (with_run h (with_answer run content)) (Got run.attempt y content))
+        (same_asks h.me h.worker _ (sent_so h) (λ i. refl) q);
+    faults = λ h run fault y f e w q. frees_asks (logs (with_phase h run (HasFaulted fault)) (Faulted run.attempt y fault))
+        (same_asks h.me h.worker _ (sent_so h) (λ i. refl) q);
     frees = λ h run y f e w q. frees_asks h q;
     tells_end = λ h run n ids _ _ q. says_asks h _ _ refl q;
     tells_fault = λ h run f _ _ q. says_asks h _ _ refl q;

@@ -477,7 +477,7 @@ get_map f [] i x e = absurd (cc)
 get_map f (y ∷ xs) zero x e = let same : y ≡ x = cc in ap (λ z. Some (f z)) same
 get_map f (y ∷ xs) (suc i) x e = get_map f xs i x e
 
-item_map : {X Y : Type 0} (f : X → Y) (xs : List X) (n : ℕ) (x : X) → item_at xs n ≡ Some x → item_at (map f xs) n ≡ Some (f x)
+pub item_map : {X Y : Type 0} (f : X → Y) (xs : List X) (n : ℕ) (x : X) → item_at xs n ≡ Some x → item_at (map f xs) n ≡ Some (f x)
 item_map f xs zero x e = absurd (cc)
 item_map f xs (suc i) x e = get_map f xs i x e
 

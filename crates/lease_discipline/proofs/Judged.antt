@@ -18,13 +18,15 @@ use Rattle.protocol_owed.specs.Replies.{Brings, GiveIsBegun, Happening, IsUnbegu
 use Rattle.protocol_owed.specs.Seen.{Scene}
 use Rattle.protocol_owed.specs.Turns.{AskStands, ClaimIsAnswered, IsReady, SlotsAreRight}
 use Rattle.protocol_owed.proofs.Letters.{among-nothing}
-use Rattle.lease_discipline.specs.Examples.{ClaimsAreJudged, GivesBegin, SlotsAreJudged, TicksOweNothing, first_one, give_comes, given_log, given_network, nothing_comes}
+use Rattle.lease_discipline.specs.Examples.{ClaimsAreJudged, GivesBegin, SlotsAreJudged, TicksOweNothing, first_one, give_comes, given_log, given_network}
+use Rattle.lease_discipline.specs.Examples.{nothing_comes}
 use Rattle.lease_discipline.specs.Examples.{one_once, opening_log, pushed, scene, waiting_network}
 
 -- ---- a Give
 
 -- the letter that comes
-give_parts : (n w : ℕ) (a : Attempt) (t v : ℕ) → ◌≡◌ {A = Option Letter} (Some (letter (TheNode 1) (TheWorker 1) (Give first_one 0 2))) (Some (letter (TheNode n) (TheWorker w) (Give a t v))) →
+give_parts : (n w : ℕ) (a : Attempt) (t v : ℕ) →
+    ◌≡◌ {A = Option Letter} (Some (letter (TheNode 1) (TheWorker 1) (Give first_one 0 2))) (Some (letter (TheNode n) (TheWorker w) (Give a t v))) →
     (1 ≡ w) × (first_one ≡ a) × (2 ≡ v)
 give_parts n w a t v e =
     let same : letter (TheNode 1) (TheWorker 1) (Give first_one 0 2) ≡ letter (TheNode n) (TheWorker w) (Give a t v) = cc in
@@ -39,8 +41,10 @@ born_one : birth_at (births given_log) (object_id 1 1) ≡ Some one_once
 unfolding same_id
 born_one = refl
 
-brings : (s : Setting) (es : List Entry) (ls : List Letter) (n w : ℕ) (a : Attempt) (t v : ℕ) → Brings (give_comes s es ls) (TheNode n) (TheWorker w) (Give a t v) → (1 ≡ w) × (first_one ≡ a) × (2 ≡ v)
-brings s es ls n w a t v (k, e, at) = give_parts n w a t v (subst (λ i. item_at given_network i ≡ Some (letter (TheNode n) (TheWorker w) (Give a t v))) (sym (second k e)) at)
+brings : (s : Setting) (es : List Entry) (ls : List Letter) (n w : ℕ) (a : Attempt) (t v : ℕ) →
+    Brings (give_comes s es ls) (TheNode n) (TheWorker w) (Give a t v) → (1 ≡ w) × (first_one ≡ a) × (2 ≡ v)
+brings s es ls n w a t v (k, e, at) = give_parts n w a t v
+    (subst (λ i. item_at given_network i ≡ Some (letter (TheNode n) (TheWorker w) (Give a t v))) (sym (second k e)) at)
 
 give_is_paid : (s : Setting) → GiveIsBegun (give_comes s (Begun first_one 2 ∷ []) pushed)
 give_is_paid s n w a t v spec b unbegun born =
@@ -69,7 +73,8 @@ unbegun_yet w (suc (suc (suc (suc (suc zero)))), e) = absurd (cc)
 unbegun_yet w (suc (suc (suc (suc (suc (suc zero))))), e) = absurd (cc)
 unbegun_yet w (suc (suc (suc (suc (suc (suc (suc k)))))), e) = absurd (cc)
 
-owed_by : (s : Setting) (es : List Entry) (ls : List Letter) → GiveIsBegun (give_comes s es ls) → Logs (give_comes s es ls) (Begun first_one 2) × Says (give_comes s es ls) (TheWorker 1) (TheWorker 2) (Push first_one one_once)
+owed_by : (s : Setting) (es : List Entry) (ls : List Letter) → GiveIsBegun (give_comes s es ls) →
+    Logs (give_comes s es ls) (Begun first_one 2) × Says (give_comes s es ls) (TheWorker 1) (TheWorker 2) (Push first_one one_once)
 owed_by s es ls g = g 1 1 first_one 0 2 one_once (2, refl, refl) unbegun_yet born_one
 
 -- ---- a tick

@@ -131,7 +131,8 @@ pub record IsKept (IsToldBy : ℕ → Attempt → Type 0) (IsOverOf : Attempt �
       IsGivenBy n t (attempt o task.number) w → P h → P (pushes h o (with_begun task w n) w)
   -- a task is borne; its attempt comes to rest, that was running, or of which the worker told that it is over
   pub bears_new : (h : Here) (x : Object) (spec : Birth) → x.maker ≡ ByTask (new_task spec) → P h → P (with_object h x)
-  pub comes_to_rest : (h : Here) (o : Id) (task : OwnTask) → task_of (object_at h o) ≡ Some task → IsRunning task ⊎ ((w : ℕ) × IsToldBy w (attempt o task.number)) →
+  pub comes_to_rest : (h : Here) (o : Id) (task : OwnTask) → task_of (object_at h o) ≡ Some task →
+      IsRunning task ⊎ ((w : ℕ) × IsToldBy w (attempt o task.number)) →
       P h → P (with_task_of h o (rests task))
   pub pushes_again : (h : Here) (k : ℕ) (task : OwnTask) (w n : ℕ) → task_of (own_object h k) ≡ Some task → task.progress ≡ RunsOn w n →
       P h → P (says h w (Push (attempt (own_id h k) task.number) task.spec))
@@ -312,7 +313,8 @@ module _ (IsToldBy : ℕ → Attempt → Type 0) (IsOverOf : Attempt → Type 0)
   given_reached-kept h n a t w given p = given_by-kept h a t w n (task_of (object_at h a.object)) refl given p
 
   pub elsewhere_by-kept : (h : Here) (a : Attempt) (t n : ℕ) (task : Option OwnTask) → task_of (object_at h a.object) ≡ task →
-      ((own : OwnTask) (m : ℕ) → a.object.owner ≡ h.me → task_of (object_at h a.object) ≡ Some own → own.progress ≡ AskedAt t m → own.number ≡ a.number → IsPassedBy a t m) →
+      ((own : OwnTask) (m : ℕ) → a.object.owner ≡ h.me → task_of (object_at h a.object) ≡ Some own → own.progress ≡ AskedAt t m → own.number ≡ a.number →
+      IsPassedBy a t m) →
       P h → P (elsewhere_by h a t n task)
   elsewhere_by-kept h a t n None e passed p = p
   elsewhere_by-kept h a t n (Some task) e passed p =
@@ -323,7 +325,8 @@ module _ (IsToldBy : ℕ → Attempt → Type 0) (IsOverOf : Attempt → Type 0)
       (subst (λ b. IsPassedBy b t there.0) (present_is t a task asked) (passed task there.0 (own_at h a.object task e) e there.1 there.2)) p) (λ _. p)
 
   pub elsewhere_reached-kept : (h : Here) (a : Attempt) (t n : ℕ) →
-      ((own : OwnTask) (m : ℕ) → a.object.owner ≡ h.me → task_of (object_at h a.object) ≡ Some own → own.progress ≡ AskedAt t m → own.number ≡ a.number → IsPassedBy a t m) →
+      ((own : OwnTask) (m : ℕ) → a.object.owner ≡ h.me → task_of (object_at h a.object) ≡ Some own → own.progress ≡ AskedAt t m → own.number ≡ a.number →
+      IsPassedBy a t m) →
       P h → P (elsewhere_reached h a t n)
   elsewhere_reached-kept h a t n passed p = elsewhere_by-kept h a t n (task_of (object_at h a.object)) refl passed p
 
@@ -495,7 +498,8 @@ module _ (IsToldBy : ℕ → Attempt → Type 0) (IsOverOf : Attempt → Type 0)
   bears_task-kept h a o spec ids next p =
       let x : Object = new_object (ByTask (new_task spec)) a ids in
       let g : Here = with_object h x in
-      kept.asks_anew (holds_ids g o ids) o (new_task spec) (new_task spec) (held_task g o o ids ∙ ap (λ i. task_of (object_at g i)) next ∙ new_there h x) (inr (spec, refl, refl))
+      kept.asks_anew (holds_ids g o ids) o (new_task spec) (new_task spec) (held_task g o o ids ∙ ap (λ i. task_of (object_at g i)) next ∙ new_there h x)
+      (inr (spec, refl, refl))
       (holds_ids-kept g o ids (kept.bears_new h x spec refl p))
 
   pub bears_as-kept : (h : Here) (a : Attempt) (o : Id) (b : Birth) (ids : List Id) → o ≡ next_id_here h → P h → P (bears_as h a o b ids)
@@ -538,7 +542,8 @@ module _ (IsToldBy : ℕ → Attempt → Type 0) (IsOverOf : Attempt → Type 0)
       IsToldBy w a → P h → P (failed_by h w a f task)
   failed_by-kept h w a f None e s p = kept.hears h _ _ s p
   failed_by-kept h w a f (Some task) e s p =
-      either_by (if_present a task) (answers_faulted (hears_of_end (resolves (with_task_of h a.object (rests task)) a.object f) w a) a.object) (hears_of_end h w a)
+      either_by (if_present a task) (answers_faulted (hears_of_end (resolves (with_task_of h a.object (rests task)) a.object f) w a) a.object)
+      (hears_of_end h w a)
       (λ t. answers_faulted-kept _ a.object (kept.hears _ _ _ s (resolves-kept _ a.object f
       (kept.comes_to_rest h a.object task e (inr (w, subst (IsToldBy w) (present_was a task t) s)) p)))) (λ _. kept.hears h _ _ s p)
 
@@ -593,7 +598,8 @@ module _ (IsToldBy : ℕ → Attempt → Type 0) (IsOverOf : Attempt → Type 0)
       ((a : Attempt) (t : ℕ) → IsPassedBy a t m) → P h → P (moves_ask_at h m (own_id h k) task q)
   moves_ask_at-kept h m k task (AskedAt t n) e f dead p =
       either_by (n == m) (asks_next h (own_id h k) task t m) h
-      (λ same. kept.asks_on h (own_id h k) task t n _ (own_there h k ∙ e) f (subst (IsPassedBy (attempt (own_id h k) task.number) t) (sym (same_number n m same)) (dead _ t)) p) (λ _. p)
+      (λ same. kept.asks_on h (own_id h k) task t n _ (own_there h k ∙ e) f
+      (subst (IsPassedBy (attempt (own_id h k) task.number) t) (sym (same_number n m same)) (dead _ t)) p) (λ _. p)
   moves_ask_at-kept h m k task AtRest e f dead p = p
   moves_ask_at-kept h m k task (RunsOn w n) e f dead p = p
 
@@ -629,7 +635,7 @@ module _ (IsToldBy : ℕ → Attempt → Type 0) (IsOverOf : Attempt → Type 0)
   hears_of_node-kept h m dead p =
       let g : Here = breaks_where (runs_on_node m) (with_dead_node h m) in
       let first : P g = breaks_where-kept (runs_on_node m) (on_node m) (with_dead_node h m)
-        (kept.objects h _ (same_left h.worker (with_dead_node h m).worker refl refl refl refl refl) p) in
+      (kept.objects h _ (same_left h.worker (with_dead_node h m).worker refl refl refl refl refl) p) in
       loses_fetch-kept (moves_asks (loses_places g m) m) m (moves_asks-kept (loses_places g m) m dead (kept.objects g _ (places_left g.worker m) first))
 
   pub notice_node_step-kept : (h : Here) (m : ℕ) → ((a : Attempt) (t : ℕ) → IsPassedBy a t m) → P h → P (notice_node_step h m)
@@ -741,7 +747,8 @@ module _ (IsToldBy : ℕ → Attempt → Type 0) (IsOverOf : Attempt → Type 0)
   abbrev pub IsHeardOf : Here → ℕ → Message → Type 0
   IsHeardOf h n (Give a t w) = a.object.owner ≡ h.me → IsGivenBy n t a w
   IsHeardOf h n (Elsewhere a t m) =
-      (own : OwnTask) (i : ℕ) → a.object.owner ≡ h.me → task_of (object_at h a.object) ≡ Some own → own.progress ≡ AskedAt t i → own.number ≡ a.number → IsPassedBy a t i
+      (own : OwnTask) (i : ℕ) → a.object.owner ≡ h.me → task_of (object_at h a.object) ≡ Some own → own.progress ≡ AskedAt t i → own.number ≡ a.number →
+      IsPassedBy a t i
   IsHeardOf h n m = Unit {0}
 
   pub reached_from_node-kept : (h : Here) (n : ℕ) (m : Message) → IsHeardOf h n m → P h → P (reached_from_node h n m)

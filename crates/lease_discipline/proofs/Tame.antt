@@ -225,12 +225,14 @@ task_now h o old task e =
     task_of (if b then item_at (changed_at h.worker.objects o.serial (with_task task)) o.serial else None) ≡ Some task) (is_own h o)
     (λ _ f. by_item (item_at h.worker.objects o.serial) refl f) (λ _ f. absurd (cc)) e
   where
-    by_item : (x : Option Object) → item_at h.worker.objects o.serial ≡ x → task_of x ≡ Some old → task_of (item_at (changed_at h.worker.objects o.serial (with_task task)) o.serial) ≡ Some task
+    by_item : (x : Option Object) → item_at h.worker.objects o.serial ≡ x → task_of x ≡ Some old →
+        task_of (item_at (changed_at h.worker.objects o.serial (with_task task)) o.serial) ≡ Some task
     by_item None f g = absurd (cc)
     by_item (Some y) f g = ap task_of (changed_here h.worker.objects o.serial (with_task task) y f)
 
 -- what makes objects stays, where a change leaves it
-pub same_tasks : (xs : List Object) (n m : ℕ) (f : Object → Object) → ((y : Object) → (f y).maker ≡ y.maker) → task_of (item_at (changed_at xs n f) m) ≡ task_of (item_at xs m)
+pub same_tasks : (xs : List Object) (n m : ℕ) (f : Object → Object) → ((y : Object) → (f y).maker ≡ y.maker) →
+    task_of (item_at (changed_at xs n f) m) ≡ task_of (item_at xs m)
 same_tasks xs n m f keeps = by_item (item_at (changed_at xs n f) m) refl
   where
     by_item : (x : Option Object) → item_at (changed_at xs n f) m ≡ x → task_of (item_at (changed_at xs n f) m) ≡ task_of (item_at xs m)
@@ -242,10 +244,13 @@ same_tasks xs n m f keeps = by_item (item_at (changed_at xs n f) m) refl
 
 held_one : (h : Here) (e p o : Id) → task_of (object_at (holds_id h e p) o) ≡ task_of (object_at h o)
 held_one h e p o =
-    at_test (λ b. task_of (object_at (if b then changes h p (with_holder e) else if knows_dead h.worker p.owner then h else sends_hold h e p) o) ≡ task_of (object_at h o)) (is_own h p)
-    (λ _. at_test (λ b. task_of (if b then item_at (changed_at h.worker.objects p.serial (with_holder e)) o.serial else None) ≡ task_of (if b then own_object h o.serial else None)) (is_own h o)
+    at_test (λ b. task_of (object_at (if b then changes h p (with_holder e) else if knows_dead h.worker p.owner then h else sends_hold h e p) o) ≡ task_of
+    (object_at h o)) (is_own h p)
+    (λ _. at_test (λ b. task_of (if b then item_at (changed_at h.worker.objects p.serial (with_holder e)) o.serial else None) ≡ task_of
+    (if b then own_object h o.serial else None)) (is_own h o)
     (λ _. same_tasks h.worker.objects p.serial o.serial (with_holder e) (λ y. refl)) (λ _. refl))
-    (λ _. at_test (λ b. task_of (object_at (if b then h else sends_hold h e p) o) ≡ task_of (object_at h o)) (knows_dead h.worker p.owner) (λ _. refl) (λ _. by_run h.worker.run))
+    (λ _. at_test (λ b. task_of (object_at (if b then h else sends_hold h e p) o) ≡ task_of (object_at h o)) (knows_dead h.worker p.owner) (λ _. refl)
+    (λ _. by_run h.worker.run))
   where
     by_run : (r : Option Run) → task_of (object_at (awaits_hold_by h (holding e p) r) o) ≡ task_of (object_at h o)
     by_run None = refl

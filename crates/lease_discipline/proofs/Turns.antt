@@ -342,10 +342,11 @@ module _ (c : Whole) (me n : ℕ) (old : Worker) (there : item_at c.workers me �
   asked_turns : (h : Here) (o : Id) (task : OwnTask) (i m : ℕ) → Turns h → Turns (asks_at h o task i m)
   asked_turns h o task i m t =
       let g : Turns (with_task_of h o (record task { progress = AskedAt i m })) =
-        worker_turns h (with_task_of h o (record task { progress = AskedAt i m })).worker refl (λ e. e) (inl refl) t in
+      worker_turns h (with_task_of h o (record task { progress = AskedAt i m })).worker refl (λ e. e) (inl refl) t in
       record { who = g.who; home = g.home; turns = g.turns }
 
-  pub turns_kept : (ToldBy : ℕ → Attempt → Type 0) (OverOf : Attempt → Type 0) (GivenBy : ℕ → ℕ → Attempt → ℕ → Type 0) → IsKept ToldBy OverOf GivenBy Anyhow Turns
+  pub turns_kept : (ToldBy : ℕ → Attempt → Type 0) (OverOf : Attempt → Type 0) (GivenBy : ℕ → ℕ → Attempt → ℕ → Type 0) →
+      IsKept ToldBy OverOf GivenBy Anyhow Turns
   turns_kept ToldBy OverOf GivenBy = record {
     writes = λ h es t. record { who = t.who; home = t.home; turns = t.turns };
     says_plain = λ h w m _ t. record { who = t.who; home = t.home; turns = t.turns };

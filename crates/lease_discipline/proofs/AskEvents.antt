@@ -1,12 +1,12 @@
 -- Every event keeps asks in order.
-use Rattle.std.proofs.Common.{◌≡◌, ◌≢◌, ℕ, zero, suc, ◌+◌, ◌<◌, List, [], ◌∷◌, ◌++◌, length, map, Some, None, Option, refl, ap, sym, subst, ◌∙◌, ◌⊎◌, inl}
+use Rattle.std.proofs.Common.{◌≡◌, ℕ, zero, suc, ◌+◌, List, [], ◌∷◌, ◌++◌, Some, None, Option, refl, ap, sym, subst, ◌∙◌, ◌⊎◌, inl}
 use Rattle.std.proofs.Common.{inr, arith, append-nil}
 use Rattle.std.specs.Prelude.{Bool, true, false, if◌then◌else◌, ◌||◌, nat_lt, not}
 use Rattle.std.specs.List.{list_any}
 use Rattle.sequence.proofs.Places.{or_left}
 use Rattle.meaning.proofs.BirthLaws.{at_test}
 use Rattle.meaning.specs.Values.{Id, Outcome}
-use Rattle.event_log.specs.Entries.{Attempt, Event, Claim, Commit, Deliver, Tick, Notice, NoticeNode, Evict, Lose, Kill, KillNode, Join, main_attempt}
+use Rattle.event_log.specs.Entries.{Attempt}
 use Rattle.event_log.specs.Breaks.{Among}
 use Rattle.protocol.specs.Numbered.{item_at, changed_at}
 use Rattle.event_log.specs.Words.{attempt}
@@ -17,19 +17,16 @@ use Rattle.protocol.specs.Sets.{object_id}
 use Rattle.protocol.specs.Sets.{first_item, has, least, repeated, rest_of}
 use Rattle.protocol.specs.Messages.{Letter, letter, Message, Party, TheWorker, TheNode, Ask, Give, Elsewhere, Wait, Back, Push, Finished, FinishedAck, Failed}
 use Rattle.protocol.specs.Messages.{Where, At, Gone, Fetch, CopyOf, Missing, Hold, HoldAck, Unhold}
-use Rattle.protocol.specs.Jobs.{Given, Handed, Job, Nothing, OfAnother, OfJob, Outcomes}
-use Rattle.protocol.specs.Nodes.{AskKey, Asked, Node, Queued, Reply, Scheduler, SentOn, There, new_node, with_scheduler}
-use Rattle.protocol.specs.Stores.{copy_in}
-use Rattle.protocol.specs.Slots.{ask_key, asked_by, asks_slot, fetched, forgets, frees, gives_worker, grants, grants_next, grants_queued, has_free_slot}
-use Rattle.protocol.specs.Slots.{has_no_slot_for, leases_idle, may_be_idle}
-use Rattle.protocol.specs.Slots.{next_in_circle, node_reached, node_reached_from, queues, replies_anew, reply_to, same_key, with_answered, with_idle}
+use Rattle.protocol.specs.Jobs.{Outcomes}
+use Rattle.protocol.specs.Nodes.{AskKey, Asked, Node, Queued, Reply, Scheduler, SentOn, There, with_scheduler}
+use Rattle.protocol.specs.Slots.{ask_key, asked_by, asks_slot, forgets, frees, gives_worker, grants, grants_next, grants_queued, has_free_slot}
+use Rattle.protocol.specs.Slots.{has_no_slot_for, leases_idle}
+use Rattle.protocol.specs.Slots.{next_in_circle, queues, replies_anew, reply_to, same_key, with_answered}
 use Rattle.protocol.specs.Slots.{without_slot, without_worker}
 use Rattle.protocol.specs.Tables.{AskedAt, OwnTask, Worker, new_worker, task_of}
 use Rattle.protocol.specs.Steps.{Here, object_at}
-use Rattle.protocol.specs.Whole.{Whole, node_at, worker_at, there, here, after_node, after_worker}
-use Rattle.protocol_owed.specs.Courses.{has_begun}
+use Rattle.protocol.specs.Whole.{Whole, node_at, worker_at, there, here, after_node}
 use Rattle.protocol_owed.specs.Turns.{IsAnswer}
-use Rattle.protocol_owed.proofs.Answering.{NodeTells}
 use Rattle.protocol_owed.proofs.Asks.{QueueIsRight, Stands, has_key, reply_in, reply-other, same_key-refl, same_key-true, with_reply_in}
 use Rattle.protocol_owed.proofs.Nodes.{NodesAreRight}
 use Rattle.lease_discipline.specs.Asks as A

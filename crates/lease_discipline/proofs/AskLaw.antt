@@ -1,13 +1,12 @@
 -- Asks are in order in every run.
-use Rattle.std.proofs.Common.{◌≡◌, ◌≢◌, ℕ, zero, suc, ◌+◌, ◌<◌, ◌≤◌, List, [], ◌∷◌, ◌++◌, length, map, Some, None, Option, refl, ap, sym, subst, ◌∙◌, ◌⊎◌}
-use Rattle.std.proofs.Common.{inl, inr, arith, append-nil}
+use Rattle.std.proofs.Common.{◌≡◌, ℕ, zero, suc, ◌+◌, List, [], ◌∷◌, ◌++◌, length, map, Some, None, Option, refl, ap, sym, subst, ◌∙◌, ◌⊎◌}
+use Rattle.std.proofs.Common.{inl, inr}
 use Rattle.std.specs.Prelude.{Bool, true, false, if◌then◌else◌, not, ◌==◌}
 use Rattle.meaning.proofs.BirthLaws.{at_test}
 use Rattle.event_log.specs.Entries.{Attempt, Event, Claim, Commit, Deliver, Tick, Notice, NoticeNode, Evict, Lose, Kill, KillNode, Join}
-use Rattle.event_log.specs.Words.{attempt}
 use Rattle.event_log.specs.Breaks.{Among}
 use Rattle.protocol.specs.Numbered.{item_at, changed_at}
-use Rattle.protocol.specs.Sets.{object_id, repeated}
+use Rattle.protocol.specs.Sets.{repeated}
 use Rattle.protocol.specs.Messages.{Letter, letter, Message, Party, TheWorker, TheNode, Ask, Give, Elsewhere, Wait, Back, Push, Finished, FinishedAck, Failed}
 use Rattle.protocol.specs.Messages.{Where, At, Gone, Fetch, CopyOf, Missing, Hold, HoldAck, Unhold}
 use Rattle.protocol.specs.Jobs.{Given, Handed, Job, Nothing, OfAnother, OfJob}
@@ -18,15 +17,14 @@ use Rattle.protocol.specs.Stores.{copy_in}
 use Rattle.protocol.specs.Slots.{fetched, may_be_idle, with_idle}
 use Rattle.protocol.specs.Slots.{ask_key, forgets, node_reached, reply_to}
 use Rattle.protocol.specs.Tables.{OwnTask, Worker, task_of}
-use Rattle.protocol.specs.Steps.{Here}
 use Rattle.protocol.specs.Whole.{Whole, Moved, driver, first_whole, here, moved, node_at, node_does, node_does_by, there, worker_at, worker_does}
 use Rattle.protocol.specs.Commits.{claim_step, commit_step}
 use Rattle.protocol.specs.Notices.{notice_step, notice_node_step}
 use Rattle.protocol.specs.Ticks.{tick_step}
 use Rattle.protocol.specs.Deliveries.{reached}
-use Rattle.protocol.specs.Events.{claimed, committed_by, with_committed, delivered_by, delivered_to, with_delivered, is_live_worker, is_live_node, killed_by}
+use Rattle.protocol.specs.Events.{committed_by, with_committed, delivered_by, delivered_to, with_delivered, is_live_worker, is_live_node, killed_by}
 use Rattle.protocol.specs.Events.{dead, dies_with, happens}
-use Rattle.protocol.specs.Answers.{Refuses, answer, decided, takes, given_out, whole_after}
+use Rattle.protocol.specs.Answers.{Refuses, decided, takes, given_out, whole_after}
 use Rattle.protocol.specs.Refusals.{is_dead_node, is_within_limits, no_worker, refusal, unless}
 use Rattle.protocol_owed.specs.Runs.{Handing, Running, after_event, after_events, opening_run}
 use Rattle.protocol_owed.proofs.CourseAll.{both_passed, passed}
@@ -43,8 +41,8 @@ use Rattle.lease_discipline.proofs.Tame.{item_mapped}
 use Rattle.lease_discipline.proofs.Moves.{notice_step-kept, notice_node_step-kept, tick_step-kept}
 use Rattle.lease_discipline.proofs.Asking.{Asks, GivenOf, OverBy, PassedBy, ToldOf, TouchesOnly, Nobody, asks_kept, closed_more, owns_more, owns_same}
 use Rattle.lease_discipline.proofs.Asking.{touched_before}
-use Rattle.lease_discipline.proofs.AskEvents.{Keys, Steps, asked_keys, asks_end, claim_asks, commit_asks, forgets_keys, last_dead, owns_dead, reached_asks}
-use Rattle.lease_discipline.proofs.AskEvents.{same_keys, sch, worker_event}
+use Rattle.lease_discipline.proofs.AskEvents.{asked_keys, asks_end, claim_asks, commit_asks, forgets_keys, last_dead, owns_dead, reached_asks}
+use Rattle.lease_discipline.proofs.AskEvents.{sch, worker_event}
 use Rattle.numbered.proofs.Places.{counted}
 use Rattle.protocol_owed.proofs.CourseEvents.{one_of}
 use Rattle.lease_discipline.proofs.Events.{among_at, events_keep, item_map}

@@ -1,9 +1,9 @@
 -- A worker in its event keeps asks in order.
-use Rattle.std.proofs.Common.{◌≡◌, ◌≢◌, ℕ, zero, suc, ◌+◌, ◌<◌, ◌≤◌, List, [], ◌∷◌, ◌++◌, Some, None, Option, refl, ap, sym, subst, ◌∙◌, ◌⊎◌, inl, inr, arith}
+use Rattle.std.proofs.Common.{◌≡◌, ◌≢◌, ℕ, ◌+◌, ◌<◌, ◌≤◌, List, [], ◌∷◌, ◌++◌, Some, None, Option, refl, ap, sym, subst, ◌∙◌, ◌⊎◌, inl, inr, arith}
 use Rattle.std.specs.Prelude.{Bool, true, false, if◌then◌else◌}
 use Rattle.meaning.proofs.BirthLaws.{at_test}
 use Rattle.meaning.specs.Values.{Birth, Id}
-use Rattle.event_log.specs.Entries.{Attempt, Begun, Entry, Faulted, Got, main_attempt}
+use Rattle.event_log.specs.Entries.{Attempt, Faulted, Got, main_attempt}
 use Rattle.event_log.specs.Words.{attempt}
 use Rattle.event_log.specs.Breaks.{Among}
 use Rattle.protocol.specs.Numbered.{item_at, changed_at}
@@ -20,13 +20,13 @@ use Rattle.protocol.specs.Runs.{with_answer}
 use Rattle.protocol.specs.Tables.{HasFaulted}
 use Rattle.protocol_owed.proofs.Nodes as N
 use Rattle.protocol.specs.Whole.{Whole, worker_at}
-use Rattle.protocol_owed.proofs.CourseEvents.{append_none, changed_none}
+use Rattle.protocol_owed.proofs.CourseEvents.{changed_none}
 use Rattle.protocol_owed.proofs.NodeMoves.{IsKeptThere, asks_slot-kept, frees-kept}
 use Rattle.protocol_owed.proofs.Nodes.{changed_cases, there_more}
 use Rattle.protocol_owed.proofs.Letters.{among-append_cases, among-behind, among-more, among-push_cases}
-use Rattle.lease_discipline.specs.Asks.{Asked, IsClosed, IsLast, IsPassed, IsSentOn, OwnsAsks, Touched}
+use Rattle.lease_discipline.specs.Asks.{Asked, IsClosed, IsLast, IsPassed, OwnsAsks, Touched}
 use Rattle.lease_discipline.specs.Discipline.{Pushed}
-use Rattle.lease_discipline.proofs.Tame.{IsNextOf, LeavesTasks, changed_here, own_at}
+use Rattle.lease_discipline.proofs.Tame.{IsNextOf, changed_here, own_at}
 use Rattle.lease_discipline.proofs.Follows.{More, not_both}
 use Rattle.lease_discipline.proofs.Moves.{IsKept, is_plain}
 use Rattle.lease_discipline.proofs.Theres.{letter_cases, letter_last, letter_more, with_letter}

@@ -1,22 +1,21 @@
 -- The worked examples of what is owed.
-use Rattle.std.proofs.Common.{◌≡◌, ℕ, zero, suc, List, [], ◌∷◌, Some, None, Option, refl, ap, sym, subst, ◌∙◌, ◌⊎◌, inl, inr, arith}
+use Rattle.std.proofs.Common.{◌≡◌, ℕ, zero, suc, List, [], ◌∷◌, Some, Option, refl, ap, sym, subst, ◌∙◌, inl, arith}
 use Rattle.std.specs.Prelude.{true, false, if◌then◌else◌, ◌==◌}
 use Rattle.meaning.proofs.BirthLaws.{at_test}
 use Rattle.meaning.specs.Values.{Birth, Outcome}
 use Rattle.meaning.specs.Births.{birth_at, same_id}
 use Rattle.event_log.specs.Breaks.{Among}
-use Rattle.event_log.specs.Entries.{Attempt, Begun, Claim, Commit, Deliver, Ended, Entry, Event, Refused, Tick, main_attempt}
-use Rattle.event_log.specs.Events.{accepted_events, is_live, node_of}
+use Rattle.event_log.specs.Entries.{Attempt, Begun, Claim, Commit, Deliver, Ended, Entry, Refused, Tick, main_attempt}
+use Rattle.event_log.specs.Events.{accepted_events, is_live}
 use Rattle.event_log.specs.Rules.{Setting}
-use Rattle.event_log.specs.Words.{births, same_attempt}
-use Rattle.protocol.specs.Messages.{Ask, Give, Letter, Message, Party, Push, TheNode, TheWorker, Wait, letter}
+use Rattle.event_log.specs.Words.{births}
+use Rattle.protocol.specs.Messages.{Ask, Give, Letter, Push, TheNode, TheWorker, Wait, letter}
 use Rattle.protocol.specs.Numbered.{item_at}
 use Rattle.protocol.specs.Sets.{has, object_id}
-use Rattle.protocol_owed.specs.Courses.{GoesOn, course, course_from}
+use Rattle.protocol_owed.specs.Courses.{course_from}
 use Rattle.protocol_owed.specs.Owed.{RepliesAreMade}
-use Rattle.protocol_owed.specs.Replies.{Brings, GiveIsBegun, Happening, IsUnbegun, Logs, Says}
-use Rattle.protocol_owed.specs.Seen.{Scene}
-use Rattle.protocol_owed.specs.Turns.{AskStands, ClaimIsAnswered, IsReady, SlotsAreRight}
+use Rattle.protocol_owed.specs.Replies.{Brings, GiveIsBegun, Logs, Says}
+use Rattle.protocol_owed.specs.Turns.{AskStands, IsReady}
 use Rattle.protocol_owed.proofs.Letters.{among-nothing}
 use Rattle.lease_discipline.specs.Examples.{ClaimsAreJudged, GivesBegin, SlotsAreJudged, TicksOweNothing, first_one, give_comes, given_log, given_network}
 use Rattle.lease_discipline.specs.Examples.{nothing_comes}

@@ -1,23 +1,23 @@
 -- Every event leaves its slot to a worker whose turn it is.
-use Rattle.std.proofs.Common.{◌≡◌, ◌≢◌, ℕ, ◌+◌, List, [], ◌∷◌, ◌++◌, length, map, Some, None, Option, refl, ap, sym, subst, ◌∙◌, ◌⊎◌, inl, inr, append-nil}
+use Rattle.std.proofs.Common.{◌≡◌, ℕ, ◌+◌, List, [], ◌∷◌, ◌++◌, length, map, Some, None, Option, refl, ap, sym, subst, ◌∙◌, ◌⊎◌, inl, inr, append-nil}
 use Rattle.std.proofs.Common.{arith}
 use Rattle.std.specs.Prelude.{Bool, true, false, if◌then◌else◌, not, ◌&&◌, ◌==◌}
-use Rattle.sequence.proofs.Places.{and_left, and_right}
+use Rattle.sequence.proofs.Places.{and_right}
 use Rattle.meaning.proofs.BirthLaws.{at_test}
 use Rattle.meaning.specs.Values.{Birth}
 use Rattle.event_log.specs.Entries.{Attempt, Event, Claim, Commit, Deliver, Tick, Notice, NoticeNode, Evict, Lose, Kill, KillNode, Join}
 use Rattle.protocol.specs.Numbered.{item_at, changed_at}
-use Rattle.protocol.specs.Sets.{has, repeated}
+use Rattle.protocol.specs.Sets.{repeated}
 use Rattle.protocol.specs.Messages.{Letter, letter, Message, Party, TheWorker, TheNode, Ask, Give, Elsewhere, Wait, Back, Push, Finished, FinishedAck, Failed}
 use Rattle.protocol.specs.Messages.{Where, At, Gone, Fetch, CopyOf, Missing, Hold, HoldAck, Unhold}
-use Rattle.protocol.specs.Jobs.{Given, Handed, Job, Nothing, OfAnother, OfJob, Outcomes}
+use Rattle.protocol.specs.Jobs.{Given, Handed, Job, Nothing, OfAnother, OfJob}
 use Rattle.protocol.specs.Nodes.{Node, Scheduler, There, new_node, new_scheduler}
-use Rattle.protocol.specs.Tables.{Run, Worker, new_worker}
+use Rattle.protocol.specs.Tables.{Worker, new_worker}
 use Rattle.protocol.specs.Steps.{Here}
 use Rattle.protocol.specs.Runs.{begins_run, is_free, push_reached}
 use Rattle.protocol.specs.Slots.{forgets, node_reached}
 use Rattle.protocol.specs.Releases.{release_step}
-use Rattle.protocol.specs.Whole.{Whole, Moved, moved, node_at, worker_at, there, here, after_node, after_worker, node_does, node_does_by, worker_does}
+use Rattle.protocol.specs.Whole.{Whole, Moved, moved, node_at, worker_at, there, here, after_node, node_does, node_does_by, worker_does}
 use Rattle.protocol.specs.Whole.{worker_does_by, worker_does_at}
 use Rattle.protocol.specs.Commits.{claim_step, commit_step}
 use Rattle.protocol.specs.Notices.{notice_step, notice_node_step}
@@ -37,7 +37,6 @@ use Rattle.lease_discipline.specs.Slots.{HasTurn, KeepsSlots}
 use Rattle.lease_discipline.proofs.Tame.{item_mapped}
 use Rattle.lease_discipline.proofs.Follows.{not_both}
 use Rattle.lease_discipline.proofs.Moves.{Anyhow, notice_step-kept, notice_node_step-kept, reached-kept, release_step-kept, tick_step-kept, IsHeardFrom, IsKept}
-use Rattle.lease_discipline.proofs.Heres.{by_number}
 use Rattle.lease_discipline.proofs.Events.{OutAs, changed_same, out_as}
 use Rattle.lease_discipline.proofs.Laws.{promise}
 use Rattle.lease_discipline.proofs.Turns.{Anyone, NoLossBut, NoTurn, Others, Turns, claim_turns, commit_turns, forgets_lose, push_turns, reached_lose}

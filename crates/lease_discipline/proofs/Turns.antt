@@ -1,15 +1,14 @@
 -- No step takes its slot from a worker whose turn it is.
 use Rattle.std.proofs.Common.{◌≡◌, ◌≢◌, ℕ, ◌+◌, List, [], ◌∷◌, ◌++◌, Some, None, Option, refl, ap, sym, subst, ◌∙◌, ◌⊎◌, inl, inr}
-use Rattle.std.specs.Prelude.{Bool, true, false, if◌then◌else◌, ◌||◌, ◌==◌, nat_lt}
-use Rattle.sequence.proofs.Places.{list_any-push_left, or_cases, or_left, or_right}
+use Rattle.std.specs.Prelude.{true, if◌then◌else◌, ◌||◌, ◌==◌, nat_lt}
+use Rattle.sequence.proofs.Places.{list_any-push_left, or_cases}
 use Rattle.meaning.proofs.BirthLaws.{at_test}
 use Rattle.meaning.specs.Values.{Birth, Id, Outcome}
 use Rattle.values.specs.Listed.{each_once, ids_in_outcome}
 use Rattle.event_log.specs.Commits.{commit_entries}
-use Rattle.event_log.specs.Entries.{Attempt, Begun, Entry, Fault, Faulted, Got}
-use Rattle.event_log.specs.Words.{attempt}
-use Rattle.protocol.specs.Numbered.{item_at, changed_at}
-use Rattle.protocol.specs.Sets.{first_item, has, least, repeated, rest_of, without_number}
+use Rattle.event_log.specs.Entries.{Attempt, Entry, Faulted, Got}
+use Rattle.protocol.specs.Numbered.{item_at}
+use Rattle.protocol.specs.Sets.{first_item, has, least, repeated, rest_of}
 use Rattle.protocol.specs.Jobs.{AtEnd, AtGet, Outcomes, Stopped, stop_of}
 use Rattle.protocol.specs.Messages.{Message, Party, TheWorker, TheNode, Ask, Give, Elsewhere, Wait, Back, Push, Finished, FinishedAck, Failed}
 use Rattle.protocol.specs.Messages.{Where, At, Gone, Fetch, CopyOf, Missing, Hold, HoldAck, Unhold}
@@ -19,15 +18,15 @@ use Rattle.protocol.specs.Slots.{ask_key, asked_by, asks_slot, fetched, forgets,
 use Rattle.protocol.specs.Slots.{has_no_slot_for, leases_idle, may_be_idle}
 use Rattle.protocol.specs.Slots.{next_in_circle, node_reached, node_reached_from, queues, replies_anew, reply_to, with_answered, with_idle, without_slot}
 use Rattle.protocol.specs.Slots.{without_worker}
-use Rattle.protocol.specs.Tables.{Fetching, HasEnded, HasFaulted, Out, OwnTask, Phase, Ready, Run, Waits, Worker, new_run, new_worker}
-use Rattle.protocol.specs.Steps.{Here, logs, logs_all, own_id, store_here, with_phase, with_run, with_store, with_task_of, with_worker}
+use Rattle.protocol.specs.Tables.{Fetching, HasEnded, HasFaulted, Out, OwnTask, Run, Waits, Worker, new_worker}
+use Rattle.protocol.specs.Steps.{Here, logs, logs_all, store_here, with_phase, with_run, with_store, with_task_of, with_worker}
 use Rattle.protocol.specs.Runs.{asks_for_slot, begins_run, gives_slot_back, leaves_if_free, with_answer}
 use Rattle.protocol.specs.Asking.{asks_at, rests, with_begun}
 use Rattle.protocol.specs.Tables.{AskedAt}
 use Rattle.protocol.specs.Holders.{holds_ids}
 use Rattle.protocol.specs.Commits.{bears_all, with_object, claim_by, claim_step, commit_by, commit_step, ends, next_id_here, stops_by, with_outcomes}
 use Rattle.protocol.specs.Whole.{Whole}
-use Rattle.protocol_owed.specs.Courses.{GoesOn, HasStopped, IsOut, Pace, Rests}
+use Rattle.protocol_owed.specs.Courses.{GoesOn, HasStopped, IsOut, Rests}
 use Rattle.protocol_owed.proofs.CourseEvents.{append_split, one_of}
 use Rattle.protocol_owed.proofs.Nodes.{there_more}
 use Rattle.protocol_owed.proofs.RunMoves.{pace_in_phase}
@@ -37,8 +36,8 @@ use Rattle.lease_discipline.specs.Slots.{HasTurn}
 use Rattle.lease_discipline.specs.Told.{pace_by, pace_in}
 use Rattle.lease_discipline.proofs.Tame.{same_number}
 use Rattle.lease_discipline.proofs.Moves.{Anyhow, IsKept, bears_all-kept, holds_ids-kept, leaves_if_free-kept, needs-kept}
-use Rattle.lease_discipline.proofs.Nodes.{equal_number, has-first, has-last, has-stays}
-use Rattle.lease_discipline.proofs.Heres.{at_me, at_other, by_number, look_here, look_with, stopped_pace, workers_with}
+use Rattle.lease_discipline.proofs.Nodes.{has-last, has-stays}
+use Rattle.lease_discipline.proofs.Heres.{at_me, at_other, by_number, look_here, look_with, workers_with}
 use Rattle.lease_discipline.proofs.Told.{run_pace, to_pace}
 
 -- ---- a node

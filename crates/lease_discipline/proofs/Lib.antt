@@ -16,3 +16,4 @@ pub mod Judged
 pub mod Asking
 pub mod AskEvents
 pub mod AskLaw
+pub mod Begins

@@ -2,7 +2,7 @@
 
 ghost use Rattle.lease_discipline.specs.Asks.{LawOfLastAsks};
 ghost use Rattle.lease_discipline.specs.Slots.{LawOfKeptSlots};
-ghost use Rattle.lease_discipline.specs.Law.{EventsKeepLeases, OpeningKeepsLeases, PushesFindFree};
+ghost use Rattle.lease_discipline.specs.Law.{EventsKeepLeases, OpeningKeepsLeases, PushesBegin, PushesFindFree};
 ghost use Rattle.lease_discipline.specs.Owing.{AttemptsRunOnce, ClaimsAreAnswered, EventsStayInStep, LogsTell, OpeningIsInStep};
 
 /// A run begins with its leases in order.
@@ -56,4 +56,9 @@ pub fn law_of_kept_slots()
 /// is dead; and whatever was pushed was given for the attempt's last ask, by the one node to which that went.
 pub fn law_of_last_asks()
     ensures { LawOfLastAsks }
+{}
+
+/// A Push that reaches a live worker begins its attempt there, unless that began before.
+pub fn pushes_begin()
+    ensures { PushesBegin }
 {}

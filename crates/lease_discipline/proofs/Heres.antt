@@ -28,7 +28,10 @@ use Rattle.protocol_owed.proofs.RunMoves.{pace_in_phase}
 use Rattle.lease_discipline.specs.Discipline.{Look, Gave, IsBack, IsDone, IsJobOf, IsTrue, IsTrueBetween, WorkerKeeps}
 use Rattle.lease_discipline.proofs.Tame.{IsTame, same_number}
 use Rattle.lease_discipline.proofs.Follows.{AllFollow, Follows, More, follow_grows, gave_more, never_busy, node_follows, not_both, is_false, stays, true_more}
-use Rattle.lease_discipline.proofs.Moves.{IsKept, is_plain}
+use Rattle.lease_discipline.proofs.Moves.{Anyhow, IsKept, is_plain}
+use Rattle.protocol.specs.Asking.{asks_at, rests}
+use Rattle.protocol.specs.Tables.{AskedAt}
+use Rattle.lease_discipline.proofs.Tame.{asked_not_run, new_not_run, new_tame, rest_not_run, task_tame}
 use Rattle.lease_discipline.proofs.Nodes.{IsUnwanted}
 use Rattle.lease_discipline.proofs.Theres.{Goes, asks_slot_goes, frees_goes, logs_goes, look_in, store_goes, worker_says_goes}
 
@@ -95,7 +98,7 @@ plain_true look sent from to (Finished a n ids) e = absurd (cc)
 plain_true look sent from to (Failed a f) e = absurd (cc)
 plain_true look sent from to (FinishedAck a) e = absurd (cc)
 plain_true look sent from to (Back a) e = absurd (cc)
-plain_true look sent from to (Ask a t) e = tt
+plain_true look sent from to (Ask a t) e = absurd (cc)
 plain_true look sent from to (Elsewhere a t n) e = tt
 plain_true look sent from to (Wait a t) e = tt
 plain_true look sent from to (Where o) e = tt
@@ -258,8 +261,8 @@ module _ (c : Whole) (me n : ℕ) (old : Worker) (there : item_at c.workers me �
     pub from : Party
     pub came : Among (letter from (TheWorker me) (FinishedAck a)) c.network
 
-  abbrev pub IsGivenBy : ℕ → Attempt → ℕ → Type 0
-  IsGivenBy m a w = Gave c.network m a w
+  abbrev pub IsGivenBy : ℕ → ℕ → Attempt → ℕ → Type 0
+  IsGivenBy m t a w = Gave c.network m a w
 
   pub was_sent : (h : Here) → More c.network (sent_here h)
   was_sent h l i = among-more c.network h.there.out.letters l i
@@ -279,7 +282,7 @@ module _ (c : Whole) (me n : ℕ) (old : Worker) (there : item_at c.workers me �
   by_me h a d i = subst (λ w. IsDone (look_here h) w a) (sym d.who) i
 
   -- an attempt of an own task begins on the worker that was given
-  begins_does : (h : Here) (o : Id) (task : OwnTask) (w m : ℕ) → o.owner ≡ h.me → IsGivenBy m (attempt o task.number) w → Does h →
+  begins_does : (h : Here) (o : Id) (task : OwnTask) (w m : ℕ) → o.owner ≡ h.me → Gave c.network m (attempt o task.number) w → Does h →
       Does (with_task_of h o (with_begun task w m))
   begins_does h o task w m own given d =
       let k = mine h d in
@@ -338,14 +341,21 @@ module _ (c : Whole) (me n : ℕ) (old : Worker) (there : item_at c.workers me �
   pushes_does : (h : Here) (a : Attempt) (spec : Birth) (w m : ℕ) → Gave (sent_here h) m a w → Does h → Does (says h w (Push a spec))
   pushes_does h a spec w m given d = says_does h (TheWorker w) (Push a spec) (record { owner = h.me; from_worker = refl; node = m; given = given }) d
 
-  pub does_kept : IsKept IsToldBy IsOverOf IsGivenBy Does
+  -- an own attempt is asked for
+  asked_does : (h : Here) (o : Id) (task : OwnTask) (t m : ℕ) → Does h → Does (asks_at h o task t m)
+  asked_does h o task t m d =
+      let next : OwnTask = record task { progress = AskedAt t m } in
+      says_does (with_task_of h o next) (TheNode m) (Ask (attempt o task.number) t) tt
+      (tame_does h (with_task_of h o next).worker (task_tame h.worker o.serial next (λ v k e. asked_not_run t m v k e)) d)
+
+  pub does_kept : IsKept IsToldBy IsOverOf IsGivenBy Anyhow Does
   does_kept = record {
     writes = λ h es d. logs_does h es d;
     says_plain = λ h w m plain d. says_does h (TheWorker w) m (plain_true (look_here h) (sent_here h) (TheWorker h.me) (TheWorker w) m plain) d;
     says_plain_to_node = λ h k m plain d. says_does h (TheNode k) m (plain_true (look_here h) (sent_here h) (TheWorker h.me) (TheNode k) m plain) d;
-    objects = λ h x t d. tame_does h x t d;
+    objects = λ h x t d. tame_does h x t.tame d;
     store = λ h s d. record { who = d.who; home = d.home; goes = store_goes c.jobs (workers_with h.worker) c.network n h.there s d.goes };
-    begins = λ h o task w m own given d.
+    begins = λ h o task w m t i own _ _ given d.
         let begun : OwnTask = with_begun task w m in
         let g : Here = logs (with_task_of h o begun) (Begun (attempt o task.number) w) in
         pushes_does g (attempt o task.number) task.spec w m (gave_more c.network (sent_here g) m (attempt o task.number) w (was_sent g) given)
@@ -353,6 +363,11 @@ module _ (c : Whole) (me n : ℕ) (old : Worker) (there : item_at c.workers me �
     pushes_again = λ h k task w m e q d.
         pushes_does h (attempt (own_id h k) task.number) task.spec w m
         (subst (λ u. Gave (sent_here h) m (attempt (object_id u k) task.number) w) (sym d.who) ((mine h d).runs k task w m e q)) d;
+    bears_new = λ h x spec is d. tame_does h _ (new_tame h.worker x (λ task v k e q. new_not_run spec task v k (ap task_in (sym is) ∙ e) q)) d;
+    comes_to_rest = λ h o task _ _ d. tame_does h (with_task_of h o (rests task)).worker (task_tame h.worker o.serial (rests task) rest_not_run) d;
+    asks_anew = λ h o old task _ _ d. asked_does h o task 0 h.worker.node d;
+    asks_on = λ h o task t m k _ _ _ d. asked_does h o task (t + 1) k d;
+    asks_again = λ h k task t m _ _ d. says_does h (TheNode m) (Ask (attempt (own_id h k) task.number) t) tt d;
     run = λ h run next e k d.
         run_does h run next e k.attempt (λ o. k.over ∙ o)
         (λ o. pace_stopped next.phase (k.pace ∙ stopped_pace run.phase ((mine h d).stopped run e (sym k.over ∙ o))))

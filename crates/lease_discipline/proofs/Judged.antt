@@ -1,30 +1,31 @@
 -- The worked examples of what is owed.
-use Rattle.std.proofs.Common.{◌≡◌, ℕ, zero, suc, List, [], ◌∷◌, Some, None, Option, refl, ap, sym, subst, ◌∙◌, ◌⊎◌, inl, inr, arith}
+use Rattle.std.proofs.Common.{◌≡◌, ℕ, zero, suc, List, [], ◌∷◌, Some, Option, refl, ap, sym, subst, ◌∙◌, inl, arith}
 use Rattle.std.specs.Prelude.{true, false, if◌then◌else◌, ◌==◌}
 use Rattle.meaning.proofs.BirthLaws.{at_test}
 use Rattle.meaning.specs.Values.{Birth, Outcome}
 use Rattle.meaning.specs.Births.{birth_at, same_id}
 use Rattle.event_log.specs.Breaks.{Among}
-use Rattle.event_log.specs.Entries.{Attempt, Begun, Claim, Commit, Deliver, Ended, Entry, Event, Refused, Tick, main_attempt}
-use Rattle.event_log.specs.Events.{accepted_events, is_live, node_of}
+use Rattle.event_log.specs.Entries.{Attempt, Begun, Claim, Commit, Deliver, Ended, Entry, Refused, Tick, main_attempt}
+use Rattle.event_log.specs.Events.{accepted_events, is_live}
 use Rattle.event_log.specs.Rules.{Setting}
-use Rattle.event_log.specs.Words.{births, same_attempt}
-use Rattle.protocol.specs.Messages.{Ask, Give, Letter, Message, Party, Push, TheNode, TheWorker, Wait, letter}
+use Rattle.event_log.specs.Words.{births}
+use Rattle.protocol.specs.Messages.{Ask, Give, Letter, Push, TheNode, TheWorker, Wait, letter}
 use Rattle.protocol.specs.Numbered.{item_at}
 use Rattle.protocol.specs.Sets.{has, object_id}
-use Rattle.protocol_owed.specs.Courses.{GoesOn, course, course_from}
+use Rattle.protocol_owed.specs.Courses.{course_from}
 use Rattle.protocol_owed.specs.Owed.{RepliesAreMade}
-use Rattle.protocol_owed.specs.Replies.{Brings, GiveIsBegun, Happening, IsUnbegun, Logs, Says}
-use Rattle.protocol_owed.specs.Seen.{Scene}
-use Rattle.protocol_owed.specs.Turns.{AskStands, ClaimIsAnswered, IsReady, SlotsAreRight}
+use Rattle.protocol_owed.specs.Replies.{Brings, GiveIsBegun, Logs, Says}
+use Rattle.protocol_owed.specs.Turns.{AskStands, IsReady}
 use Rattle.protocol_owed.proofs.Letters.{among-nothing}
-use Rattle.lease_discipline.specs.Examples.{ClaimsAreJudged, GivesBegin, SlotsAreJudged, TicksOweNothing, first_one, give_comes, given_log, given_network, nothing_comes}
+use Rattle.lease_discipline.specs.Examples.{ClaimsAreJudged, GivesBegin, SlotsAreJudged, TicksOweNothing, first_one, give_comes, given_log, given_network}
+use Rattle.lease_discipline.specs.Examples.{nothing_comes}
 use Rattle.lease_discipline.specs.Examples.{one_once, opening_log, pushed, scene, waiting_network}
 
 -- ---- a Give
 
 -- the letter that comes
-give_parts : (n w : ℕ) (a : Attempt) (t v : ℕ) → ◌≡◌ {A = Option Letter} (Some (letter (TheNode 1) (TheWorker 1) (Give first_one 0 2))) (Some (letter (TheNode n) (TheWorker w) (Give a t v))) →
+give_parts : (n w : ℕ) (a : Attempt) (t v : ℕ) →
+    ◌≡◌ {A = Option Letter} (Some (letter (TheNode 1) (TheWorker 1) (Give first_one 0 2))) (Some (letter (TheNode n) (TheWorker w) (Give a t v))) →
     (1 ≡ w) × (first_one ≡ a) × (2 ≡ v)
 give_parts n w a t v e =
     let same : letter (TheNode 1) (TheWorker 1) (Give first_one 0 2) ≡ letter (TheNode n) (TheWorker w) (Give a t v) = cc in
@@ -39,8 +40,10 @@ born_one : birth_at (births given_log) (object_id 1 1) ≡ Some one_once
 unfolding same_id
 born_one = refl
 
-brings : (s : Setting) (es : List Entry) (ls : List Letter) (n w : ℕ) (a : Attempt) (t v : ℕ) → Brings (give_comes s es ls) (TheNode n) (TheWorker w) (Give a t v) → (1 ≡ w) × (first_one ≡ a) × (2 ≡ v)
-brings s es ls n w a t v (k, e, at) = give_parts n w a t v (subst (λ i. item_at given_network i ≡ Some (letter (TheNode n) (TheWorker w) (Give a t v))) (sym (second k e)) at)
+brings : (s : Setting) (es : List Entry) (ls : List Letter) (n w : ℕ) (a : Attempt) (t v : ℕ) →
+    Brings (give_comes s es ls) (TheNode n) (TheWorker w) (Give a t v) → (1 ≡ w) × (first_one ≡ a) × (2 ≡ v)
+brings s es ls n w a t v (k, e, at) = give_parts n w a t v
+    (subst (λ i. item_at given_network i ≡ Some (letter (TheNode n) (TheWorker w) (Give a t v))) (sym (second k e)) at)
 
 give_is_paid : (s : Setting) → GiveIsBegun (give_comes s (Begun first_one 2 ∷ []) pushed)
 give_is_paid s n w a t v spec b unbegun born =
@@ -69,7 +72,8 @@ unbegun_yet w (suc (suc (suc (suc (suc zero)))), e) = absurd (cc)
 unbegun_yet w (suc (suc (suc (suc (suc (suc zero))))), e) = absurd (cc)
 unbegun_yet w (suc (suc (suc (suc (suc (suc (suc k)))))), e) = absurd (cc)
 
-owed_by : (s : Setting) (es : List Entry) (ls : List Letter) → GiveIsBegun (give_comes s es ls) → Logs (give_comes s es ls) (Begun first_one 2) × Says (give_comes s es ls) (TheWorker 1) (TheWorker 2) (Push first_one one_once)
+owed_by : (s : Setting) (es : List Entry) (ls : List Letter) → GiveIsBegun (give_comes s es ls) →
+    Logs (give_comes s es ls) (Begun first_one 2) × Says (give_comes s es ls) (TheWorker 1) (TheWorker 2) (Push first_one one_once)
 owed_by s es ls g = g 1 1 first_one 0 2 one_once (2, refl, refl) unbegun_yet born_one
 
 -- ---- a tick

@@ -13,3 +13,7 @@ pub mod Turns
 pub mod TurnEvents
 pub mod SlotLaw
 pub mod Judged
+pub mod Asking
+pub mod AskEvents
+pub mod AskLaw
+pub mod Begins

@@ -41,15 +41,22 @@ use Rattle.protocol.specs.Ticks.{sends_task_at, sends_task, sends_tasks, asks_pl
 use Rattle.protocol.specs.Releases.{lets_go_of, lets_go, drops_copies, releases, releases_by, release_pass, release_passes, release_step, entries_made}
 use Rattle.protocol.specs.Deliveries.{reached_from_worker, reached_from_node, reached}
 use Rattle.event_log.specs.Words.{attempt}
-use Rattle.protocol.specs.Asking.{if_asked}
+use Rattle.protocol.specs.Asking.{asks_next, if_asked, requests}
+use Rattle.protocol.specs.Commits.{with_object}
+use Rattle.std.proofs.Common.{inl, inr}
 use Rattle.protocol_owed.proofs.RunMoves.{Alike, pace_in_phase}
-use Rattle.lease_discipline.proofs.Tame.{IsTame, asked_not_run, rest_not_run, put_not_task, new_not_run, same_tame, untouched_tame, task_tame, new_tame}
-use Rattle.lease_discipline.proofs.Tame.{places_tame, own_at, present_is, waiting}
+use Rattle.protocol.specs.Ends.{accepts, hears_of_end, if_present}
+use Rattle.std.proofs.Common.{◌⊎◌}
+use Rattle.lease_discipline.proofs.Tame.{IsRunning, LeavesTasks, on_node, on_worker, present_was, put_left}
+use Rattle.lease_discipline.proofs.Tame.{IsNextOf, asked_where, held_task, new_there, own_there, same_number, task_now}
+use Rattle.lease_discipline.proofs.Tame.{same_left, untouched_left}
+use Rattle.lease_discipline.proofs.Tame.{places_left, own_at, present_is, waiting}
 use Rattle.protocol.specs.Tables.{ByTask, is_waiting_for, new_object, put_object, released, with_asker, with_content, with_fault, with_holder, with_place}
 use Rattle.protocol.specs.Tables.{without_askers, without_holder, without_places}
 
 -- a message that says nothing of leases, and nothing of an attempt that is over
 abbrev pub is_plain : Message → Bool
+is_plain (Ask a t) = false
 is_plain (Give a t w) = false
 is_plain (Push a spec) = false
 is_plain (Finished a n ids) = false
@@ -104,21 +111,37 @@ sends_tasks-worker : (h : Here) → (sends_tasks h).worker ≡ h.worker
 sends_tasks-worker h = each_from-worker (λ g k. sends_task g k (task_of (own_object g k))) (λ g k. sends_task-worker g k (task_of (own_object g k))) h 1
     (length h.worker.objects)
 
+-- nothing is known of asks that were passed
+abbrev pub Anyhow : Attempt → ℕ → ℕ → Type 0
+Anyhow a t n = Unit {0}
+
 -- ---- the smallest steps
 
--- IsToldBy w a: worker w told that attempt a is over there. IsOverOf a: the worker was told that its owner heard of attempt a. IsGivenBy n a w:
--- node n told the worker that it gave w for attempt a.
-pub record IsKept (IsToldBy : ℕ → Attempt → Type 0) (IsOverOf : Attempt → Type 0) (IsGivenBy : ℕ → Attempt → ℕ → Type 0) (P : Here → Type 0) : Type 0 where
+-- IsToldBy w a: worker w told that attempt a is over there. IsOverOf a: the worker was told that its owner heard of attempt a. IsGivenBy n t a w:
+-- node n told the worker that it gave w for ask t of attempt a.
+pub record IsKept (IsToldBy : ℕ → Attempt → Type 0) (IsOverOf : Attempt → Type 0) (IsGivenBy : ℕ → ℕ → Attempt → ℕ → Type 0)
+    (IsPassedBy : Attempt → ℕ → ℕ → Type 0) (P : Here → Type 0) : Type 0 where
   pub writes : (h : Here) (es : List Entry) → P h → P (logs_all h es)
   pub says_plain : (h : Here) (w : ℕ) (m : Message) → is_plain m ≡ true → P h → P (says h w m)
   pub says_plain_to_node : (h : Here) (n : ℕ) (m : Message) → is_plain m ≡ true → P h → P (says_to_node h n m)
-  pub objects : (h : Here) (x : Worker) → IsTame h.worker x → P h → P (with_worker h x)
+  pub objects : (h : Here) (x : Worker) → LeavesTasks h.worker x → P h → P (with_worker h x)
   pub store : (h : Here) (s : Store) → P h → P (with_store h s)
   -- an own attempt begins on the worker that was given, and is pushed to it again
-  pub begins : (h : Here) (o : Id) (task : OwnTask) (w n : ℕ) → o.owner ≡ h.me → IsGivenBy n (attempt o task.number) w → P h →
-      P (pushes h o (with_begun task w n) w)
+  pub begins : (h : Here) (o : Id) (task : OwnTask) (w n t m : ℕ) → o.owner ≡ h.me → task_of (object_at h o) ≡ Some task → task.progress ≡ AskedAt t m →
+      IsGivenBy n t (attempt o task.number) w → P h → P (pushes h o (with_begun task w n) w)
+  -- a task is borne; its attempt comes to rest, that was running, or of which the worker told that it is over
+  pub bears_new : (h : Here) (x : Object) (spec : Birth) → x.maker ≡ ByTask (new_task spec) → P h → P (with_object h x)
+  pub comes_to_rest : (h : Here) (o : Id) (task : OwnTask) → task_of (object_at h o) ≡ Some task →
+      IsRunning task ⊎ ((w : ℕ) × IsToldBy w (attempt o task.number)) →
+      P h → P (with_task_of h o (rests task))
   pub pushes_again : (h : Here) (k : ℕ) (task : OwnTask) (w n : ℕ) → task_of (own_object h k) ≡ Some task → task.progress ≡ RunsOn w n →
       P h → P (says h w (Push (attempt (own_id h k) task.number) task.spec))
+  -- an own attempt is asked for, the first or the next; its ask is sent on, or goes out again
+  pub asks_anew : (h : Here) (o : Id) (old task : OwnTask) → task_of (object_at h o) ≡ Some old → IsNextOf old task → P h → P (requests h o task)
+  pub asks_on : (h : Here) (o : Id) (task : OwnTask) (t m n : ℕ) → task_of (object_at h o) ≡ Some task → task.progress ≡ AskedAt t m →
+      IsPassedBy (attempt o task.number) t m → P h → P (asks_at h o task (t + 1) n)
+  pub asks_again : (h : Here) (k : ℕ) (task : OwnTask) (t n : ℕ) → task_of (own_object h k) ≡ Some task → task.progress ≡ AskedAt t n →
+      P h → P (says_to_node h n (Ask (attempt (own_id h k) task.number) t))
   -- the attempt is as far as it was; it is over; it is answered, and asks for its slot; it has a fault, and gives its slot back; it waits, and does
   pub run : (h : Here) (run next : Run) → h.worker.run ≡ Some run → Alike run next → P h → P (with_run h next)
   pub leaves : (h : Here) (run next : Run) → h.worker.run ≡ Some run → has_stopped run.phase ≡ true → next.attempt ≡ run.attempt → next.phase ≡ run.phase →
@@ -136,8 +159,8 @@ pub record IsKept (IsToldBy : ℕ → Attempt → Type 0) (IsOverOf : Attempt �
   pub hears : (h : Here) (w : ℕ) (a : Attempt) → IsToldBy w a → P h → P (says h w (FinishedAck a))
   pub back_of : (h : Here) (n : ℕ) (a : Attempt) → n ≡ h.worker.node → IsOverOf a → P h → P (says_to_node h n (Back a))
 
-module _ (IsToldBy : ℕ → Attempt → Type 0) (IsOverOf : Attempt → Type 0) (IsGivenBy : ℕ → Attempt → ℕ → Type 0) (P : Here → Type 0)
-    (kept : IsKept IsToldBy IsOverOf IsGivenBy P) where
+module _ (IsToldBy : ℕ → Attempt → Type 0) (IsOverOf : Attempt → Type 0) (IsGivenBy : ℕ → ℕ → Attempt → ℕ → Type 0)
+    (IsPassedBy : Attempt → ℕ → ℕ → Type 0) (P : Here → Type 0) (kept : IsKept IsToldBy IsOverOf IsGivenBy IsPassedBy P) where
   either : (b : Bool) (x y : Here) → P x → P y → P (if b then x else y)
   either true x y p q = p
   either false x y p q = q
@@ -238,9 +261,8 @@ module _ (IsToldBy : ℕ → Attempt → Type 0) (IsOverOf : Attempt → Type 0)
   finished_ack_reached-kept h a o p = kept.back_of (hears_by h a h.worker.run) h.worker.node a (hears_by-node h a h.worker.run) o
       (hears_by-kept h a h.worker.run refl p)
 
-  pub asks_at-kept : (h : Here) (o : Id) (task : OwnTask) (t n : ℕ) → P h → P (asks_at h o task t n)
-  asks_at-kept h o task t n p = kept.says_plain_to_node _ _ _ refl
-      (kept.objects h _ (task_tame h.worker o.serial (record task { progress = AskedAt t n }) (λ v m e. asked_not_run t n v m e)) p)
+  pub requests-kept : (h : Here) (o : Id) (old task : OwnTask) → task_of (object_at h o) ≡ Some old → IsNextOf old task → P h → P (requests h o task)
+  requests-kept h o old task at next p = kept.asks_anew h o old task at next p
 
   pub tells_gone-kept : (h : Here) (ws : List ℕ) (o : Id) (f : Fault) → P h → P (tells_gone h ws o f)
   tells_gone-kept h [] o f p = p
@@ -252,7 +274,7 @@ module _ (IsToldBy : ℕ → Attempt → Type 0) (IsOverOf : Attempt → Type 0)
   pub answers_gone-kept : (h : Here) (o : Id) (x : Object) (f : Option Fault) → P h → P (answers_gone h o x f)
   answers_gone-kept h o x None p = p
   answers_gone-kept h o x (Some f) p = faults_if_waiting-kept _ o f
-      (tells_gone-kept _ x.askers o f (kept.objects h _ (untouched_tame h.worker o.serial without_askers (λ y. refl)) p))
+      (tells_gone-kept _ x.askers o f (kept.objects h _ (untouched_left h.worker o.serial without_askers (λ y. refl)) p))
 
   pub answers_faulted_by-kept : (h : Here) (o : Id) (x : Option Object) → P h → P (answers_faulted_by h o x)
   answers_faulted_by-kept h o None p = p
@@ -262,44 +284,59 @@ module _ (IsToldBy : ℕ → Attempt → Type 0) (IsOverOf : Attempt → Type 0)
   answers_faulted-kept h o p = answers_faulted_by-kept h o (object_at h o) p
 
   pub resolves-kept : (h : Here) (o : Id) (f : Fault) → P h → P (resolves h o f)
-  resolves-kept h o f p = kept.writes _ _ (kept.objects h _ (untouched_tame h.worker o.serial (with_fault f) (λ y. refl)) p)
+  resolves-kept h o f p = kept.writes _ _ (kept.objects h _ (untouched_left h.worker o.serial (with_fault f) (λ y. refl)) p)
 
-  pub uses_up-kept : (h : Here) (o : Id) (task : OwnTask) → P h → P (uses_up h o task)
-  uses_up-kept h o task p = answers_faulted-kept _ o (resolves-kept _ o _ (kept.objects h _ (task_tame h.worker o.serial (rests task) rest_not_run) p))
+  pub uses_up-kept : (h : Here) (o : Id) (task : OwnTask) → task_of (object_at h o) ≡ Some task → IsRunning task → P h → P (uses_up h o task)
+  uses_up-kept h o task at runs p = answers_faulted-kept _ o (resolves-kept _ o _ (kept.comes_to_rest h o task at (inl runs) p))
 
-  pub breaks-kept : (h : Here) (o : Id) (task : OwnTask) → P h → P (breaks h o task)
-  breaks-kept h o task p = either _ _ _ (asks_at-kept h o (next_attempt task) _ _ p) (uses_up-kept h o task p)
+  pub breaks-kept : (h : Here) (o : Id) (task : OwnTask) → task_of (object_at h o) ≡ Some task → IsRunning task → P h → P (breaks h o task)
+  breaks-kept h o task at runs p = either _ _ _ (kept.asks_anew h o task (next_attempt task) at (inl refl) p) (uses_up-kept h o task at runs p)
 
-  pub begins-kept : (h : Here) (o : Id) (task : OwnTask) (w n : ℕ) → o.owner ≡ h.me → IsGivenBy n (attempt o task.number) w → P h → P (begins h o task w n)
-  begins-kept h o task w n own given p =
-      let q : P (pushes h o (with_begun task w n) w) = kept.begins h o task w n own given p in
-      either (knows_dead h.worker w) _ _ (breaks-kept (pushes h o (with_begun task w n) w) o (with_begun task w n) q) q
+  pub begins-kept : (h : Here) (o : Id) (task : OwnTask) (w n t m : ℕ) → o.owner ≡ h.me → task_of (object_at h o) ≡ Some task → task.progress ≡ AskedAt t m →
+      IsGivenBy n t (attempt o task.number) w → P h → P (begins h o task w n)
+  begins-kept h o task w n t m own at asked given p =
+      let q : P (pushes h o (with_begun task w n) w) = kept.begins h o task w n t m own at asked given p in
+      either (knows_dead h.worker w) _ _
+      (breaks-kept (pushes h o (with_begun task w n) w) o (with_begun task w n) (task_now h o task (with_begun task w n) at) (w, n, refl) q) q
 
   pub given_by-kept : (h : Here) (a : Attempt) (t w n : ℕ) (task : Option OwnTask) → task_of (object_at h a.object) ≡ task →
-      (a.object.owner ≡ h.me → IsGivenBy n a w) → P h → P (given_by h a t w n task)
+      (a.object.owner ≡ h.me → IsGivenBy n t a w) → P h → P (given_by h a t w n task)
   given_by-kept h a t w n None e given p = p
   given_by-kept h a t w n (Some task) e given p =
       let own : a.object.owner ≡ h.me = own_at h a.object task e in
       either_by (if_asked t a task) (begins h a.object task w n) h
-      (λ asked. begins-kept h a.object task w n own (subst (λ b. IsGivenBy n b w) (present_is t a task asked) (given own)) p) (λ _. p)
+      (λ asked.
+      let there = asked_where t a task asked in
+      begins-kept h a.object task w n t there.0 own e there.1 (subst (λ b. IsGivenBy n t b w) (present_is t a task asked) (given own)) p) (λ _. p)
 
-  pub given_reached-kept : (h : Here) (n : ℕ) (a : Attempt) (t w : ℕ) → (a.object.owner ≡ h.me → IsGivenBy n a w) → P h → P (given_reached h n a t w)
+  pub given_reached-kept : (h : Here) (n : ℕ) (a : Attempt) (t w : ℕ) → (a.object.owner ≡ h.me → IsGivenBy n t a w) → P h → P (given_reached h n a t w)
   given_reached-kept h n a t w given p = given_by-kept h a t w n (task_of (object_at h a.object)) refl given p
 
-  pub elsewhere_by-kept : (h : Here) (a : Attempt) (t n : ℕ) (task : Option OwnTask) → P h → P (elsewhere_by h a t n task)
-  elsewhere_by-kept h a t n None p = p
-  elsewhere_by-kept h a t n (Some task) p = either _ _ _ (asks_at-kept h a.object task _ _ p) p
+  pub elsewhere_by-kept : (h : Here) (a : Attempt) (t n : ℕ) (task : Option OwnTask) → task_of (object_at h a.object) ≡ task →
+      ((own : OwnTask) (m : ℕ) → a.object.owner ≡ h.me → task_of (object_at h a.object) ≡ Some own → own.progress ≡ AskedAt t m → own.number ≡ a.number →
+      IsPassedBy a t m) →
+      P h → P (elsewhere_by h a t n task)
+  elsewhere_by-kept h a t n None e passed p = p
+  elsewhere_by-kept h a t n (Some task) e passed p =
+      either_by (if_asked t a task) (asks_next h a.object task t n) h
+      (λ asked.
+      let there = asked_where t a task asked in
+      kept.asks_on h a.object task t there.0 _ e there.1
+      (subst (λ b. IsPassedBy b t there.0) (present_is t a task asked) (passed task there.0 (own_at h a.object task e) e there.1 there.2)) p) (λ _. p)
 
-  pub elsewhere_reached-kept : (h : Here) (a : Attempt) (t n : ℕ) → P h → P (elsewhere_reached h a t n)
-  elsewhere_reached-kept h a t n p = elsewhere_by-kept h a t n (task_of (object_at h a.object)) p
+  pub elsewhere_reached-kept : (h : Here) (a : Attempt) (t n : ℕ) →
+      ((own : OwnTask) (m : ℕ) → a.object.owner ≡ h.me → task_of (object_at h a.object) ≡ Some own → own.progress ≡ AskedAt t m → own.number ≡ a.number →
+      IsPassedBy a t m) →
+      P h → P (elsewhere_reached h a t n)
+  elsewhere_reached-kept h a t n passed p = elsewhere_by-kept h a t n (task_of (object_at h a.object)) refl passed p
 
-  pub remakes_by-kept : (h : Here) (k : ℕ) (task : Option OwnTask) → P h → P (remakes_by h k task)
-  remakes_by-kept h k None p = p
-  remakes_by-kept h k (Some task) p = asks_at-kept h (own_id h k) (next_attempt task) _ _ p
+  pub remakes_by-kept : (h : Here) (k : ℕ) (task : Option OwnTask) → task_of (own_object h k) ≡ task → P h → P (remakes_by h k task)
+  remakes_by-kept h k None e p = p
+  remakes_by-kept h k (Some task) e p = kept.asks_anew h (own_id h k) task (next_attempt task) (own_there h k ∙ e) (inl refl) p
 
   pub remakes-kept : (h : Here) (ks : List ℕ) → P h → P (remakes h ks)
   remakes-kept h [] p = p
-  remakes-kept h (k ∷ ks) p = remakes-kept (remakes_by h k (task_of (own_object h k))) ks (remakes_by-kept h k (task_of (own_object h k)) p)
+  remakes-kept h (k ∷ ks) p = remakes-kept (remakes_by h k (task_of (own_object h k))) ks (remakes_by-kept h k (task_of (own_object h k)) refl p)
 
   pub gives_up-kept : (h : Here) (o : Id) (f : Fault) → P h → P (gives_up h o f)
   gives_up-kept h o f p = either _ _ _ (answers_faulted-kept _ o (resolves-kept h o f p))
@@ -313,7 +350,7 @@ module _ (IsToldBy : ℕ → Attempt → Type 0) (IsOverOf : Attempt → Type 0)
   recovers-kept h o p = recovers_by-kept h o (members h o.serial) (first_stop h (members h o.serial)) p
 
   pub looks_elsewhere_by-kept : (h : Here) (o : Id) (x : Object) (n : Option ℕ) → P h → P (looks_elsewhere_by h o x n)
-  looks_elsewhere_by-kept h o x None p = recovers-kept _ o (kept.objects h _ (untouched_tame h.worker o.serial without_places (λ y. refl)) p)
+  looks_elsewhere_by-kept h o x None p = recovers-kept _ o (kept.objects h _ (untouched_left h.worker o.serial without_places (λ y. refl)) p)
   looks_elsewhere_by-kept h o x (Some n) p = fetches-kept h o _ n p
 
   pub looks_elsewhere-kept : (h : Here) (o : Id) (x : Object) → P h → P (looks_elsewhere h o x)
@@ -321,7 +358,7 @@ module _ (IsToldBy : ℕ → Attempt → Type 0) (IsOverOf : Attempt → Type 0)
 
   pub looks_here_by-kept : (h : Here) (o : Id) (x : Object) (c : Option Outcome) → P h → P (looks_here_by h o x c)
   looks_here_by-kept h o x None p = looks_elsewhere-kept (changes h o (without_place h.worker.node)) o (without_place h.worker.node x)
-      (kept.objects h _ (untouched_tame h.worker o.serial (without_place h.worker.node) (λ y. refl)) p)
+      (kept.objects h _ (untouched_left h.worker o.serial (without_place h.worker.node) (λ y. refl)) p)
   looks_here_by-kept h o x (Some c) p = gets-kept _ c (kept.store h _ p)
 
   pub looks_for-kept : (h : Here) (o : Id) (x : Object) → P h → P (looks_for h o x)
@@ -351,14 +388,14 @@ module _ (IsToldBy : ℕ → Attempt → Type 0) (IsOverOf : Attempt → Type 0)
   pub answers_settled_by-kept : (h : Here) (o : Id) (x : Option Object) → P h → P (answers_settled_by h o x)
   answers_settled_by-kept h o None p = p
   answers_settled_by-kept h o (Some x) p = needs_own_if_waiting-kept _ o
-      (tells_places-kept _ x.askers o x (kept.objects h _ (untouched_tame h.worker o.serial without_askers (λ y. refl)) p))
+      (tells_places-kept _ x.askers o x (kept.objects h _ (untouched_left h.worker o.serial without_askers (λ y. refl)) p))
 
   pub answers_settled-kept : (h : Here) (o : Id) → P h → P (answers_settled h o)
   answers_settled-kept h o p = answers_settled_by-kept h o (object_at h o) p
 
   pub lets_wait-kept : (h : Here) (o : Id) (w : ℕ) (x : Object) → P h → P (lets_wait h o w x)
-  lets_wait-kept h o w x p = either _ _ _ (recovers-kept _ o (kept.objects h _ (untouched_tame h.worker o.serial (with_asker w) (λ y. refl)) p))
-      (kept.objects h _ (untouched_tame h.worker o.serial (with_asker w) (λ y. refl)) p)
+  lets_wait-kept h o w x p = either _ _ _ (recovers-kept _ o (kept.objects h _ (untouched_left h.worker o.serial (with_asker w) (λ y. refl)) p))
+      (kept.objects h _ (untouched_left h.worker o.serial (with_asker w) (λ y. refl)) p)
 
   pub answers_asker-kept : (h : Here) (o : Id) (w : ℕ) (x : Object) (f : Option Fault) → P h → P (answers_asker h o w x f)
   answers_asker-kept h o w x None p = either _ _ _ (kept.says_plain h _ _ refl p) (lets_wait-kept h o w x p)
@@ -373,7 +410,7 @@ module _ (IsToldBy : ℕ → Attempt → Type 0) (IsOverOf : Attempt → Type 0)
 
   pub adds_place_by-kept : (h : Here) (o : Id) (number n : ℕ) (x : Option Object) → P h → P (adds_place_by h o number n x)
   adds_place_by-kept h o number n None p = p
-  adds_place_by-kept h o number n (Some x) p = either _ _ _ (kept.objects h _ (untouched_tame h.worker o.serial (with_place n) (λ y. refl)) p) p
+  adds_place_by-kept h o number n (Some x) p = either _ _ _ (kept.objects h _ (untouched_left h.worker o.serial (with_place n) (λ y. refl)) p) p
 
   pub adds_place-kept : (h : Here) (o : Id) (number n : ℕ) → P h → P (adds_place h o number n)
   adds_place-kept h o number n p = adds_place_by-kept h o number n (object_at h o) p
@@ -384,7 +421,7 @@ module _ (IsToldBy : ℕ → Attempt → Type 0) (IsOverOf : Attempt → Type 0)
 
   pub takes_place_by-kept : (h : Here) (o : Id) (number n : ℕ) (x : Option Object) → P h → P (takes_place_by h o number n x)
   takes_place_by-kept h o number n None p = p
-  takes_place_by-kept h o number n (Some x) p = either _ _ _ (kept.objects h _ (untouched_tame h.worker o.serial (without_place n) (λ y. refl)) p) p
+  takes_place_by-kept h o number n (Some x) p = either _ _ _ (kept.objects h _ (untouched_left h.worker o.serial (without_place n) (λ y. refl)) p) p
 
   pub takes_place-kept : (h : Here) (o : Id) (number n : ℕ) → P h → P (takes_place h o number n)
   takes_place-kept h o number n p = takes_place_by-kept h o number n (object_at h o) p
@@ -428,7 +465,7 @@ module _ (IsToldBy : ℕ → Attempt → Type 0) (IsOverOf : Attempt → Type 0)
   sends_hold-kept h e o p = kept.says_plain _ _ _ refl (awaits_hold_by-kept h (holding e o) h.worker.run refl p)
 
   pub holds_id-kept : (h : Here) (e o : Id) → P h → P (holds_id h e o)
-  holds_id-kept h e o p = either _ _ _ (kept.objects h _ (untouched_tame h.worker o.serial (with_holder e) (λ y. refl)) p)
+  holds_id-kept h e o p = either _ _ _ (kept.objects h _ (untouched_left h.worker o.serial (with_holder e) (λ y. refl)) p)
       (either _ _ _ p (sends_hold-kept h e o p))
 
   pub holds_ids-kept : (h : Here) (e : Id) (os : List Id) → P h → P (holds_ids h e os)
@@ -437,7 +474,7 @@ module _ (IsToldBy : ℕ → Attempt → Type 0) (IsOverOf : Attempt → Type 0)
 
   pub hold_reached_by-kept : (h : Here) (w : ℕ) (e o : Id) (x : Option Object) → P h → P (hold_reached_by h w e o x)
   hold_reached_by-kept h w e o None p = p
-  hold_reached_by-kept h w e o (Some x) p = kept.says_plain _ _ _ refl (kept.objects h _ (untouched_tame h.worker o.serial (with_holder e) (λ y. refl)) p)
+  hold_reached_by-kept h w e o (Some x) p = kept.says_plain _ _ _ refl (kept.objects h _ (untouched_left h.worker o.serial (with_holder e) (λ y. refl)) p)
 
   pub hold_reached-kept : (h : Here) (w : ℕ) (e o : Id) → P h → P (hold_reached h w e o)
   hold_reached-kept h w e o p = hold_reached_by-kept h w e o (object_at h o) p
@@ -451,23 +488,26 @@ module _ (IsToldBy : ℕ → Attempt → Type 0) (IsOverOf : Attempt → Type 0)
   hold_ack_reached-kept h e o p = hold_ack_by-kept h (holding e o) h.worker.run refl p
 
   pub unhold_reached-kept : (h : Here) (e o : Id) → P h → P (unhold_reached h e o)
-  unhold_reached-kept h e o p = either _ _ _ (kept.objects h _ (untouched_tame h.worker o.serial (without_holder e) (λ y. refl)) p) p
+  unhold_reached-kept h e o p = either _ _ _ (kept.objects h _ (untouched_left h.worker o.serial (without_holder e) (λ y. refl)) p) p
 
   pub bears_put-kept : (h : Here) (a : Attempt) (o : Id) (v : Value) (ids : List Id) → P h → P (bears_put h a o v ids)
   bears_put-kept h a o v ids p = holds_ids-kept _ o ids
-      (kept.store _ _ (kept.objects h _ (new_tame h.worker (put_object a ids h.worker.node) (λ task v n e _. put_not_task task e)) p))
+      (kept.store _ _ (kept.objects h _ (put_left h.worker (put_object a ids h.worker.node) refl) p))
 
-  pub bears_task-kept : (h : Here) (a : Attempt) (o : Id) (spec : Birth) (ids : List Id) → P h → P (bears_task h a o spec ids)
-  bears_task-kept h a o spec ids p = asks_at-kept _ o (new_task spec) _ _
-      (holds_ids-kept _ o ids (kept.objects h _ (new_tame h.worker (new_object (ByTask (new_task spec)) a ids)
-      (λ task v n e q. new_not_run spec task v n e q)) p))
+  pub bears_task-kept : (h : Here) (a : Attempt) (o : Id) (spec : Birth) (ids : List Id) → o ≡ next_id_here h → P h → P (bears_task h a o spec ids)
+  bears_task-kept h a o spec ids next p =
+      let x : Object = new_object (ByTask (new_task spec)) a ids in
+      let g : Here = with_object h x in
+      kept.asks_anew (holds_ids g o ids) o (new_task spec) (new_task spec) (held_task g o o ids ∙ ap (λ i. task_of (object_at g i)) next ∙ new_there h x)
+      (inr (spec, refl, refl))
+      (holds_ids-kept g o ids (kept.bears_new h x spec refl p))
 
-  pub bears_as-kept : (h : Here) (a : Attempt) (o : Id) (b : Birth) (ids : List Id) → P h → P (bears_as h a o b ids)
-  bears_as-kept h a o (Put v) ids p = bears_put-kept h a o v ids p
-  bears_as-kept h a o (Task g args depth retries) ids p = bears_task-kept h a o (Task g args depth retries) ids p
+  pub bears_as-kept : (h : Here) (a : Attempt) (o : Id) (b : Birth) (ids : List Id) → o ≡ next_id_here h → P h → P (bears_as h a o b ids)
+  bears_as-kept h a o (Put v) ids next p = bears_put-kept h a o v ids p
+  bears_as-kept h a o (Task g args depth retries) ids next p = bears_task-kept h a o (Task g args depth retries) ids next p
 
   pub bears-kept : (h : Here) (a : Attempt) (b : Birth) → P h → P (bears h a b)
-  bears-kept h a b p = bears_as-kept h a (next_id_here h) b (each_once (ids_of_birth b)) p
+  bears-kept h a b p = bears_as-kept h a (next_id_here h) b (each_once (ids_of_birth b)) refl p
 
   pub bears_all-kept : (h : Here) (a : Attempt) (bs : List Birth) → P h → P (bears_all h a bs)
   bears_all-kept h a [] p = p
@@ -485,34 +525,41 @@ module _ (IsToldBy : ℕ → Attempt → Type 0) (IsOverOf : Attempt → Type 0)
   pub needs-kept : (h : Here) (run : Run) (y : Id) → P (with_phase h run (Waits y None)) → P (needs h run y)
   needs-kept h run y p = rests_if_waiting-kept (asks_where (with_phase h run (Waits y None)) y) y (asks_where-kept (with_phase h run (Waits y None)) y p)
 
-  pub finished_by-kept : (h : Here) (w : ℕ) (a : Attempt) (n : ℕ) (ids : List Id) (task : Option OwnTask) → IsToldBy w a → P h →
-      P (finished_by h w a n ids task)
-  finished_by-kept h w a n ids None s p = kept.hears h _ _ s p
-  finished_by-kept h w a n ids (Some task) s p = either _ _ _
-      (answers_settled-kept _ a.object (kept.hears _ _ _ s
-      (kept.writes _ _ (kept.objects (with_task_of h a.object (rests task)) _
-      (untouched_tame (with_task_of h a.object (rests task)).worker a.object.serial (with_content a.number n ids) (λ y. refl))
-      (kept.objects h _ (task_tame h.worker a.object.serial (rests task) rest_not_run) p))))) (kept.hears h _ _ s p)
+  pub finished_by-kept : (h : Here) (w : ℕ) (a : Attempt) (n : ℕ) (ids : List Id) (task : Option OwnTask) → task_of (object_at h a.object) ≡ task →
+      IsToldBy w a → P h → P (finished_by h w a n ids task)
+  finished_by-kept h w a n ids None e s p = kept.hears h _ _ s p
+  finished_by-kept h w a n ids (Some task) e s p =
+      let g : Here = with_task_of h a.object (rests task) in
+      either_by (if_present a task) (answers_settled (hears_of_end (accepts h a task n ids) w a) a.object) (hears_of_end h w a)
+      (λ t. answers_settled-kept _ a.object (kept.hears _ _ _ s (kept.writes _ _ (kept.objects g _
+      (untouched_left g.worker a.object.serial (with_content a.number n ids) (λ y. refl))
+      (kept.comes_to_rest h a.object task e (inr (w, subst (IsToldBy w) (present_was a task t) s)) p))))) (λ _. kept.hears h _ _ s p)
 
   pub finished_reached-kept : (h : Here) (w : ℕ) (a : Attempt) (n : ℕ) (ids : List Id) → IsToldBy w a → P h → P (finished_reached h w a n ids)
-  finished_reached-kept h w a n ids s p = finished_by-kept h w a n ids (task_of (object_at h a.object)) s p
+  finished_reached-kept h w a n ids s p = finished_by-kept h w a n ids (task_of (object_at h a.object)) refl s p
 
-  pub failed_by-kept : (h : Here) (w : ℕ) (a : Attempt) (f : Fault) (task : Option OwnTask) → IsToldBy w a → P h → P (failed_by h w a f task)
-  failed_by-kept h w a f None s p = kept.hears h _ _ s p
-  failed_by-kept h w a f (Some task) s p = either _ _ _
-      (answers_faulted-kept _ a.object (kept.hears _ _ _ s
-      (resolves-kept _ a.object f (kept.objects h _ (task_tame h.worker a.object.serial (rests task) rest_not_run) p)))) (kept.hears h _ _ s p)
+  pub failed_by-kept : (h : Here) (w : ℕ) (a : Attempt) (f : Fault) (task : Option OwnTask) → task_of (object_at h a.object) ≡ task →
+      IsToldBy w a → P h → P (failed_by h w a f task)
+  failed_by-kept h w a f None e s p = kept.hears h _ _ s p
+  failed_by-kept h w a f (Some task) e s p =
+      either_by (if_present a task) (answers_faulted (hears_of_end (resolves (with_task_of h a.object (rests task)) a.object f) w a) a.object)
+      (hears_of_end h w a)
+      (λ t. answers_faulted-kept _ a.object (kept.hears _ _ _ s (resolves-kept _ a.object f
+      (kept.comes_to_rest h a.object task e (inr (w, subst (IsToldBy w) (present_was a task t) s)) p)))) (λ _. kept.hears h _ _ s p)
 
   pub failed_reached-kept : (h : Here) (w : ℕ) (a : Attempt) (f : Fault) → IsToldBy w a → P h → P (failed_reached h w a f)
-  failed_reached-kept h w a f s p = failed_by-kept h w a f (task_of (object_at h a.object)) s p
+  failed_reached-kept h w a f s p = failed_by-kept h w a f (task_of (object_at h a.object)) refl s p
 
-  breaks_if-kept : (test : Progress → Bool) (h : Here) (k : ℕ) (task : Option OwnTask) → P h → P (breaks_if test h k task)
-  breaks_if-kept test h k None p = p
-  breaks_if-kept test h k (Some task) p = either _ _ _ (breaks-kept h (own_id h k) task p) p
+  breaks_if-kept : (test : Progress → Bool) → ((q : Progress) → test q ≡ true → (w n : ℕ) × (q ≡ RunsOn w n)) →
+      (h : Here) (k : ℕ) (task : Option OwnTask) → task_of (own_object h k) ≡ task → P h → P (breaks_if test h k task)
+  breaks_if-kept test runs h k None e p = p
+  breaks_if-kept test runs h k (Some task) e p =
+      either_by (test task.progress) (breaks h (own_id h k) task) h (λ t. breaks-kept h (own_id h k) task (own_there h k ∙ e) (runs task.progress t) p) (λ _. p)
 
-  breaks_where-kept : (test : Progress → Bool) (h : Here) → P h → P (breaks_where test h)
-  breaks_where-kept test h p = each_from-kept (λ g k. breaks_if test g k (task_of (own_object g k)))
-      (λ g k q. breaks_if-kept test g k (task_of (own_object g k)) q) h 1 (length h.worker.objects) p
+  breaks_where-kept : (test : Progress → Bool) → ((q : Progress) → test q ≡ true → (w n : ℕ) × (q ≡ RunsOn w n)) → (h : Here) → P h → P (breaks_where test h)
+  breaks_where-kept test runs h p =
+      each_from-kept (λ g k. breaks_if test g k (task_of (own_object g k))) (λ g k q. breaks_if-kept test runs g k (task_of (own_object g k)) refl q)
+      h 1 (length h.worker.objects) p
 
   pub loses_owner_of-kept : (h : Here) (v : ℕ) (y : Option Id) → P h → P (loses_owner_of h v y)
   loses_owner_of-kept h v None p = p
@@ -541,24 +588,30 @@ module _ (IsToldBy : ℕ → Attempt → Type 0) (IsOverOf : Attempt → Type 0)
   hears_of_worker-kept h v p = let g : Here = breaks_where (runs_on_worker v) (with_dead_worker h v) in
       drops_stop-kept (drops_holds (loses_owner g v) v) v
       (drops_holds-kept (loses_owner g v) v (loses_owner-kept g v
-      (breaks_where-kept (runs_on_worker v) (with_dead_worker h v)
-      (kept.objects h _ (same_tame h.worker (with_dead_worker h v).worker refl refl refl refl refl) p))))
+      (breaks_where-kept (runs_on_worker v) (on_worker v) (with_dead_worker h v)
+      (kept.objects h _ (same_left h.worker (with_dead_worker h v).worker refl refl refl refl refl) p))))
 
   pub notice_step-kept : (h : Here) (v : ℕ) → P h → P (notice_step h v)
   notice_step-kept h v p = either _ _ _ p (hears_of_worker-kept h v p)
 
-  pub moves_ask_at-kept : (h : Here) (m : ℕ) (o : Id) (task : OwnTask) (q : Progress) → P h → P (moves_ask_at h m o task q)
-  moves_ask_at-kept h m o task (AskedAt t n) p = either _ _ _ (asks_at-kept h o task _ _ p) p
-  moves_ask_at-kept h m o task AtRest p = p
-  moves_ask_at-kept h m o task (RunsOn w n) p = p
+  pub moves_ask_at-kept : (h : Here) (m k : ℕ) (task : OwnTask) (q : Progress) → task_of (own_object h k) ≡ Some task → task.progress ≡ q →
+      ((a : Attempt) (t : ℕ) → IsPassedBy a t m) → P h → P (moves_ask_at h m (own_id h k) task q)
+  moves_ask_at-kept h m k task (AskedAt t n) e f dead p =
+      either_by (n == m) (asks_next h (own_id h k) task t m) h
+      (λ same. kept.asks_on h (own_id h k) task t n _ (own_there h k ∙ e) f
+      (subst (IsPassedBy (attempt (own_id h k) task.number) t) (sym (same_number n m same)) (dead _ t)) p) (λ _. p)
+  moves_ask_at-kept h m k task AtRest e f dead p = p
+  moves_ask_at-kept h m k task (RunsOn w n) e f dead p = p
 
-  pub moves_ask-kept : (h : Here) (m k : ℕ) (task : Option OwnTask) → P h → P (moves_ask h m k task)
-  moves_ask-kept h m k None p = p
-  moves_ask-kept h m k (Some task) p = moves_ask_at-kept h m (own_id h k) task task.progress p
+  pub moves_ask-kept : (h : Here) (m k : ℕ) (task : Option OwnTask) → task_of (own_object h k) ≡ task → ((a : Attempt) (t : ℕ) → IsPassedBy a t m) →
+      P h → P (moves_ask h m k task)
+  moves_ask-kept h m k None e dead p = p
+  moves_ask-kept h m k (Some task) e dead p = moves_ask_at-kept h m k task task.progress e refl dead p
 
-  pub moves_asks-kept : (h : Here) (m : ℕ) → P h → P (moves_asks h m)
-  moves_asks-kept h m p = each_from-kept (λ g k. moves_ask g m k (task_of (own_object g k)))
-      (λ g k q. moves_ask-kept g m k (task_of (own_object g k)) q) h 1 (length h.worker.objects) p
+  pub moves_asks-kept : (h : Here) (m : ℕ) → ((a : Attempt) (t : ℕ) → IsPassedBy a t m) → P h → P (moves_asks h m)
+  moves_asks-kept h m dead p =
+      each_from-kept (λ g k. moves_ask g m k (task_of (own_object g k))) (λ g k q. moves_ask-kept g m k (task_of (own_object g k)) refl dead q)
+      h 1 (length h.worker.objects) p
 
   pub loses_fetch_by-kept : (h : Here) (m : ℕ) (y : Id) (f : Option Fetching) → P h → P (loses_fetch_by h m y f)
   loses_fetch_by-kept h m y None p = p
@@ -578,20 +631,20 @@ module _ (IsToldBy : ℕ → Attempt → Type 0) (IsOverOf : Attempt → Type 0)
   pub loses_fetch-kept : (h : Here) (m : ℕ) → P h → P (loses_fetch h m)
   loses_fetch-kept h m p = loses_fetch_of-kept h m h.worker.run p
 
-  pub hears_of_node-kept : (h : Here) (m : ℕ) → P h → P (hears_of_node h m)
-  hears_of_node-kept h m p = let g : Here = breaks_where (runs_on_node m) (with_dead_node h m) in
-      loses_fetch-kept (moves_asks (loses_places g m) m) m
-      (moves_asks-kept (loses_places g m) m (kept.objects g _ (places_tame g.worker m)
-      (breaks_where-kept (runs_on_node m) (with_dead_node h m)
-      (kept.objects h _ (same_tame h.worker (with_dead_node h m).worker refl refl refl refl refl) p))))
+  pub hears_of_node-kept : (h : Here) (m : ℕ) → ((a : Attempt) (t : ℕ) → IsPassedBy a t m) → P h → P (hears_of_node h m)
+  hears_of_node-kept h m dead p =
+      let g : Here = breaks_where (runs_on_node m) (with_dead_node h m) in
+      let first : P g = breaks_where-kept (runs_on_node m) (on_node m) (with_dead_node h m)
+      (kept.objects h _ (same_left h.worker (with_dead_node h m).worker refl refl refl refl refl) p) in
+      loses_fetch-kept (moves_asks (loses_places g m) m) m (moves_asks-kept (loses_places g m) m dead (kept.objects g _ (places_left g.worker m) first))
 
-  pub notice_node_step-kept : (h : Here) (m : ℕ) → P h → P (notice_node_step h m)
-  notice_node_step-kept h m p = either _ _ _ p (hears_of_node-kept h m p)
+  pub notice_node_step-kept : (h : Here) (m : ℕ) → ((a : Attempt) (t : ℕ) → IsPassedBy a t m) → P h → P (notice_node_step h m)
+  notice_node_step-kept h m dead p = either _ _ _ p (hears_of_node-kept h m dead p)
 
   pub sends_task_at-kept : (h : Here) (k : ℕ) (task : OwnTask) (q : Progress) → task_of (own_object h k) ≡ Some task → task.progress ≡ q → P h →
       P (sends_task_at h (own_id h k) task q)
   sends_task_at-kept h k task AtRest e f p = p
-  sends_task_at-kept h k task (AskedAt t n) e f p = kept.says_plain_to_node h _ _ refl p
+  sends_task_at-kept h k task (AskedAt t n) e f p = kept.asks_again h k task t n e f p
   sends_task_at-kept h k task (RunsOn w n) e f p = kept.pushes_again h k task w n e f p
 
   pub sends_task-kept : (h : Here) (k : ℕ) (task : Option OwnTask) → task_of (own_object h k) ≡ task → P h → P (sends_task h k task)
@@ -644,7 +697,7 @@ module _ (IsToldBy : ℕ → Attempt → Type 0) (IsOverOf : Attempt → Type 0)
 
   pub releases-kept : (h : Here) (e : Id) (x : Object) → P h → P (releases h e x)
   releases-kept h e x p = drops_copies-kept _ e x.places
-      (lets_go-kept _ e x.ids (kept.writes _ _ (kept.objects h _ (untouched_tame h.worker e.serial released (λ y. refl)) p)))
+      (lets_go-kept _ e x.ids (kept.writes _ _ (kept.objects h _ (untouched_left h.worker e.serial released (λ y. refl)) p)))
 
   pub releases_by-kept : (h : Here) (k : ℕ) (x : Option Object) → P h → P (releases_by h k x)
   releases_by-kept h k None p = p
@@ -692,13 +745,16 @@ module _ (IsToldBy : ℕ → Attempt → Type 0) (IsOverOf : Attempt → Type 0)
 
   -- what is known of a message from a node
   abbrev pub IsHeardOf : Here → ℕ → Message → Type 0
-  IsHeardOf h n (Give a t w) = a.object.owner ≡ h.me → IsGivenBy n a w
+  IsHeardOf h n (Give a t w) = a.object.owner ≡ h.me → IsGivenBy n t a w
+  IsHeardOf h n (Elsewhere a t m) =
+      (own : OwnTask) (i : ℕ) → a.object.owner ≡ h.me → task_of (object_at h a.object) ≡ Some own → own.progress ≡ AskedAt t i → own.number ≡ a.number →
+      IsPassedBy a t i
   IsHeardOf h n m = Unit {0}
 
   pub reached_from_node-kept : (h : Here) (n : ℕ) (m : Message) → IsHeardOf h n m → P h → P (reached_from_node h n m)
   reached_from_node-kept h n (Ask a t) s p = p
   reached_from_node-kept h n (Give a t w) s p = given_reached-kept h n a t w s p
-  reached_from_node-kept h n (Elsewhere a t m) s p = elsewhere_reached-kept h a t m p
+  reached_from_node-kept h n (Elsewhere a t m) s p = elsewhere_reached-kept h a t m s p
   reached_from_node-kept h n (Wait a t) s p = p
   reached_from_node-kept h n (Back a) s p = p
   reached_from_node-kept h n (Push a spec) s p = p

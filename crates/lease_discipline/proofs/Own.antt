@@ -29,7 +29,7 @@ use Rattle.protocol_owed.proofs.RunMoves.{pace_in_phase}
 use Rattle.protocol_owed.proofs.Telling.{pace_in_run}
 use Rattle.lease_discipline.specs.Discipline.{Look, Gave, IsBegunBy, IsDoneAt, IsJobOf, IsLeasedFor, IsOfNode, IsPromised, IsPushed, NodeKeeps, WorkerKeeps}
 use Rattle.lease_discipline.proofs.Follows.{Grows, is_false, not_both, true_more}
-use Rattle.lease_discipline.proofs.Moves.{IsKept, bears_all-kept, holds_ids-kept, leaves_if_free-kept, needs-kept}
+use Rattle.lease_discipline.proofs.Moves.{Anyhow, IsKept, bears_all-kept, holds_ids-kept, leaves_if_free-kept, needs-kept}
 use Rattle.lease_discipline.proofs.Nodes.{IsUnwanted}
 use Rattle.lease_discipline.proofs.Theres.{letter_cases}
 use Rattle.lease_discipline.proofs.Heres.{Does, IsToldBy, IsOverOf, IsGivenBy, at_me, at_other, busy_unwanted, by_number, does_kept, frees_does, logs_does}
@@ -66,7 +66,7 @@ module _ (c : Whole) (me n : ℕ) (old : Worker) (there : item_at c.workers me �
   Here_does = Does c me n old there
 
   abbrev Kept : (Here → Type 0) → Type 0
-  Kept P = IsKept (IsToldBy c me n old there) (IsOverOf c me n old there) (IsGivenBy c me n old there) P
+  Kept P = IsKept (IsToldBy c me n old there) (IsOverOf c me n old there) (IsGivenBy c me n old there) Anyhow P
 
   kept : Kept Here_does
   kept = does_kept c me n old there
@@ -275,10 +275,15 @@ module _ (c : Whole) (me n : ℕ) (old : Worker) (there : item_at c.workers me �
     writes = λ h es p. p;
     says_plain = λ h w m _ p. p;
     says_plain_to_node = λ h k m _ p. p;
-    objects = λ h x t p. ap pace_in_run t.run ∙ p;
+    objects = λ h x t p. ap pace_in_run t.tame.run ∙ p;
+    bears_new = λ h x spec _ p. p;
+    comes_to_rest = λ h o task _ _ p. p;
     store = λ h s p. p;
-    begins = λ h o task w m _ _ p. p;
+    begins = λ h o task w m _ _ _ _ _ _ p. p;
     pushes_again = λ h k task w m _ _ p. p;
+    asks_anew = λ h o old task _ _ p. p;
+    asks_on = λ h o task t m k _ _ _ p. p;
+    asks_again = λ h k task t m _ _ p. p;
     run = λ h run next e k p. k.pace ∙ sym (ap pace_in_run e) ∙ p;
     leaves = λ h run next e s _ _ _ p. absurd (stopped_not (sym (ap pace_in_run e ∙ stopped_pace run.phase s) ∙ p));
     gets = λ h run content y f e q p. absurd (not_waiting run h.worker.run y f e q p);
@@ -318,12 +323,17 @@ module _ (c : Whole) (me n : ℕ) (old : Worker) (there : item_at c.workers me �
     says_plain = λ h w m _ p. says_stops h (TheWorker w) m p;
     says_plain_to_node = λ h k m _ p. says_stops h (TheNode k) m p;
     objects = λ h x t p. record {
-      pace = ap pace_in_run t.run ∙ p.pace;
-      unwanted = λ a live gave unbegun. p.unwanted a (sym t.live ∙ live) gave (ap (has_begun a) (sym t.began) ∙ unbegun);
+      pace = ap pace_in_run t.tame.run ∙ p.pace;
+      unwanted = λ a live gave unbegun. p.unwanted a (sym t.tame.live ∙ live) gave (ap (has_begun a) (sym t.tame.began) ∙ unbegun);
     };
+    bears_new = λ h x spec _ p. record { pace = p.pace; unwanted = p.unwanted };
+    comes_to_rest = λ h o task _ _ p. record { pace = p.pace; unwanted = p.unwanted };
     store = λ h s p. record { pace = p.pace; unwanted = p.unwanted };
-    begins = λ h o task w m _ _ p. says_stops _ (TheWorker w) _ (record { pace = p.pace; unwanted = p.unwanted });
+    begins = λ h o task w m _ _ _ _ _ _ p. says_stops _ (TheWorker w) _ (record { pace = p.pace; unwanted = p.unwanted });
     pushes_again = λ h k task w m _ _ p. says_stops h (TheWorker w) _ p;
+    asks_anew = λ h o old task _ _ p. says_stops _ (TheNode _) _ (record { pace = p.pace; unwanted = p.unwanted });
+    asks_on = λ h o task t m k _ _ _ p. says_stops _ (TheNode _) _ (record { pace = p.pace; unwanted = p.unwanted });
+    asks_again = λ h k task t m _ _ p. says_stops h (TheNode m) _ p;
     run = λ h run next e k p. record { pace = k.pace ∙ sym (ap pace_in_run e) ∙ p.pace; unwanted = p.unwanted };
     leaves = λ h run next e s _ phase _ p. record { pace = ap pace_in_phase phase ∙ sym (ap pace_in_run e) ∙ p.pace; unwanted = p.unwanted };
     gets = λ h run content y f e q p. absurd (stopped_not_waiting run h.worker.run y f e q p.pace);
@@ -370,8 +380,8 @@ module _ (c : Whole) (me n : ℕ) (old : Worker) (there : item_at c.workers me �
     where
       both : (stored held : Here) (P : Here → Type 0) (k : Kept P) (o : Id) (ids : List Id) → P stored → P (leaves_if_free (holds_ids stored o ids))
       both stored held P k o ids p =
-          leaves_if_free-kept (IsToldBy c me n old there) (IsOverOf c me n old there) (IsGivenBy c me n old there) P k (holds_ids stored o ids)
-          (holds_ids-kept (IsToldBy c me n old there) (IsOverOf c me n old there) (IsGivenBy c me n old there) P k stored o ids p)
+          leaves_if_free-kept (IsToldBy c me n old there) (IsOverOf c me n old there) (IsGivenBy c me n old there) Anyhow P k (holds_ids stored o ids)
+          (holds_ids-kept (IsToldBy c me n old there) (IsOverOf c me n old there) (IsGivenBy c me n old there) Anyhow P k stored o ids p)
 
       still_unwanted : (g : Here) → StopsHere g → IsUnwanted (look_here c me n old there g) (sent_here c me n old there g) n me
       still_unwanted g s a wanted =
@@ -382,7 +392,7 @@ module _ (c : Whole) (me n : ℕ) (old : Worker) (there : item_at c.workers me �
   stops_does : (h : Here) (stop : Stopped) (r : Option Run) → h.worker.run ≡ r → GoesOnHere h → Here_does h → Here_does (stops_by h stop r)
   stops_does h stop None e p d = d
   stops_does h (AtGet y) (Some run) e p d =
-      needs-kept (IsToldBy c me n old there) (IsOverOf c me n old there) (IsGivenBy c me n old there) Here_does kept h run y
+      needs-kept (IsToldBy c me n old there) (IsOverOf c me n old there) (IsGivenBy c me n old there) Anyhow Here_does kept h run y
       (run_does c me n old there h run (record run { phase = Waits y None }) e refl (λ o. o)
       (λ o. absurd (not_both run.is_over o (going_on h run e p d))) (λ j o. absurd (waits_out y None j o)) d)
   stops_does h (AtEnd content) (Some run) e p d = ends_does h run content e p d
@@ -399,7 +409,7 @@ module _ (c : Whole) (me n : ℕ) (old : Worker) (there : item_at c.workers me �
           (run_does c me n old there h run next e refl (λ i. i) (λ i. absurd (not_both run.is_over i over)) (λ j i. absurd (ready_out j i)) d) in
           let borne : Here = bears_all g run.attempt o.births in
           let borne_does : Here_does borne = bears_all-kept (IsToldBy c me n old there) (IsOverOf c me n old there)
-          (IsGivenBy c me n old there) Here_does kept g run.attempt o.births started in
+          (IsGivenBy c me n old there) Anyhow Here_does kept g run.attempt o.births started in
           let borne_goes : GoesOnHere borne = bears_all-kept (IsToldBy c me n old there) (IsOverOf c me n old there)
-          (IsGivenBy c me n old there) GoesOnHere goes_on_kept g run.attempt o.births refl in
+          (IsGivenBy c me n old there) Anyhow GoesOnHere goes_on_kept g run.attempt o.births refl in
           stops_does borne o.stop borne.worker.run refl borne_goes borne_does

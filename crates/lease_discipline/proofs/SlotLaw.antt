@@ -1,17 +1,14 @@
 -- Whoever was given or is busy keeps its slot, and no slot is free while something stands in a node's queue: of every run.
-use Rattle.std.proofs.Common.{◌≡◌, ℕ, suc, ◌+◌, ◌<◌, ◌≤◌, List, [], ◌∷◌, length, Some, None, Option, refl, ap, sym, subst, ◌∙◌, ◌⊎◌, inl, inr, arith}
+use Rattle.std.proofs.Common.{◌≡◌, ℕ, ◌<◌, ◌≤◌, List, [], ◌∷◌, length, Some, Option, refl, ap, sym, subst, ◌∙◌, ◌⊎◌, inl, inr, arith}
 use Rattle.std.specs.Prelude.{true, false, nat_lt}
 use Rattle.std.proofs.lemmas.Bool.Decides.{nat_tests}
 use Rattle.meaning.proofs.BirthLaws.{at_test}
 use Rattle.meaning.specs.Mains.{KeepsMainApart}
-use Rattle.event_log.specs.Entries.{Entry}
-use Rattle.event_log.specs.Events.{is_live, node_of}
 use Rattle.event_log.specs.Rules.{Setting}
-use Rattle.protocol.specs.Answers.{answer, logged, whole_after}
 use Rattle.protocol.specs.Nodes.{Node, Scheduler, new_node}
 use Rattle.protocol.specs.Sets.{has, repeated}
 use Rattle.protocol.specs.Tables.{Worker}
-use Rattle.protocol.specs.Whole.{Whole, first_whole, node_at, worker_at}
+use Rattle.protocol.specs.Whole.{first_whole, node_at, worker_at}
 use Rattle.protocol_owed.specs.Courses.{GoesOn, IsLeased, IsOut, LivesOn, course}
 use Rattle.protocol_owed.specs.Runs.{Handing, Running, SlotsAreSound, after_event, after_events, holders_in, opening_run, seen}
 use Rattle.protocol_owed.specs.Turns.{AskStands, IsBusy, RunnerStands}
@@ -19,9 +16,8 @@ use Rattle.protocol_owed.proofs.FullNodes.{NodesAreFull, answered-full}
 use Rattle.protocol_owed.proofs.Nodes.{NodesAreRight, answered-right, changed_cases}
 use Rattle.protocol_owed.proofs.Opening.{law_of_slots, opens-full, opens-right}
 use Rattle.lease_discipline.specs.Discipline.{Gave, IsOfNode}
-use Rattle.lease_discipline.specs.Slots.{AreRight, HasTurn, KeepsSlots, LawOfKeptSlots, SlotsAreKept}
+use Rattle.lease_discipline.specs.Slots.{AreRight, KeepsSlots, LawOfKeptSlots, SlotsAreKept}
 use Rattle.lease_discipline.specs.Told.{IsAsTold, IsInStep, pace_by}
-use Rattle.lease_discipline.specs.Owing.{running}
 use Rattle.lease_discipline.proofs.Follows.{not_both}
 use Rattle.lease_discipline.proofs.Opening.{only_driver}
 use Rattle.lease_discipline.proofs.Told.{events_stay_in_step, lives_there, logs_tell, opening_is_in_step, places}

@@ -1,4 +1,7 @@
 -- Changes of a worker's objects in which no attempt comes to run, and what tests tell of them.
+use Rattle.std.proofs.Common.{◌⊎◌, ◌+◌, length}
+use Rattle.sequence.proofs.Places.{and_right}
+use Rattle.protocol.specs.Tables.{Progress}
 use Rattle.std.proofs.Common.{◌≡◌, ℕ, zero, suc, List, [], ◌∷◌, ◌++◌, map, Some, None, Option, refl, ap, sym, ◌∙◌, inl, inr, arith}
 use Rattle.std.specs.Prelude.{true, if◌then◌else◌, slice_get, ◌==◌}
 use Rattle.std.proofs.lemmas.Bool.Decides.{nat_tests}
@@ -13,7 +16,17 @@ use Rattle.protocol.specs.Tables.{Worker}
 use Rattle.protocol.specs.Tables.{is_same_id, is_waiting_for, needed_by, new_task, object_needed, task_in, task_of, with_task, without_place}
 use Rattle.protocol.specs.Steps.{Here, is_own, object_at, own_object}
 use Rattle.protocol.specs.Asking.{if_asked, stands_at}
-use Rattle.protocol_owed.proofs.Nodes.{changed_cases, push_cases}
+use Rattle.protocol.specs.Asking.{next_attempt}
+use Rattle.protocol.specs.Holders.{awaits_hold_by, holding, holds_id, holds_ids, sends_hold}
+use Rattle.protocol.specs.Commits.{next_id_here, with_object}
+use Rattle.protocol.specs.Tables.{knows_dead, with_holder}
+use Rattle.protocol.specs.Steps.{changes, own_id, with_task_of}
+use Rattle.sequence.proofs.Places.{slice_get-last}
+use Rattle.protocol.specs.Notices.{runs_on_node, runs_on_worker}
+use Rattle.protocol.specs.Ends.{if_present}
+use Rattle.protocol.specs.Tables.{is_pending_task}
+use Rattle.protocol_owed.proofs.CourseEvents.{append_none, changed_none}
+use Rattle.protocol_owed.proofs.Nodes.{changed_cases, push_cases, there_more, there_still}
 
 pub same_number : (m n : ℕ) → (m == n) ≡ true → m ≡ n
 same_number m n e = grind (arith, nat_tests)
@@ -168,3 +181,146 @@ waiting x o e = by_run x.run refl e
     by_run : (r : Option Run) → x.run ≡ r → is_same_id (needed_by r) o ≡ true → IsWaiting x
     by_run None f i = absurd (cc)
     by_run (Some run) f i = by_phase run f run.phase refl i
+
+-- ---- tasks of own objects
+
+-- the next attempt of a task, or the first one of a new task
+abbrev pub IsNextOf : OwnTask → OwnTask → Type 0
+IsNextOf old task = (task ≡ next_attempt old) ⊎ ((spec : Birth) × (task ≡ new_task spec) × (old ≡ new_task spec))
+
+-- where the ask that stands was sent
+pub asked_where : (t : ℕ) (a : Attempt) (task : OwnTask) → if_asked t a task ≡ true → (m : ℕ) × (task.progress ≡ AskedAt t m) × (task.number ≡ a.number)
+asked_where t a task e = by_progress task.progress refl (and_right (task.number == a.number) (stands_at task.progress t) e)
+  where
+    numbers : task.number ≡ a.number
+    numbers = same_number task.number a.number (and_left (task.number == a.number) (stands_at task.progress t) e)
+
+    by_progress : (q : Progress) → task.progress ≡ q → stands_at q t ≡ true → (m : ℕ) × (task.progress ≡ AskedAt t m) × (task.number ≡ a.number)
+    by_progress (AskedAt u m) f g = (m, f ∙ ap (λ i. AskedAt i m) (same_number u t g), numbers)
+    by_progress AtRest f g = absurd (cc)
+    by_progress (RunsOn w n) f g = absurd (cc)
+
+pub changed_here : {X : Type 0} (xs : List X) (n : ℕ) (f : X → X) (x : X) → item_at xs n ≡ Some x → item_at (changed_at xs n f) n ≡ Some (f x)
+changed_here xs n f x e =
+    let g = there_still xs n n f x e in
+    elim (changed_cases xs n n f g.0 g.1) [
+      | inl (_, y, at, is) ↦ g.1 ∙ ap (λ z. Some z) is ∙ ap (λ z. Some (f z)) (same_item xs n y x at e)
+      | inr (apart, _) ↦ absurd (apart refl)
+    ]
+  where
+    same_item : {X : Type 0} (xs : List X) (n : ℕ) (y x : X) → item_at xs n ≡ Some y → item_at xs n ≡ Some x → y ≡ x
+    same_item {X} xs n y x f g = let h : ◌≡◌ {A = Option X} (Some y) (Some x) = sym f ∙ g in cc
+
+-- the object at an own id
+pub own_there : (h : Here) (k : ℕ) → task_of (object_at h (own_id h k)) ≡ task_of (own_object h k)
+own_there h k = ap (λ b. task_of (if b then own_object h k else None)) (equal h.me)
+  where
+    equal : (n : ℕ) → (n == n) ≡ true
+    equal n = grind (arith, nat_tests)
+
+-- the task that was put in place
+pub task_now : (h : Here) (o : Id) (old task : OwnTask) → task_of (object_at h o) ≡ Some old → task_of (object_at (with_task_of h o task) o) ≡ Some task
+task_now h o old task e =
+    at_test (λ b. task_of (if b then own_object h o.serial else None) ≡ Some old →
+    task_of (if b then item_at (changed_at h.worker.objects o.serial (with_task task)) o.serial else None) ≡ Some task) (is_own h o)
+    (λ _ f. by_item (item_at h.worker.objects o.serial) refl f) (λ _ f. absurd (cc)) e
+  where
+    by_item : (x : Option Object) → item_at h.worker.objects o.serial ≡ x → task_of x ≡ Some old →
+        task_of (item_at (changed_at h.worker.objects o.serial (with_task task)) o.serial) ≡ Some task
+    by_item None f g = absurd (cc)
+    by_item (Some y) f g = ap task_of (changed_here h.worker.objects o.serial (with_task task) y f)
+
+-- what makes objects stays, where a change leaves it
+pub same_tasks : (xs : List Object) (n m : ℕ) (f : Object → Object) → ((y : Object) → (f y).maker ≡ y.maker) →
+    task_of (item_at (changed_at xs n f) m) ≡ task_of (item_at xs m)
+same_tasks xs n m f keeps = by_item (item_at (changed_at xs n f) m) refl
+  where
+    by_item : (x : Option Object) → item_at (changed_at xs n f) m ≡ x → task_of (item_at (changed_at xs n f) m) ≡ task_of (item_at xs m)
+    by_item None e = ap task_of e ∙ ap task_of (sym (changed_none xs n m f e))
+    by_item (Some y) e = elim (changed_cases xs n m f y e) [
+      | inl (_, z, at, is) ↦ ap task_of e ∙ ap (λ (u : Object). task_in u.maker) is ∙ ap task_in (keeps z) ∙ ap task_of (sym at)
+      | inr (_, at) ↦ ap task_of e ∙ ap task_of (sym at)
+    ]
+
+held_one : (h : Here) (e p o : Id) → task_of (object_at (holds_id h e p) o) ≡ task_of (object_at h o)
+held_one h e p o =
+    at_test (λ b. task_of (object_at (if b then changes h p (with_holder e) else if knows_dead h.worker p.owner then h else sends_hold h e p) o) ≡ task_of
+    (object_at h o)) (is_own h p)
+    (λ _. at_test (λ b. task_of (if b then item_at (changed_at h.worker.objects p.serial (with_holder e)) o.serial else None) ≡ task_of
+    (if b then own_object h o.serial else None)) (is_own h o)
+    (λ _. same_tasks h.worker.objects p.serial o.serial (with_holder e) (λ y. refl)) (λ _. refl))
+    (λ _. at_test (λ b. task_of (object_at (if b then h else sends_hold h e p) o) ≡ task_of (object_at h o)) (knows_dead h.worker p.owner) (λ _. refl)
+    (λ _. by_run h.worker.run))
+  where
+    by_run : (r : Option Run) → task_of (object_at (awaits_hold_by h (holding e p) r) o) ≡ task_of (object_at h o)
+    by_run None = refl
+    by_run (Some run) = refl
+
+pub held_task : (h : Here) (e o : Id) (ids : List Id) → task_of (object_at (holds_ids h e ids) o) ≡ task_of (object_at h o)
+held_task h e o [] = refl
+held_task h e o (p ∷ ids) = held_task (holds_id h e p) e o ids ∙ held_one h e p o
+
+pub item_last : {X : Type 0} (xs : List X) (x : X) → item_at (xs ++ x ∷ []) (length xs + 1) ≡ Some x
+item_last xs x =
+    let f : ◌≡◌ {A = ℕ} (length xs + 1) (suc (length xs)) = omega arith in
+    ap (item_at (xs ++ x ∷ [])) f ∙ slice_get-last xs x (length xs) refl
+
+pub new_there : (h : Here) (x : Object) → task_of (object_at (with_object h x) (next_id_here h)) ≡ task_in x.maker
+new_there h x = own_there (with_object h x) (length h.worker.objects + 1) ∙ ap task_of (item_last h.worker.objects x)
+
+-- ---- changes that leave tasks as they are
+
+pub record LeavesTasks (x y : Worker) : Type 0 where
+  pub tame : IsTame x y
+  pub tasks : (k : ℕ) → task_of (item_at y.objects k) ≡ task_of (item_at x.objects k)
+
+pub same_left : (x y : Worker) → y.node ≡ x.node → y.is_live ≡ x.is_live → y.run ≡ x.run → y.began ≡ x.began → y.objects ≡ x.objects → LeavesTasks x y
+same_left x y node live run began objects = record { tame = same_tame x y node live run began objects; tasks = λ k. ap (λ ys. task_of (item_at ys k)) objects }
+
+pub untouched_left : (x : Worker) (k : ℕ) (f : Object → Object) → ((y : Object) → (f y).maker ≡ y.maker) →
+    LeavesTasks x (record x { objects = changed_at x.objects k f })
+untouched_left x k f same = record { tame = untouched_tame x k f same; tasks = λ m. same_tasks x.objects k m f same }
+
+pub put_left : (x : Worker) (y : Object) → y.maker ≡ WasPut → LeavesTasks x (record x { objects = x.objects ++ y ∷ [] })
+put_left x y put = record {
+  tame = new_tame x y (λ task v n e _. put_not_task task (ap task_in (sym put) ∙ e));
+  tasks = λ k. by_item k (item_at (x.objects ++ y ∷ []) k) refl (item_at x.objects k) refl;
+}
+  where
+    by_item : (k : ℕ) (o : Option Object) → item_at (x.objects ++ y ∷ []) k ≡ o → (q : Option Object) → item_at x.objects k ≡ q →
+        task_of (item_at (x.objects ++ y ∷ []) k) ≡ task_of (item_at x.objects k)
+    by_item k None e q f = ap task_of e ∙ ap task_of (sym (append_none x.objects (y ∷ []) k e))
+    by_item k (Some z) e (Some u) f = ap task_of (there_more x.objects (y ∷ []) k u f) ∙ ap task_of (sym f)
+    by_item k (Some z) e None f = elim (push_cases x.objects k y z e) [
+      | inl at ↦ ap task_of e ∙ ap task_of (sym at)
+      | inr (last, is) ↦ ap task_of e ∙ ap (λ (u : Object). task_in u.maker) (sym is) ∙ ap task_in put ∙ ap task_of (sym f)
+    ]
+
+pub places_left : (x : Worker) (m : ℕ) → LeavesTasks x (record x { objects = map (without_place m) x.objects })
+places_left x m = record { tame = places_tame x m; tasks = λ k. by_item k (item_at x.objects k) refl }
+  where
+    get_map : (xs : List Object) (i : ℕ) → task_of (slice_get (map (without_place m) xs) i) ≡ task_of (slice_get xs i)
+    get_map [] i = refl
+    get_map (y ∷ xs) zero = refl
+    get_map (y ∷ xs) (suc i) = get_map xs i
+
+    by_item : (k : ℕ) (o : Option Object) → item_at x.objects k ≡ o → task_of (item_at (map (without_place m) x.objects) k) ≡ task_of (item_at x.objects k)
+    by_item zero o e = refl
+    by_item (suc i) o e = get_map x.objects i
+
+-- a running attempt
+abbrev pub IsRunning : OwnTask → Type 0
+IsRunning task = (w n : ℕ) × (task.progress ≡ RunsOn w n)
+
+pub on_worker : (v : ℕ) (q : Progress) → runs_on_worker v q ≡ true → (w n : ℕ) × (q ≡ RunsOn w n)
+on_worker v (RunsOn w n) e = (w, n, refl)
+on_worker v AtRest e = absurd (cc)
+on_worker v (AskedAt t n) e = absurd (cc)
+
+pub on_node : (m : ℕ) (q : Progress) → runs_on_node m q ≡ true → (w n : ℕ) × (q ≡ RunsOn w n)
+on_node m (RunsOn w n) e = (w, n, refl)
+on_node m AtRest e = absurd (cc)
+on_node m (AskedAt t n) e = absurd (cc)
+
+pub present_was : (a : Attempt) (task : OwnTask) → if_present a task ≡ true → a ≡ attempt a.object task.number
+present_was a task e = ap (attempt a.object) (sym (same_number task.number a.number (and_right (is_pending_task task) (task.number == a.number) e)))

@@ -1,40 +1,36 @@
 -- A sound run whose leases are in order is disciplined, so its log tells of each worker what its tables say.
-use Rattle.std.proofs.Common.{◌≡◌, ◌≢◌, ℕ, zero, suc, ◌+◌, ◌<◌, List, [], ◌∷◌, ◌++◌, length, map, Some, None, Option, refl, ap, sym, subst, ◌∙◌, ◌⊎◌, inl}
+use Rattle.std.proofs.Common.{◌≡◌, ◌≢◌, ℕ, zero, suc, List, [], ◌∷◌, ◌++◌, map, Some, None, Option, refl, ap, sym, subst, ◌∙◌, inl}
 use Rattle.std.proofs.Common.{inr, append-nil, arith}
-use Rattle.std.specs.Prelude.{Bool, true, false, if◌then◌else◌, not, slice_get, ◌==◌}
+use Rattle.std.specs.Prelude.{true, false, if◌then◌else◌, not, slice_get, ◌==◌}
 use Rattle.std.proofs.lemmas.Bool.Decides.{nat_tests}
 use Rattle.meaning.proofs.BirthLaws.{at_test}
 use Rattle.std.specs.List.{AllByRecursion, list_any}
-use Rattle.meaning.specs.Mains.{KeepsMainApart}
 use Rattle.meaning.specs.Values.{Birth}
-use Rattle.event_log.specs.Entries.{Attempt, Claim, Entry, Event, main_attempt}
+use Rattle.event_log.specs.Entries.{Attempt, Claim, Entry, main_attempt}
 use Rattle.event_log.specs.Events.{accepted_events, from_one, is_live, kills, node_of, on_node}
 use Rattle.event_log.specs.Legal.{opening}
 use Rattle.event_log.specs.Rules.{Setting}
-use Rattle.event_log.specs.Words.{opened, same_attempt, worker_of}
+use Rattle.event_log.specs.Words.{worker_of}
 use Rattle.event_log.proofs.WordLaws.{same_attempt-true}
 use Rattle.event_log.proofs.SaneLaws.{legal_logs_are_sane}
 use Rattle.event_log.specs.Legal as L
 use Rattle.event_log.specs.Breaks.{Among}
 use Rattle.protocol.specs.Answers.{Answer, Refuses, Takes, answer, logged, whole_after}
-use Rattle.protocol.specs.Jobs.{Given, Handed}
+use Rattle.protocol.specs.Jobs.{Given}
 use Rattle.protocol.specs.Messages.{Letter, Party, Push, TheWorker, letter}
-use Rattle.protocol.specs.Nodes.{Node}
 use Rattle.protocol.specs.Numbered.{item_at}
 use Rattle.protocol.specs.Tables.{Out, Phase, Ready, Waits, HasEnded, HasFaulted, Run, Worker}
 use Rattle.protocol.specs.Whole.{Whole, driver, first_whole, worker_at}
-use Rattle.protocol_legal.specs.Knows.{KnowsRun}
-use Rattle.protocol_legal.specs.Past.{Past, past}
+use Rattle.protocol_legal.specs.Past.{past}
 use Rattle.protocol_legal.specs.Says.{IsPushed, Says}
 use Rattle.protocol_legal.specs.Whole.{Between, setting_of}
-use Rattle.protocol_laws.specs.Coming.{IsRight}
 use Rattle.protocol_laws.specs.Sound.{IsSound}
 use Rattle.protocol_laws.proofs.Laws.{event_keeps_sound, opening_is_sound}
 use Rattle.protocol_owed.specs.Courses.{Course, GoesOn, HasStopped, IsOut, course, course_from, has_begun, is_attempt, opening_course}
-use Rattle.protocol_owed.specs.Runs.{Handing, Running, after_event, opening_run, seen}
+use Rattle.protocol_owed.specs.Runs.{seen}
 use Rattle.protocol_owed.specs.Turns.{ClaimIsAnswered}
 use Rattle.protocol_owed.proofs.Claims as C
-use Rattle.protocol_owed.proofs.CourseEvents.{HoldsAt, IsAlone}
+use Rattle.protocol_owed.proofs.CourseEvents.{HoldsAt}
 use Rattle.protocol_owed.proofs.CourseRuns.{IsDisciplined}
 use Rattle.protocol_owed.proofs.RunMoves.{pace_in_phase}
 use Rattle.protocol_owed.proofs.Telling.{Agrees, pace_in_run, present}

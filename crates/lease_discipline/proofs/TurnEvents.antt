@@ -1,23 +1,23 @@
 -- Every event leaves its slot to a worker whose turn it is.
-use Rattle.std.proofs.Common.{◌≡◌, ◌≢◌, ℕ, ◌+◌, List, [], ◌∷◌, ◌++◌, length, map, Some, None, Option, refl, ap, sym, subst, ◌∙◌, ◌⊎◌, inl, inr, append-nil}
+use Rattle.std.proofs.Common.{◌≡◌, ℕ, ◌+◌, List, [], ◌∷◌, ◌++◌, length, map, Some, None, Option, refl, ap, sym, subst, ◌∙◌, ◌⊎◌, inl, inr, append-nil}
 use Rattle.std.proofs.Common.{arith}
 use Rattle.std.specs.Prelude.{Bool, true, false, if◌then◌else◌, not, ◌&&◌, ◌==◌}
-use Rattle.sequence.proofs.Places.{and_left, and_right}
+use Rattle.sequence.proofs.Places.{and_right}
 use Rattle.meaning.proofs.BirthLaws.{at_test}
 use Rattle.meaning.specs.Values.{Birth}
 use Rattle.event_log.specs.Entries.{Attempt, Event, Claim, Commit, Deliver, Tick, Notice, NoticeNode, Evict, Lose, Kill, KillNode, Join}
 use Rattle.protocol.specs.Numbered.{item_at, changed_at}
-use Rattle.protocol.specs.Sets.{has, repeated}
+use Rattle.protocol.specs.Sets.{repeated}
 use Rattle.protocol.specs.Messages.{Letter, letter, Message, Party, TheWorker, TheNode, Ask, Give, Elsewhere, Wait, Back, Push, Finished, FinishedAck, Failed}
 use Rattle.protocol.specs.Messages.{Where, At, Gone, Fetch, CopyOf, Missing, Hold, HoldAck, Unhold}
-use Rattle.protocol.specs.Jobs.{Given, Handed, Job, Nothing, OfAnother, OfJob, Outcomes}
+use Rattle.protocol.specs.Jobs.{Given, Handed, Job, Nothing, OfAnother, OfJob}
 use Rattle.protocol.specs.Nodes.{Node, Scheduler, There, new_node, new_scheduler}
-use Rattle.protocol.specs.Tables.{Run, Worker, new_worker}
+use Rattle.protocol.specs.Tables.{Worker, new_worker}
 use Rattle.protocol.specs.Steps.{Here}
 use Rattle.protocol.specs.Runs.{begins_run, is_free, push_reached}
 use Rattle.protocol.specs.Slots.{forgets, node_reached}
 use Rattle.protocol.specs.Releases.{release_step}
-use Rattle.protocol.specs.Whole.{Whole, Moved, moved, node_at, worker_at, there, here, after_node, after_worker, node_does, node_does_by, worker_does}
+use Rattle.protocol.specs.Whole.{Whole, Moved, moved, node_at, worker_at, there, here, after_node, node_does, node_does_by, worker_does}
 use Rattle.protocol.specs.Whole.{worker_does_by, worker_does_at}
 use Rattle.protocol.specs.Commits.{claim_step, commit_step}
 use Rattle.protocol.specs.Notices.{notice_step, notice_node_step}
@@ -36,8 +36,7 @@ use Rattle.lease_discipline.specs.Discipline.{KeepsLeases, Look}
 use Rattle.lease_discipline.specs.Slots.{HasTurn, KeepsSlots}
 use Rattle.lease_discipline.proofs.Tame.{item_mapped}
 use Rattle.lease_discipline.proofs.Follows.{not_both}
-use Rattle.lease_discipline.proofs.Moves.{notice_step-kept, notice_node_step-kept, reached-kept, release_step-kept, tick_step-kept, IsHeardFrom, IsKept}
-use Rattle.lease_discipline.proofs.Heres.{by_number}
+use Rattle.lease_discipline.proofs.Moves.{Anyhow, notice_step-kept, notice_node_step-kept, reached-kept, release_step-kept, tick_step-kept, IsHeardFrom, IsKept}
 use Rattle.lease_discipline.proofs.Events.{OutAs, changed_same, out_as}
 use Rattle.lease_discipline.proofs.Laws.{promise}
 use Rattle.lease_discipline.proofs.Turns.{Anyone, NoLossBut, NoTurn, Others, Turns, claim_turns, commit_turns, forgets_lose, push_turns, reached_lose}
@@ -49,8 +48,8 @@ ToldBy w a = Unit {0}
 abbrev OverOf : Attempt → Type 0
 OverOf a = Unit {0}
 
-abbrev GivenBy : ℕ → Attempt → ℕ → Type 0
-GivenBy n a w = Unit {0}
+abbrev GivenBy : ℕ → ℕ → Attempt → ℕ → Type 0
+GivenBy n t a w = Unit {0}
 
 -- workers of other nodes are the same
 other_turns : (look next : Look) (m : ℕ) (s : Scheduler) → ((w : ℕ) (y : Worker) → next w ≡ Some y → y.node ≡ m → look w ≡ Some y) → HasTurn look m s →
@@ -109,7 +108,7 @@ module _ (c : Whole) (me : ℕ) (x : Worker) (node : Node) (at : worker_at c me 
   abbrev P : Here → Type 0
   P = Turns c me n x at
 
-  kept : IsKept ToldBy OverOf GivenBy P
+  kept : IsKept ToldBy OverOf GivenBy Anyhow P
   kept = turns_kept c me n x at ToldBy OverOf GivenBy
 
   turns_begin : P (here c me x node)
@@ -132,7 +131,7 @@ module _ (c : Whole) (me : ℕ) (x : Worker) (node : Node) (at : worker_at c me 
   worker_turns_at f step =
       let g : Here = f (here c me x node) in
       let h : Here = release_step g in
-      let p : P h = release_step-kept ToldBy OverOf GivenBy P kept g (step turns_begin) in
+      let p : P h = release_step-kept ToldBy OverOf GivenBy Anyhow P kept g (step turns_begin) in
       turns_end (record c { workers = changed_at c.workers me (λ _. h.worker) }) (worker_at c) n h.there p.turns k (λ w y e. worker_back h p.home w y e)
 
 abbrev Steps : Whole → ℕ → (Here → Here) → Type 0
@@ -190,7 +189,7 @@ module _ (c : Whole) (i w : ℕ) (from : Party) (x : Worker) (at : worker_at c w
   abbrev Q : Here → Type 0
   Q = Turns c w x.node x at
 
-  abbrev q_kept : IsKept ToldBy OverOf GivenBy Q
+  abbrev q_kept : IsKept ToldBy OverOf GivenBy Anyhow Q
   q_kept = turns_kept c w x.node x at ToldBy OverOf GivenBy
 
   push_heard : (a : Attempt) (spec : Birth) → item_at c.network i ≡ Some (letter from (TheWorker w) (Push a spec)) → Q start → Q (push_reached start a spec)
@@ -206,7 +205,7 @@ module _ (c : Whole) (i w : ℕ) (from : Party) (x : Worker) (at : worker_at c w
       negated false e = refl
 
   heard_worker : (u : ℕ) → from ≡ TheWorker u → (m : Message) → item_at c.network i ≡ Some (letter from (TheWorker w) m) → Q start →
-      IsHeardFrom ToldBy OverOf GivenBy Q q_kept start (TheWorker u) m
+      IsHeardFrom ToldBy OverOf GivenBy Anyhow Q q_kept start (TheWorker u) m
   heard_worker u e (Push a spec) sent t = push_heard a spec sent t
   heard_worker u e (Finished a n ids) sent t = tt
   heard_worker u e (Failed a f) sent t = tt
@@ -226,14 +225,14 @@ module _ (c : Whole) (i w : ℕ) (from : Party) (x : Worker) (at : worker_at c w
   heard_worker u e (HoldAck h o) sent t = tt
   heard_worker u e (Unhold h o) sent t = tt
 
-  heard_node : (n : ℕ) (m : Message) → IsHeardFrom ToldBy OverOf GivenBy Q q_kept start (TheNode n) m
+  heard_node : (n : ℕ) (m : Message) → IsHeardFrom ToldBy OverOf GivenBy Anyhow Q q_kept start (TheNode n) m
   heard_node n (Give a j v) = λ _. tt
   heard_node n (Push a spec) = tt
   heard_node n (Finished a m ids) = tt
   heard_node n (Failed a f) = tt
   heard_node n (FinishedAck a) = tt
   heard_node n (Ask a j) = tt
-  heard_node n (Elsewhere a j m) = tt
+  heard_node n (Elsewhere a j m) = λ own i _ _ _ _. tt
   heard_node n (Wait a j) = tt
   heard_node n (Back a) = tt
   heard_node n (Where o) = tt
@@ -250,8 +249,8 @@ module _ (c : Whole) (i w : ℕ) (from : Party) (x : Worker) (at : worker_at c w
   reached_turns m sent t = by_party from refl
     where
       by_party : (s : Party) → from ≡ s → Q (reached start s m)
-      by_party (TheWorker u) e = reached-kept ToldBy OverOf GivenBy Q q_kept start (TheWorker u) m (heard_worker u e m sent t) t
-      by_party (TheNode n) e = reached-kept ToldBy OverOf GivenBy Q q_kept start (TheNode n) m (heard_node n m) t
+      by_party (TheWorker u) e = reached-kept ToldBy OverOf GivenBy Anyhow Q q_kept start (TheWorker u) m (heard_worker u e m sent t) t
+      by_party (TheNode n) e = reached-kept ToldBy OverOf GivenBy Anyhow Q q_kept start (TheNode n) m (heard_node n m) t
 
 letter_event : (c : Whole) (i : ℕ) (s to : Party) (m : Message) → item_at c.network i ≡ Some (letter s to m) → KeepsLeases c → KeepsSlots c →
     KeepsSlots (delivered_to c (letter s to m) to).whole
@@ -338,14 +337,14 @@ happens_turns c (Claim w) handed e leases k = claim_event c w e k
 happens_turns c (Commit j) handed e leases k = commit_event c j handed (item_at c.jobs j) e k
 happens_turns c (Deliver i) handed e leases k = deliver_event c i (item_at c.network i) refl leases k
 happens_turns c (Tick w) handed e leases k =
-    worker_turns c w tick_step (λ x at node home t. tick_step-kept ToldBy OverOf GivenBy (Turns c w x.node x at)
+    worker_turns c w tick_step (λ x at node home t. tick_step-kept ToldBy OverOf GivenBy Anyhow (Turns c w x.node x at)
     (turns_kept c w x.node x at ToldBy OverOf GivenBy) (here c w x node) t) k
 happens_turns c (Notice w v) handed e leases k =
-    worker_turns c w (λ h. notice_step h v) (λ x at node home t. notice_step-kept ToldBy OverOf GivenBy (Turns c w x.node x at)
+    worker_turns c w (λ h. notice_step h v) (λ x at node home t. notice_step-kept ToldBy OverOf GivenBy Anyhow (Turns c w x.node x at)
     (turns_kept c w x.node x at ToldBy OverOf GivenBy) (here c w x node) v t) k
 happens_turns c (NoticeNode w n) handed e leases k =
-    worker_turns c w (λ h. notice_node_step h n) (λ x at node home t. notice_node_step-kept ToldBy OverOf GivenBy (Turns c w x.node x at)
-    (turns_kept c w x.node x at ToldBy OverOf GivenBy) (here c w x node) n t) k
+    worker_turns c w (λ h. notice_node_step h n) (λ x at node home t. notice_node_step-kept ToldBy OverOf GivenBy Anyhow (Turns c w x.node x at)
+    (turns_kept c w x.node x at ToldBy OverOf GivenBy) (here c w x node) n (λ a i. tt) t) k
 happens_turns c (Evict n o) handed e leases k = store_event c n _ (λ _. refl) k
 happens_turns c (Lose n o) handed e leases k = store_event c n _ (λ _. refl) k
 happens_turns c (Kill w) handed e leases k = kill_event c w (worker_at c w) refl k

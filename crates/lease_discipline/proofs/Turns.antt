@@ -1,15 +1,14 @@
 -- No step takes its slot from a worker whose turn it is.
 use Rattle.std.proofs.Common.{◌≡◌, ◌≢◌, ℕ, ◌+◌, List, [], ◌∷◌, ◌++◌, Some, None, Option, refl, ap, sym, subst, ◌∙◌, ◌⊎◌, inl, inr}
-use Rattle.std.specs.Prelude.{Bool, true, false, if◌then◌else◌, ◌||◌, ◌==◌, nat_lt}
-use Rattle.sequence.proofs.Places.{list_any-push_left, or_cases, or_left, or_right}
+use Rattle.std.specs.Prelude.{true, if◌then◌else◌, ◌||◌, ◌==◌, nat_lt}
+use Rattle.sequence.proofs.Places.{list_any-push_left, or_cases}
 use Rattle.meaning.proofs.BirthLaws.{at_test}
 use Rattle.meaning.specs.Values.{Birth, Id, Outcome}
 use Rattle.values.specs.Listed.{each_once, ids_in_outcome}
 use Rattle.event_log.specs.Commits.{commit_entries}
-use Rattle.event_log.specs.Entries.{Attempt, Begun, Entry, Fault, Faulted, Got}
-use Rattle.event_log.specs.Words.{attempt}
-use Rattle.protocol.specs.Numbered.{item_at, changed_at}
-use Rattle.protocol.specs.Sets.{first_item, has, least, repeated, rest_of, without_number}
+use Rattle.event_log.specs.Entries.{Attempt, Entry, Faulted, Got}
+use Rattle.protocol.specs.Numbered.{item_at}
+use Rattle.protocol.specs.Sets.{first_item, has, least, repeated, rest_of}
 use Rattle.protocol.specs.Jobs.{AtEnd, AtGet, Outcomes, Stopped, stop_of}
 use Rattle.protocol.specs.Messages.{Message, Party, TheWorker, TheNode, Ask, Give, Elsewhere, Wait, Back, Push, Finished, FinishedAck, Failed}
 use Rattle.protocol.specs.Messages.{Where, At, Gone, Fetch, CopyOf, Missing, Hold, HoldAck, Unhold}
@@ -19,14 +18,15 @@ use Rattle.protocol.specs.Slots.{ask_key, asked_by, asks_slot, fetched, forgets,
 use Rattle.protocol.specs.Slots.{has_no_slot_for, leases_idle, may_be_idle}
 use Rattle.protocol.specs.Slots.{next_in_circle, node_reached, node_reached_from, queues, replies_anew, reply_to, with_answered, with_idle, without_slot}
 use Rattle.protocol.specs.Slots.{without_worker}
-use Rattle.protocol.specs.Tables.{Fetching, HasEnded, HasFaulted, Out, OwnTask, Phase, Ready, Run, Waits, Worker, new_run, new_worker}
-use Rattle.protocol.specs.Steps.{Here, logs, logs_all, own_id, store_here, with_phase, with_run, with_store, with_task_of, with_worker}
+use Rattle.protocol.specs.Tables.{Fetching, HasEnded, HasFaulted, Out, OwnTask, Run, Waits, Worker, new_worker}
+use Rattle.protocol.specs.Steps.{Here, logs, logs_all, store_here, with_phase, with_run, with_store, with_task_of, with_worker}
 use Rattle.protocol.specs.Runs.{asks_for_slot, begins_run, gives_slot_back, leaves_if_free, with_answer}
-use Rattle.protocol.specs.Asking.{with_begun}
+use Rattle.protocol.specs.Asking.{asks_at, rests, with_begun}
+use Rattle.protocol.specs.Tables.{AskedAt}
 use Rattle.protocol.specs.Holders.{holds_ids}
-use Rattle.protocol.specs.Commits.{bears_all, claim_by, claim_step, commit_by, commit_step, ends, next_id_here, stops_by, with_outcomes}
+use Rattle.protocol.specs.Commits.{bears_all, with_object, claim_by, claim_step, commit_by, commit_step, ends, next_id_here, stops_by, with_outcomes}
 use Rattle.protocol.specs.Whole.{Whole}
-use Rattle.protocol_owed.specs.Courses.{GoesOn, HasStopped, IsOut, Pace, Rests}
+use Rattle.protocol_owed.specs.Courses.{GoesOn, HasStopped, IsOut, Rests}
 use Rattle.protocol_owed.proofs.CourseEvents.{append_split, one_of}
 use Rattle.protocol_owed.proofs.Nodes.{there_more}
 use Rattle.protocol_owed.proofs.RunMoves.{pace_in_phase}
@@ -35,9 +35,9 @@ use Rattle.lease_discipline.specs.Discipline.{Look}
 use Rattle.lease_discipline.specs.Slots.{HasTurn}
 use Rattle.lease_discipline.specs.Told.{pace_by, pace_in}
 use Rattle.lease_discipline.proofs.Tame.{same_number}
-use Rattle.lease_discipline.proofs.Moves.{IsKept, bears_all-kept, holds_ids-kept, leaves_if_free-kept, needs-kept}
-use Rattle.lease_discipline.proofs.Nodes.{equal_number, has-first, has-last, has-stays}
-use Rattle.lease_discipline.proofs.Heres.{at_me, at_other, by_number, look_here, look_with, stopped_pace, workers_with}
+use Rattle.lease_discipline.proofs.Moves.{Anyhow, IsKept, bears_all-kept, holds_ids-kept, leaves_if_free-kept, needs-kept}
+use Rattle.lease_discipline.proofs.Nodes.{has-last, has-stays}
+use Rattle.lease_discipline.proofs.Heres.{at_me, at_other, by_number, look_here, look_with, workers_with}
 use Rattle.lease_discipline.proofs.Told.{run_pace, to_pace}
 
 -- ---- a node
@@ -338,17 +338,29 @@ module _ (c : Whole) (me n : ℕ) (old : Worker) (there : item_at c.workers me �
   waits_pace : (h : Here) (run : Run) (y : Id) (f : Option Fetching) → h.worker.run ≡ Some run → run.phase ≡ Waits y f → NoTurn h.worker
   waits_pace h run y f e q = rests_no_turn h.worker (ap pace_by e ∙ ap pace_in q)
 
-  pub turns_kept : (ToldBy : ℕ → Attempt → Type 0) (OverOf : Attempt → Type 0) (GivenBy : ℕ → Attempt → ℕ → Type 0) → IsKept ToldBy OverOf GivenBy Turns
+  asked_turns : (h : Here) (o : Id) (task : OwnTask) (i m : ℕ) → Turns h → Turns (asks_at h o task i m)
+  asked_turns h o task i m t =
+      let g : Turns (with_task_of h o (record task { progress = AskedAt i m })) =
+      worker_turns h (with_task_of h o (record task { progress = AskedAt i m })).worker refl (λ e. e) (inl refl) t in
+      record { who = g.who; home = g.home; turns = g.turns }
+
+  pub turns_kept : (ToldBy : ℕ → Attempt → Type 0) (OverOf : Attempt → Type 0) (GivenBy : ℕ → ℕ → Attempt → ℕ → Type 0) →
+      IsKept ToldBy OverOf GivenBy Anyhow Turns
   turns_kept ToldBy OverOf GivenBy = record {
     writes = λ h es t. record { who = t.who; home = t.home; turns = t.turns };
     says_plain = λ h w m _ t. record { who = t.who; home = t.home; turns = t.turns };
     says_plain_to_node = λ h k m _ t. record { who = t.who; home = t.home; turns = t.turns };
-    objects = λ h x tame t. worker_turns h x tame.node (λ i. sym tame.live ∙ i) (inl (ap pace_by tame.run)) t;
+    objects = λ h x tame t. worker_turns h x tame.tame.node (λ i. sym tame.tame.live ∙ i) (inl (ap pace_by tame.tame.run)) t;
+    bears_new = λ h x spec _ t. worker_turns h (with_object h x).worker refl (λ i. i) (inl refl) t;
+    comes_to_rest = λ h o task _ _ t. worker_turns h (with_task_of h o (rests task)).worker refl (λ i. i) (inl refl) t;
     store = λ h s t. record { who = t.who; home = t.home; turns = t.turns };
-    begins = λ h o task w m _ _ t.
+    begins = λ h o task w m _ _ _ _ _ _ t.
         let g : Turns (with_task_of h o (with_begun task w m)) = worker_turns h (with_task_of h o (with_begun task w m)).worker refl (λ i. i) (inl refl) t in
         record { who = g.who; home = g.home; turns = g.turns };
     pushes_again = λ h k task w m _ _ t. record { who = t.who; home = t.home; turns = t.turns };
+    asks_anew = λ h o old task _ _ t. asked_turns h o task 0 h.worker.node t;
+    asks_on = λ h o task i m k _ _ _ t. asked_turns h o task (i + 1) k t;
+    asks_again = λ h k task i m _ _ t. record { who = t.who; home = t.home; turns = t.turns };
     run = λ h run next e k t. worker_turns h (record h.worker { run = Some next }) refl (λ i. i)
         (inl (sym (to_pace next.phase) ∙ k.pace ∙ to_pace run.phase ∙ ap pace_by (sym e))) t;
     leaves = λ h run next e _ _ phase _ t. worker_turns h (record h.worker { run = Some next }) refl (λ i. i) (inl (ap pace_in phase ∙ ap pace_by (sym e))) t;
@@ -377,10 +389,10 @@ module _ (c : Whole) (me n : ℕ) (old : Worker) (there : item_at c.workers me �
   abbrev O : Attempt → Type 0
   O a = Unit {0}
 
-  abbrev V : ℕ → Attempt → ℕ → Type 0
-  V k a w = Unit {0}
+  abbrev V : ℕ → ℕ → Attempt → ℕ → Type 0
+  V k i a w = Unit {0}
 
-  kept : IsKept T O V Turns
+  kept : IsKept T O V Anyhow Turns
   kept = turns_kept T O V
 
   -- an attempt that begins has the slot with which its worker was leased
@@ -405,15 +417,20 @@ module _ (c : Whole) (me n : ℕ) (old : Worker) (there : item_at c.workers me �
   waits_on : (r : Option Run) (run : Run) (y : Id) (f : Option Fetching) → r ≡ Some run → run.phase ≡ Waits y f → pace_in_run r ≡ HasStopped → ⊥
   waits_on r run y f e q p = rests_not_stopped (sym (ap pace_in_run e ∙ ap pace_in_phase q) ∙ p)
 
-  stopped_kept : IsKept T O V StoppedHere
+  stopped_kept : IsKept T O V Anyhow StoppedHere
   stopped_kept = record {
     writes = λ h es p. p;
     says_plain = λ h w m _ p. p;
     says_plain_to_node = λ h k m _ p. p;
-    objects = λ h x t p. ap pace_in_run t.run ∙ p;
+    objects = λ h x t p. ap pace_in_run t.tame.run ∙ p;
+    bears_new = λ h x spec _ p. p;
+    comes_to_rest = λ h o task _ _ p. p;
     store = λ h s p. p;
-    begins = λ h o task w m _ _ p. p;
+    begins = λ h o task w m _ _ _ _ _ _ p. p;
     pushes_again = λ h k task w m _ _ p. p;
+    asks_anew = λ h o old task _ _ p. p;
+    asks_on = λ h o task t m k _ _ _ p. p;
+    asks_again = λ h k task t m _ _ p. p;
     run = λ h run next e k p. k.pace ∙ sym (ap pace_in_run e) ∙ p;
     leaves = λ h run next e _ _ phase _ p. ap pace_in_phase phase ∙ sym (ap pace_in_run e) ∙ p;
     gets = λ h run content y f e q p. absurd (waits_on h.worker.run run y f e q p);
@@ -438,14 +455,14 @@ module _ (c : Whole) (me n : ℕ) (old : Worker) (there : item_at c.workers me �
       let stopped : StoppedHere (leaves_if_free (holds_ids stored o ids)) = both stored StoppedHere stopped_kept o ids refl in
       frees_turns (leaves_if_free (holds_ids stored o ids)) (stopped_no_turn _ (sym (run_pace _) ∙ stopped)) left
     where
-      both : (stored : Here) (P : Here → Type 0) (k : IsKept T O V P) (o : Id) (ids : List Id) → P stored → P (leaves_if_free (holds_ids stored o ids))
-      both stored P k o ids p = leaves_if_free-kept T O V P k (holds_ids stored o ids) (holds_ids-kept T O V P k stored o ids p)
+      both : (stored : Here) (P : Here → Type 0) (k : IsKept T O V Anyhow P) (o : Id) (ids : List Id) → P stored → P (leaves_if_free (holds_ids stored o ids))
+      both stored P k o ids p = leaves_if_free-kept T O V Anyhow P k (holds_ids stored o ids) (holds_ids-kept T O V Anyhow P k stored o ids p)
 
   stops_turns : (h : Here) (stop : Stopped) (r : Option Run) → h.worker.run ≡ r → Turns h → Turns (stops_by h stop r)
   stops_turns h stop None e t = t
   stops_turns h (AtGet y) (Some run) e t =
       let g : Here = with_phase h run (Waits y None) in
-      needs-kept T O V Turns kept h run y (worker_turns h g.worker refl (λ i. i) (inr (inr (rests_no_turn g.worker refl))) t)
+      needs-kept T O V Anyhow Turns kept h run y (worker_turns h g.worker refl (λ i. i) (inr (inr (rests_no_turn g.worker refl))) t)
   stops_turns h (AtEnd content) (Some run) e t = ends_turns h run content t
 
   -- an attempt that is out has a slot, until it is committed
@@ -463,5 +480,5 @@ module _ (c : Whole) (me n : ℕ) (old : Worker) (there : item_at c.workers me �
           let g : Here = logs_all (with_run h next) es in
           let started : Turns (with_run h next) = worker_turns h (record h.worker { run = Some next }) refl (λ i. i) (inr (inl slot)) t in
           let borne : Here = bears_all g run.attempt o.births in
-          stops_turns borne o.stop borne.worker.run refl (bears_all-kept T O V Turns kept g run.attempt o.births
+          stops_turns borne o.stop borne.worker.run refl (bears_all-kept T O V Anyhow Turns kept g run.attempt o.births
           (record { who = started.who; home = started.home; turns = started.turns }))

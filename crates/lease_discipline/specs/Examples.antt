@@ -1,7 +1,7 @@
 -- Worked examples of what is owed: events that pay, one that owes nothing, and altered ones in which a reply is missing.
-use Rattle.std.specs.Prelude.{List, [], codes, pos, false, true, ℕ, ◌==◌, ◌∷◌, if◌then◌else◌}
+use Rattle.std.specs.Prelude.{List, [], codes, false, ℕ, ◌==◌, ◌∷◌, if◌then◌else◌}
 use Rattle.meaning.specs.Values.{Birth, Task}
-use Rattle.event_log.specs.Entries.{Attempt, Begun, Born, Claim, Commit, Deliver, Entry, Event, In, Opened, Refused, Tick, main_attempt}
+use Rattle.event_log.specs.Entries.{Attempt, Begun, Born, Claim, Commit, Deliver, Entry, In, Opened, Refused, Tick, main_attempt}
 use Rattle.event_log.specs.Rules.{Setting}
 use Rattle.event_log.specs.Words.{attempt}
 use Rattle.protocol.specs.Messages.{Ask, Give, Letter, Push, TheNode, TheWorker, Wait, letter}

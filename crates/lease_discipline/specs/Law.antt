@@ -1,8 +1,8 @@
 -- The laws of the lease discipline.
 use Rattle.std.specs.Prelude.{◌≡◌, ◌<◌, ℕ, false, true, Some}
 use Rattle.meaning.specs.Values.{Birth}
-use Rattle.event_log.specs.Entries.{Attempt, Event}
-use Rattle.protocol.specs.Answers.{answer, whole_after}
+use Rattle.event_log.specs.Entries.{Attempt, Deliver, Event}
+use Rattle.protocol.specs.Answers.{Step, Takes, answer, whole_after}
 use Rattle.protocol.specs.Jobs.{Handed}
 use Rattle.protocol.specs.Messages.{Party, Push, TheWorker, letter}
 use Rattle.protocol.specs.Numbered.{item_at}
@@ -26,3 +26,10 @@ PushesFindFree =
     (c : Whole) → KeepsLeases c → (k w : ℕ) (from : Party) (a : Attempt) (spec : Birth) (x : Worker) →
     item_at c.network k ≡ Some (letter from (TheWorker w) (Push a spec)) → worker_at c w ≡ Some x → x.is_live ≡ true → has_begun a x.began ≡ false →
     is_free x.run ≡ true
+
+-- a Push that reaches a live worker begins its attempt there, unless that began before: none is passed over
+abbrev pub PushesBegin : Type 0
+PushesBegin =
+    (c : Whole) → KeepsLeases c → (k w u : ℕ) (a : Attempt) (spec : Birth) (x : Worker) (handed : Handed) (step : Step) →
+    item_at c.network k ≡ Some (letter (TheWorker u) (TheWorker w) (Push a spec)) → worker_at c w ≡ Some x → x.is_live ≡ true →
+    answer c (Deliver k) handed ≡ Takes step → (y : Worker) × (worker_at step.whole w ≡ Some y) × (has_begun a y.began ≡ true)

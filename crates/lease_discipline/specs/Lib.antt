@@ -4,3 +4,4 @@ pub mod Told
 pub mod Owing
 pub mod Slots
 pub mod Examples
+pub mod Asks

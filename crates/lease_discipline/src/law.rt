@@ -1,7 +1,8 @@
 // The laws of leases.
 
+ghost use Rattle.lease_discipline.specs.Asks.{LawOfLastAsks};
 ghost use Rattle.lease_discipline.specs.Slots.{LawOfKeptSlots};
-ghost use Rattle.lease_discipline.specs.Law.{EventsKeepLeases, OpeningKeepsLeases, PushesFindFree};
+ghost use Rattle.lease_discipline.specs.Law.{EventsKeepLeases, OpeningKeepsLeases, PushesBegin, PushesFindFree};
 ghost use Rattle.lease_discipline.specs.Owing.{AttemptsRunOnce, ClaimsAreAnswered, EventsStayInStep, LogsTell, OpeningIsInStep};
 
 /// A run begins with its leases in order.
@@ -49,4 +50,15 @@ pub fn claims_are_answered()
 /// slot; and no slot is free while an ask, or a live worker whose attempt may go on, stands in the node's queue.
 pub fn law_of_kept_slots()
     ensures { LawOfKeptSlots }
+{}
+
+/// Whatever events come: the ask of an attempt that stands is its last one; each earlier one was sent on by the node that was asked, or that node
+/// is dead; and whatever was pushed was given for the attempt's last ask, by the one node to which that went.
+pub fn law_of_last_asks()
+    ensures { LawOfLastAsks }
+{}
+
+/// A Push that reaches a live worker begins its attempt there, unless that began before.
+pub fn pushes_begin()
+    ensures { PushesBegin }
 {}

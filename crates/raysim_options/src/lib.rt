@@ -4,7 +4,7 @@
 ghost use Rattle.std.specs.Prelude.{IfOk, map, string_bytes};
 ghost use Rattle.clap.specs.Words.{subcommand_of};
 ghost use Rattle.raysim_options.specs.App.{raysim_app};
-ghost use Rattle.raysim_options.specs.Reads.{Asks};
+ghost use Rattle.raysim_options.specs.Reads.{Asks, HasCluster};
 
 mod commands;
 mod missing;
@@ -69,6 +69,8 @@ pub struct RunOptions<'a> {
 pub fn options<'a>(alloc: Global, words: &'a [String]) -> Result<Request<'a>, Error>
     // The request is the one that the words name, with the values that they give; what they leave out has its default.
     ensures asked { IfOk result (Asks (subcommand_of raysim_app (map string_bytes words.entry.now))) }
+    // A run that is asked for has from 1 to 64 nodes, with from 1 to 64 slots each.
+    ensures cluster { IfOk result HasCluster }
 {
     let command = commands::raysim(alloc)?;
     let matches = command.try_get_matches_from(words)?;

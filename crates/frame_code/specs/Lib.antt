@@ -1,0 +1,3 @@
+pub mod Views
+pub mod Operands
+pub mod Sizes

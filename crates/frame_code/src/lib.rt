@@ -1,0 +1,12 @@
+//! From a checked script to the code of the register machine.
+#![tactic(auto)]
+
+mod expressions;
+mod functions;
+mod instruction;
+mod names;
+mod operands;
+mod statements;
+
+pub use functions::compile;
+pub use instruction::{Code, Instruction, Operand, Spawn};

@@ -1,0 +1,88 @@
+// Which register a name has, and which number a function.
+
+ghost use Rattle.std.specs.Prelude.{◌≡◌, ◌+◌, IfOk, OnOk};
+ghost use Rattle.frame_laws.specs.Compile.{place_in, place_or, number_of, is_name};
+ghost use Rattle.script_check.specs.Trees.{script_of};
+ghost use Rattle.frame_code.specs.Views.{name_of, names_of};
+
+use script_check::CheckedFunction;
+use std::alloc::AllocError;
+
+/// What a register of a call holds.
+#[derive(Clone, Copy)]
+pub(crate) enum Register<'a> {
+    Variable(&'a str),
+    /// A loop's bound, which has no name.
+    Nameless,
+}
+
+/// Whether it is the variable of that name.
+fn is_name(register: &Register<'_>, name: &str) -> bool
+    ensures { result ≡ is_name (name_of register.now) name.now }
+{
+    match register {
+        Register::Variable(variable) => *variable == name,
+        Register::Nameless => false,
+    }
+}
+
+/// The register of a variable.
+pub(crate) fn place_in(names: &[Register<'_>], name: &str) -> Option<usize>
+    ensures { result ≡ place_in (names_of names.now) name.now }
+{
+    let mut place = 0;
+    while place < names.len() {
+        if is_name(&names[place], name) {
+            return Some(place);
+        }
+        place += 1;
+    }
+    None
+}
+
+/// A register in an instruction. One past 2^32 - 1 would want more memory than there is.
+pub(crate) fn slot(place: usize) -> Result<u32, AllocError>
+    ensures { IfOk result (λ i. i ≡ place) }
+{
+    if place > u32::MAX as usize {
+        return Err(AllocError);
+    }
+    Ok(place as u32)
+}
+
+/// The register after it.
+pub(crate) fn following(register: u32) -> Result<u32, AllocError>
+    ensures { IfOk result (λ i. i ≡ register + 1) }
+{
+    match register.checked_add(1) {
+        Some(next) => Ok(next),
+        None => Err(AllocError),
+    }
+}
+
+/// The register of a variable, or another where there is none.
+pub(crate) fn place_or(names: &[Register<'_>], name: &str, other: u32) -> Result<u32, AllocError>
+    ensures { IfOk result (λ i. i ≡ place_or (place_in (names_of names.now) name.now) other) }
+{
+    match place_in(names, name) {
+        Some(place) => slot(place),
+        None => Ok(other),
+    }
+}
+
+/// The number of a function that takes as many arguments; one past the last where there is none.
+pub(crate) fn number_of(script: &[CheckedFunction], name: &str, count: usize) -> usize
+    ensures { result ≡ number_of (script_of script.now) name.now count }
+{
+    let mut number = 0;
+    while number < script.len() {
+        if script[number].name.as_str() == name {
+            if script[number].parameters.len() == count {
+                return number;
+            }
+            return script.len();
+        }
+        number += 1;
+    }
+    number
+}

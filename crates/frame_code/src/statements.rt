@@ -1,0 +1,156 @@
+// The code of statements.
+
+ghost use Rattle.std.specs.Prelude.{◌≡◌, ◌++◌, OnOk, slice_set};
+ghost use Rattle.frame_laws.specs.Compile.{stmt_code, block_code, if_code, loop_code, loop_names, names_after};
+ghost use Rattle.script_check.specs.Trees.{statement_of, statements_of, script_of};
+ghost use Rattle.frame_code.specs.Views.{given_of, instruction_of, codes, names_of};
+
+use crate::expressions::{emit_expr, emit_operand};
+use crate::instruction::{Instruction, Operand};
+use crate::names::{Register, following, place_or, slot};
+use crate::operands::put;
+use script_check::{CheckedFunction, CheckedStatement};
+use std::alloc::AllocError;
+
+/// Writes an instruction over the one at a place.
+fn patch(code: &mut Vec<Instruction>, place: usize, instruction: Instruction)
+    ensures { codes code.new.items ≡ slice_set (codes code.old.items) place (instruction_of instruction) }
+{
+    if place < code.len() {
+        code[place] = instruction;
+    }
+}
+
+/// The names in a loop's body, before its statements.
+fn push_loop_names<'a>(names: &mut Vec<Register<'a>>, name: &'a str) -> Result<(), AllocError>
+    ensures { OnOk result (names_of names.new.items ≡ loop_names (names_of names.old.items) name.now) }
+{
+    names.push(Register::Nameless)?;
+    names.push(Register::Nameless)?;
+    names.push(Register::Variable(name))?;
+    Ok(())
+}
+
+/// A statement, and the names after it.
+#[cycle(statements)]
+fn emit_statement<'a>(
+    code: &mut Vec<Instruction>,
+    script: &[CheckedFunction],
+    names: &mut Vec<Register<'a>>,
+    statement: &'a CheckedStatement,
+) -> Result<(), AllocError>
+    ensures code { OnOk result (codes code.new.items
+        ≡ codes code.old.items ++ stmt_code (script_of script.now) (names_of names.old.items) (statement_of statement.now)) }
+    ensures names { OnOk result (names_of names.new.items ≡ names_after (names_of names.old.items) (statement_of statement.now)) }
+{
+    let free = slot(names.len())?;
+    match statement {
+        CheckedStatement::Let(name, expr) => {
+            emit_expr(code, script, names, expr, free, free)?;
+            names.push(Register::Variable(name.as_str()))?;
+            Ok(())
+        }
+        CheckedStatement::Set(name, expr) => {
+            let to = place_or(names, name.as_str(), free)?;
+            emit_expr(code, script, names, expr, to, free)
+        }
+        CheckedStatement::Print(expr) => {
+            let value = emit_operand(code, script, names, expr, free)?;
+            put(code, Instruction::Print(value))
+        }
+        CheckedStatement::Return(expr) => {
+            let value = emit_operand(code, script, names, expr, free)?;
+            put(code, Instruction::Return(value))
+        }
+        CheckedStatement::If(condition, first, second) => {
+            let condition = emit_operand(code, script, names, condition, free)?;
+            emit_choice(
+                code,
+                script,
+                names,
+                condition,
+                &first.statements,
+                &second.statements,
+            )
+        }
+        CheckedStatement::For(name, from, to, body) => {
+            emit_expr(code, script, names, from, free, free)?;
+            let second = following(free)?;
+            emit_expr(code, script, names, to, second, second)?;
+            emit_loop(code, script, names, name.as_str(), free, &body.statements)
+        }
+    }
+}
+
+/// A choice between two blocks.
+#[cycle(statements)]
+fn emit_choice<'a>(
+    code: &mut Vec<Instruction>,
+    script: &[CheckedFunction],
+    names: &mut Vec<Register<'a>>,
+    condition: Operand,
+    first: &'a [CheckedStatement],
+    second: &'a [CheckedStatement],
+) -> Result<(), AllocError>
+    ensures code { OnOk result (codes code.new.items ≡ codes code.old.items ++ if_code (given_of condition)
+        (block_code (script_of script.now) (names_of names.old.items) (statements_of first.now))
+        (block_code (script_of script.now) (names_of names.old.items) (statements_of second.now))) }
+    ensures names { OnOk result (names_of names.new.items ≡ names_of names.old.items) }
+{
+    let test = code.len();
+    put(code, Instruction::Wrong)?;
+    emit_block(code, script, names, first)?;
+    let skip = code.len();
+    put(code, Instruction::Wrong)?;
+    emit_block(code, script, names, second)?;
+    let end = code.len();
+    patch(code, test, Instruction::SkipZero(condition, skip - test));
+    patch(code, skip, Instruction::Skip(end - skip - 1));
+    Ok(())
+}
+
+/// A loop whose bounds stand in two registers.
+#[cycle(statements)]
+fn emit_loop<'a>(
+    code: &mut Vec<Instruction>,
+    script: &[CheckedFunction],
+    names: &mut Vec<Register<'a>>,
+    name: &'a str,
+    bounds: u32,
+    body: &'a [CheckedStatement],
+) -> Result<(), AllocError>
+    ensures code { OnOk result (codes code.new.items ≡ codes code.old.items ++ loop_code bounds
+        (block_code (script_of script.now) (loop_names (names_of names.old.items) name.now) (statements_of body.now))) }
+    ensures names { OnOk result (names_of names.new.items ≡ names_of names.old.items) }
+{
+    let outer = names.len();
+    push_loop_names(names, name)?;
+    let begin = code.len();
+    put(code, Instruction::Wrong)?;
+    emit_block(code, script, names, body)?;
+    names.truncate(outer);
+    let turn = code.len() - begin - 1;
+    put(code, Instruction::Again(bounds, turn))?;
+    patch(code, begin, Instruction::Begin(bounds, turn + 1));
+    Ok(())
+}
+
+/// The statements of a block, whose names go at its end.
+#[cycle(statements)]
+pub(crate) fn emit_block<'a>(
+    code: &mut Vec<Instruction>,
+    script: &[CheckedFunction],
+    names: &mut Vec<Register<'a>>,
+    statements: &'a [CheckedStatement],
+) -> Result<(), AllocError>
+    ensures code { OnOk result (codes code.new.items
+        ≡ codes code.old.items ++ block_code (script_of script.now) (names_of names.old.items) (statements_of statements.now)) }
+    ensures names { OnOk result (names_of names.new.items ≡ names_of names.old.items) }
+{
+    let outer = names.len();
+    for statement in statements {
+        emit_statement(code, script, names, statement)?;
+    }
+    names.truncate(outer);
+    Ok(())
+}

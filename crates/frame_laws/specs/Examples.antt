@@ -1,0 +1,67 @@
+-- Worked examples of code, and of what the machine does on it.
+use Rattle.std.specs.Prelude.{ℕ, zero, suc, ◌+◌, true, false, List, [], ◌∷◌, pos, codes, slice_get}
+use Rattle.meaning.specs.Values.{Value, Int, Named, Argument, Birth, Task, main_name}
+use Rattle.meaning.specs.Syntax.{Mul, Script}
+use Rattle.meaning.specs.Examples.{square, sq, object}
+use Rattle.frame_laws.specs.Instructions.{Instruction, Slot, Const, Load, Two, Spawn, Fetch, Show, Back, SkipZero, Wrong}
+use Rattle.frame_laws.specs.Compile.{number_of}
+use Rattle.frame_laws.specs.Machine.{State, Code, Act, Silent, Over, Asks, Bore, Shows, resume, goes_to, act}
+use Rattle.frame_laws.specs.Law.{code_of, entry_or, first_state}
+
+-- with the next of the given values in a register; with none left nothing more is seen
+abbrev pub takes : (State → List Value → List Act) → State → ℕ → List Value → List Act
+takes next now to [] = []
+takes next now to (v ∷ given) = next (resume now to v) given
+
+-- an act that is seen, and what follows it
+abbrev pub shown : (State → List Value → List Act) → State → Act → List Value → List Act
+shown next now (Silent there) given = next there given
+shown next now (Over c) given = Over c ∷ []
+shown next now (Shows v) given = Shows v ∷ next (goes_to now (now.pc + 1)) given
+shown next now (Bore b to) given = Bore b to ∷ takes next now to given
+shown next now (Asks r to) given = Asks r to ∷ takes next now to given
+
+-- what is seen of the machine in that many instructions, where each birth and each get takes the next of the given values
+abbrev pub seen : Code → ℕ → ℕ → State → List Value → List Act
+seen code limit zero now given = []
+seen code limit (suc n) now given = shown (seen code limit n) now (act code limit now) given
+
+-- a state with these registers at a place, and no call that waits
+abbrev pub standing : ℕ → List Value → State
+standing pc registers = record { pc = pc; base = 0; registers = registers; callers = [] }
+
+-- where main begins, which has no arguments
+abbrev pub main_state : Script → State
+main_state script = standing (entry_or 0 (slice_get (code_of script).entries (number_of script main_name 0))) []
+
+-- fn sq(x: int) -> int { return x * x; }: the first two instructions are a task's, which dereferences x where its mark is 1
+abbrev pub sq_code : List Instruction
+sq_code = SkipZero (Slot 1) 1 ∷ Fetch 0 (Slot 0) ∷ Two Mul 1 (Slot 0) (Slot 0) ∷ Back (Slot 1) ∷ Wrong ∷ []
+
+-- let r = remote sq(7); print get r; return 0;
+abbrev pub main_code : List Instruction
+main_code =
+    Load 0 (Const (pos 7)) ∷ Spawn 3 (codes "sq") (false ∷ []) 0 1 0 ∷ Fetch 1 (Slot 0) ∷ Show (Slot 1) ∷ Back (Const (pos 0)) ∷ Wrong ∷ []
+
+-- a reference that a run in pieces was given
+abbrev pub reference : Value
+reference = Named (object 1 1)
+
+-- where main stands once it bore the task, and needs what it returns
+abbrev pub at_the_get : State
+at_the_get = standing 7 (reference ∷ [])
+
+-- a task's one argument
+abbrev pub plain : Value → List Argument
+plain v = record { value = v; marked = false } ∷ []
+
+abbrev pub dereferenced : Value → List Argument
+dereferenced v = record { value = v; marked = true } ∷ []
+
+-- the first state of a task of sq
+abbrev pub squaring_state : List Argument → State
+squaring_state args = first_state square (codes "sq") sq args
+
+-- fn f(n: int) calls itself with n - 1, by turns plainly and remotely: the task of f(0) that f(1) bears, where f(2) called it plainly
+abbrev pub third : Birth
+third = Task (codes "f") (plain (Int (pos 0))) 3 3

@@ -1,0 +1,15 @@
+pub mod Tame
+pub mod Moves
+pub mod Follows
+pub mod Nodes
+pub mod Theres
+pub mod Heres
+pub mod Own
+pub mod Events
+pub mod Opening
+pub mod Laws
+pub mod Told
+pub mod Turns
+pub mod TurnEvents
+pub mod SlotLaw
+pub mod Judged

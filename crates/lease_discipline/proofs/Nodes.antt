@@ -1,0 +1,392 @@
+-- What a node does keeps its leases in order.
+use Rattle.std.proofs.Common.{◌≡◌, ◌≢◌, ℕ, List, [], ◌∷◌, ◌++◌, Some, Option, refl, ap, sym, subst, ◌∙◌, ◌⊎◌, inl, inr, arith}
+use Rattle.std.specs.Prelude.{Bool, true, false, if◌then◌else◌, not, min, ◌==◌, ◌&&◌, ◌||◌, nat_lt}
+use Rattle.std.specs.List.{list_any}
+use Rattle.std.proofs.lemmas.Bool.Decides.{nat_tests}
+use Rattle.sequence.proofs.Places.{list_any-push_cases, list_any-push_left, list_any-push_right, or_cases, or_left, or_right, and_left, and_right}
+use Rattle.meaning.proofs.BirthLaws.{at_test}
+use Rattle.event_log.specs.Entries.{Attempt}
+use Rattle.event_log.specs.Words.{same_attempt}
+use Rattle.event_log.proofs.WordLaws.{same_attempt-true, same_attempt-refl}
+use Rattle.protocol.specs.Sets.{first_item, has, least, least_from, rest_of, with_number, without_number}
+use Rattle.protocol.specs.Messages.{Letter}
+use Rattle.protocol.specs.Nodes.{AskKey, Lease, Leased, Reply, Scheduler}
+use Rattle.protocol.specs.Slots.{is_latest_lease, may_be_idle, reply_to, same_key, slot_taken, with_answered, with_idle, with_lease, with_reply}
+use Rattle.protocol.specs.Slots.{without_lease, without_slot, without_worker}
+use Rattle.protocol.specs.Runs.{is_free}
+use Rattle.protocol.specs.Tables.{Worker}
+use Rattle.protocol_owed.specs.Courses.{has_begun}
+use Rattle.protocol_owed.proofs.Asks.{reply-same, reply-other, same_key-true}
+use Rattle.lease_discipline.specs.Discipline.{Look, Gave, IsDone, IsIdle, IsLeasedFor, IsPromised, NodeKeeps}
+use Rattle.lease_discipline.proofs.Tame.{same_number}
+use Rattle.lease_discipline.proofs.Follows.{is_false, not_both, never_busy, free_unless_busy, More, gave_more}
+
+-- ---- sets of numbers
+
+pub equal_number : (n : ℕ) → (n == n) ≡ true
+equal_number n = grind (arith, nat_tests)
+
+has-left : (xs : List ℕ) (w v : ℕ) → has (without_number xs w) v ≡ true → has xs v ≡ true
+has-left [] w v e = e
+has-left (x ∷ xs) w v e =
+    at_test (λ b. has (if not b then x ∷ without_number xs w else without_number xs w) v ≡ true → has (x ∷ xs) v ≡ true) (x == w)
+    (λ _ f. or_right (x == v) (has xs v) (has-left xs w v f))
+    (λ _ f. elim (or_cases (x == v) (has (without_number xs w) v) f) [
+      | inl g ↦ or_left (x == v) (has xs v) g
+      | inr g ↦ or_right (x == v) (has xs v)
+          (has-left xs w v g)
+    ]) e
+
+pub has-gone : (xs : List ℕ) (w : ℕ) → has (without_number xs w) w ≡ false
+has-gone [] w = refl
+has-gone (x ∷ xs) w =
+    at_test (λ b. (x == w) ≡ b → has (if not b then x ∷ without_number xs w else without_number xs w) w ≡ false) (x == w)
+    (λ _ _. has-gone xs w) (λ _ e. ap (λ b. b || has (without_number xs w) w) e ∙ has-gone xs w) refl
+
+pub has-stays : (xs : List ℕ) (w v : ℕ) → w ≢ v → has xs v ≡ true → has (without_number xs w) v ≡ true
+has-stays [] w v apart e = e
+has-stays (x ∷ xs) w v apart e =
+    at_test (λ b. (x == w) ≡ b → has (if not b then x ∷ without_number xs w else without_number xs w) v ≡ true) (x == w)
+    (λ _ f. elim (or_cases (x == v) (has xs v) e) [
+      | inl g ↦ absurd (apart (sym (same_number x w f) ∙ same_number x v g))
+      | inr g ↦ has-stays xs w v apart g
+    ])
+    (λ _ f. elim (or_cases (x == v) (has xs v) e) [ inl g ↦ or_left (x == v) _ g | inr g ↦ or_right (x == v) _ (has-stays xs w v apart g) ]) refl
+
+has-push : (xs : List ℕ) (w v : ℕ) → has (xs ++ w ∷ []) v ≡ true → (has xs v ≡ true) ⊎ (w ≡ v)
+has-push xs w v e = elim (list_any-push_cases (λ y. y == v) xs w e) [ inl f ↦ inl f | inr f ↦ inr (same_number w v f) ]
+
+has_not-push : (xs : List ℕ) (w v : ℕ) → has xs v ≡ false → w ≢ v → has (xs ++ w ∷ []) v ≡ false
+has_not-push xs w v e apart = is_false _ (λ f. elim (has-push xs w v f) [ inl g ↦ not_both _ g e | inr g ↦ apart g ])
+
+pub has-last : (xs : List ℕ) (w : ℕ) → has (xs ++ w ∷ []) w ≡ true
+has-last xs w = list_any-push_right (λ y. y == w) xs w (equal_number w)
+
+has-idle : (xs : List ℕ) (w v : ℕ) → has (with_number xs w) v ≡ true → (has xs v ≡ true) ⊎ (w ≡ v)
+has-idle xs w v e = at_test (λ b. has (if b then xs else xs ++ w ∷ []) v ≡ true → (has xs v ≡ true) ⊎ (w ≡ v)) (has xs w) (λ _ f. inl f)
+    (λ _ f. has-push xs w v f) e
+
+pub has-first : (xs : List ℕ) (w : ℕ) → first_item xs ≡ Some w → has xs w ≡ true
+has-first [] w e = absurd (cc)
+has-first (x ∷ xs) w e = let f : x ≡ w = cc in or_left (x == w) (has xs w) (ap (λ y. y == w) f ∙ equal_number w)
+
+has-rest : (xs : List ℕ) (v : ℕ) → has (rest_of xs) v ≡ true → has xs v ≡ true
+has-rest [] v e = e
+has-rest (x ∷ xs) v e = or_right (x == v) (has xs v) e
+
+least_from-in : (x : ℕ) (xs : List ℕ) → has (x ∷ xs) (least_from x xs) ≡ true
+least_from-in x [] = or_left (x == x) false (equal_number x)
+least_from-in x (y ∷ ys) =
+    let e = least_from-in (min x y) ys in
+    elim (or_cases (min x y == least_from (min x y) ys) (has ys (least_from (min x y) ys)) e) [
+      | inl f ↦ elim (smaller x y) [
+        | inl i ↦ or_left (x == least_from (min x y) ys) _ (ap (λ j. j == least_from (min x y) ys) (sym i) ∙ f)
+        | inr i ↦ or_right (x == least_from (min x y) ys) _ (or_left (y == least_from (min x y) ys) _ (ap (λ j. j == least_from (min x y) ys) (sym i) ∙ f))
+      ]
+      | inr f ↦ or_right (x == least_from (min x y) ys) _ (or_right (y == least_from (min x y) ys) _ f)
+    ]
+  where
+    smaller : (x y : ℕ) → (min x y ≡ x) ⊎ (min x y ≡ y)
+    smaller x y =
+        at_test (λ b. nat_lt x y ≡ b → (min x y ≡ x) ⊎ (min x y ≡ y)) (nat_lt x y)
+        (λ _ e. inl (grind (arith, nat_tests))) (λ _ e. inr (grind (arith, nat_tests))) refl
+
+pub least-in : (xs : List ℕ) (w : ℕ) → least xs ≡ Some w → has xs w ≡ true
+least-in [] w e = absurd (cc)
+least-in (x ∷ xs) w e = let f : least_from x xs ≡ w = cc in subst (λ v. has (x ∷ xs) v ≡ true) f (least_from-in x xs)
+
+-- ---- leases
+
+abbrev lease_in : List Lease → ℕ → Attempt → Bool
+lease_in ls w a = list_any (λ l. (l.worker == w) && same_attempt l.attempt a) ls
+
+lease-left : (ls : List Lease) (w v : ℕ) (a : Attempt) → lease_in (without_lease w ls) v a ≡ true → lease_in ls v a ≡ true
+lease-left [] w v a e = e
+lease-left (l ∷ ls) w v a e =
+    let this : Bool = (l.worker == v) && same_attempt l.attempt a in
+    at_test (λ b. lease_in (if not b then l ∷ without_lease w ls else without_lease w ls) v a ≡ true → lease_in (l ∷ ls) v a ≡ true) (l.worker == w)
+    (λ _ f. or_right this (lease_in ls v a) (lease-left ls w v a f))
+    (λ _ f. elim (or_cases this (lease_in (without_lease w ls) v a) f) [ inl g ↦ or_left this _ g | inr g ↦ or_right this _ (lease-left ls w v a g) ]) e
+
+lease-gone : (ls : List Lease) (w : ℕ) (a : Attempt) → lease_in (without_lease w ls) w a ≡ true → ⊥
+lease-gone [] w a e = absurd (cc)
+lease-gone (l ∷ ls) w a e =
+    let this : Bool = (l.worker == w) && same_attempt l.attempt a in
+    at_test (λ b. (l.worker == w) ≡ b → lease_in (if not b then l ∷ without_lease w ls else without_lease w ls) w a ≡ true → ⊥) (l.worker == w)
+    (λ _ _ f. lease-gone ls w a f)
+    (λ _ g f. elim (or_cases this (lease_in (without_lease w ls) w a) f) [
+      | inl h ↦ not_both (l.worker == w) (and_left (l.worker == w) (same_attempt l.attempt a) h) g
+      | inr h ↦ lease-gone ls w a h
+    ]) refl e
+
+lease-stays : (ls : List Lease) (w v : ℕ) (a : Attempt) → w ≢ v → lease_in ls v a ≡ true → lease_in (without_lease w ls) v a ≡ true
+lease-stays [] w v a apart e = e
+lease-stays (l ∷ ls) w v a apart e =
+    let this : Bool = (l.worker == v) && same_attempt l.attempt a in
+    at_test (λ b. (l.worker == w) ≡ b → lease_in (if not b then l ∷ without_lease w ls else without_lease w ls) v a ≡ true) (l.worker == w)
+    (λ _ f. elim (or_cases this (lease_in ls v a) e) [
+      | inl g ↦ absurd (apart (sym (same_number l.worker w f) ∙ same_number l.worker v (and_left (l.worker == v) (same_attempt l.attempt a) g)))
+      | inr g ↦ lease-stays ls w v a apart g
+    ])
+    (λ _ f. elim (or_cases this (lease_in ls v a) e) [ inl g ↦ or_left this _ g | inr g ↦ or_right this _ (lease-stays ls w v a apart g) ]) refl
+
+-- ---- what a scheduler may come to be
+
+-- a live worker of the node that was given for an attempt which it never began
+pub record IsWanted (look : Look) (sent : List Letter) (n w : ℕ) (a : Attempt) : Type 0 where
+  pub worker : Worker
+  pub there : look w ≡ Some worker
+  pub lives : worker.is_live ≡ true
+  pub given : Gave sent n a w
+  pub unbegun : has_begun a worker.began ≡ false
+
+abbrev pub IsUnwanted : Look → List Letter → ℕ → ℕ → Type 0
+IsUnwanted look sent n w = (a : Attempt) → IsWanted look sent n w a → ⊥
+
+-- s becomes t: no worker is newly idle or leased, no idle one gets a slot or asks for one, and none that is wanted loses its slot or its lease
+pub record Lessens (look : Look) (sent : List Letter) (n : ℕ) (s t : Scheduler) : Type 0 where
+  pub idle : (w : ℕ) → has t.idle w ≡ true → has s.idle w ≡ true
+  pub slotless : (w : ℕ) → has t.idle w ≡ true → has s.holders w ≡ false → has s.answered w ≡ false → (has t.holders w ≡ false) × (has t.answered w ≡ false)
+  pub slots : (w : ℕ) (a : Attempt) → IsWanted look sent n w a → has s.holders w ≡ true → has t.holders w ≡ true
+  pub leases : (w : ℕ) (a : Attempt) → is_latest_lease t w a ≡ true → is_latest_lease s w a ≡ true
+  pub leased : (w : ℕ) (a : Attempt) → IsWanted look sent n w a → is_latest_lease s w a ≡ true → is_latest_lease t w a ≡ true
+  pub replied : (k : AskKey) (w : ℕ) → reply_to t k ≡ Some (Leased w) → reply_to s k ≡ Some (Leased w)
+
+module _ (look : Look) (sent : List Letter) (n : ℕ) where
+  pub lessened : (s t : Scheduler) → Lessens look sent n s t → NodeKeeps look sent n s → NodeKeeps look sent n t
+  lessened s t l k = record {
+    idle = λ w e.
+        let i = k.idle w (l.idle w e) in
+        let none = l.slotless w e i.slotless i.unanswered in
+        record { worker = i.worker; there = i.there; home = i.home; free = i.free; slotless = none.0; unanswered = none.1 };
+    promised = λ w x a at live given unbegun.
+        let p = k.promised w x a at live given unbegun in
+        let wanted : IsWanted look sent n w a = record { worker = x; there = at; lives = live; given = given; unbegun = unbegun } in
+        record { free = p.free; leased = l.leased w a wanted p.leased; sole = λ b e. p.sole b (l.leases w b e); slot = l.slots w a wanted p.slot };
+    busy = λ w x run at home e over b f. k.busy w x run at home e over b (l.leases w b f);
+    replied = λ key w e. k.replied key w (l.replied key w e);
+  }
+
+  -- the queue has changed
+  pub queue_lessens : (s : Scheduler) (queue : List AskKey) → Lessens look sent n s (record s { queue = queue })
+  queue_lessens s queue = record {
+    idle = λ w e. e;
+    slotless = λ w e f g. (f, g);
+    slots = λ w a _ e. e;
+    leases = λ w a e. e;
+    leased = λ w a _ e. e;
+    replied = λ k w e. e;
+  }
+
+  -- another answer than a worker was given
+  pub reply_lessens : (s : Scheduler) (k : AskKey) (x : Reply) → ((w : ℕ) → x ≡ Leased w → ⊥) → Lessens look sent n s (with_reply s k x)
+  reply_lessens s k x other = record {
+    idle = λ w e. e;
+    slotless = λ w e f g. (f, g);
+    slots = λ w a _ e. e;
+    leases = λ w a e. e;
+    leased = λ w a _ e. e;
+    replied = λ j w e.
+        at_test (λ b. same_key k j ≡ b → reply_to s j ≡ Some (Leased w)) (same_key k j)
+        (λ _ f.
+        let g : ◌≡◌ {A = Option Reply} (Some x) (Some (Leased w)) = sym (reply-same s.asks k x) ∙ ap (reply_to (with_reply s k x)) (same_key-true k j f) ∙ e in
+        absurd (other w (let h : x ≡ Leased w = cc in h)))
+        (λ _ f. sym (reply-other s.asks k j x f) ∙ e) refl;
+  }
+
+  -- the first that asks for a slot has one
+  pub taken_lessens : (s : Scheduler) (w : ℕ) → first_item s.answered ≡ Some w → NodeKeeps look sent n s → Lessens look sent n s (slot_taken s w)
+  taken_lessens s w first k = record {
+    idle = λ v e. e;
+    slotless = λ v e f g. (
+      has_not-push s.holders w v f (λ same. not_both (has s.answered v) (ap (has s.answered) (sym same) ∙ has-first s.answered w first) g),
+      is_false _ (λ h. not_both _ (has-rest s.answered v h) g),
+    );
+    slots = λ v a _ e. list_any-push_left (λ y. y == v) s.holders w e;
+    leases = λ v a e. e;
+    leased = λ v a _ e. e;
+    replied = λ key v e. e;
+  }
+
+  -- a worker that isn't wanted loses its slot
+  pub slot_lessens : (s : Scheduler) (w : ℕ) → IsUnwanted look sent n w → Lessens look sent n s (without_slot s w)
+  slot_lessens s w unwanted = record {
+    idle = λ v e. e;
+    slotless = λ v e f g. (is_false _ (λ h. not_both _ (has-left s.holders w v h) f), g);
+    slots = λ v a wanted e. has-stays s.holders w v (λ same. unwanted a (subst (λ u. IsWanted look sent n u a) (sym same) wanted)) e;
+    leases = λ v a e. e;
+    leased = λ v a _ e. e;
+    replied = λ key v e. e;
+  }
+
+  -- a worker asks for a slot
+  pub answered_lessens : (s : Scheduler) (w : ℕ) → Lessens look sent n s (with_answered s w)
+  answered_lessens s w = record {
+    idle = λ v e. has-left s.idle w v e;
+    slotless = λ v e f g. (f, has_not-push s.answered w v g (λ same. not_both _ e (ap (has (without_number s.idle w)) (sym same) ∙ has-gone s.idle w)));
+    slots = λ v a _ e. e;
+    leases = λ v a e. e;
+    leased = λ v a _ e. e;
+    replied = λ key v e. e;
+  }
+
+  -- a worker that isn't wanted is forgotten, but for its slot
+  pub worker_lessens : (s : Scheduler) (w : ℕ) → IsUnwanted look sent n w → Lessens look sent n s (without_worker s w)
+  worker_lessens s w unwanted = record {
+    idle = λ v e. has-left s.idle w v e;
+    slotless = λ v e f g. (f, is_false _ (λ h. not_both _ (has-left s.answered w v h) g));
+    slots = λ v a _ e. e;
+    leases = λ v a e. lease-left s.leases w v a e;
+    leased = λ v a wanted e. lease-stays s.leases w v a (λ same. unwanted a (subst (λ u. IsWanted look sent n u a) (sym same) wanted)) e;
+    replied = λ key v e. e;
+  }
+
+  -- ---- Back
+
+  slotless_now : (s : Scheduler) (w : ℕ) (a : Attempt) → may_be_idle s w a ≡ true →
+      (is_latest_lease s w a ≡ true) × (has s.holders w ≡ false) × (has s.answered w ≡ false)
+  slotless_now s w a e =
+      let b = and_left (is_latest_lease s w a && not (has s.holders w)) (not (has s.answered w)) e in (
+        and_left (is_latest_lease s w a) (not (has s.holders w)) b,
+        negated _ (and_right (is_latest_lease s w a) (not (has s.holders w)) b),
+        negated _ (and_right (is_latest_lease s w a && not (has s.holders w)) (not (has s.answered w)) e),
+      )
+    where
+      negated : (b : Bool) → not b ≡ true → b ≡ false
+      negated true e = absurd (cc)
+      negated false e = refl
+
+  -- a worker of the node whose latest lease is over is idle
+  pub back_keeps : (s : Scheduler) (w : ℕ) (a : Attempt) (d : IsDone look w a) → d.worker.node ≡ n → may_be_idle s w a ≡ true → NodeKeeps look sent n s →
+      NodeKeeps look sent n (with_idle s w)
+  back_keeps s w a d home e k =
+      let now = slotless_now s w a e in
+      record {
+        idle = λ v f. elim (has-idle s.idle w v f) [
+          | inl g ↦ let i = k.idle v g in record {
+            worker = i.worker;
+            there = i.there;
+            home = i.home;
+            free = i.free;
+            slotless = i.slotless;
+            unanswered = i.unanswered;
+          }
+          | inr g ↦ subst (λ u. IsIdle look n (with_idle s w) u) g (record {
+            worker = d.worker;
+            there = d.there;
+            home = home;
+            free = free_unless_busy d.worker (λ run at over.
+                let same : a ≡ run.attempt = k.busy w d.worker run d.there home at over a now.0 in
+                not_both run.is_over (d.done.over run at (sym same)) over);
+            slotless = now.1;
+            unanswered = now.2;
+          })
+        ];
+        promised = λ v x b at live given unbegun. let p = k.promised v x b at live given unbegun in
+            record { free = p.free; leased = p.leased; sole = p.sole; slot = p.slot };
+        busy = k.busy;
+        replied = k.replied;
+      }
+
+  -- ---- a worker is given
+
+  -- the node's free worker that isn't wanted is leased to the attempt, and its owner is told
+  module _ (t : List Letter) (s : Scheduler) (k : AskKey) (w : ℕ) (x : Worker) (more : More sent t) (given : Gave t n k.attempt w)
+      (which : (a : Attempt) (v : ℕ) → Gave t n a v → Gave sent n a v ⊎ ((a ≡ k.attempt) × (v ≡ w)))
+      (at : look w ≡ Some x) (free : is_free x.run ≡ true) (unwanted : IsUnwanted look sent n w) (keeps : NodeKeeps look sent n s) where
+    abbrev next : Scheduler
+    next = with_reply (with_lease s w k.attempt) k (Leased w)
+
+    lease-cases : (v : ℕ) (b : Attempt) → is_latest_lease next v b ≡ true → (is_latest_lease s v b ≡ true) ⊎ ((v ≡ w) × (b ≡ k.attempt))
+    lease-cases v b e = elim (list_any-push_cases (λ (l : Lease). (l.worker == v) && same_attempt l.attempt b) (without_lease w s.leases)
+        (record { worker = w; attempt = k.attempt }) e) [
+          | inl f ↦ inl (lease-left s.leases w v b f)
+          | inr f ↦ inr (
+            sym (same_number w v (and_left (w == v) (same_attempt k.attempt b) f)),
+            sym
+                (same_attempt-true k.attempt b (and_right (w == v) (same_attempt k.attempt b) f)),
+          )
+        ]
+
+    -- its lease is the new one
+    sole : IsLeasedFor next w k.attempt
+    sole b e = elim (list_any-push_cases (λ (l : Lease). (l.worker == w) && same_attempt l.attempt b) (without_lease w s.leases)
+        (record { worker = w; attempt = k.attempt }) e) [
+          | inl f ↦ absurd (lease-gone s.leases w b f)
+          | inr f ↦ sym (same_attempt-true k.attempt b (and_right (w == w) (same_attempt k.attempt b) f))
+        ]
+
+    both : (b c : Bool) → b ≡ true → c ≡ true → (b && c) ≡ true
+    both true true e f = refl
+    both true false e f = f
+    both false c e f = e
+
+    leased : is_latest_lease next w k.attempt ≡ true
+    leased =
+        list_any-push_right (λ (l : Lease). (l.worker == w) && same_attempt l.attempt k.attempt) (without_lease w s.leases)
+        (record { worker = w; attempt = k.attempt })
+        (both (w == w) (same_attempt k.attempt k.attempt) (equal_number w) (same_attempt-refl k.attempt))
+
+    now : (y : Worker) (a : Attempt) → look w ≡ Some y → y.is_live ≡ true → Gave t n a w → has_begun a y.began ≡ false → IsPromised next w y a
+    now y a there live gave unbegun = elim (which a w gave) [
+      | inl old ↦ absurd (unwanted a (record { worker = y; there = there; lives = live; given = old; unbegun = unbegun }))
+      | inr (same, _) ↦
+          let is : ◌≡◌ {A = Option Worker} (Some x) (Some y) = sym at ∙ there in
+          let j : x ≡ y = cc in
+          subst (λ b. IsPromised next w y b) (sym same) (record {
+            free = subst (λ (z : Worker). is_free z.run ≡ true) j free;
+            leased = leased;
+            sole = sole;
+            slot = has-last s.holders w;
+          })
+    ]
+
+    before : (v : ℕ) (y : Worker) (a : Attempt) → w ≢ v → look v ≡ Some y → y.is_live ≡ true → Gave t n a v → has_begun a y.began ≡ false →
+        IsPromised next v y a
+    before v y a apart there live gave unbegun = elim (which a v gave) [
+      | inl old ↦
+          let p = keeps.promised v y a there live old unbegun in
+          record {
+            free = p.free;
+            leased = list_any-push_left (λ (l : Lease). (l.worker == v) && same_attempt l.attempt a) (without_lease w s.leases)
+                (record { worker = w; attempt = k.attempt }) (lease-stays s.leases w v a apart p.leased);
+            sole = λ b e. elim (lease-cases v b e) [ inl f ↦ p.sole b f | inr (f, _) ↦ absurd (apart (sym f)) ];
+            slot = list_any-push_left (λ u. u == v) s.holders w p.slot;
+          }
+      | inr (_, same) ↦ absurd (apart (sym same))
+    ]
+
+    pub gives_keeps : NodeKeeps look t n next
+    gives_keeps = record {
+      idle = λ v e.
+          let i = keeps.idle v (has-left s.idle w v e) in
+          record {
+            worker = i.worker;
+            there = i.there;
+            home = i.home;
+            free = i.free;
+            slotless = has_not-push s.holders w v i.slotless (λ same. not_both _ e (ap (has (without_number s.idle w)) (sym same) ∙ has-gone s.idle w));
+            unanswered = i.unanswered;
+          };
+      promised = λ v y a there live gave unbegun.
+          at_test (λ b. (w == v) ≡ b → IsPromised next v y a) (w == v)
+          (λ _ f. subst (λ u. IsPromised next u y a) (same_number w v f)
+          (now y a (subst (λ u. look u ≡ Some y) (sym (same_number w v f)) there) live (subst (λ u. Gave t n a u) (sym (same_number w v f)) gave) unbegun))
+          (λ _ f. before v y a (λ same. not_both (w == v) (ap (λ u. w == u) (sym same) ∙ equal_number w) f) there live gave unbegun) refl;
+      busy = λ v y run there home e over b f. elim (lease-cases v b f) [
+        | inl g ↦ keeps.busy v y run there home e over b g
+        | inr (g, same) ↦
+            let i : look w ≡ Some y = subst (λ u. look u ≡ Some y) g there in
+            let is : ◌≡◌ {A = Option Worker} (Some x) (Some y) = sym at ∙ i in
+            let j : x ≡ y = cc in
+            absurd (never_busy y run (subst (λ (z : Worker). is_free z.run ≡ true) j free) e over)
+      ];
+      replied = λ j v e.
+          at_test (λ b. same_key k j ≡ b → Gave t n j.attempt v) (same_key k j)
+          (λ _ f.
+          let g : ◌≡◌ {A = Option Reply} (Some (Leased w)) (Some (Leased v)) =
+          sym (reply-same s.asks k (Leased w)) ∙ ap (reply_to next) (same_key-true k j f) ∙ e in
+          let h : w ≡ v = cc in
+          subst (λ u. Gave t n j.attempt u) h (subst (λ (i : AskKey). Gave t n i.attempt w) (same_key-true k j f) given))
+          (λ _ f. gave_more sent t n j.attempt v more (keeps.replied j v (sym (reply-other s.asks k j (Leased w) f) ∙ e))) refl;
+    }

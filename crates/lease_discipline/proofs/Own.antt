@@ -1,0 +1,405 @@
+-- How an attempt begins at its worker, is given out and is committed: the leases of its node stay in order.
+use Rattle.std.proofs.Common.{◌≡◌, ◌≢◌, ℕ, ◌+◌, List, length, Some, None, Option, refl, ap, sym, subst, ◌∙◌, ◌⊎◌, inl, inr}
+use Rattle.std.specs.Prelude.{Bool, true, false, if◌then◌else◌, not, ◌&&◌}
+use Rattle.sequence.proofs.Places.{and_right, list_any-push_cases, list_any-push_left, list_any-push_right}
+use Rattle.meaning.proofs.BirthLaws.{at_test}
+use Rattle.meaning.specs.Values.{Birth, Id, Outcome}
+use Rattle.values.specs.Listed.{each_once, ids_in_outcome}
+use Rattle.event_log.specs.Entries.{Attempt, Entry}
+use Rattle.event_log.specs.Words.{same_attempt}
+use Rattle.event_log.specs.Breaks.{Among}
+use Rattle.event_log.specs.Commits.{commit_entries}
+use Rattle.event_log.proofs.WordLaws.{same_attempt-true, same_attempt-refl}
+use Rattle.protocol.specs.Numbered.{item_at}
+use Rattle.protocol.specs.Sets.{has}
+use Rattle.protocol.specs.Messages.{Letter, letter, Message, Party, TheWorker, TheNode, Push}
+use Rattle.protocol.specs.Jobs.{AtEnd, AtGet, Outcomes, Stopped, stop_of}
+use Rattle.protocol.specs.Stores.{with_primary}
+use Rattle.protocol.specs.Nodes.{posts}
+use Rattle.protocol.specs.Tables.{Fetching, HasEnded, HasFaulted, Out, Phase, Ready, Run, Waits, Worker, has_stopped, new_run}
+use Rattle.protocol.specs.Steps.{Here, logs_all, own_id, store_here, with_phase, with_run, with_store}
+use Rattle.protocol.specs.Runs.{begins_run, is_free, leaves_if_free, push_reached}
+use Rattle.protocol.specs.Holders.{holds_ids}
+use Rattle.protocol.specs.Commits.{bears_all, claim_by, claim_step, commit_by, commit_step, ends, next_id_here, stops_by, with_outcomes}
+use Rattle.protocol.specs.Refusals.{is_ready_phase, is_ready_run}
+use Rattle.protocol.specs.Whole.{Whole}
+use Rattle.protocol_owed.specs.Courses.{GoesOn, HasStopped, Rests, has_begun}
+use Rattle.protocol_owed.proofs.FullNodes.{changed-length}
+use Rattle.protocol_owed.proofs.RunMoves.{pace_in_phase}
+use Rattle.protocol_owed.proofs.Telling.{pace_in_run}
+use Rattle.lease_discipline.specs.Discipline.{Look, Gave, IsBegunBy, IsDoneAt, IsJobOf, IsLeasedFor, IsOfNode, IsPromised, IsPushed, NodeKeeps, WorkerKeeps}
+use Rattle.lease_discipline.proofs.Follows.{Grows, is_false, not_both, true_more}
+use Rattle.lease_discipline.proofs.Moves.{IsKept, bears_all-kept, holds_ids-kept, leaves_if_free-kept, needs-kept}
+use Rattle.lease_discipline.proofs.Nodes.{IsUnwanted}
+use Rattle.lease_discipline.proofs.Theres.{letter_cases}
+use Rattle.lease_discipline.proofs.Heres.{Does, IsToldBy, IsOverOf, IsGivenBy, at_me, at_other, busy_unwanted, by_number, does_kept, frees_does, logs_does}
+use Rattle.lease_discipline.proofs.Heres.{look_here, look_with, mine, run_does, sent_here}
+use Rattle.lease_discipline.proofs.Heres.{stopped_pace, was_sent}
+
+stopped_not : HasStopped ≡ GoesOn → ⊥
+stopped_not e = absurd (cc)
+
+rests_not : Rests ≡ GoesOn → ⊥
+rests_not e = absurd (cc)
+
+rests_not_stopped : Rests ≡ HasStopped → ⊥
+rests_not_stopped e = absurd (cc)
+
+ready_out : (j : ℕ) → Ready ≡ Out j → ⊥
+ready_out j e = absurd (cc)
+
+waits_out : (y : Id) (f : Option Fetching) (j : ℕ) → Waits y f ≡ Out j → ⊥
+waits_out y f j e = absurd (cc)
+
+ended_out : (c : Outcome) (j : ℕ) → HasEnded c ≡ Out j → ⊥
+ended_out c j e = absurd (cc)
+
+pub ready_goes : (p : Phase) → is_ready_phase p ≡ true → has_stopped p ≡ true → ⊥
+ready_goes Ready e f = absurd (cc)
+ready_goes (Out j) e f = absurd (cc)
+ready_goes (Waits y g) e f = absurd (cc)
+ready_goes (HasEnded c) e f = absurd (cc)
+ready_goes (HasFaulted g) e f = absurd (cc)
+
+module _ (c : Whole) (me n : ℕ) (old : Worker) (there : item_at c.workers me ≡ Some old) where
+  abbrev Here_does : Here → Type 0
+  Here_does = Does c me n old there
+
+  abbrev Kept : (Here → Type 0) → Type 0
+  Kept P = IsKept (IsToldBy c me n old there) (IsOverOf c me n old there) (IsGivenBy c me n old there) P
+
+  kept : Kept Here_does
+  kept = does_kept c me n old there
+
+  -- ---- a Push that begins an attempt
+
+  module _ (h : Here) (a : Attempt) (spec : Birth) (d : Here_does h) (live : h.worker.is_live ≡ true) (u : ℕ)
+      (came : Among (letter (TheWorker u) (TheWorker me) (Push a spec)) c.network) (new : has_begun a h.worker.began ≡ false) where
+    abbrev x : Worker
+    x = h.worker
+
+    abbrev next : Worker
+    next = (begins_run h a spec).worker
+
+    abbrev opened : ℕ
+    opened = h.there.opened
+
+    abbrev look : Look
+    look = look_with c me n old there x opened
+
+    abbrev look_next : Look
+    look_next = look_with c me n old there next opened
+
+    abbrev sent : List Letter
+    sent = sent_here c me n old there h
+
+    x_there : look me ≡ Some x
+    x_there = at_me c me n old there x opened
+
+    next_there : look_next me ≡ Some next
+    next_there = at_me c me n old there next opened
+
+    elsewhere : (w : ℕ) → w ≢ me → look_next w ≡ look w
+    elsewhere w apart = at_other c me n old there x next opened w apart
+
+    is_next : (w : ℕ) (z : Worker) → w ≡ me → look_next w ≡ Some z → next ≡ z
+    is_next w z same e = let g : ◌≡◌ {A = Option Worker} (Some next) (Some z) = sym next_there ∙ subst (λ v. look_next v ≡ Some z) same e in cc
+
+    is_x : (w : ℕ) (z : Worker) → w ≡ me → look w ≡ Some z → x ≡ z
+    is_x w z same e = let g : ◌≡◌ {A = Option Worker} (Some x) (Some z) = sym x_there ∙ subst (λ v. look v ≡ Some z) same e in cc
+
+    pushed : IsPushed sent (TheWorker u) me a
+    pushed = d.goes.workers.letters (letter (TheWorker u) (TheWorker me) (Push a spec))
+        (was_sent c me n old there h (letter (TheWorker u) (TheWorker me) (Push a spec)) came)
+
+    -- the node that gave it is its own
+    given_here : Gave sent n a me
+    given_here =
+        let gave : Gave sent pushed.node a me = pushed.given in
+        let i : IsOfNode look pushed.node me = d.goes.workers.letters _ gave.1 in
+        let is : x ≡ i.worker = is_x me i.worker refl i.there in
+        subst (λ m. Gave sent m a me) (sym i.home ∙ ap (λ (z : Worker). z.node) (sym is) ∙ d.home) gave
+
+    promise : IsPromised h.there.node.scheduler me x a
+    promise = d.goes.there.promised me x a x_there live given_here new
+
+    begun_cases : (b : Attempt) → has_begun b next.began ≡ true → (has_begun b x.began ≡ true) ⊎ (a ≡ b)
+    begun_cases b e = elim (list_any-push_cases (λ i. same_attempt i b) x.began a e) [ inl f ↦ inl f | inr f ↦ inr (same_attempt-true a b f) ]
+
+    begun_still : (b : Attempt) → has_begun b x.began ≡ true → has_begun b next.began ≡ true
+    begun_still b e = list_any-push_left (λ i. same_attempt i b) x.began a e
+
+    begun_now : has_begun a next.began ≡ true
+    begun_now = list_any-push_right (λ i. same_attempt i a) x.began a (same_attempt-refl a)
+
+    next_keeps : WorkerKeeps c.jobs sent me next
+    next_keeps =
+        let k = mine c me n old there h d in
+        record {
+          began = λ b e. elim (begun_cases b e) [
+            | inl f ↦ k.began b f
+            | inr same ↦ subst (λ i. IsBegunBy sent me i) same (inr (u, spec, was_sent c me n old there h _ came))
+          ];
+          present = λ r e. let is : new_run a spec (own_id h (length x.objects + 1)) ≡ r = cc in
+              subst (λ (q : Run). has_begun q.attempt next.began ≡ true) is begun_now;
+          stopped = λ r e o. let is : new_run a spec (own_id h (length x.objects + 1)) ≡ r = cc in
+              absurd (not_both r.is_over o (ap (λ (q : Run). q.is_over) (sym is)));
+          out = λ r j e o. let is : new_run a spec (own_id h (length x.objects + 1)) ≡ r = cc in absurd (ready_out j (ap (λ (q : Run). q.phase) is ∙ o));
+          runs = k.runs;
+        }
+
+    done_still : (b : Attempt) → IsDoneAt b x → IsDoneAt b next
+    done_still b i = record {
+      listed = begun_still b i.listed;
+      over = λ r e same.
+          let is : new_run a spec (own_id h (length x.objects + 1)) ≡ r = cc in
+          let this : a ≡ b = ap (λ (q : Run). q.attempt) is ∙ same in
+          absurd (not_both (has_begun a x.began) (ap (λ j. has_begun j x.began) this ∙ i.listed) new);
+    }
+
+    grows : Grows look look_next
+    grows w z e = elim (by_number w me) [
+      | inl same ↦
+          let is : x ≡ z = is_x w z same e in (
+            next,
+            subst (λ v. look_next v ≡ Some next) (sym same) next_there,
+            ap (λ (y : Worker). y.node) is,
+            λ b i. done_still b
+                (subst (IsDoneAt b) (sym is) i),
+          )
+      | inr apart ↦ (z, elsewhere w apart ∙ e, refl, λ b i. i)
+    ]
+
+    node_keeps : NodeKeeps look_next sent n h.there.node.scheduler
+    node_keeps =
+        let k = d.goes.there in
+        record {
+          idle = λ w e. let i = k.idle w e in elim (by_number w me) [
+            | inl same ↦ absurd (not_both (has h.there.node.scheduler.holders me) promise.slot
+                (ap (has h.there.node.scheduler.holders) (sym same) ∙ i.slotless))
+            | inr apart ↦ record {
+              worker = i.worker;
+              there = elsewhere w apart ∙ i.there;
+              home = i.home;
+              free = i.free;
+              slotless = i.slotless;
+              unanswered = i.unanswered;
+            }
+          ];
+          promised = λ w z b at alive given unbegun. elim (by_number w me) [
+            | inl same ↦ absurd (no_other w z b same at given unbegun)
+            | inr apart ↦ k.promised w z b (sym (elsewhere w apart) ∙ at) alive given unbegun
+          ];
+          busy = λ w z run at home e over. elim (by_number w me) [
+            | inl same ↦ leased_now w z run same (is_next w z same at) e
+            | inr apart ↦ k.busy w z run (sym (elsewhere w apart) ∙ at) home e over
+          ];
+          replied = k.replied;
+        }
+      where
+        -- it is wanted for no other attempt
+        no_other : (w : ℕ) (z : Worker) (b : Attempt) → w ≡ me → look_next w ≡ Some z → Gave sent n b w → has_begun b z.began ≡ false → ⊥
+        no_other w z b same at given unbegun =
+            let is : next ≡ z = is_next w z same at in
+            let not_now : has_begun b next.began ≡ false = ap (λ (y : Worker). has_begun b y.began) is ∙ unbegun in
+            let not_then : has_begun b x.began ≡ false = is_false _ (λ f. not_both _ (begun_still b f) not_now) in
+            let p : IsPromised h.there.node.scheduler me x b = d.goes.there.promised me x b x_there live (subst (λ v. Gave sent n b v) same given) not_then in
+            let this : b ≡ a = promise.sole b p.leased in
+            not_both (has_begun b next.began) (ap (λ j. has_begun j next.began) this ∙ begun_now) not_now
+
+        leased_now : (w : ℕ) (z : Worker) (run : Run) → w ≡ me → next ≡ z → z.run ≡ Some run → IsLeasedFor h.there.node.scheduler w run.attempt
+        leased_now w z run same is e =
+            let f : ◌≡◌ {A = Option Run} next.run (Some run) = ap (λ (y : Worker). y.run) is ∙ e in
+            let this : new_run a spec (own_id h (length x.objects + 1)) ≡ run = cc in
+            let attempts : a ≡ run.attempt = ap (λ (q : Run). q.attempt) this in
+            subst (λ v. IsLeasedFor h.there.node.scheduler v run.attempt) (sym same)
+            (subst (λ b. IsLeasedFor h.there.node.scheduler me b) attempts promise.sole)
+
+    begins_does : Here_does (begins_run h a spec)
+    begins_does =
+        let g = d.goes in
+        record {
+          who = d.who;
+          home = d.home;
+          goes = record {
+            number = g.number;
+            counted = g.counted ∙ changed-length c.workers me (λ _. x) ∙ sym (changed-length c.workers me (λ _. next));
+            workers = record {
+              each = λ w z e. elim (by_number w me) [
+                | inl same ↦ subst (λ v. WorkerKeeps c.jobs sent v z) (sym same) (subst (WorkerKeeps c.jobs sent me) (is_next w z same e) next_keeps)
+                | inr apart ↦ g.workers.each w z (sym (elsewhere w apart) ∙ e)
+              ];
+              letters = λ l i. true_more look look_next sent sent grows (λ _ j. j) l (g.workers.letters l i);
+            };
+            there = node_keeps;
+            alone = g.alone;
+          };
+        }
+
+  pub push_does : (h : Here) (a : Attempt) (spec : Birth) → h.worker.is_live ≡ true → (u : ℕ) →
+      Among (letter (TheWorker u) (TheWorker me) (Push a spec)) c.network →
+      Here_does h → Here_does (push_reached h a spec)
+  push_does h a spec live u came d =
+      at_test (λ b. (is_free h.worker.run && not (has_begun a h.worker.began)) ≡ b → Here_does (if b then begins_run h a spec else h))
+      (is_free h.worker.run && not (has_begun a h.worker.began))
+      (λ _ e. begins_does h a spec d live u came (negated (has_begun a h.worker.began) (and_right (is_free h.worker.run) (not (has_begun a h.worker.began)) e)))
+      (λ _ _. d) refl
+    where
+      negated : (b : Bool) → not b ≡ true → b ≡ false
+      negated true e = absurd (cc)
+      negated false e = refl
+
+  -- ---- a claim
+
+  pub claim_does : (h : Here) (j : ℕ) → is_ready_run h.worker.run ≡ true → IsJobOf c.jobs me j → Here_does h → Here_does (claim_step h j)
+  claim_does h j ready job d = by_run h.worker.run refl ready
+    where
+      by_run : (r : Option Run) → h.worker.run ≡ r → is_ready_run r ≡ true → Here_does (claim_by h j r)
+      by_run None e f = d
+      by_run (Some run) e f =
+          run_does c me n old there h run (record run { phase = Out j }) e refl (λ o. o)
+          (λ o. absurd (ready_goes run.phase f ((mine c me n old there h d).stopped run e o)))
+          (λ i o. let same : j ≡ i = cc in subst (IsJobOf c.jobs me) same job) d
+
+  -- ---- a commit
+
+  -- an attempt that goes on does so, whatever is borne
+  abbrev GoesOnHere : Here → Type 0
+  GoesOnHere h = pace_in_run h.worker.run ≡ GoesOn
+
+  not_waiting : (run : Run) (r : Option Run) (y : Id) (f : Option Fetching) → r ≡ Some run → run.phase ≡ Waits y f → pace_in_run r ≡ GoesOn → ⊥
+  not_waiting run r y f e q p = rests_not (sym (ap pace_in_run e ∙ ap pace_in_phase q) ∙ p)
+
+  goes_on_kept : Kept GoesOnHere
+  goes_on_kept = record {
+    writes = λ h es p. p;
+    says_plain = λ h w m _ p. p;
+    says_plain_to_node = λ h k m _ p. p;
+    objects = λ h x t p. ap pace_in_run t.run ∙ p;
+    store = λ h s p. p;
+    begins = λ h o task w m _ _ p. p;
+    pushes_again = λ h k task w m _ _ p. p;
+    run = λ h run next e k p. k.pace ∙ sym (ap pace_in_run e) ∙ p;
+    leaves = λ h run next e s _ _ _ p. absurd (stopped_not (sym (ap pace_in_run e ∙ stopped_pace run.phase s) ∙ p));
+    gets = λ h run content y f e q p. absurd (not_waiting run h.worker.run y f e q p);
+    faults = λ h run fault y f e q p. absurd (not_waiting run h.worker.run y f e q p);
+    frees = λ h run y f e q p. absurd (not_waiting run h.worker.run y f e q p);
+    tells_end = λ h run m ids _ _ p. p;
+    tells_fault = λ h run f _ _ p. p;
+    back = λ h run _ _ p. p;
+    hears = λ h w a _ p. p;
+    back_of = λ h m a _ _ p. p;
+  }
+
+  -- a worker that is wanted for no other attempt isn't, once its own has stopped
+  pub record StopsHere (h : Here) : Type 0 where
+    pub pace : pace_in_run h.worker.run ≡ HasStopped
+    pub unwanted : (a : Attempt) → h.worker.is_live ≡ true → Gave (sent_here c me n old there h) n a me → has_begun a h.worker.began ≡ false → ⊥
+
+  no_node : (v k : ℕ) → ◌≡◌ {A = Party} (TheNode k) (TheWorker v) → ⊥
+  no_node v k e = cc
+
+  -- a letter of a worker gives nobody
+  says_stops : (h : Here) (to : Party) (m : Message) → StopsHere h → StopsHere (record h { there = posts h.there (letter (TheWorker h.me) to m) })
+  says_stops h to m p = record {
+    pace = p.pace;
+    unwanted = λ a live gave unbegun. elim (letter_cases c.network h.there.out.letters (letter (TheWorker h.me) to m) _ gave.1) [
+      | inl f ↦ p.unwanted a live (gave.0, f) unbegun
+      | inr f ↦ no_node h.me n (ap (λ (l : Letter). l.sender) f)
+    ];
+  }
+
+  stopped_not_waiting : (run : Run) (r : Option Run) (y : Id) (f : Option Fetching) → r ≡ Some run → run.phase ≡ Waits y f → pace_in_run r ≡ HasStopped → ⊥
+  stopped_not_waiting run r y f e q p = rests_not_stopped (sym (ap pace_in_run e ∙ ap pace_in_phase q) ∙ p)
+
+  stops_kept : Kept StopsHere
+  stops_kept = record {
+    writes = λ h es p. record { pace = p.pace; unwanted = p.unwanted };
+    says_plain = λ h w m _ p. says_stops h (TheWorker w) m p;
+    says_plain_to_node = λ h k m _ p. says_stops h (TheNode k) m p;
+    objects = λ h x t p. record {
+      pace = ap pace_in_run t.run ∙ p.pace;
+      unwanted = λ a live gave unbegun. p.unwanted a (sym t.live ∙ live) gave (ap (has_begun a) (sym t.began) ∙ unbegun);
+    };
+    store = λ h s p. record { pace = p.pace; unwanted = p.unwanted };
+    begins = λ h o task w m _ _ p. says_stops _ (TheWorker w) _ (record { pace = p.pace; unwanted = p.unwanted });
+    pushes_again = λ h k task w m _ _ p. says_stops h (TheWorker w) _ p;
+    run = λ h run next e k p. record { pace = k.pace ∙ sym (ap pace_in_run e) ∙ p.pace; unwanted = p.unwanted };
+    leaves = λ h run next e s _ phase _ p. record { pace = ap pace_in_phase phase ∙ sym (ap pace_in_run e) ∙ p.pace; unwanted = p.unwanted };
+    gets = λ h run content y f e q p. absurd (stopped_not_waiting run h.worker.run y f e q p.pace);
+    faults = λ h run fault y f e q p. absurd (stopped_not_waiting run h.worker.run y f e q p.pace);
+    frees = λ h run y f e q p. absurd (stopped_not_waiting run h.worker.run y f e q p.pace);
+    tells_end = λ h run m ids _ _ p. says_stops h _ _ p;
+    tells_fault = λ h run f _ _ p. says_stops h _ _ p;
+    back = λ h run _ _ p. says_stops h _ _ p;
+    hears = λ h w a _ p. says_stops h _ _ p;
+    back_of = λ h m a _ _ p. says_stops h _ _ p;
+  }
+
+  -- an attempt that goes on isn't over
+  going_on : (h : Here) (run : Run) → h.worker.run ≡ Some run → GoesOnHere h → Here_does h → run.is_over ≡ false
+  going_on h run e p d = is_false run.is_over (λ o. stopped_not
+      (sym (ap pace_in_run e ∙ stopped_pace run.phase ((mine c me n old there h d).stopped run e o)) ∙ p))
+
+  ends_does : (h : Here) (run : Run) (content : Outcome) → h.worker.run ≡ Some run → GoesOnHere h → Here_does h → Here_does (ends h run content)
+  ends_does h run content e p d =
+      let next : Run = record run { phase = HasEnded content } in
+      let over : run.is_over ≡ false = going_on h run e p d in
+      let g : Here = with_phase h run (HasEnded content) in
+      let ended : Here_does g = run_does c me n old there h run next e refl (λ o. o) (λ _. refl) (λ j o. absurd (ended_out content j o)) d in
+      let unwanted : IsUnwanted (look_here c me n old there g) (sent_here c me n old there g) n me = busy_unwanted c me n old there g next refl over ended in
+      let stops : StopsHere g = record {
+        pace = refl;
+        unwanted = λ a live gave unbegun. unwanted a (record {
+          worker = g.worker;
+          there = at_me c me n old there g.worker g.there.opened;
+          lives = live;
+          given = gave;
+          unbegun = unbegun;
+        });
+      } in
+      let o : Id = run.attempt.object in
+      let ids : List Id = each_once (ids_in_outcome content) in
+      let stored : Here = with_store g (with_primary (store_here h) o run.attempt.number content) in
+      let held : Here = holds_ids stored o ids in
+      let left : Here = leaves_if_free held in
+      let left_does : Here_does left = both stored held Here_does kept o ids (kept.store g (with_primary (store_here h) o run.attempt.number content) ended) in
+      let left_stops : StopsHere left = both stored held StopsHere stops_kept o ids
+      (stops_kept.store g (with_primary (store_here h) o run.attempt.number content) stops) in
+      frees_does c me n old there left (still_unwanted left left_stops) left_does
+    where
+      both : (stored held : Here) (P : Here → Type 0) (k : Kept P) (o : Id) (ids : List Id) → P stored → P (leaves_if_free (holds_ids stored o ids))
+      both stored held P k o ids p =
+          leaves_if_free-kept (IsToldBy c me n old there) (IsOverOf c me n old there) (IsGivenBy c me n old there) P k (holds_ids stored o ids)
+          (holds_ids-kept (IsToldBy c me n old there) (IsOverOf c me n old there) (IsGivenBy c me n old there) P k stored o ids p)
+
+      still_unwanted : (g : Here) → StopsHere g → IsUnwanted (look_here c me n old there g) (sent_here c me n old there g) n me
+      still_unwanted g s a wanted =
+          let f : ◌≡◌ {A = Option Worker} (Some g.worker) (Some wanted.worker) = sym (at_me c me n old there g.worker g.there.opened) ∙ wanted.there in
+          let is : g.worker ≡ wanted.worker = cc in
+          s.unwanted a (ap (λ (z : Worker). z.is_live) is ∙ wanted.lives) wanted.given (ap (λ (z : Worker). has_begun a z.began) is ∙ wanted.unbegun)
+
+  stops_does : (h : Here) (stop : Stopped) (r : Option Run) → h.worker.run ≡ r → GoesOnHere h → Here_does h → Here_does (stops_by h stop r)
+  stops_does h stop None e p d = d
+  stops_does h (AtGet y) (Some run) e p d =
+      needs-kept (IsToldBy c me n old there) (IsOverOf c me n old there) (IsGivenBy c me n old there) Here_does kept h run y
+      (run_does c me n old there h run (record run { phase = Waits y None }) e refl (λ o. o)
+      (λ o. absurd (not_both run.is_over o (going_on h run e p d))) (λ j o. absurd (waits_out y None j o)) d)
+  stops_does h (AtEnd content) (Some run) e p d = ends_does h run content e p d
+
+  pub commit_does : (h : Here) (o : Outcomes) (run : Run) → h.worker.run ≡ Some run → run.is_over ≡ false → Here_does h → Here_does (commit_step h o)
+  commit_does h o run e over d = subst (λ r. Here_does (commit_by h o r)) (sym e) by_run
+    where
+      by_run : Here_does (commit_by h o (Some run))
+      by_run =
+          let es : List Entry = commit_entries run.attempt (next_id_here h) o.births o.prints (stop_of o.stop) in
+          let next : Run = with_outcomes run o in
+          let g : Here = logs_all (with_run h next) es in
+          let started : Here_does g = logs_does c me n old there (with_run h next) es
+          (run_does c me n old there h run next e refl (λ i. i) (λ i. absurd (not_both run.is_over i over)) (λ j i. absurd (ready_out j i)) d) in
+          let borne : Here = bears_all g run.attempt o.births in
+          let borne_does : Here_does borne = bears_all-kept (IsToldBy c me n old there) (IsOverOf c me n old there)
+          (IsGivenBy c me n old there) Here_does kept g run.attempt o.births started in
+          let borne_goes : GoesOnHere borne = bears_all-kept (IsToldBy c me n old there) (IsOverOf c me n old there)
+          (IsGivenBy c me n old there) GoesOnHere goes_on_kept g run.attempt o.births refl in
+          stops_does borne o.stop borne.worker.run refl borne_goes borne_does

@@ -1,0 +1,107 @@
+-- Worked examples of what is owed: events that pay, one that owes nothing, and altered ones in which a reply is missing.
+use Rattle.std.specs.Prelude.{List, [], codes, pos, false, true, ℕ, ◌==◌, ◌∷◌, if◌then◌else◌}
+use Rattle.meaning.specs.Values.{Birth, Task}
+use Rattle.event_log.specs.Entries.{Attempt, Begun, Born, Claim, Commit, Deliver, Entry, Event, In, Opened, Refused, Tick, main_attempt}
+use Rattle.event_log.specs.Rules.{Setting}
+use Rattle.event_log.specs.Words.{attempt}
+use Rattle.protocol.specs.Messages.{Ask, Give, Letter, Push, TheNode, TheWorker, Wait, letter}
+use Rattle.protocol.specs.Sets.{object_id}
+use Rattle.protocol_owed.specs.Owed.{RepliesAreMade}
+use Rattle.protocol_owed.specs.Replies.{GiveIsBegun, Happening}
+use Rattle.protocol_owed.specs.Seen.{Scene}
+use Rattle.protocol_owed.specs.Turns.{ClaimIsAnswered, SlotsAreRight}
+
+-- `remote(0) one()`
+abbrev pub one_once : Birth
+one_once = Task (codes "one") [] 1 0
+
+-- its first attempt
+abbrev pub first_one : Attempt
+first_one = attempt (object_id 1 1) 0
+
+-- on one node of one slot, where these have a slot
+abbrev pub scene : Setting → List Entry → List Letter → List ℕ → Scene
+scene s log network holders =
+    record {
+      setting = s;
+      slots = 1;
+      log = log;
+      network = network;
+      holders = λ n. if n == 1 then holders else [];
+      keeps = λ n o number. false;
+    }
+
+-- ---- a Give
+
+-- main has asked for it and waits; node 1 has given worker 2
+abbrev pub given_log : List Entry
+given_log =
+    Opened 1 1
+    ∷ Begun main_attempt 1
+    ∷ In (Claim 1) 0
+    ∷ In (Commit 1) 0
+    ∷ Born (object_id 1 1) main_attempt one_once
+    ∷ In (Deliver 1) 0
+    ∷ Opened 2 1
+    ∷ []
+
+abbrev pub given_network : List Letter
+given_network = letter (TheWorker 1) (TheNode 1) (Ask first_one 0) ∷ letter (TheNode 1) (TheWorker 1) (Give first_one 0 2) ∷ []
+
+-- the Give is delivered, with these entries and letters
+abbrev pub give_comes : Setting → List Entry → List Letter → Happening
+give_comes s entries letters =
+    record {
+      before = scene s given_log given_network (2 ∷ []);
+      event = Deliver 2;
+      entries = entries;
+      letters = letters;
+      after = scene s given_log given_network (2 ∷ []);
+    }
+
+abbrev pub pushed : List Letter
+pushed = letter (TheWorker 1) (TheWorker 2) (Push first_one one_once) ∷ []
+
+-- it is begun and pushed; and altered, without its Push, or without its beginning
+pub record GivesBegin : Type 0 where
+  pub paid : (s : Setting) → GiveIsBegun (give_comes s (Begun first_one 2 ∷ []) pushed)
+  pub unpushed : (s : Setting) → GiveIsBegun (give_comes s (Begun first_one 2 ∷ []) []) → ⊥
+  pub unbegun : (s : Setting) → GiveIsBegun (give_comes s [] pushed) → ⊥
+
+-- ---- a tick
+
+abbrev pub opening_log : List Entry
+opening_log = Opened 1 1 ∷ Begun main_attempt 1 ∷ []
+
+abbrev pub nothing_comes : Setting → Happening
+nothing_comes s =
+    record {
+      before = scene s opening_log [] (1 ∷ []);
+      event = Tick 1;
+      entries = [];
+      letters = [];
+      after = scene s opening_log [] (1 ∷ []);
+    }
+
+-- as a run opens, a tick owes nothing
+abbrev pub TicksOweNothing : Type 0
+TicksOweNothing = (s : Setting) → RepliesAreMade (nothing_comes s)
+
+-- ---- a claim
+
+-- as a run opens worker 1 is ready: it may be given out, and isn't to be answered 31; where it has no slot it is
+pub record ClaimsAreJudged : Type 0 where
+  pub given_out : (s : Setting) → ClaimIsAnswered (scene s opening_log [] (1 ∷ [])) (Claim 1) []
+  pub not_refused : (s : Setting) → ClaimIsAnswered (scene s opening_log [] (1 ∷ [])) (Claim 1) (Refused 31 ∷ []) → ⊥
+  pub refused : (s : Setting) → ClaimIsAnswered (scene s opening_log [] []) (Claim 1) (Refused 31 ∷ [])
+  pub not_given_out : (s : Setting) → ClaimIsAnswered (scene s opening_log [] []) (Claim 1) [] → ⊥
+
+-- ---- a slot
+
+abbrev pub waiting_network : List Letter
+waiting_network = letter (TheWorker 1) (TheNode 1) (Ask first_one 0) ∷ letter (TheNode 1) (TheWorker 1) (Wait first_one 0) ∷ []
+
+-- no slot is free while an ask stands in the queue; worker 1, which may go on, keeps none that it doesn't have
+pub record SlotsAreJudged : Type 0 where
+  pub free : (s : Setting) → SlotsAreRight (scene s given_log waiting_network []) 1 → ⊥
+  pub twice : (s : Setting) → SlotsAreRight (scene s opening_log [] (1 ∷ 1 ∷ [])) 1 → ⊥

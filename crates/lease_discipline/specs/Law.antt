@@ -1,0 +1,28 @@
+-- The laws of the lease discipline.
+use Rattle.std.specs.Prelude.{◌≡◌, ◌<◌, ℕ, false, true, Some}
+use Rattle.meaning.specs.Values.{Birth}
+use Rattle.event_log.specs.Entries.{Attempt, Event}
+use Rattle.protocol.specs.Answers.{answer, whole_after}
+use Rattle.protocol.specs.Jobs.{Handed}
+use Rattle.protocol.specs.Messages.{Party, Push, TheWorker, letter}
+use Rattle.protocol.specs.Numbered.{item_at}
+use Rattle.protocol.specs.Runs.{is_free}
+use Rattle.protocol.specs.Tables.{Worker}
+use Rattle.protocol.specs.Whole.{Whole, first_whole, worker_at}
+use Rattle.protocol_owed.specs.Courses.{has_begun}
+use Rattle.lease_discipline.specs.Discipline.{KeepsLeases}
+
+-- in a cluster that has a node a run begins with its leases in order
+abbrev pub OpeningKeepsLeases : Type 0
+OpeningKeepsLeases = (nodes slots : ℕ) → 0 < nodes → KeepsLeases (first_whole nodes slots)
+
+-- every event keeps the discipline, accepted or refused, whatever is handed in with it
+abbrev pub EventsKeepLeases : Type 0
+EventsKeepLeases = (c : Whole) (e : Event) (handed : Handed) → KeepsLeases c → KeepsLeases (whole_after c (answer c e handed))
+
+-- a Push of an attempt that a live worker never began finds it free
+abbrev pub PushesFindFree : Type 0
+PushesFindFree =
+    (c : Whole) → KeepsLeases c → (k w : ℕ) (from : Party) (a : Attempt) (spec : Birth) (x : Worker) →
+    item_at c.network k ≡ Some (letter from (TheWorker w) (Push a spec)) → worker_at c w ≡ Some x → x.is_live ≡ true → has_begun a x.began ≡ false →
+    is_free x.run ≡ true

@@ -1,0 +1,120 @@
+-- A commit opens one worker at most.
+use Rattle.std.proofs.Common.{Bool, List, None, Option, Some, [], arith, false, refl, true, ℕ, ◌+◌, ◌∷◌, ◌≡◌, ◌≤◌}
+use Rattle.std.specs.Prelude.{if◌then◌else◌}
+use Rattle.event_log.specs.Commits.{commit_entries}
+use Rattle.event_log.specs.Entries.{Attempt, OwnerDied}
+use Rattle.event_log.specs.Holding.{ids_of_birth}
+use Rattle.meaning.specs.Values.{Birth, Id, Outcome, Put, Task, Val}
+use Rattle.protocol.specs.Commits.{asks_where, bears, bears_all, bears_as, commit_by, commit_step, ends, needs, next_id_here, stops_by, with_object}
+use Rattle.protocol.specs.Commits.{with_outcomes}
+use Rattle.protocol.specs.Holders.{holds_ids}
+use Rattle.protocol.specs.Jobs.{AtEnd, AtGet, Outcomes, Stopped, stop_of}
+use Rattle.protocol.specs.Messages.{Where}
+use Rattle.protocol.specs.Runs.{gives_slot_back, leaves_if_free}
+use Rattle.protocol.specs.Sets.{fault}
+use Rattle.protocol.specs.Slots.{frees}
+use Rattle.protocol.specs.Steps.{Here, is_own, logs_all, says, store_here, with_phase, with_run, with_store}
+use Rattle.protocol.specs.Stores.{with_primary}
+use Rattle.protocol.specs.Tables.{ByTask, HasEnded, HasFaulted, Out, Phase, Ready, Run, Waits, is_same_id, is_waiting_for, knows_dead, needed_by, new_object}
+use Rattle.protocol.specs.Tables.{new_task, object_needed, put_object}
+use Rattle.values.specs.Listed.{each_once, ids_in_outcome}
+use Rattle.opening_laws.specs.Spending.{Spends, may_open, waits_in, waits_of}
+use Rattle.opening_laws.proofs.Spends.{faults_spends, frees_most, leaves_if_free_spends, spends_if, spends_none, spends_same, spends_then}
+use Rattle.opening_laws.proofs.Asks.{holds_ids_spends}
+use Rattle.opening_laws.proofs.Places.{needs_own_spends}
+
+without_one : (a b n : ℕ) → a + b ≤ n + 1 → b ≡ 1 → a ≤ n
+without_one a b n l e = omega (arith, l, e)
+
+without_any : (a b n : ℕ) → a + b ≤ n → a ≤ n
+without_any a b n l = omega (arith, l)
+
+no_more : (a b n : ℕ) → a + b ≤ n + 0 → a ≤ n
+no_more a b n l = omega (arith, l)
+
+one_over : (n : ℕ) → n ≤ n + 1
+one_over n = omega arith
+
+one_after : (k n m : ℕ) → k ≤ n → m ≤ k + 1 → m ≤ n + 1
+one_after k n m l u = omega (arith, l, u)
+
+-- ---- births
+
+bears_as_spends : (h : Here) (a : Attempt) (o : Id) (b : Birth) (ids : List Id) → Spends h (bears_as h a o b ids)
+bears_as_spends h a o (Put v) ids =
+    let g : Here = with_store (with_object h (put_object a ids h.worker.node)) (with_primary (store_here h) o 0 (Val v)) in
+    spends_then {g = g} (spends_same refl refl) (holds_ids_spends ids g o)
+bears_as_spends h a o (Task g args depth retries) ids =
+    let x : Here = with_object h (new_object (ByTask (new_task (Task g args depth retries))) a ids) in
+    spends_then {g = x} (spends_same refl refl) (spends_then (holds_ids_spends ids x o) (spends_same refl refl))
+
+bears_all_spends : (bs : List Birth) (h : Here) (a : Attempt) → Spends h (bears_all h a bs)
+bears_all_spends [] h a = spends_none
+bears_all_spends (b ∷ bs) h a = spends_then (bears_as_spends h a (next_id_here h) b (each_once (ids_of_birth b))) (bears_all_spends bs (bears h a b) a)
+
+asks_where_spends : (h : Here) (y : Id) → Spends h (asks_where h y)
+asks_where_spends h y =
+    spends_if (is_own h y) (needs_own_spends h y)
+    (spends_if (knows_dead h.worker y.owner) (faults_spends h (fault OwnerDied y)) (spends_same {g = says h y.owner (Where y)} refl refl))
+
+-- ---- stops
+
+waiting_by : (r : Option Run) (y : Id) → is_same_id (needed_by r) y ≡ true → waits_of r ≡ 1
+waiting_by None y e = absurd cc
+waiting_by (Some run) y e = waiting_in run.phase y e
+  where
+    waiting_in : (p : Phase) (o : Id) → is_same_id (object_needed p) o ≡ true → waits_in p ≡ 1
+    waiting_in (Waits z f) o i = refl
+    waiting_in Ready o i = absurd cc
+    waiting_in (Out j) o i = absurd cc
+    waiting_in (HasEnded c) o i = absurd cc
+    waiting_in (HasFaulted f) o i = absurd cc
+
+-- a slot that is given back opens one worker more at most
+back_opens : (h : Here) (n : ℕ) → h.there.opened ≤ n → (gives_slot_back h).there.opened ≤ n + 1
+back_opens h n l = let m : (frees h.there h.me).opened ≤ h.there.opened + 1 = frees_most h.there h.me in omega (arith, l, m)
+
+rests_by : (h : Here) (n : ℕ) (b : Bool) → may_open h ≤ n + 1 → (b ≡ true → waits_of h.worker.run ≡ 1)
+    → (if b then gives_slot_back h else h).there.opened ≤ n + 1
+rests_by h n true l w =
+    let o : ℕ = h.there.opened in
+    let e : waits_of h.worker.run ≡ 1 = w refl in
+    back_opens h n (without_one h.there.opened (waits_of h.worker.run) n l e)
+rests_by h n false l w = without_any h.there.opened (waits_of h.worker.run) (n + 1) l
+
+needs_opens : (h : Here) (run : Run) (y : Id) → (needs h run y).there.opened ≤ h.there.opened + 1
+needs_opens h run y =
+    let g : Here = with_phase h run (Waits y None) in
+    let a : Here = asks_where g y in
+    rests_by a h.there.opened (is_waiting_for a.worker y) (asks_where_spends g y).least (λ e. waiting_by a.worker.run y e)
+
+ends_opens : (h : Here) (run : Run) (c : Outcome) → (ends h run c).there.opened ≤ h.there.opened + 1
+ends_opens h run c =
+    let o : Id = run.attempt.object in
+    let g : Here = with_store (with_phase h run (HasEnded c)) (with_primary (store_here h) o run.attempt.number c) in
+    let k : Here = holds_ids g o (each_once (ids_in_outcome c)) in
+    let l : Here = leaves_if_free k in
+    let s : Spends g l = spends_then {g = k} (holds_ids_spends (each_once (ids_in_outcome c)) g o) (leaves_if_free_spends k) in
+    back_opens l h.there.opened (no_more l.there.opened (waits_of l.worker.run) h.there.opened s.least)
+
+stops_by_opens : (h : Here) (stop : Stopped) (r : Option Run) → (stops_by h stop r).there.opened ≤ h.there.opened + 1
+stops_by_opens h stop None = one_over h.there.opened
+stops_by_opens h (AtGet y) (Some run) = needs_opens h run y
+stops_by_opens h (AtEnd c) (Some run) = ends_opens h run c
+
+-- ---- the commit
+
+abbrev logged_here : Here → Run → Outcomes → Here
+logged_here h run d = logs_all (with_run h (with_outcomes run d)) (commit_entries run.attempt (next_id_here h) d.births d.prints (stop_of d.stop))
+
+commit_by_opens : (h : Here) (d : Outcomes) (r : Option Run) → (commit_by h d r).there.opened ≤ h.there.opened + 1
+commit_by_opens h d None = one_over h.there.opened
+commit_by_opens h d (Some run) =
+    let k : Here = bears_all (logged_here h run d) run.attempt d.births in
+    let s : Spends (logged_here h run d) k = bears_all_spends d.births (logged_here h run d) run.attempt in
+    one_after k.there.opened h.there.opened (stops_by k d.stop k.worker.run).there.opened
+    (no_more k.there.opened (waits_of k.worker.run) h.there.opened s.least) (stops_by_opens k d.stop k.worker.run)
+
+-- a commit opens one worker at most
+pub commit_opens : (h : Here) (d : Outcomes) → (commit_step h d).there.opened ≤ h.there.opened + 1
+commit_opens h d = commit_by_opens h d h.worker.run

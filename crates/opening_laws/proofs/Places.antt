@@ -1,0 +1,162 @@
+-- Where contents are, and how whoever waits for one is answered.
+use Rattle.std.proofs.Common.{List, None, Option, Some, [], refl, ℕ, ◌∷◌}
+use Rattle.std.specs.Prelude.{◌==◌}
+use Rattle.event_log.specs.Entries.{Attempt, Fault}
+use Rattle.meaning.specs.Values.{Id, Outcome}
+use Rattle.protocol.specs.Asking.{resolves, rests}
+use Rattle.protocol.specs.Ends.{accepts, failed_by, failed_reached, finished_by, finished_reached, hears_of_end, if_present}
+use Rattle.protocol.specs.Messages.{At, Party, TheNode, TheWorker}
+use Rattle.protocol.specs.Places.{adds_place, adds_place_by, adds_places, answered_here, answers_asker, answers_settled, answers_settled_by, asker_by}
+use Rattle.protocol.specs.Places.{at_reached, copy_reached, finds_none, goes_to, gone_reached, hands_missing_on, is_present, looks_elsewhere}
+use Rattle.protocol.specs.Places.{looks_elsewhere_by, looks_for, looks_here_by, makes_copy_known, missing_from, missing_reached, needs_at, needs_by}
+use Rattle.protocol.specs.Places.{needs_own, needs_own_if_waiting, needs_unresolved, reports_missing, takes_place, takes_place_by, tells_places}
+use Rattle.protocol.specs.Places.{where_reached}
+use Rattle.protocol.specs.Runs.{fetches, with_fetching}
+use Rattle.protocol.specs.Sets.{has}
+use Rattle.protocol.specs.Steps.{Here, changes, is_own, object_at, says, store_here, with_store, with_task_of}
+use Rattle.protocol.specs.Stores.{copy_in, looked_up, with_secondary}
+use Rattle.protocol.specs.Tables.{Object, OwnTask, chosen_place, has_content, is_lost, is_waiting_for, live_place, settled_number, task_of, with_asker}
+use Rattle.protocol.specs.Tables.{with_place, without_askers, without_place, without_places}
+use Rattle.opening_laws.specs.Spending.{Spends}
+use Rattle.opening_laws.proofs.Spends.{faults_spends, fetching_spends, gets_spends, spends_if, spends_none, spends_same, spends_then}
+use Rattle.opening_laws.proofs.Asks.{answers_faulted_spends, faults_if_waiting_spends, recovers_spends}
+
+pub fetches_spends : (h : Here) (o : Id) (number n : ℕ) → Spends h (fetches h o number n)
+fetches_spends h o number n = spends_then (fetching_spends h (Some (record { number = number; node = n }))) (spends_same refl refl)
+
+looks_elsewhere_spends : (h : Here) (o : Id) (x : Object) (r : Option ℕ) → Spends h (looks_elsewhere_by h o x r)
+looks_elsewhere_spends h o x None = spends_then {g = changes h o without_places} (spends_same refl refl) (recovers_spends (changes h o without_places) o)
+looks_elsewhere_spends h o x (Some n) = fetches_spends h o (settled_number x) n
+
+looks_here_spends : (h : Here) (o : Id) (x : Object) (c : Option Outcome) → Spends h (looks_here_by h o x c)
+looks_here_spends h o x None =
+    let g : Here = changes h o (without_place h.worker.node) in
+    spends_then {g = g} (spends_same refl refl)
+    (looks_elsewhere_spends g o (without_place h.worker.node x) (live_place g.worker (without_place h.worker.node x).places))
+looks_here_spends h o x (Some c) =
+    let g : Here = with_store h (looked_up (store_here h) o (settled_number x)) in spends_then {g = g} (spends_same refl refl) (gets_spends g c)
+
+looks_for_spends : (h : Here) (o : Id) (x : Object) → Spends h (Rattle.protocol.specs.Places.looks_for h o x)
+looks_for_spends h o x =
+    spends_if (has x.places h.worker.node) (looks_here_spends h o x (copy_in (store_here h) o (settled_number x)))
+    (looks_elsewhere_spends h o x (live_place h.worker x.places))
+
+needs_by_spends : (h : Here) (o : Id) (x : Object) (f : Option Fault) → Spends h (needs_by h o x f)
+needs_by_spends h o x None = spends_if (has_content x) (looks_for_spends h o x) (spends_if (is_lost x) (recovers_spends h o) spends_none)
+needs_by_spends h o x (Some f) = faults_spends h f
+
+needs_at_spends : (h : Here) (o : Id) (x : Option Object) → Spends h (needs_at h o x)
+needs_at_spends h o None = spends_none
+needs_at_spends h o (Some x) = needs_by_spends h o x x.fault
+
+pub needs_own_spends : (h : Here) (o : Id) → Spends h (needs_own h o)
+needs_own_spends h o = spends_then (fetching_spends h None) (needs_at_spends (with_fetching h None) o (object_at h o))
+
+pub needs_own_if_waiting_spends : (h : Here) (o : Id) → Spends h (needs_own_if_waiting h o)
+needs_own_if_waiting_spends h o = spends_if (is_waiting_for h.worker o) (needs_own_spends h o) spends_none
+
+pub tells_places_spends : (ws : List ℕ) (h : Here) (o : Id) (x : Object) → Spends h (tells_places h ws o x)
+tells_places_spends [] h o x = spends_none
+tells_places_spends (w ∷ ws) h o x =
+    let g : Here = says h w (At o (settled_number x) x.places) in spends_then {g = g} (spends_same refl refl) (tells_places_spends ws g o x)
+
+answers_settled_by_spends : (h : Here) (o : Id) (x : Option Object) → Spends h (answers_settled_by h o x)
+answers_settled_by_spends h o None = spends_none
+answers_settled_by_spends h o (Some x) =
+    let k : Here = changes h o without_askers in
+    spends_then {g = k} (spends_same refl refl) (spends_then (tells_places_spends x.askers k o x) (needs_own_if_waiting_spends (tells_places k x.askers o x) o))
+
+pub answers_settled_spends : (h : Here) (o : Id) → Spends h (answers_settled h o)
+answers_settled_spends h o = answers_settled_by_spends h o (object_at h o)
+
+answers_asker_spends : (h : Here) (o : Id) (w : ℕ) (x : Object) (f : Option Fault) → Spends h (answers_asker h o w x f)
+answers_asker_spends h o w x None =
+    let g : Here = changes h o (with_asker w) in
+    spends_if (has_content x) (spends_same {g = says h w (At o (settled_number x) x.places)} refl refl)
+    (spends_if (is_lost x) (spends_then {g = g} (spends_same refl refl) (recovers_spends g o)) (spends_same {g = g} refl refl))
+answers_asker_spends h o w x (Some f) = spends_same refl refl
+
+asker_by_spends : (h : Here) (o : Id) (w : ℕ) (x : Option Object) → Spends h (asker_by h o w x)
+asker_by_spends h o w None = spends_none
+asker_by_spends h o w (Some x) = spends_if (w == h.me) spends_none (answers_asker_spends h o w x x.fault)
+
+pub where_spends : (h : Here) (w : ℕ) (o : Id) → Spends h (where_reached h w o)
+where_spends h w o = asker_by_spends h o w (object_at h o)
+
+finds_none_spends : (h : Here) (o : Id) (number n : ℕ) → Spends h (finds_none h o number n)
+finds_none_spends h o number n = spends_then (fetching_spends h None) (spends_same refl refl)
+
+answered_here_spends : (h : Here) (o : Id) (number : ℕ) (c : Option Outcome) → Spends h (answered_here h o number c)
+answered_here_spends h o number None = finds_none_spends h o number h.worker.node
+answered_here_spends h o number (Some c) =
+    let g : Here = with_store h (looked_up (store_here h) o number) in spends_then {g = g} (spends_same refl refl) (gets_spends g c)
+
+goes_to_spends : (h : Here) (o : Id) (number : ℕ) (r : Option ℕ) → Spends h (goes_to h o number r)
+goes_to_spends h o number None = spends_none
+goes_to_spends h o number (Some n) =
+    spends_if (n == h.worker.node) (answered_here_spends h o number (copy_in (store_here h) o number))
+    (spends_if (has h.worker.dead_nodes n) (finds_none_spends h o number n) (fetches_spends h o number n))
+
+adds_place_by_spends : (h : Here) (o : Id) (number n : ℕ) (x : Option Object) → Spends h (adds_place_by h o number n x)
+adds_place_by_spends h o number n None = spends_none
+adds_place_by_spends h o number n (Some x) = spends_if (is_present number x) (spends_same {g = changes h o (with_place n)} refl refl) spends_none
+
+adds_places_spends : (ns : List ℕ) (h : Here) (o : Id) (number : ℕ) → Spends h (adds_places h o number ns)
+adds_places_spends [] h o number = spends_none
+adds_places_spends (n ∷ ns) h o number =
+    spends_then (adds_place_by_spends h o number n (object_at h o)) (adds_places_spends ns (adds_place h o number n) o number)
+
+pub at_spends : (h : Here) (o : Id) (number : ℕ) (ns : List ℕ) → Spends h (at_reached h o number ns)
+at_spends h o number ns =
+    spends_if (is_own h o) (adds_places_spends ns h o number)
+    (spends_if (is_waiting_for h.worker o) (goes_to_spends h o number (chosen_place h.worker ns)) spends_none)
+
+pub gone_spends : (h : Here) (o : Id) (f : Fault) → Spends h (gone_reached h o f)
+gone_spends h o f = faults_if_waiting_spends h o f
+
+takes_place_by_spends : (h : Here) (o : Id) (number n : ℕ) (x : Option Object) → Spends h (takes_place_by h o number n x)
+takes_place_by_spends h o number n None = spends_none
+takes_place_by_spends h o number n (Some x) = spends_if (is_present number x) (spends_same {g = changes h o (without_place n)} refl refl) spends_none
+
+missing_from_spends : (h : Here) (from : Party) (o : Id) → Spends h (missing_from h from o)
+missing_from_spends h (TheWorker w) o = where_spends h w o
+missing_from_spends h (TheNode n) o = needs_own_if_waiting_spends h o
+
+pub missing_spends : (h : Here) (from : Party) (o : Id) (number n : ℕ) → Spends h (missing_reached h from o number n)
+missing_spends h from o number n =
+    spends_if (is_own h o) (spends_then (takes_place_by_spends h o number n (object_at h o)) (missing_from_spends (takes_place h o number n) from o))
+    (spends_if (is_waiting_for h.worker o) (finds_none_spends h o number n) (spends_same {g = reports_missing h o number n} refl refl))
+
+makes_known_spends : (h : Here) (o : Id) (number : ℕ) → Spends h (makes_copy_known h o number)
+makes_known_spends h o number =
+    spends_if (is_own h o) (adds_place_by_spends h o number h.worker.node (object_at h o))
+    (spends_same {g = says h o.owner (At o number (h.worker.node ∷ []))} refl refl)
+
+pub copy_spends : (h : Here) (o : Id) (number : ℕ) (c : Outcome) → Spends h (copy_reached h o number c)
+copy_spends h o number c =
+    let g : Here = with_store h (with_secondary (store_here h) o number c) in
+    let k : Here = makes_copy_known g o number in
+    spends_if (is_waiting_for h.worker o)
+    (spends_then {g = g} (spends_same refl refl) (spends_then {g = k} (makes_known_spends g o number) (gets_spends k c))) spends_none
+
+-- ---- ends
+
+finished_by_spends : (h : Here) (w : ℕ) (a : Attempt) (n : ℕ) (ids : List Id) (r : Option OwnTask) → Spends h (finished_by h w a n ids r)
+finished_by_spends h w a n ids None = spends_same refl refl
+finished_by_spends h w a n ids (Some task) =
+    let g : Here = hears_of_end (accepts h a task n ids) w a in
+    spends_if (if_present a task) (spends_then {g = g} (spends_same {g = g} refl refl) (answers_settled_spends g a.object))
+    (spends_same {g = hears_of_end h w a} refl refl)
+
+pub finished_spends : (h : Here) (w : ℕ) (a : Attempt) (n : ℕ) (ids : List Id) → Spends h (finished_reached h w a n ids)
+finished_spends h w a n ids = finished_by_spends h w a n ids (task_of (object_at h a.object))
+
+failed_by_spends : (h : Here) (w : ℕ) (a : Attempt) (f : Fault) (r : Option OwnTask) → Spends h (failed_by h w a f r)
+failed_by_spends h w a f None = spends_same refl refl
+failed_by_spends h w a f (Some task) =
+    let g : Here = hears_of_end (resolves (with_task_of h a.object (rests task)) a.object f) w a in
+    spends_if (if_present a task) (spends_then {g = g} (spends_same {g = g} refl refl) (answers_faulted_spends g a.object))
+    (spends_same {g = hears_of_end h w a} refl refl)
+
+pub failed_spends : (h : Here) (w : ℕ) (a : Attempt) (f : Fault) → Spends h (failed_reached h w a f)
+failed_spends h w a f = failed_by_spends h w a f (task_of (object_at h a.object))

@@ -1,0 +1,64 @@
+-- What is released opens no worker.
+use Rattle.std.proofs.Common.{Bool, List, None, Option, Some, [], false, length, refl, suc, true, zero, ℕ, ◌+◌, ◌∙◌, ◌∷◌, ◌≡◌}
+use Rattle.std.specs.Prelude.{if◌then◌else◌, ◌==◌}
+use Rattle.event_log.specs.Entries.{Released}
+use Rattle.meaning.specs.Values.{Id}
+use Rattle.protocol.specs.Holders.{unhold_reached}
+use Rattle.protocol.specs.Messages.{Unhold}
+use Rattle.protocol.specs.Releases.{drops_copies, entries_made, lets_go, lets_go_of, may_release, release_pass, release_passes, release_step, releases}
+use Rattle.protocol.specs.Releases.{releases_by}
+use Rattle.protocol.specs.Steps.{Here, changes, each_from, is_own, logs, own_id, own_object, says_to_node}
+use Rattle.protocol.specs.Tables.{Object, released}
+
+-- a step that opens none
+pub record OpensNone (h g : Here) : Type 0 where
+  pub same : g.there.opened ≡ h.there.opened
+
+none_then : {h g k : Here} → OpensNone h g → OpensNone g k → OpensNone h k
+none_then a b = record { same = b.same ∙ a.same }
+
+none_if : {h g k : Here} (b : Bool) → OpensNone h g → OpensNone h k → OpensNone h (if b then g else k)
+none_if true x y = x
+none_if false x y = y
+
+opens_none : {h : Here} → OpensNone h h
+opens_none {h} = record { same = refl }
+
+each_none : (f : Here → ℕ → Here) → ((h : Here) (k : ℕ) → OpensNone h (f h k)) → (n : ℕ) (h : Here) (k : ℕ) → OpensNone h (each_from f h k n)
+each_none f step zero h k = opens_none
+each_none f step (suc n) h k = none_then (step h k) (each_none f step n (f h k) (k + 1))
+
+unhold_none : (h : Here) (e o : Id) → OpensNone h (unhold_reached h e o)
+unhold_none h e o = none_if (is_own h o) (record { same = refl }) opens_none
+
+lets_go_of_none : (h : Here) (e o : Id) → OpensNone h (lets_go_of h e o)
+lets_go_of_none h e o = none_if (is_own h o) (unhold_none h e o) (record { same = refl })
+
+lets_go_none : (os : List Id) (h : Here) (e : Id) → OpensNone h (lets_go h e os)
+lets_go_none [] h e = opens_none
+lets_go_none (o ∷ os) h e = none_then (lets_go_of_none h e o) (lets_go_none os (lets_go_of h e o) e)
+
+drops_none : (ns : List ℕ) (h : Here) (e : Id) → OpensNone h (drops_copies h e ns)
+drops_none [] h e = opens_none
+drops_none (n ∷ ns) h e = let g : Here = says_to_node h n (Unhold e e) in none_then {g = g} (record { same = refl }) (drops_none ns g e)
+
+releases_none : (h : Here) (e : Id) (x : Object) → OpensNone h (releases h e x)
+releases_none h e x =
+    let g : Here = logs (changes h e released) (Released e) in
+    none_then {g = g} (record { same = refl }) (none_then (lets_go_none x.ids g e) (drops_none x.places (lets_go g e x.ids) e))
+
+releases_by_none : (h : Here) (k : ℕ) (x : Option Object) → OpensNone h (releases_by h k x)
+releases_by_none h k None = opens_none
+releases_by_none h k (Some x) = none_if (may_release h.worker x) (releases_none h (own_id h k) x) opens_none
+
+release_pass_none : (h : Here) → OpensNone h (release_pass h)
+release_pass_none h = each_none (λ g k. releases_by g k (own_object g k)) (λ g k. releases_by_none g k (own_object g k)) (length h.worker.objects) h 1
+
+release_passes_none : (n : ℕ) (b : Bool) (h : Here) → OpensNone h (release_passes b n h)
+release_passes_none n true h = opens_none
+release_passes_none zero false h = opens_none
+release_passes_none (suc n) false h = none_then (release_pass_none h) (release_passes_none n (entries_made (release_pass h) == entries_made h) (release_pass h))
+
+-- what is released opens no worker
+pub release_opens_none : (h : Here) → (release_step h).there.opened ≡ h.there.opened
+release_opens_none h = (release_passes_none (length h.worker.objects + 1) false h).same

@@ -1,0 +1,2 @@
+//! A worker's event opens one worker at most.
+#![tactic(auto)]

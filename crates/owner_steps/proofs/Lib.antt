@@ -1,0 +1,4 @@
+pub mod Adding
+pub mod Circles
+pub mod LogLaws
+pub mod Plans

@@ -1,0 +1,10 @@
+use Rattle.std.proofs.Common.{◌≡◌, drop}
+use Rattle.protocol.specs.Tables.{settled_number}
+use Rattle.protocol.specs.Places.{tells_places}
+use Rattle.protocol_data.specs.declared.tables.Object.{Object}
+use Rattle.owner_steps.proofs.answers.tell_places.Given as goal
+
+abbrev pub invariant-loop-worker : goal.invariant-loop-worker
+invariant-loop-worker l =
+    (x : Object) → settled_number x ≡ l.number → x.places ≡ l.places
+    → tells_places l.here (drop l.worker-index l.worker-items) l.object x ≡ tells_places l.initial.here l.worker-items l.object x

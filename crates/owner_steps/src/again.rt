@@ -1,0 +1,252 @@
+// Attempts that begin, break, or are asked for elsewhere.
+
+ghost use Rattle.std.specs.Prelude.{◌≡◌, ◌++◌, ◌∷◌, [], OnOk, IfOk, Some, None};
+ghost use Rattle.protocol.specs.Numbered.{changed_at, item_at};
+ghost use Rattle.protocol.specs.Tables.{task_of, with_task};
+ghost use Rattle.protocol.specs.Asking.{asks_next, begins, breaks, elsewhere_reached, first_live, given_reached, if_asked, pushes, with_begun};
+ghost use Rattle.protocol_data.specs.declared.tables.OwnTask.{OwnTask};
+
+use crate::ends::rest;
+use crate::faulted::answer_faulted;
+use lease::next_in_circle;
+use lineage::may_try_again;
+use number_lists::{has_node, item_at_number};
+use numbers::{AttemptId, Cause, Fault, NodeId, ObjectId, WorkerId};
+use protocol_data::{Halt, Here, Maker, Message, Object, OwnTask, Progress, Said, Worker};
+use sequence::Seq;
+use std::alloc::Global;
+use worker_steps::{ask_at, is_own, knows_dead, log, request, resolve, say};
+
+/// The present attempt of the pending task that makes the object is broken: its worker or its node is dead. While there are retries left the
+/// next attempt is asked for, at the own node; else the object is resolved by RetriesUsed, and whoever waits for it is answered.
+pub fn break_attempt(alloc: Global, here: &mut Here, object: ObjectId) -> Result<(), Halt>
+    ensures { (task : OwnTask) → task_of (item_at here.old.worker.objects object.serial) ≡ Some task
+        → OnOk result (here.new ≡ breaks here.old object task) }
+{
+    let Some(found) = item_at_number(&here.worker.objects, object.serial) else {
+        return Ok(());
+    };
+    let Maker::ByTask(task) = &found.maker else {
+        return Ok(());
+    };
+    let number = task.number;
+    if may_try_again(task) {
+        if number == u32::MAX {
+            return Err(Halt::NoNumber);
+        }
+        return request(here, object, number + 1);
+    }
+    rest(here, object, number);
+    let kind = Cause::RetriesUsed;
+    resolve(here, object, Fault { kind, object })?;
+    answer_faulted(alloc, here, object)
+}
+
+/// The task's present attempt runs on the worker.
+fn set_begun(object: &mut Object, worker: WorkerId, node: NodeId) -> Result<(), Halt>
+    ensures { (task : OwnTask) → task_of (Some object.old) ≡ Some task
+        → OnOk result (object.new ≡ with_task (with_begun task worker node) object.old) }
+{
+    if let Maker::ByTask(task) = &mut object.maker {
+        task.begun.push(worker)?;
+        task.progress = Progress::RunsOn(worker, node);
+        return Ok(());
+    }
+    Ok(())
+}
+
+/// The same, of the object of that serial.
+fn set_begun_at(
+    objects: &mut Seq<Object>,
+    serial: u64,
+    worker: WorkerId,
+    node: NodeId,
+) -> Result<(), Halt>
+    ensures { (task : OwnTask) → task_of (item_at objects.old serial) ≡ Some task
+        → OnOk result (objects.new ≡ changed_at objects.old serial (with_task (with_begun task worker node))) }
+{
+    if serial == 0 {
+        return Ok(());
+    }
+    let place = serial - 1;
+    if place >= objects.len() as u64 {
+        return Ok(());
+    }
+    let object = &mut objects.items[place as usize];
+    set_begun(object, worker, node)?;
+    Ok(())
+}
+
+/// The worker is told to run the attempt.
+fn push(
+    alloc: Global,
+    here: &mut Here,
+    object: ObjectId,
+    worker: WorkerId,
+    node: NodeId,
+) -> Result<(), Halt>
+    ensures { (task : OwnTask) → task_of (item_at here.old.worker.objects object.serial) ≡ Some task
+        → OnOk result (here.new ≡ pushes here.old object (with_begun task worker node) worker) }
+{
+    let Some(found) = item_at_number(&here.worker.objects, object.serial) else {
+        return Ok(());
+    };
+    let Maker::ByTask(task) = &found.maker else {
+        return Ok(());
+    };
+    let attempt = AttemptId {
+        object,
+        number: task.number,
+    };
+    let spec = task.spec.copy(alloc)?;
+    set_begun_at(&mut here.worker.objects, object.serial, worker, node)?;
+    log(here, Said::Begun(attempt, worker))?;
+    say(here, worker, Message::Push(attempt, spec))
+}
+
+/// The attempt that was begun on a dead worker is broken.
+fn push_in_vain(
+    alloc: Global,
+    here: &mut Here,
+    object: ObjectId,
+    worker: WorkerId,
+    node: NodeId,
+) -> Result<(), Halt>
+    ensures { (task : OwnTask) → task_of (item_at here.old.worker.objects object.serial) ≡ Some task
+        → OnOk result (here.new ≡ breaks (pushes here.old object (with_begun task worker node) worker) object (with_begun task worker node)) }
+{
+    push(alloc, here, object, worker, node)?;
+    break_attempt(alloc, here, object)
+}
+
+/// The owner learns that the worker, given by the node, runs the attempt.
+fn begin(
+    alloc: Global,
+    here: &mut Here,
+    object: ObjectId,
+    worker: WorkerId,
+    node: NodeId,
+) -> Result<(), Halt>
+    ensures { (task : OwnTask) → task_of (item_at here.old.worker.objects object.serial) ≡ Some task
+        → OnOk result (here.new ≡ begins here.old object task worker node) }
+{
+    if knows_dead(&here.worker, worker) {
+        return push_in_vain(alloc, here, object, worker, node);
+    }
+    push(alloc, here, object, worker, node)
+}
+
+/// Whether it is the present ask of the task.
+fn is_asked(t: u32, attempt: AttemptId, task: &OwnTask) -> bool
+    ensures { result ≡ if_asked t attempt task.now }
+{
+    if task.number != attempt.number {
+        return false;
+    }
+    match &task.progress {
+        Progress::AtRest => false,
+        Progress::AskedAt(u, _) => *u == t,
+        Progress::RunsOn(..) => false,
+    }
+}
+
+/// The node has given the worker to ask `t` of the attempt. Where that ask stands the attempt begins: that is logged, and the worker gets the
+/// Push; if it is known dead the attempt is broken at once. Another Give is passed over.
+pub fn given_reached(
+    alloc: Global,
+    here: &mut Here,
+    node: NodeId,
+    attempt: AttemptId,
+    t: u32,
+    worker: WorkerId,
+) -> Result<(), Halt>
+    ensures { OnOk result (here.new ≡ given_reached here.old node attempt t worker) }
+{
+    if !is_own(here, attempt.object) {
+        return Ok(());
+    }
+    let Some(found) = item_at_number(&here.worker.objects, attempt.object.serial) else {
+        return Ok(());
+    };
+    let Maker::ByTask(task) = &found.maker else {
+        return Ok(());
+    };
+    if !is_asked(t, attempt, task) {
+        return Ok(());
+    }
+    begin(alloc, here, attempt.object, worker, node)
+}
+
+/// The first node from that one on, in the circle of numbers, that isn't known dead.
+#[tactic(auto, using(crate::proofs::Circles::live_here, crate::proofs::Circles::dead_here, crate::proofs::Circles::none_left))]
+pub fn first_live(worker: &Worker, count: u64, node: NodeId) -> Result<NodeId, Halt>
+    ensures { IfOk result (λ n. n ≡ first_live worker.now count count node) }
+{
+    let mut next = node;
+    for turn in 0..count {
+        let _ = turn;
+        if !has_node(&worker.dead_nodes, next) {
+            return Ok(next);
+        }
+        next = next_in_circle(count, next)?;
+    }
+    Ok(next)
+}
+
+/// Ask `t + 1` of the attempt of that number goes to the node, or to the first after it in the circle of numbers that isn't known dead.
+pub fn ask_next(
+    here: &mut Here,
+    object: ObjectId,
+    number: u32,
+    t: u32,
+    node: NodeId,
+) -> Result<(), Halt>
+    ensures { (task : OwnTask) → task_of (item_at here.old.worker.objects object.serial) ≡ Some task
+        → OnOk result (here.new ≡ asks_next here.old object (record task { number = number }) t node) }
+{
+    if t == u32::MAX {
+        return Err(Halt::NoNumber);
+    }
+    let next = first_live(&here.worker, here.there.nodes, node)?;
+    ask_at(here, object, number, t + 1, next)
+}
+
+/// The present attempt is asked for on from the node.
+fn ask_on(here: &mut Here, object: ObjectId, t: u32, node: NodeId) -> Result<(), Halt>
+    ensures { (task : OwnTask) → task_of (item_at here.old.worker.objects object.serial) ≡ Some task
+        → OnOk result (here.new ≡ asks_next here.old object task t node) }
+{
+    let Some(found) = item_at_number(&here.worker.objects, object.serial) else {
+        return Ok(());
+    };
+    let Maker::ByTask(task) = &found.maker else {
+        return Ok(());
+    };
+    let number = task.number;
+    ask_next(here, object, number, t, node)
+}
+
+/// No slot was free for ask `t` of the attempt, and that node is next. Where that ask stands it is followed there; another Elsewhere is passed
+/// over.
+pub fn elsewhere_reached(
+    here: &mut Here,
+    attempt: AttemptId,
+    t: u32,
+    node: NodeId,
+) -> Result<(), Halt>
+    ensures { OnOk result (here.new ≡ elsewhere_reached here.old attempt t node) }
+{
+    if !is_own(here, attempt.object) {
+        return Ok(());
+    }
+    let Some(found) = item_at_number(&here.worker.objects, attempt.object.serial) else {
+        return Ok(());
+    };
+    let Maker::ByTask(task) = &found.maker else {
+        return Ok(());
+    };
+    if !is_asked(t, attempt, task) {
+        return Ok(());
+    }
+    ask_on(here, attempt.object, t, node)
+}

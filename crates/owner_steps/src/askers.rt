@@ -1,0 +1,134 @@
+// Workers that ask where an object is, or find no copy of it.
+
+ghost use Rattle.std.specs.Prelude.{◌≡◌, OnOk, Some, None};
+ghost use Rattle.protocol.specs.Numbered.{changed_at};
+ghost use Rattle.protocol.specs.Tables.{with_asker};
+ghost use Rattle.protocol.specs.Steps.{changes};
+ghost use Rattle.protocol.specs.Places.{hands_missing_on, missing_from, missing_reached, takes_place, where_reached};
+
+use crate::needs::{need_own_if_waiting, remove_place, settled_number};
+use crate::recovery::recover;
+use lineage::{has_content, is_lost};
+use number_lists::add_worker;
+use numbers::{NodeId, ObjectId, WorkerId};
+use protocol_data::{Halt, Here, Message, Object, Party};
+use sequence::Seq;
+use std::alloc::Global;
+use worker_steps::{find_none, is_own, is_present, is_waiting_for, object_at, report_missing, say};
+
+/// The worker waits for the object of that serial.
+fn add_asker_at(objects: &mut Seq<Object>, serial: u64, worker: WorkerId) -> Result<(), Halt>
+    ensures { OnOk result (objects.new ≡ changed_at objects.old serial (with_asker worker)) }
+{
+    if serial == 0 {
+        return Ok(());
+    }
+    let place = serial - 1;
+    if place >= objects.len() as u64 {
+        return Ok(());
+    }
+    let object = &mut objects.items[place as usize];
+    add_worker(&mut object.askers, worker)?;
+    Ok(())
+}
+
+/// The worker waits for the own object.
+fn add_asker(here: &mut Here, object: ObjectId, worker: WorkerId) -> Result<(), Halt>
+    ensures { OnOk result (here.new ≡ changes here.old object (with_asker worker)) }
+{
+    add_asker_at(&mut here.worker.objects, object.serial, worker)
+}
+
+/// Another worker asks where the own object is: it is told that there is no content (Gone), or all places (At), or it waits. A lost object is
+/// made again.
+pub fn where_reached(
+    alloc: Global,
+    here: &mut Here,
+    worker: WorkerId,
+    object: ObjectId,
+) -> Result<(), Halt>
+    ensures { OnOk result (here.new ≡ where_reached here.old worker object) }
+{
+    let Some(found) = object_at(here, object) else {
+        return Ok(());
+    };
+    if worker.is(here.me) {
+        return Ok(());
+    }
+    if let Some(why) = found.fault {
+        return say(here, worker, Message::Gone(object, why));
+    }
+    if has_content(found) {
+        let number = settled_number(found);
+        let places = found.places.copy(alloc)?;
+        return say(here, worker, Message::At(object, number, places));
+    }
+    if is_lost(found) {
+        add_asker(here, object, worker)?;
+        return recover(alloc, here, object);
+    }
+    add_asker(here, object, worker)
+}
+
+/// A place of that content of the own object is none any more.
+fn take_place(
+    alloc: Global,
+    here: &mut Here,
+    object: ObjectId,
+    number: u32,
+    node: NodeId,
+) -> Result<(), Halt>
+    ensures { OnOk result (here.new ≡ takes_place here.old object number node) }
+{
+    let Some(found) = object_at(here, object) else {
+        return Ok(());
+    };
+    if !is_present(number, found) {
+        return Ok(());
+    }
+    remove_place(alloc, here, object, node)
+}
+
+/// The owner is told of it, by the waiting attempt or in its place.
+fn hand_missing_on(here: &mut Here, object: ObjectId, number: u32, node: NodeId) -> Result<(), Halt>
+    ensures { OnOk result (here.new ≡ hands_missing_on here.old object number node) }
+{
+    if is_waiting_for(&here.worker, object) {
+        return find_none(here, object, number, node);
+    }
+    report_missing(here, object, number, node)
+}
+
+/// Whoever told it is treated as one that asks.
+fn missing_from(
+    alloc: Global,
+    here: &mut Here,
+    sender: &Party,
+    object: ObjectId,
+) -> Result<(), Halt>
+    ensures { OnOk result (here.new ≡ missing_from here.old sender.now object) }
+{
+    match sender {
+        Party::TheWorker(worker) => where_reached(alloc, here, *worker, object),
+        Party::TheNode(_) => need_own_if_waiting(alloc, here, object),
+    }
+}
+
+/// There is no copy of the content of that number at the node. The owner takes that place out, and then treats a worker that told it as one
+/// that asks; where a node told it, the own waiting attempt looks again. Another worker hands it on to the owner.
+pub fn missing_reached(
+    alloc: Global,
+    here: &mut Here,
+    sender: &Party,
+    object: ObjectId,
+    number: u32,
+    node: NodeId,
+) -> Result<(), Halt>
+    ensures { OnOk result (here.new ≡ missing_reached here.old sender.now object number node) }
+{
+    if !is_own(here, object) {
+        return hand_missing_on(here, object, number, node);
+    }
+    take_place(alloc, here, object, number, node)?;
+    missing_from(alloc, here, sender, object)
+}

@@ -1,0 +1,210 @@
+// What a commit bears.
+
+ghost use Rattle.std.specs.Prelude.{◌≡◌, ◌≤◌, ◌^◌, ◌++◌, ◌∷◌, [], IfOk, OnOk, Some, None};
+ghost use Rattle.meaning.specs.Values.{Val};
+ghost use Rattle.values.specs.Values.{value_of};
+ghost use Rattle.protocol.specs.Numbered.{changed_at};
+ghost use Rattle.protocol.specs.Tables.{ByTask, new_object, new_task, put_object, with_task};
+ghost use Rattle.protocol.specs.Asking.{requests};
+ghost use Rattle.protocol.specs.Commits.{bears, bears_all, bears_put, bears_task, next_id_here, with_object};
+
+use crate::birth_ids::ids_in_birth;
+use held::{Content, Origin};
+use numbers::{AttemptId, NodeId, ObjectId};
+use object_store::put_primary;
+use protocol_data::{Halt, Here, Maker, Message, Object, OwnTask, Progress};
+use sequence::Seq;
+use std::alloc::{AllocError, Global};
+use task_spec::Birth;
+use values::RunValue;
+use worker_steps::{hold_ids, say_to_node};
+
+/// The id of the worker's next object.
+pub fn next_id(here: &Here) -> Result<ObjectId, Halt>
+    ensures id { IfOk result (λ o. o ≡ next_id_here here.now) }
+    ensures bound { IfOk result (λ o. o.serial ≤ 2 ^ 63) }
+{
+    let before = here.worker.objects.len() as u64;
+    if before > 1000000 {
+        return Err(Halt::NoNumber);
+    }
+    let owner = here.me;
+    Ok(ObjectId {
+        owner,
+        serial: before + 1,
+    })
+}
+
+/// One more own object.
+fn add_own(here: &mut Here, object: Object) -> Result<(), Halt>
+    ensures { OnOk result (here.new ≡ with_object here.old object) }
+{
+    here.worker.objects.push(object)?;
+    Ok(())
+}
+
+/// What was put has its content at once, on the worker's node.
+fn put_object(
+    alloc: Global,
+    bearer: AttemptId,
+    ids: Seq<ObjectId>,
+    node: NodeId,
+) -> Result<Object, AllocError>
+    ensures { IfOk result (λ x. x ≡ put_object bearer ids node) }
+{
+    let mut places = Seq::new(alloc);
+    places.push(node)?;
+    Ok(Object {
+        maker: Maker::WasPut,
+        bearer,
+        settled: Some(0),
+        places,
+        ids,
+        added: Seq::new(alloc),
+        removed: Seq::new(alloc),
+        fault: None,
+        is_released: false,
+        askers: Seq::new(alloc),
+    })
+}
+
+/// A task that wasn't asked for yet.
+fn task_object(
+    alloc: Global,
+    spec: &Origin,
+    bearer: AttemptId,
+    ids: Seq<ObjectId>,
+) -> Result<Object, AllocError>
+    ensures { IfOk result (λ x. x ≡ new_object (ByTask (new_task spec.now)) bearer ids) }
+{
+    let spec = spec.copy(alloc)?;
+    let task = OwnTask {
+        spec,
+        begun: Seq::new(alloc),
+        number: 0,
+        progress: Progress::AtRest,
+    };
+    Ok(Object {
+        maker: Maker::ByTask(task),
+        bearer,
+        settled: None,
+        places: Seq::new(alloc),
+        ids,
+        added: Seq::new(alloc),
+        removed: Seq::new(alloc),
+        fault: None,
+        is_released: false,
+        askers: Seq::new(alloc),
+    })
+}
+
+/// The content that was put.
+fn content_put(alloc: Global, value: &RunValue) -> Result<Content, AllocError>
+    ensures { IfOk result (λ c. c ≡ Val (value_of value.now)) }
+{
+    let value = value.copy(alloc)?;
+    Ok(Content {
+        inner: values::Content::Value(value),
+    })
+}
+
+/// A value is put.
+fn bear_put(
+    alloc: Global,
+    here: &mut Here,
+    bearer: AttemptId,
+    object: ObjectId,
+    value: &RunValue,
+    ids: &Seq<ObjectId>,
+) -> Result<(), Halt>
+    ensures { OnOk result (here.new ≡ bears_put here.old bearer object (value_of value.now) ids.now) }
+{
+    let content = content_put(alloc, value)?;
+    let node = here.worker.node;
+    let kept = ids.copy(alloc)?;
+    let made = put_object(alloc, bearer, kept, node)?;
+    add_own(here, made)?;
+    put_primary(&mut here.there.node.store, object, 0, content)?;
+    hold_ids(here, object, ids)
+}
+
+/// The object of that serial is made by that task.
+fn set_task_at(objects: &mut Seq<Object>, serial: u64, task: OwnTask)
+    ensures { objects.new ≡ changed_at objects.old serial (with_task task) }
+{
+    if serial == 0 {
+        return;
+    }
+    let place = serial - 1;
+    if place >= objects.len() as u64 {
+        return;
+    }
+    let object = &mut objects.items[place as usize];
+    object.maker = Maker::ByTask(task);
+}
+
+/// The first attempt of a new task is asked for.
+fn request_first(
+    alloc: Global,
+    here: &mut Here,
+    object: ObjectId,
+    spec: &Origin,
+) -> Result<(), Halt>
+    ensures { OnOk result (here.new ≡ requests here.old object (new_task spec.now)) }
+{
+    let node = here.worker.node;
+    let spec = spec.copy(alloc)?;
+    let task = OwnTask {
+        spec,
+        begun: Seq::new(alloc),
+        number: 0,
+        progress: Progress::AskedAt(0, node),
+    };
+    set_task_at(&mut here.worker.objects, object.serial, task);
+    say_to_node(here, node, Message::Ask(AttemptId { object, number: 0 }, 0))
+}
+
+/// A task is born and asked for.
+fn bear_task(
+    alloc: Global,
+    here: &mut Here,
+    bearer: AttemptId,
+    object: ObjectId,
+    spec: &Origin,
+    ids: &Seq<ObjectId>,
+) -> Result<(), Halt>
+    ensures { OnOk result (here.new ≡ bears_task here.old bearer object spec.now ids.now) }
+{
+    let kept = ids.copy(alloc)?;
+    let made = task_object(alloc, spec, bearer, kept)?;
+    add_own(here, made)?;
+    hold_ids(here, object, ids)?;
+    request_first(alloc, here, object, spec)
+}
+
+/// One birth.
+fn bear(alloc: Global, here: &mut Here, bearer: AttemptId, spec: &Origin) -> Result<(), Halt>
+    ensures { OnOk result (here.new ≡ bears here.old bearer spec.now) }
+{
+    let object = next_id(here)?;
+    let ids = ids_in_birth(alloc, spec)?;
+    match &spec.inner {
+        Birth::Put(value) => bear_put(alloc, here, bearer, object, value, &ids),
+        Birth::Task { .. } => bear_task(alloc, here, bearer, object, spec, &ids),
+    }
+}
+
+/// All births of a commit.
+pub fn bear_all(
+    alloc: Global,
+    here: &mut Here,
+    bearer: AttemptId,
+    births: &Seq<Origin>,
+) -> Result<(), Halt>
+    ensures { OnOk result (here.new ≡ bears_all here.old bearer births.now) }
+{
+    for birth in &births.items {
+        bear(alloc, here, bearer, birth)?;
+    }
+    Ok(())
+}

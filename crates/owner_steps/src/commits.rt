@@ -1,0 +1,156 @@
+// A commit: what a job came to.
+
+ghost use Rattle.std.specs.Prelude.{◌≡◌, ◌++◌, IfOk, OnOk, Some, None};
+ghost use Rattle.protocol.specs.Steps.{with_phase, with_run};
+ghost use Rattle.protocol.specs.Tables.{Out};
+ghost use Rattle.protocol.specs.Commits.{asks_where, claim_step, commit_step, ends, needs, rests_if_waiting, stops, with_outcomes};
+ghost use Rattle.protocol_data.specs.declared.tables.Run.{Run};
+
+use crate::births::{bear_all, next_id};
+use crate::logged::log_outcomes;
+use crate::needs::need_own;
+use held::{Content, Origin, Printed};
+use numbers::{Cause, Fault, ObjectId};
+use object_store::put_primary;
+use protocol_data::{Halt, Here, Message, Outcomes, Phase, Stopped};
+use sequence::Seq;
+use std::alloc::{AllocError, Global};
+use worker_steps::{
+    fault, give_slot_back, hold_ids, ids_in_content, is_own, is_waiting_for, knows_dead,
+    leave_if_free, say, set_phase,
+};
+
+// ---- stops
+
+/// The place of the object is looked for.
+fn ask_where(alloc: Global, here: &mut Here, object: ObjectId) -> Result<(), Halt>
+    ensures { OnOk result (here.new ≡ asks_where here.old object) }
+{
+    if is_own(here, object) {
+        return need_own(alloc, here, object);
+    }
+    if knows_dead(&here.worker, object.owner) {
+        let kind = Cause::OwnerDied;
+        return fault(alloc, here, Fault { kind, object });
+    }
+    say(here, object.owner, Message::Where(object))
+}
+
+/// Unless it was answered at once, the attempt gives its slot back.
+fn rest_if_waiting(alloc: Global, here: &mut Here, object: ObjectId) -> Result<(), Halt>
+    ensures { OnOk result (here.new ≡ rests_if_waiting here.old object) }
+{
+    if is_waiting_for(&here.worker, object) {
+        return give_slot_back(alloc, here);
+    }
+    Ok(())
+}
+
+/// The attempt needs an object: it waits, unless it is answered at once.
+fn need(alloc: Global, here: &mut Here, object: ObjectId) -> Result<(), Halt>
+    ensures { (run : Run) → here.old.worker.run ≡ Some run → OnOk result (here.new ≡ needs here.old run object) }
+{
+    set_phase(here, Phase::Waits(object, None));
+    ask_where(alloc, here, object)?;
+    rest_if_waiting(alloc, here, object)
+}
+
+/// The attempt ends with a content.
+fn end(alloc: Global, here: &mut Here, content: &Content) -> Result<(), Halt>
+    ensures { (run : Run) → here.old.worker.run ≡ Some run → OnOk result (here.new ≡ ends here.old run content.now) }
+{
+    let Some(run) = &here.worker.run else {
+        return Ok(());
+    };
+    let attempt = run.attempt;
+    let kept = content.copy(alloc)?;
+    let stored = content.copy(alloc)?;
+    let ids = ids_in_content(alloc, content)?;
+    set_phase(here, Phase::HasEnded(kept));
+    put_primary(
+        &mut here.there.node.store,
+        attempt.object,
+        attempt.number,
+        stored,
+    )?;
+    hold_ids(here, attempt.object, &ids)?;
+    leave_if_free(alloc, here)?;
+    give_slot_back(alloc, here)
+}
+
+/// The attempt stops there.
+fn stop(alloc: Global, here: &mut Here, stop: &Stopped) -> Result<(), Halt>
+    ensures { OnOk result (here.new ≡ stops here.old stop.now) }
+{
+    if here.worker.run.is_none() {
+        return Ok(());
+    }
+    match stop {
+        Stopped::AtGet(object) => need(alloc, here, *object),
+        Stopped::AtEnd(content) => end(alloc, here, content),
+    }
+}
+
+// ---- the commit
+
+/// Adds copies of the births.
+fn add_births(alloc: Global, births: &mut Seq<Origin>, more: &Seq<Origin>) -> Result<(), AllocError>
+    ensures { OnOk result (births.new ≡ births.old ++ more.now) }
+{
+    for birth in &more.items {
+        births.push(birth.copy(alloc)?)?;
+    }
+    Ok(())
+}
+
+/// Adds copies of the prints.
+fn add_prints(
+    alloc: Global,
+    prints: &mut Seq<Printed>,
+    more: &Seq<Printed>,
+) -> Result<(), AllocError>
+    ensures { OnOk result (prints.new ≡ prints.old ++ more.now) }
+{
+    for value in &more.items {
+        prints.push(value.copy(alloc)?)?;
+    }
+    Ok(())
+}
+
+/// What was done is added to what the attempt did.
+fn add_outcomes(alloc: Global, here: &mut Here, outcomes: &Outcomes) -> Result<(), Halt>
+    ensures { (run : Run) → here.old.worker.run ≡ Some run → OnOk result (here.new ≡ with_run here.old (with_outcomes run outcomes.now)) }
+{
+    if let Some(run) = &mut here.worker.run {
+        add_births(alloc, &mut run.births, &outcomes.births)?;
+        add_prints(alloc, &mut run.prints, &outcomes.prints)?;
+        run.phase = Phase::Ready;
+        return Ok(());
+    }
+    Ok(())
+}
+
+/// What was done on the attempt's job is committed. Its births, prints and end are logged; each birth enters the table, holds the ids in it, and
+/// is stored or asked for; then the attempt waits for what it needs, unless it is answered at once, or stores the content with which it ends.
+pub fn commit_step(alloc: Global, here: &mut Here, outcomes: &Outcomes) -> Result<(), Halt>
+    ensures { OnOk result (here.new ≡ commit_step here.old outcomes.now) }
+{
+    let Some(run) = &here.worker.run else {
+        return Ok(());
+    };
+    let attempt = run.attempt;
+    let first = next_id(here)?;
+    add_outcomes(alloc, here, outcomes)?;
+    log_outcomes(alloc, here, attempt, first, outcomes)?;
+    bear_all(alloc, here, attempt, &outcomes.births)?;
+    stop(alloc, here, &outcomes.stop)
+}
+
+/// The worker's attempt is given out as that job; nothing but its phase changes.
+pub fn claim_step(here: &mut Here, job: u64)
+    ensures { here.new ≡ claim_step here.old job }
+{
+    if here.worker.run.is_some() {
+        set_phase(here, Phase::Out(job));
+    }
+}

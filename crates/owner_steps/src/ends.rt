@@ -1,0 +1,158 @@
+// The owner hears how an attempt stopped.
+
+ghost use Rattle.std.specs.Prelude.{◌≡◌, ◌&&◌, ◌==◌, OnOk, [], ◌∷◌, ◌++◌, Some, None};
+ghost use Rattle.protocol.specs.Numbered.{changed_at, item_at};
+ghost use Rattle.protocol.specs.Tables.{is_pending_task, task_of, with_content};
+ghost use Rattle.protocol.specs.Steps.{changes, with_task_of};
+ghost use Rattle.protocol.specs.Asking.{rests};
+ghost use Rattle.protocol.specs.Ends.{accepts, failed_reached, finished_reached, hears_of_end, if_present};
+ghost use Rattle.protocol_data.specs.declared.tables.OwnTask.{OwnTask};
+
+use crate::answers::answer_settled;
+use crate::faulted::answer_faulted;
+use number_lists::{add_objects, item_at_number};
+use numbers::{AttemptId, Fault, NodeId, ObjectId, WorkerId};
+use protocol_data::{Halt, Here, Maker, Message, Object, OwnTask, Progress, Said};
+use sequence::Seq;
+use std::alloc::Global;
+use worker_steps::{is_own, log, resolve, say, set_progress_at};
+
+/// Whether it is the present attempt of a pending task.
+fn is_present_attempt(attempt: AttemptId, task: &OwnTask) -> bool
+    ensures { result ≡ if_present attempt task.now }
+{
+    match &task.progress {
+        Progress::AtRest => false,
+        Progress::AskedAt(..) => task.number == attempt.number,
+        Progress::RunsOn(..) => task.number == attempt.number,
+    }
+}
+
+/// The worker is told that its owner has heard how the attempt stopped.
+fn hear_of_end(here: &mut Here, worker: WorkerId, attempt: AttemptId) -> Result<(), Halt>
+    ensures { OnOk result (here.new ≡ hears_of_end here.old worker attempt) }
+{
+    say(here, worker, Message::FinishedAck(attempt))
+}
+
+/// No attempt of the object's task is under way.
+pub fn rest(here: &mut Here, object: ObjectId, number: u32)
+    ensures { (task : OwnTask) → task_of (item_at here.old.worker.objects object.serial) ≡ Some task → task.number ≡ number
+        → here.new ≡ with_task_of here.old object (rests task) }
+{
+    set_progress_at(
+        &mut here.worker.objects,
+        object.serial,
+        number,
+        Progress::AtRest,
+    );
+}
+
+/// The object of that serial has the content of the accepted attempt.
+fn set_content_at(
+    alloc: Global,
+    objects: &mut Seq<Object>,
+    serial: u64,
+    number: u32,
+    node: NodeId,
+    ids: &Seq<ObjectId>,
+) -> Result<(), Halt>
+    ensures { OnOk result (objects.new ≡ changed_at objects.old serial (with_content number node ids.now)) }
+{
+    if serial == 0 {
+        return Ok(());
+    }
+    let place = serial - 1;
+    if place >= objects.len() as u64 {
+        return Ok(());
+    }
+    let mut places = Seq::new(alloc);
+    places.push(node)?;
+    let object = &mut objects.items[place as usize];
+    object.settled = Some(number);
+    object.places = places;
+    add_objects(&mut object.ids, ids)?;
+    Ok(())
+}
+
+/// The attempt's end is accepted.
+fn accept(
+    alloc: Global,
+    here: &mut Here,
+    attempt: AttemptId,
+    node: NodeId,
+    ids: &Seq<ObjectId>,
+) -> Result<(), Halt>
+    ensures { (task : OwnTask) → task_of (item_at here.old.worker.objects attempt.object.serial) ≡ Some task → task.number ≡ attempt.number
+        → OnOk result (here.new ≡ accepts here.old attempt task node ids.now) }
+{
+    rest(here, attempt.object, attempt.number);
+    let serial = attempt.object.serial;
+    set_content_at(
+        alloc,
+        &mut here.worker.objects,
+        serial,
+        attempt.number,
+        node,
+        ids,
+    )?;
+    log(here, Said::Accepted(attempt))
+}
+
+/// The worker tells that the attempt has ended, with a content at the node that has these ids. If it is the present attempt of a pending task it
+/// is accepted, and whoever waits for the object is answered. Of any attempt the worker is told that its end was heard.
+pub fn finished_reached(
+    alloc: Global,
+    here: &mut Here,
+    worker: WorkerId,
+    attempt: AttemptId,
+    node: NodeId,
+    ids: &Seq<ObjectId>,
+) -> Result<(), Halt>
+    ensures { OnOk result (here.new ≡ finished_reached here.old worker attempt node ids.now) }
+{
+    if !is_own(here, attempt.object) {
+        return hear_of_end(here, worker, attempt);
+    }
+    let Some(found) = item_at_number(&here.worker.objects, attempt.object.serial) else {
+        return hear_of_end(here, worker, attempt);
+    };
+    let Maker::ByTask(task) = &found.maker else {
+        return hear_of_end(here, worker, attempt);
+    };
+    if !is_present_attempt(attempt, task) {
+        return hear_of_end(here, worker, attempt);
+    }
+    accept(alloc, here, attempt, node, ids)?;
+    hear_of_end(here, worker, attempt)?;
+    answer_settled(alloc, here, attempt.object)
+}
+
+/// The worker tells that the attempt has ended by a fault. If it is the present attempt of a pending task its object is resolved to that fault,
+/// and whoever waits for it is answered. Of any attempt the worker is told that its end was heard.
+pub fn failed_reached(
+    alloc: Global,
+    here: &mut Here,
+    worker: WorkerId,
+    attempt: AttemptId,
+    why: Fault,
+) -> Result<(), Halt>
+    ensures { OnOk result (here.new ≡ failed_reached here.old worker attempt why) }
+{
+    if !is_own(here, attempt.object) {
+        return hear_of_end(here, worker, attempt);
+    }
+    let Some(found) = item_at_number(&here.worker.objects, attempt.object.serial) else {
+        return hear_of_end(here, worker, attempt);
+    };
+    let Maker::ByTask(task) = &found.maker else {
+        return hear_of_end(here, worker, attempt);
+    };
+    if !is_present_attempt(attempt, task) {
+        return hear_of_end(here, worker, attempt);
+    }
+    rest(here, attempt.object, attempt.number);
+    resolve(here, attempt.object, why)?;
+    hear_of_end(here, worker, attempt)?;
+    answer_faulted(alloc, here, attempt.object)
+}

@@ -1,0 +1,24 @@
+//! What a worker does as the owner of its objects, and how its own attempt goes on: asks, beginnings and broken attempts, ends that are
+//! accepted, answers to whoever waits, lost objects that are made again, needs, claims and commits. Each function is equal to its pure step in
+//! `protocol`. An error says that memory or numbers ran out, and then nothing is said of the tables.
+#![tactic(auto, unfolding(meaning::specs::Births::same_id, event_log::specs::Words::same_attempt))]
+
+mod again;
+mod answers;
+mod askers;
+mod birth_ids;
+mod births;
+mod commits;
+mod ends;
+mod faulted;
+mod logged;
+mod needs;
+mod recovery;
+
+pub use again::{ask_next, break_attempt, elsewhere_reached, given_reached};
+pub use answers::answer_settled;
+pub use askers::{missing_reached, where_reached};
+pub use commits::{claim_step, commit_step};
+pub use ends::{failed_reached, finished_reached};
+pub use needs::need_own;
+pub use recovery::recover;

@@ -1,0 +1,81 @@
+// What a commit logs.
+
+ghost use Rattle.std.specs.Prelude.{◌≡◌, ◌≤◌, ◌^◌, ◌++◌, ◌∷◌, [], IfOk, OnOk, map};
+ghost use Rattle.event_log.specs.Commits.{commit_entries};
+ghost use Rattle.event_log.specs.Entries as logged;
+ghost use Rattle.protocol.specs.Jobs.{stop_of};
+ghost use Rattle.protocol.specs.Steps.{logs_all};
+ghost use Rattle.owner_steps.specs.Logged.{born, ended};
+
+use held::{Origin, Printed};
+use numbers::{AttemptId, ObjectId};
+use protocol_data::{Halt, Here, Outcomes, Said, Stopped};
+use sequence::Seq;
+use std::alloc::Global;
+use worker_steps::log;
+
+/// Logs the births, which take ids from `first` on.
+#[tactic(auto, using(crate::proofs::LogLaws::one_logged, crate::proofs::LogLaws::none_logged))]
+fn log_births(
+    alloc: Global,
+    here: &mut Here,
+    attempt: AttemptId,
+    first: ObjectId,
+    births: &[Origin],
+) -> Result<(), Halt>
+    requires { first.serial ≤ 2 ^ 63 }
+    ensures { OnOk result (here.new ≡ logs_all here.old (born attempt first births.now)) }
+{
+    for i in 0..births.len() {
+        let object = ObjectId {
+            owner: first.owner,
+            serial: first.serial + i as u64,
+        };
+        let birth = births[i].copy(alloc)?;
+        log(here, Said::Born(object, attempt, birth))?;
+    }
+    Ok(())
+}
+
+/// Logs the prints.
+#[tactic(auto, using(crate::proofs::LogLaws::one_logged, crate::proofs::LogLaws::none_logged))]
+fn log_prints(alloc: Global, here: &mut Here, prints: &[Printed]) -> Result<(), Halt>
+    ensures { OnOk result (here.new ≡ logs_all here.old (map logged.Printed prints.now)) }
+{
+    for value in prints {
+        let value = value.copy(alloc)?;
+        log(here, Said::Printed(value))?;
+    }
+    Ok(())
+}
+
+/// Logs the end, if there is one.
+#[tactic(auto, using(crate::proofs::LogLaws::none_logged))]
+fn log_end(alloc: Global, here: &mut Here, attempt: AttemptId, stop: &Stopped) -> Result<(), Halt>
+    ensures { OnOk result (here.new ≡ logs_all here.old (ended attempt stop.now)) }
+{
+    match stop {
+        Stopped::AtGet(_) => Ok(()),
+        Stopped::AtEnd(content) => {
+            let content = content.copy(alloc)?;
+            log(here, Said::Ended(attempt, content))
+        }
+    }
+}
+
+/// Logs what was done on a job.
+#[tactic(auto, using(crate::proofs::LogLaws::all_logged))]
+pub fn log_outcomes(
+    alloc: Global,
+    here: &mut Here,
+    attempt: AttemptId,
+    first: ObjectId,
+    outcomes: &Outcomes,
+) -> Result<(), Halt>
+    requires { first.serial ≤ 2 ^ 63 }
+    ensures { OnOk result (here.new ≡ logs_all here.old (commit_entries attempt first outcomes.now.births outcomes.now.prints (stop_of outcomes.now.stop))) }
+{
+    log_births(alloc, here, attempt, first, outcomes.births.as_slice())?;
+    log_prints(alloc, here, outcomes.prints.as_slice())?;
+    log_end(alloc, here, attempt, &outcomes.stop)
+}

@@ -1,0 +1,182 @@
+// The worker's own attempt needs an own object.
+
+ghost use Rattle.std.specs.Prelude.{◌≡◌, OnOk, [], Some, None};
+ghost use Rattle.std.specs.Option.{unwrap_or};
+ghost use Rattle.protocol.specs.Numbered.{changed_at};
+ghost use Rattle.protocol.specs.Stores.{copy_in};
+ghost use Rattle.protocol.specs.Tables.{settled_number, without_place, without_places};
+ghost use Rattle.protocol.specs.Steps.{changes, object_at};
+ghost use Rattle.protocol.specs.Places.{looks_elsewhere, looks_for, looks_here_by, needs_own, needs_own_if_waiting, needs_unresolved};
+ghost use Rattle.protocol_data.specs.declared.tables.Object.{Object};
+
+use crate::recovery::recover;
+use lineage::{has_content, is_lost};
+use number_lists::{has_node, remove_node};
+use numbers::{NodeId, ObjectId};
+use object_store::get as get_copy;
+use protocol_data::{Halt, Here, Object, Worker};
+use sequence::Seq;
+use std::alloc::Global;
+use worker_steps::{fault, fetch, get, is_waiting_for, live_place, object_at, set_fetching};
+
+/// The number of the attempt whose content it has, 0 for what was put.
+pub fn settled_number(object: &Object) -> u32
+    ensures { result ≡ settled_number object.now }
+{
+    object.settled.unwrap_or(0)
+}
+
+/// The place is taken out of the object of that serial.
+fn remove_place_at(
+    alloc: Global,
+    objects: &mut Seq<Object>,
+    serial: u64,
+    node: NodeId,
+) -> Result<(), Halt>
+    ensures { OnOk result (objects.new ≡ changed_at objects.old serial (without_place node)) }
+{
+    if serial == 0 {
+        return Ok(());
+    }
+    let place = serial - 1;
+    if place >= objects.len() as u64 {
+        return Ok(());
+    }
+    let object = &mut objects.items[place as usize];
+    remove_node(alloc, &mut object.places, node)?;
+    Ok(())
+}
+
+/// The place is taken out of the own object's.
+pub fn remove_place(
+    alloc: Global,
+    here: &mut Here,
+    object: ObjectId,
+    node: NodeId,
+) -> Result<(), Halt>
+    ensures { OnOk result (here.new ≡ changes here.old object (without_place node)) }
+{
+    remove_place_at(alloc, &mut here.worker.objects, object.serial, node)
+}
+
+/// The object of that serial has no place.
+fn clear_places_at(alloc: Global, objects: &mut Seq<Object>, serial: u64)
+    ensures { objects.new ≡ changed_at objects.old serial without_places }
+{
+    if serial == 0 {
+        return;
+    }
+    let place = serial - 1;
+    if place >= objects.len() as u64 {
+        return;
+    }
+    let object = &mut objects.items[place as usize];
+    object.places = Seq::new(alloc);
+}
+
+/// The own object has no place.
+fn clear_places(alloc: Global, here: &mut Here, object: ObjectId)
+    ensures { here.new ≡ changes here.old object without_places }
+{
+    clear_places_at(alloc, &mut here.worker.objects, object.serial);
+}
+
+/// The first place that isn't known dead; where there is none, the content is lost.
+fn look_elsewhere(
+    alloc: Global,
+    here: &mut Here,
+    object: ObjectId,
+    number: u32,
+    places: &Seq<NodeId>,
+) -> Result<(), Halt>
+    ensures { (x : Object) → settled_number x ≡ number → x.places ≡ places.now → OnOk result (here.new ≡ looks_elsewhere here.old object x) }
+{
+    if let Some(node) = live_place(&here.worker, places) {
+        return fetch(here, object, number, node);
+    }
+    clear_places(alloc, here, object);
+    recover(alloc, here, object)
+}
+
+/// The own node turns out to have no copy.
+fn look_past(
+    alloc: Global,
+    here: &mut Here,
+    object: ObjectId,
+    number: u32,
+    places: &Seq<NodeId>,
+) -> Result<(), Halt>
+    ensures { (x : Object) → settled_number x ≡ number → x.places ≡ places.now → OnOk result (here.new ≡ looks_here_by here.old object x None) }
+{
+    let node = here.worker.node;
+    remove_place(alloc, here, object, node)?;
+    let mut others = places.copy(alloc)?;
+    remove_node(alloc, &mut others, node)?;
+    look_elsewhere(alloc, here, object, number, &others)
+}
+
+/// The attempt looks at its own node, of which a copy is known.
+fn look_here(
+    alloc: Global,
+    here: &mut Here,
+    object: ObjectId,
+    number: u32,
+    places: &Seq<NodeId>,
+) -> Result<(), Halt>
+    ensures { (x : Object) → settled_number x ≡ number → x.places ≡ places.now
+        → OnOk result (here.new ≡ looks_here_by here.old object x (copy_in here.old.there.node.store object (settled_number x))) }
+{
+    let Some(content) = get_copy(alloc, &mut here.there.node.store, object, number)? else {
+        return look_past(alloc, here, object, number, places);
+    };
+    get(alloc, here, &content)
+}
+
+/// The attempt looks for the content of an own object.
+fn look_for(
+    alloc: Global,
+    here: &mut Here,
+    object: ObjectId,
+    number: u32,
+    places: &Seq<NodeId>,
+) -> Result<(), Halt>
+    ensures { (x : Object) → settled_number x ≡ number → x.places ≡ places.now → OnOk result (here.new ≡ looks_for here.old object x) }
+{
+    if has_node(places, here.worker.node) {
+        return look_here(alloc, here, object, number, places);
+    }
+    look_elsewhere(alloc, here, object, number, places)
+}
+
+/// The worker's attempt needs an own object. A resolved one answers with its fault; a copy on the own node answers at once; else it is fetched
+/// from the first place that isn't known dead. Where no place is left the object is made again. For a pending one the attempt waits.
+pub fn need_own(alloc: Global, here: &mut Here, object: ObjectId) -> Result<(), Halt>
+    ensures { OnOk result (here.new ≡ needs_own here.old object) }
+{
+    set_fetching(here, None);
+    let Some(found) = object_at(here, object) else {
+        return Ok(());
+    };
+    if let Some(why) = found.fault {
+        return fault(alloc, here, why);
+    }
+    if has_content(found) {
+        let number = settled_number(found);
+        let places = found.places.copy(alloc)?;
+        return look_for(alloc, here, object, number, &places);
+    }
+    if is_lost(found) {
+        return recover(alloc, here, object);
+    }
+    Ok(())
+}
+
+/// The same, if it waits for the object.
+pub fn need_own_if_waiting(alloc: Global, here: &mut Here, object: ObjectId) -> Result<(), Halt>
+    ensures { OnOk result (here.new ≡ needs_own_if_waiting here.old object) }
+{
+    if is_waiting_for(&here.worker, object) {
+        return need_own(alloc, here, object);
+    }
+    Ok(())
+}

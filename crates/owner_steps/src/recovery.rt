@@ -1,0 +1,69 @@
+// A lost object is made again.
+
+ghost use Rattle.std.specs.Prelude.{◌≡◌, OnOk, Some, None};
+ghost use Rattle.protocol.specs.Tables.{task_of};
+ghost use Rattle.protocol.specs.Steps.{own_object};
+ghost use Rattle.protocol.specs.Recovery.{gives_up, recovers, remakes, remakes_by};
+
+use crate::faulted::answer_faulted;
+use lineage::{Recovery, plan};
+use number_lists::item_at_number;
+use numbers::{Fault, ObjectId};
+use protocol_data::{Halt, Here, Maker};
+use sequence::Seq;
+use std::alloc::Global;
+use worker_steps::{request, resolve};
+
+/// The object of that serial is asked for again, if a task makes it.
+fn remake(here: &mut Here, serial: u64) -> Result<(), Halt>
+    ensures { OnOk result (here.new ≡ remakes_by here.old serial (task_of (own_object here.old serial))) }
+{
+    let Some(found) = item_at_number(&here.worker.objects, serial) else {
+        return Ok(());
+    };
+    let Maker::ByTask(task) = &found.maker else {
+        return Ok(());
+    };
+    if task.number == u32::MAX {
+        return Err(Halt::NoNumber);
+    }
+    let number = task.number + 1;
+    let owner = here.me;
+    request(here, ObjectId { owner, serial }, number)
+}
+
+/// These are asked for again.
+fn remake_all(here: &mut Here, serials: &Seq<u64>) -> Result<(), Halt>
+    ensures { OnOk result (here.new ≡ remakes here.old serials.now) }
+{
+    for serial in &serials.items {
+        remake(here, *serial)?;
+    }
+    Ok(())
+}
+
+/// The object that stops the plan is resolved, and the one asked for to the same fault.
+fn give_up(alloc: Global, here: &mut Here, object: ObjectId, why: Fault) -> Result<(), Halt>
+    ensures { OnOk result (here.new ≡ gives_up here.old object why) }
+{
+    if why.object.is(object) {
+        resolve(here, object, why)?;
+        return answer_faulted(alloc, here, object);
+    }
+    resolve(here, why.object, why)?;
+    resolve(here, object, why)?;
+    answer_faulted(alloc, here, why.object)?;
+    answer_faulted(alloc, here, object)
+}
+
+/// The lost own object is made again, with the lost objects that it is made from: in birth order the next attempt of each is asked for. If one of
+/// them can't be made again the first such one is resolved, the object asked for to the same fault, and whoever waits for them is answered.
+#[tactic(auto, using(crate::proofs::Plans::remade, crate::proofs::Plans::stopped))]
+pub fn recover(alloc: Global, here: &mut Here, object: ObjectId) -> Result<(), Halt>
+    ensures { OnOk result (here.new ≡ recovers here.old object) }
+{
+    match plan(alloc, here, object.serial)? {
+        Recovery::Remake(serials) => remake_all(here, &serials),
+        Recovery::Stop(why) => give_up(alloc, here, object, why),
+    }
+}

@@ -1,0 +1,4 @@
+pub mod Dying
+pub mod Made
+pub mod Nodes
+pub mod Room

@@ -1,0 +1,43 @@
+use Rattle.std.proofs.Common.{◌≡◌, ◌+◌, length, sym, ◌∙◌, arith}
+use Rattle.limit_laws.proofs.JobLaws.{committed_entries, committed_not_noted, committed_noted}
+use Rattle.number_lists.proofs.Places.{item_there}
+use Rattle.whole_events.proofs.jobs.commit_outcomes.Goals as goal
+
+pub returns-in_default-2-clause-whole : goal.returns-in_default-2-clause-whole
+returns-in_default-2-clause-whole c =
+    let old = c.args.whole.now in
+    let g = c.get.result.now in
+    let made = c.in-Some-checked_add.made in
+    let there = item_there old.jobs c.in-Some.place c.args.job g c.in-Some.ensures.found.0 c.get.ensures in
+    let sum : made ≡ old.made + length c.args.outcomes.births = omega (arith, c.in-Some-checked_add.ensures, c.len-2.ensures) in
+    committed_not_noted old c.let_act.new.whole c.args.job made c.args.outcomes g there sum c.in_ok-entries.ensures.whole
+    (sym c.in_ok-entries.ensures.entries ∙ c.in_default-2.is)
+
+pub returns-in_default-2-clause-entries : goal.returns-in_default-2-clause-entries
+returns-in_default-2-clause-entries c =
+    let old = c.args.whole.now in
+    let g = c.get.result.now in
+    let made = c.in-Some-checked_add.made in
+    let there = item_there old.jobs c.in-Some.place c.args.job g c.in-Some.ensures.found.0 c.get.ensures in
+    let sum : made ≡ old.made + length c.args.outcomes.births = omega (arith, c.in-Some-checked_add.ensures, c.len-2.ensures) in
+    sym c.in_default-2.is ∙ c.in_ok-entries.ensures.entries ∙ sym (committed_entries old c.args.job made c.args.outcomes g there sum)
+
+pub returns-clause-whole : goal.returns-clause-whole
+returns-clause-whole c =
+    let old = c.args.whole.now in
+    let g = c.get.result.now in
+    let made = c.in-Some-checked_add.made in
+    let there = item_there old.jobs c.in-Some.place c.args.job g c.in-Some.ensures.found.0 c.get.ensures in
+    let sum : made ≡ old.made + length c.args.outcomes.births = omega (arith, c.in-Some-checked_add.ensures, c.len-2.ensures) in
+    c.note_commit.ensures
+    ∙ committed_noted old c.let_act.new.whole c.args.job made c.args.outcomes g c.in-Some-2.entries there sum c.in_ok-entries.ensures.whole
+    (sym c.in_ok-entries.ensures.entries ∙ c.in-Some-2.is)
+
+pub returns-clause-entries : goal.returns-clause-entries
+returns-clause-entries c =
+    let old = c.args.whole.now in
+    let g = c.get.result.now in
+    let made = c.in-Some-checked_add.made in
+    let there = item_there old.jobs c.in-Some.place c.args.job g c.in-Some.ensures.found.0 c.get.ensures in
+    let sum : made ≡ old.made + length c.args.outcomes.births = omega (arith, c.in-Some-checked_add.ensures, c.len-2.ensures) in
+    sym c.in-Some-2.is ∙ c.in_ok-entries.ensures.entries ∙ sym (committed_entries old c.args.job made c.args.outcomes g there sum)

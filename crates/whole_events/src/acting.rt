@@ -1,0 +1,121 @@
+// Workers that do their part in an event.
+
+ghost use Rattle.std.specs.Prelude.{◌≡◌, ◌<◌, ◌+◌, IfOk, OnOk, Some, length, slice_get, slice_set};
+ghost use Rattle.limit_laws.specs.Limits.{entries_within, whole_within};
+ghost use Rattle.protocol.specs.Whole.{after_worker, worker_does};
+ghost use Rattle.protocol_data.specs.declared.whole.Whole.{Whole};
+ghost use Rattle.worker_acts.specs.Acts.{act_step};
+ghost use Rattle.whole_events.specs.Kept.{IsKept, IsLeft, put_into};
+
+use crate::counting::{fits, nothing};
+use numbers::{NodeId, WorkerId};
+use protocol_data::{Halt, Here, LogEntry, Node, Whole, Worker};
+use sequence::Seq;
+use std::alloc::Global;
+use table_copies::{copy_node, copy_worker};
+use whole_steps::{node_place, put_worker, take_worker, worker_place};
+use worker_acts::{Act, take_part};
+
+/// The worker of that number does its part in an event. The entries that this adds are given back.
+pub fn act(
+    alloc: Global,
+    whole: &mut Whole,
+    number: WorkerId,
+    what: &Act,
+) -> Result<Seq<LogEntry>, Halt>
+    ensures whole { OnOk result (whole.new ≡ (worker_does whole.old number (act_step what.now)).whole) }
+    ensures entries { IfOk result (λ entries. entries ≡ (worker_does whole.old number (act_step what.now)).out.entries) }
+{
+    let Some(place) = worker_place(whole, number) else {
+        return Ok(Seq::new(alloc));
+    };
+    let node = whole.workers.get(place).node;
+    let Some(node_place) = node_place(whole, node) else {
+        return Ok(Seq::new(alloc));
+    };
+    let mut here = take_worker(alloc, whole, place, node_place, number, node);
+    take_part(alloc, &mut here, what)?;
+    put_worker(alloc, whole, place, node_place, number, node, here)
+}
+
+/// A worker and its node as they were.
+#[derive(Drop)]
+pub struct Kept {
+    pub worker: Worker,
+    pub node: Node,
+}
+
+/// The worker and its node are kept.
+fn keep(alloc: Global, whole: &Whole, place: usize, node_place: usize) -> Result<Kept, Halt>
+    requires worker { place < length whole.now.workers }
+    requires node { node_place < length whole.now.nodes }
+    ensures { IfOk result (λ kept. IsKept kept whole.now place node_place) }
+{
+    let worker = copy_worker(alloc, whole.workers.get(place))?;
+    let node = copy_node(alloc, whole.nodes.get(node_place))?;
+    Ok(Kept { worker, node })
+}
+
+/// What was kept stands in its place again.
+fn put_again(whole: &mut Whole, place: usize, node_place: usize, kept: Kept)
+    requires worker { place < length whole.old.workers }
+    requires node { node_place < length whole.old.nodes }
+    ensures { whole.new ≡ record whole.old { workers = slice_set whole.old.workers place kept.worker; nodes = slice_set whole.old.nodes node_place kept.node } }
+{
+    whole.workers.set(place, kept.worker);
+    whole.nodes.set(node_place, kept.node);
+}
+
+/// The worker and its node are put back with what they made, or as they were where a limit would be passed.
+fn put_within(
+    alloc: Global,
+    whole: &mut Whole,
+    place: usize,
+    node_place: usize,
+    number: WorkerId,
+    node: NodeId,
+    here: Here,
+    kept: Kept,
+    made: u64,
+) -> Result<Option<Seq<LogEntry>>, Halt>
+    requires place_in { place < length whole.old.workers }
+    requires number { number ≡ 1 + place }
+    requires node_place_in { node_place < length whole.old.nodes }
+    requires node_number { node ≡ 1 + node_place }
+    ensures whole { (c : Whole) → IsLeft kept c place node_place whole.old → OnOk result (whole.new ≡ put_into made c whole.old number node here) }
+    ensures entries { IfOk result (λ given. given ≡ entries_within made (after_worker whole.old number node here)) }
+{
+    if fits(whole, u64::from(here.there.opened), made) {
+        let entries = put_worker(alloc, whole, place, node_place, number, node, here)?;
+        return Ok(Some(entries));
+    }
+    put_again(whole, place, node_place, kept);
+    Ok(None)
+}
+
+/// The worker of that number does its part in an event, after which there are so many objects. The worker and its node are kept meanwhile: where
+/// a limit would be passed they stand again as they were.
+pub fn act_or_restore(
+    alloc: Global,
+    whole: &mut Whole,
+    number: WorkerId,
+    what: &Act,
+    made: u64,
+) -> Result<Option<Seq<LogEntry>>, Halt>
+    ensures whole { OnOk result (whole.new ≡ whole_within made whole.old (worker_does whole.old number (act_step what.now))) }
+    ensures entries { IfOk result (λ given. given ≡ entries_within made (worker_does whole.old number (act_step what.now))) }
+{
+    let Some(place) = worker_place(whole, number) else {
+        return Ok(nothing(alloc, whole, made));
+    };
+    let node = whole.workers.get(place).node;
+    let Some(node_place) = node_place(whole, node) else {
+        return Ok(nothing(alloc, whole, made));
+    };
+    let kept = keep(alloc, whole, place, node_place)?;
+    let mut here = take_worker(alloc, whole, place, node_place, number, node);
+    take_part(alloc, &mut here, what)?;
+    put_within(
+        alloc, whole, place, node_place, number, node, here, kept, made,
+    )
+}

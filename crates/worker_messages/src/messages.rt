@@ -1,0 +1,110 @@
+// Messages that reach a worker.
+
+ghost use Rattle.std.specs.Prelude.{◌≡◌, OnOk, Some, None};
+ghost use Rattle.protocol.specs.Deliveries.{reached, reached_from_node, reached_from_worker};
+
+use numbers::{NodeId, WorkerId};
+use owner_steps::{
+    elsewhere_reached, failed_reached, finished_reached, given_reached, missing_reached,
+    where_reached,
+};
+use protocol_data::{Halt, Here, Message, Party};
+use std::alloc::Global;
+use worker_steps::{
+    at_reached, copy_reached, finished_ack_reached, gone_reached, hold_ack_reached, hold_reached,
+    push_reached, unhold_reached,
+};
+
+/// A worker's message reaches the worker.
+fn reached_from_worker(
+    alloc: Global,
+    here: &mut Here,
+    worker: WorkerId,
+    message: &Message,
+) -> Result<(), Halt>
+    ensures { OnOk result (here.new ≡ reached_from_worker here.old worker message.now) }
+{
+    match message {
+        Message::Push(attempt, spec) => push_reached(alloc, here, *attempt, spec),
+        Message::Finished(attempt, node, ids) => {
+            finished_reached(alloc, here, worker, *attempt, *node, ids)
+        }
+        Message::FinishedAck(attempt) => finished_ack_reached(here, *attempt),
+        Message::Failed(attempt, why) => failed_reached(alloc, here, worker, *attempt, *why),
+        Message::Where(object) => where_reached(alloc, here, worker, *object),
+        Message::At(object, number, nodes) => at_reached(alloc, here, *object, *number, nodes),
+        Message::Gone(object, why) => gone_reached(alloc, here, *object, *why),
+        Message::Missing(object, number, node) => {
+            missing_reached(
+                alloc,
+                here,
+                &Party::TheWorker(worker),
+                *object,
+                *number,
+                *node,
+            )
+        }
+        Message::Hold(holder, object) => hold_reached(here, worker, *holder, *object),
+        Message::HoldAck(holder, object) => hold_ack_reached(alloc, here, *holder, *object),
+        Message::Unhold(holder, object) => unhold_reached(here, *holder, *object),
+        Message::Ask(..)
+        | Message::Give(..)
+        | Message::Elsewhere(..)
+        | Message::Wait(..)
+        | Message::Back(..)
+        | Message::Fetch(..)
+        | Message::CopyOf(..) => Ok(()),
+    }
+}
+
+/// A node's message reaches the worker.
+fn reached_from_node(
+    alloc: Global,
+    here: &mut Here,
+    node: NodeId,
+    message: &Message,
+) -> Result<(), Halt>
+    ensures { OnOk result (here.new ≡ reached_from_node here.old node message.now) }
+{
+    match message {
+        Message::Give(attempt, t, worker) => {
+            given_reached(alloc, here, node, *attempt, *t, *worker)
+        }
+        Message::Elsewhere(attempt, t, next) => elsewhere_reached(here, *attempt, *t, *next),
+        Message::CopyOf(object, number, content) => {
+            copy_reached(alloc, here, *object, *number, content)
+        }
+        Message::Missing(object, number, place) => {
+            missing_reached(alloc, here, &Party::TheNode(node), *object, *number, *place)
+        }
+        Message::Ask(..)
+        | Message::Wait(..)
+        | Message::Back(..)
+        | Message::Push(..)
+        | Message::Finished(..)
+        | Message::FinishedAck(..)
+        | Message::Failed(..)
+        | Message::Where(..)
+        | Message::At(..)
+        | Message::Gone(..)
+        | Message::Fetch(..)
+        | Message::Hold(..)
+        | Message::HoldAck(..)
+        | Message::Unhold(..) => Ok(()),
+    }
+}
+
+/// A message reaches the worker; what no rule names is passed over.
+pub fn reached(
+    alloc: Global,
+    here: &mut Here,
+    sender: &Party,
+    message: &Message,
+) -> Result<(), Halt>
+    ensures { OnOk result (here.new ≡ reached here.old sender.now message.now) }
+{
+    match sender {
+        Party::TheWorker(worker) => reached_from_worker(alloc, here, *worker, message),
+        Party::TheNode(node) => reached_from_node(alloc, here, *node, message),
+    }
+}

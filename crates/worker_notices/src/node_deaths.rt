@@ -1,0 +1,106 @@
+// What the death of a node ends.
+
+ghost use Rattle.std.specs.Prelude.{◌≡◌, ◌==◌, ◌+◌, ◌-◌, ◌++◌, ◌∷◌, [], IfOk, OnOk, Some, None, map};
+ghost use Rattle.protocol.specs.Tables.{task_of, without_place};
+ghost use Rattle.protocol.specs.Steps.{own_object};
+ghost use Rattle.protocol.specs.Notices.{loses_fetch, loses_places, moves_ask, moves_asks, with_dead_node};
+
+use number_lists::{item_at_number, remove_node};
+use numbers::{NodeId, ObjectId};
+use owner_steps::{ask_next, missing_reached};
+use protocol_data::{Halt, Here, Maker, Object, Party, Phase, Progress};
+use sequence::Seq;
+use std::alloc::Global;
+use std::mem;
+
+/// The worker knows that the node is dead.
+pub fn add_dead_node(here: &mut Here, node: NodeId) -> Result<(), Halt>
+    ensures { OnOk result (here.new ≡ with_dead_node here.old node) }
+{
+    here.worker.dead_nodes.push(node)?;
+    Ok(())
+}
+
+/// The object has no copy at the node.
+fn without_place(alloc: Global, object: Object, node: NodeId) -> Result<Object, Halt>
+    ensures { IfOk result (λ x. x ≡ without_place node object) }
+{
+    let mut object = object;
+    remove_node(alloc, &mut object.places, node)?;
+    Ok(object)
+}
+
+/// None of the objects has a copy at the node.
+fn without_places_at(alloc: Global, objects: Seq<Object>, node: NodeId) -> Result<Seq<Object>, Halt>
+    ensures { IfOk result (λ xs. xs ≡ map (without_place node) objects) }
+{
+    let mut others = Seq::new(alloc);
+    for object in objects.items {
+        others.push(without_place(alloc, object, node)?)?;
+    }
+    Ok(others)
+}
+
+/// No copy is known at the node any more.
+pub fn lose_places(alloc: Global, here: &mut Here, node: NodeId) -> Result<(), Halt>
+    ensures { OnOk result (here.new ≡ loses_places here.old node) }
+{
+    let objects = mem::replace(&mut here.worker.objects, Seq::new(alloc));
+    here.worker.objects = without_places_at(alloc, objects, node)?;
+    Ok(())
+}
+
+/// The ask for that task, if it stands at the node, goes to the next node.
+fn move_ask(here: &mut Here, node: NodeId, serial: u64) -> Result<(), Halt>
+    ensures { OnOk result (here.new ≡ moves_ask here.old node serial (task_of (own_object here.old serial))) }
+{
+    let Some(found) = item_at_number(&here.worker.objects, serial) else {
+        return Ok(());
+    };
+    let Maker::ByTask(task) = &found.maker else {
+        return Ok(());
+    };
+    let Progress::AskedAt(t, asked) = &task.progress else {
+        return Ok(());
+    };
+    if !asked.is(node) {
+        return Ok(());
+    }
+    let t = *t;
+    let number = task.number;
+    let owner = here.me;
+    ask_next(here, ObjectId { owner, serial }, number, t, node)
+}
+
+/// The asks that stand at the node go to the next node.
+#[tactic(auto, using(worker_steps::proofs::EachLaws::each_step, worker_steps::proofs::EachLaws::each_last))]
+pub fn move_asks(here: &mut Here, node: NodeId) -> Result<(), Halt>
+    ensures { OnOk result (here.new ≡ moves_asks here.old node) }
+{
+    let count = here.worker.objects.len() as u64;
+    for place in 0..count {
+        move_ask(here, node, place + 1)?;
+    }
+    Ok(())
+}
+
+/// A Fetch under way to the node finds no copy.
+pub fn lose_fetch(alloc: Global, here: &mut Here, node: NodeId) -> Result<(), Halt>
+    ensures { OnOk result (here.new ≡ loses_fetch here.old node) }
+{
+    let Some(run) = &here.worker.run else {
+        return Ok(());
+    };
+    let Phase::Waits(object, fetching) = &run.phase else {
+        return Ok(());
+    };
+    let object = *object;
+    let Some(fetch) = fetching else {
+        return Ok(());
+    };
+    if !fetch.node.is(node) {
+        return Ok(());
+    }
+    let number = fetch.number;
+    missing_reached(alloc, here, &Party::TheNode(node), object, number, node)
+}

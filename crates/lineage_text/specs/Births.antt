@@ -4,7 +4,8 @@ use Rattle.std.specs.List.{flat_map}
 use Rattle.meaning.specs.Values.{Id, Birth, Put, Task}
 use Rattle.report.specs.Values.{id_text, value_text}
 use Rattle.log_words.specs.Calls.{call_text}
-use Rattle.lineage_text.specs.Edges.{ids_of, named_edge, argument_edges}
+use Rattle.log_words.specs.Ids.{ids_of}
+use Rattle.lineage_text.specs.Edges.{named_edge, argument_edges}
 
 unfoldable pub node_head : Id → List ℕ
 node_head o = codes "    \"" ++ (id_text o ++ (codes "\" [label=\"" ++ (id_text o ++ codes ": ")))

@@ -5,9 +5,9 @@ ghost use Rattle.values.specs.Values.{id_of};
 ghost use Rattle.task_spec.specs.Births.{birth_of};
 ghost use Rattle.lineage_text.specs.Births.{birth_edges, born_text, label_text, node_head, node_tail, node_text};
 
-use crate::edges::{ids_of, write_arguments, write_named_edges};
+use crate::edges::{write_arguments, write_named_edges};
 use ids::ObjectId;
-use log_words::write_call;
+use log_words::{ids_of, write_call};
 use report::write_value;
 use std::alloc::{AllocError, Global};
 use task_spec::Birth;

@@ -1,15 +1,15 @@
 // The edges between objects.
 
-ghost use Rattle.std.specs.Prelude.{◌≡◌, ◌++◌, IfOk, OnOk, map, string_bytes};
+ghost use Rattle.std.specs.Prelude.{◌≡◌, ◌++◌, OnOk, map, string_bytes};
 ghost use Rattle.std.specs.List.{flat_map};
-ghost use Rattle.values.specs.Values.{id_of, value_of};
+ghost use Rattle.values.specs.Values.{id_of};
 ghost use Rattle.task_spec.specs.Births.{argument_of};
-ghost use Rattle.lineage_text.specs.Edges.{argument_edge, argument_edges, ids_of, named_edge};
+ghost use Rattle.lineage_text.specs.Edges.{argument_edge, argument_edges, named_edge};
 
 use ids::ObjectId;
+use log_words::ids_of;
 use std::alloc::{AllocError, Global};
 use task_spec::Argument;
-use values::{RunValue, add_ids};
 
 fn write_argument_edge(text: &mut String, to: ObjectId, from: ObjectId) -> Result<(), AllocError>
     ensures { OnOk result (string_bytes text.new ≡ string_bytes text.old ++ argument_edge (id_of to) (id_of from)) }
@@ -21,15 +21,6 @@ fn write_named_edge(text: &mut String, from: ObjectId, to: ObjectId) -> Result<(
     ensures { OnOk result (string_bytes text.new ≡ string_bytes text.old ++ named_edge (id_of from) (id_of to)) }
 {
     writeln!(text, "    \"{from}\" -> \"{to}\" [style=dashed];")
-}
-
-/// The objects that stand in a value, in order of first place.
-pub fn ids_of(alloc: Global, value: &RunValue) -> Result<Vec<ObjectId>, AllocError>
-    ensures { IfOk result (λ ids. map id_of ids.items ≡ ids_of (value_of value.now)) }
-{
-    let mut found = Vec::new(alloc);
-    add_ids(value, &mut found)?;
-    Ok(found)
 }
 
 fn write_argument_edges(

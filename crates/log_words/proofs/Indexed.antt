@@ -13,15 +13,16 @@ use Rattle.event_log.specs.declared.entry.Entry.{Entry}
 use Rattle.event_log.specs.declared.entry.Entry.TheVariants as entries
 use Rattle.log_words.specs.Index.{birth_in, birth_found, is_born_in}
 
-by_test : (log : List Entry) (k : ℕ) (b : Birth) (r : Option ℕ) (rest : Option Birth) (t : Bool) → birth_in (slice_get log k) ≡ Some b → birth_found log r ≡ rest →
-    birth_found log (if t then Some k else r) ≡ (if t then Some b else rest)
+by_test : (log : List Entry) (k : ℕ) (b : Birth) (r : Option ℕ) (rest : Option Birth) (t : Bool) →
+    birth_in (slice_get log k) ≡ Some b → birth_found log r ≡ rest → birth_found log (if t then Some k else r) ≡ (if t then Some b else rest)
 by_test log k b r rest true at e = at
 by_test log k b r rest false at e = e
 
 by_entry : (log : List Entry) (k : ℕ) (x : Entry) (r : Option ℕ) (rest : List Entry) (o : Id) → slice_get log k ≡ Some x →
     birth_found log r ≡ birth_at (flat_map born_in (log_of rest)) o →
     birth_found log (if is_born_in o (entry_of x) then Some k else r) ≡ birth_at (flat_map born_in (log_of (x ∷ rest))) o
-by_entry log k (entries.Born p a b) r rest o at e = by_test log k (birth_of b) r (birth_at (flat_map born_in (log_of rest)) o) (same_id (id_of p) o) (ap birth_in at) e
+by_entry log k (entries.Born p a b) r rest o at e =
+    by_test log k (birth_of b) r (birth_at (flat_map born_in (log_of rest)) o) (same_id (id_of p) o) (ap birth_in at) e
 by_entry log k (entries.In v seat) r rest o at e = e
 by_entry log k (entries.Refused v) r rest o at e = e
 by_entry log k (entries.Opened v n) r rest o at e = e

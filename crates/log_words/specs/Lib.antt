@@ -3,3 +3,4 @@ pub mod Contents
 pub mod Faults
 pub mod Index
 pub mod Told
+pub mod Ids

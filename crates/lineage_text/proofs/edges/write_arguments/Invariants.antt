@@ -6,4 +6,5 @@ use Rattle.lineage_text.specs.Edges.{argument_edges}
 use Rattle.lineage_text.proofs.edges.write_arguments.Given as goal
 
 abbrev pub invariant-loop-argument : goal.invariant-loop-argument
-invariant-loop-argument l = string_bytes l.text ≡ string_bytes l.fn.text ++ flat_map (argument_edges (id_of l.to)) (map argument_of (take l.argument-index l.arguments))
+invariant-loop-argument l =
+    string_bytes l.text ≡ string_bytes l.fn.text ++ flat_map (argument_edges (id_of l.to)) (map argument_of (take l.argument-index l.arguments))

@@ -10,5 +10,6 @@ loop-place-preserved c = record {
   indexed = λ o.
       ap (birth_found c.args.log.now) (c.in_ok-note.ensures o)
       ∙ indexed_more c.args.log.now c.loop-place.place (c.loop-place.place - 1) c.index-log-place.result (found c.loop-place.places o) (id_of o)
-      (omega (arith, c.loop-place-test.true)) (omega (arith, c.loop-place-test.true, c.loop-place.invariant.within)) c.index-log-place.is (c.loop-place.invariant.indexed o);
+      (omega (arith, c.loop-place-test.true)) (omega (arith, c.loop-place-test.true, c.loop-place.invariant.within))
+      c.index-log-place.is (c.loop-place.invariant.indexed o);
 }

@@ -8,6 +8,7 @@ use Rattle.timeline.proofs.entries.entries_json.Given as goal
 
 abbrev pub invariant-loop-place : goal.invariant-loop-place
 invariant-loop-place l = record {
-  added : map view l.all.items ++ entries_data (births (log_of l.log)) (told_of l.told) l.rows.items (drop l.place l.log) ≡ entries_data (births (log_of l.log)) nothing_told [] l.log;
+  added : map view l.all.items ++ entries_data (births (log_of l.log)) (told_of l.told) l.rows.items (drop l.place l.log)
+      ≡ entries_data (births (log_of l.log)) nothing_told [] l.log;
   counted : l.told.events ≤ l.place;
 }

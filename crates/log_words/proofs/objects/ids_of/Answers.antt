@@ -2,7 +2,7 @@ use Rattle.std.proofs.Common.{map, ap, ◌∙◌}
 use Rattle.values.specs.Values.{id_of, value_of}
 use Rattle.values.specs.Listed.{ids_listed, adding}
 use Rattle.values.proofs.ListedLaws.{adding-each_once}
-use Rattle.lineage_text.proofs.edges.ids_of.Goals as goal
+use Rattle.log_words.proofs.objects.ids_of.Goals as goal
 
 pub returns : goal.returns
 returns c =

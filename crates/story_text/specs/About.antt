@@ -1,0 +1,55 @@
+-- What is said of an object.
+use Rattle.std.specs.Prelude.{ℕ, Bool, false, not, ◌&&◌, ◌||◌, ◌==◌, List, [], ◌∷◌}
+use Rattle.std.specs.List.{list_any}
+use Rattle.values.specs.Values.{id_of}
+use Rattle.meaning.specs.Values.{Id}
+use Rattle.meaning.specs.Births.{same_id}
+use Rattle.event_log.specs.Entries.{Event, Notice, NoticeNode, Evict, Lose, Kill, KillNode, Entry, In, Begun, Born, Got, Ended, Accepted, Faulted}
+use Rattle.event_log.specs.Entries.{Resolved, Released}
+use Rattle.event_log.specs.Events.{refused_next}
+use Rattle.story_text.specs.Mentions.{is_in_birth, is_in_content}
+use Rattle.story_text.specs.Runners.{Subject}
+use Rattle.story_text.specs.declared.runners.Subject.{Subject as CodeSubject}
+
+abbrev pub seen_of : CodeSubject → Subject
+seen_of s = record { object = id_of s.object; workers = s.workers.items; nodes = s.nodes.items }
+
+-- the entry names the object, or an attempt of its task
+unfoldable pub is_about : Id → Entry → Bool
+is_about o (Begun a w) = same_id a.object o
+is_about o (Born p a b) = same_id p o || is_in_birth o b
+is_about o (Got a y c) = same_id a.object o || (same_id y o || is_in_content o c)
+is_about o (Ended a c) = same_id a.object o || is_in_content o c
+is_about o (Accepted a) = same_id a.object o
+is_about o (Faulted a y f) = same_id a.object o || same_id y o
+is_about o (Resolved p f) = same_id p o || same_id f.object o
+is_about o (Released p) = same_id p o
+is_about o _ = false
+
+abbrev pub is_one : List ℕ → ℕ → Bool
+is_one ns n = list_any (λ m. m == n) ns
+
+-- the event befalls the object, a worker that ran an attempt of its task, or the node of one
+unfoldable pub befalls : Subject → Event → Bool
+befalls s (Kill w) = is_one s.workers w
+befalls s (KillNode n) = is_one s.nodes n
+befalls s (Notice w v) = is_one s.workers v
+befalls s (NoticeNode w n) = is_one s.nodes n
+befalls s (Evict n o) = same_id o s.object
+befalls s (Lose n o) = same_id o s.object
+befalls s _ = false
+
+-- something about the object came of the event to which these entries belong
+abbrev pub is_ahead : Id → List Entry → Bool
+is_ahead o [] = false
+is_ahead o (In e seat ∷ rest) = false
+is_ahead o (x ∷ rest) = is_about o x || is_ahead o rest
+
+-- a refused event does nothing
+abbrev pub is_event_shown : Subject → Event → List Entry → Bool
+is_event_shown s e rest = (not (refused_next rest) && befalls s e) || is_ahead s.object rest
+
+-- the entry belongs to the object's story
+abbrev pub is_shown : Subject → Entry → List Entry → Bool
+is_shown s (In e seat) rest = is_event_shown s e rest
+is_shown s x rest = is_about s.object x

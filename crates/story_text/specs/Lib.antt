@@ -1,0 +1,4 @@
+pub mod Mentions
+pub mod Runners
+pub mod About
+pub mod Text

@@ -1,0 +1,24 @@
+-- The workers that ran attempts of an object's task, and their nodes.
+use Rattle.std.specs.Prelude.{ℕ, List, [], ◌∷◌, Option, Some, None}
+use Rattle.std.specs.List.{flat_map}
+use Rattle.meaning.specs.Values.{Id}
+use Rattle.event_log.specs.Entries.{Entry}
+use Rattle.event_log.specs.Words.{runs_of, opened}
+use Rattle.event_log.specs.Events.{from_one}
+
+abbrev pub one : Option ℕ → List ℕ
+one None = []
+one (Some n) = n ∷ []
+
+-- the node of each worker of these, the nodes of all workers being given by number
+abbrev pub nodes_in : List ℕ → List ℕ → List ℕ
+nodes_in nodes workers = flat_map (λ w. one (from_one nodes w)) workers
+
+-- an object, and the workers and nodes on which attempts of its task ran
+pub record Subject : Type 0 where
+  pub object : Id
+  pub workers : List ℕ
+  pub nodes : List ℕ
+
+abbrev pub subject_of : Id → List Entry → Subject
+subject_of o log = record { object = o; workers = runs_of o log; nodes = nodes_in (opened log) (runs_of o log) }

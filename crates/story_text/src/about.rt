@@ -1,0 +1,139 @@
+// What is said of an object.
+
+ghost use Rattle.std.specs.Prelude.{◌≡◌, IfOk};
+ghost use Rattle.values.specs.Values.{id_of};
+ghost use Rattle.event_log.specs.Views.{entry_of, event_of, log_of};
+ghost use Rattle.story_text.specs.About.{befalls, is_about, is_ahead, is_event_shown, is_shown, seen_of};
+
+use crate::mentions::{is_in_birth, is_in_content, is_same};
+use crate::runners::{Subject, is_one};
+use event_log::{Entry, Event};
+use ids::ObjectId;
+use log_words::is_refusal_at;
+use std::alloc::{AllocError, Global};
+
+/// Whether the entry names the object, or an attempt of its task.
+#[tactic(auto, unfolding(crate::specs::About::is_about))]
+fn is_about(alloc: Global, object: ObjectId, entry: &Entry) -> Result<bool, AllocError>
+    ensures { IfOk result (λ b. b ≡ is_about (id_of object) (entry_of entry.now)) }
+{
+    match entry {
+        Entry::Begun { attempt, .. } | Entry::Accepted(attempt) => {
+            Ok(is_same(attempt.object, object))
+        }
+        Entry::Born {
+            object: born,
+            birth,
+            ..
+        } => {
+            if is_same(*born, object) {
+                return Ok(true);
+            }
+            is_in_birth(alloc, object, birth)
+        }
+        Entry::Got {
+            attempt,
+            object: got,
+            content,
+        } => {
+            if is_same(attempt.object, object) {
+                return Ok(true);
+            }
+            if is_same(*got, object) {
+                return Ok(true);
+            }
+            is_in_content(alloc, object, content)
+        }
+        Entry::Ended { attempt, content } => {
+            if is_same(attempt.object, object) {
+                return Ok(true);
+            }
+            is_in_content(alloc, object, content)
+        }
+        Entry::Faulted {
+            attempt,
+            object: got,
+            ..
+        } => {
+            if is_same(attempt.object, object) {
+                return Ok(true);
+            }
+            Ok(is_same(*got, object))
+        }
+        Entry::Resolved {
+            object: resolved,
+            fault,
+        } => {
+            if is_same(*resolved, object) {
+                return Ok(true);
+            }
+            Ok(is_same(fault.object, object))
+        }
+        Entry::Released(released) => Ok(is_same(*released, object)),
+        _ => Ok(false),
+    }
+}
+
+/// Whether the event befalls the object, a worker that ran an attempt of its task, or the node of one.
+#[tactic(auto, unfolding(crate::specs::About::befalls))]
+fn befalls(subject: &Subject, event: &Event) -> bool
+    ensures { result ≡ befalls (seen_of subject.now) (event_of event.now) }
+{
+    match event {
+        Event::Kill(worker) => is_one(&subject.workers, worker.0),
+        Event::KillNode(node) => is_one(&subject.nodes, node.0),
+        Event::Notice { dead, .. } => is_one(&subject.workers, dead.0),
+        Event::NoticeNode { dead, .. } => is_one(&subject.nodes, dead.0),
+        Event::Evict { object, .. } | Event::Lose { object, .. } => {
+            is_same(*object, subject.object)
+        }
+        _ => false,
+    }
+}
+
+/// Whether something about the object came of the event to which these entries belong.
+fn is_ahead(alloc: Global, object: ObjectId, rest: &[Entry]) -> Result<bool, AllocError>
+    ensures { IfOk result (λ b. b ≡ is_ahead (id_of object) (log_of rest.now)) }
+{
+    for entry in rest {
+        if let Entry::In { .. } = entry {
+            return Ok(false);
+        }
+        if is_about(alloc, object, entry)? {
+            return Ok(true);
+        }
+    }
+    Ok(false)
+}
+
+fn is_event_shown(
+    alloc: Global,
+    subject: &Subject,
+    event: &Event,
+    rest: &[Entry],
+) -> Result<bool, AllocError>
+    ensures { IfOk result (λ b. b ≡ is_event_shown (seen_of subject.now) (event_of event.now) (log_of rest.now)) }
+{
+    if is_refusal_at(rest, 0) {
+        return is_ahead(alloc, subject.object, rest);
+    }
+    if befalls(subject, event) {
+        return Ok(true);
+    }
+    is_ahead(alloc, subject.object, rest)
+}
+
+/// Whether the entry belongs to the object's story; `rest` are the entries behind it.
+pub fn is_shown(
+    alloc: Global,
+    subject: &Subject,
+    entry: &Entry,
+    rest: &[Entry],
+) -> Result<bool, AllocError>
+    ensures { IfOk result (λ b. b ≡ is_shown (seen_of subject.now) (entry_of entry.now) (log_of rest.now)) }
+{
+    match entry {
+        Entry::In { event, .. } => is_event_shown(alloc, subject, event, rest),
+        _ => is_about(alloc, subject.object, entry),
+    }
+}

@@ -1,0 +1,12 @@
+//! What a log says of one object, in words.
+#![tactic(auto)]
+
+mod about;
+mod mentions;
+mod runners;
+mod text;
+
+pub use text::story_text;
+
+#[cfg(test)]
+mod tests;

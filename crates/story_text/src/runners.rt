@@ -1,0 +1,120 @@
+// The workers that ran attempts of an object's task, and their nodes.
+
+ghost use Rattle.std.specs.Prelude.{◌≡◌, ◌++◌, ◌==◌, IfOk, OnOk};
+ghost use Rattle.std.specs.List.{list_any};
+ghost use Rattle.values.specs.Values.{id_of};
+ghost use Rattle.event_log.specs.Events.{from_one};
+ghost use Rattle.event_log.specs.Words.{opened, opened_in, run_in, runs_of};
+ghost use Rattle.event_log.specs.Views.{entry_of, log_of};
+ghost use Rattle.story_text.specs.Runners.{nodes_in, one, subject_of};
+ghost use Rattle.story_text.specs.About.{seen_of};
+
+use crate::mentions::is_same;
+use event_log::Entry;
+use ids::ObjectId;
+use std::alloc::{AllocError, Global};
+
+/// An object, and the numbers of the workers and nodes on which attempts of its task ran.
+#[derive(Drop)]
+pub struct Subject {
+    pub object: ObjectId,
+    pub workers: Vec<u32>,
+    pub nodes: Vec<u32>,
+}
+
+fn add_run(workers: &mut Vec<u32>, object: ObjectId, entry: &Entry) -> Result<(), AllocError>
+    ensures { OnOk result (workers.new.items ≡ workers.old.items ++ run_in (id_of object) (entry_of entry.now)) }
+{
+    let Entry::Begun { attempt, worker } = entry else {
+        return Ok(());
+    };
+    if is_same(attempt.object, object) {
+        return Ok(workers.push(worker.0)?);
+    }
+    Ok(())
+}
+
+fn workers_of(alloc: Global, object: ObjectId, log: &[Entry]) -> Result<Vec<u32>, AllocError>
+    ensures { IfOk result (λ workers. workers.items ≡ runs_of (id_of object) (log_of log.now)) }
+{
+    let mut workers = Vec::new(alloc);
+    for entry in log {
+        add_run(&mut workers, object, entry)?;
+    }
+    Ok(workers)
+}
+
+fn add_opened(nodes: &mut Vec<u32>, entry: &Entry) -> Result<(), AllocError>
+    ensures { OnOk result (nodes.new.items ≡ nodes.old.items ++ opened_in (entry_of entry.now)) }
+{
+    match entry {
+        Entry::Opened { node, .. } => Ok(nodes.push(node.0)?),
+        _ => Ok(()),
+    }
+}
+
+/// The nodes of all workers, by their numbers.
+fn opened(alloc: Global, log: &[Entry]) -> Result<Vec<u32>, AllocError>
+    ensures { IfOk result (λ nodes. nodes.items ≡ opened (log_of log.now)) }
+{
+    let mut nodes = Vec::new(alloc);
+    for entry in log {
+        add_opened(&mut nodes, entry)?;
+    }
+    Ok(nodes)
+}
+
+fn node_of(nodes: &[u32], worker: u32) -> Option<u32>
+    ensures { result ≡ from_one nodes.now worker }
+{
+    if worker == 0 {
+        return None;
+    }
+    let place = (worker - 1) as usize;
+    if place < nodes.len() {
+        return Some(nodes[place]);
+    }
+    None
+}
+
+fn add_node(all: &mut Vec<u32>, node: Option<u32>) -> Result<(), AllocError>
+    ensures { OnOk result (all.new.items ≡ all.old.items ++ one node) }
+{
+    match node {
+        Some(node) => Ok(all.push(node)?),
+        None => Ok(()),
+    }
+}
+
+fn nodes_in(alloc: Global, nodes: &[u32], workers: &[u32]) -> Result<Vec<u32>, AllocError>
+    ensures { IfOk result (λ all. all.items ≡ nodes_in nodes.now workers.now) }
+{
+    let mut all = Vec::new(alloc);
+    for worker in workers {
+        add_node(&mut all, node_of(nodes, *worker))?;
+    }
+    Ok(all)
+}
+
+impl Subject {
+    /// The object with what the log says of its attempts.
+    pub fn of(alloc: Global, object: ObjectId, log: &[Entry]) -> Result<Subject, AllocError>
+        ensures { IfOk result (λ subject. seen_of subject ≡ subject_of (id_of object) (log_of log.now)) }
+    {
+        let workers = workers_of(alloc, object, log)?;
+        let opened = opened(alloc, log)?;
+        let nodes = nodes_in(alloc, &opened, &workers)?;
+        Ok(Subject {
+            object,
+            workers,
+            nodes,
+        })
+    }
+}
+
+/// Whether the number is one of these.
+pub fn is_one(numbers: &[u32], number: u32) -> bool
+    ensures { result ≡ list_any (λ n. n == number) numbers.now }
+{
+    numbers.iter().any(|n| *n == number)
+}

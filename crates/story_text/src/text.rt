@@ -1,0 +1,58 @@
+// What a log says of one object.
+
+ghost use Rattle.std.specs.Prelude.{◌≡◌, ◌+◌, ◌++◌, ◌<◌, ◌^◌, IfOk, OnOk, string_bytes};
+ghost use Rattle.values.specs.Values.{id_of};
+ghost use Rattle.event_log.specs.Words.{births};
+ghost use Rattle.event_log.specs.Views.{entry_of, log_of};
+ghost use Rattle.log_words.specs.Index.{IsIndexOf};
+ghost use Rattle.log_words.specs.Told.{told_of};
+ghost use Rattle.story_text.specs.Text.{line_if, story_text};
+
+use crate::about::is_shown;
+use crate::runners::Subject;
+use event_log::Entry;
+use ids::ObjectId;
+use log_text::write_line;
+use log_words::{BirthIndex, Told, is_refusal_at};
+use std::alloc::{AllocError, Global};
+
+#[tactic(auto, unfolding(crate::specs::Text::line_if))]
+fn write_line_if(
+    text: &mut String,
+    shown: bool,
+    index: &BirthIndex,
+    log: &[Entry],
+    told: &Told,
+    entry: &Entry,
+    is_refused: bool,
+) -> Result<(), AllocError>
+    requires { told.now.events + 1 < 2 ^ 64 }
+    ensures { IsIndexOf index.now log.now → OnOk result (string_bytes text.new
+        ≡ string_bytes text.old ++ line_if shown (births (log_of log.now)) (told_of told.now) (entry_of entry.now) is_refused) }
+{
+    if !shown {
+        return Ok(());
+    }
+    write_line(text, index, log, told, entry, is_refused)
+}
+
+/// What a log says of one object: of its lines in words those that name the object or an attempt of its task, each below its
+/// event; with them the kills of workers that ran an attempt of it and of their nodes, the notices of these, and the losses
+/// and evictions of its copies. Events keep their numbers.
+///
+/// It is made of any log, a legal one or not; an object that the log does not name has no lines.
+pub fn story_text(alloc: Global, log: &[Entry], object: ObjectId) -> Result<String, AllocError>
+    ensures { IfOk result (λ text. string_bytes text ≡ story_text (id_of object) (log_of log.now)) }
+{
+    let mut text = String::new(alloc);
+    let index = BirthIndex::of(alloc, log)?;
+    let subject = Subject::of(alloc, object, log)?;
+    let mut told = Told::new(alloc);
+    for (place, entry) in log.iter().enumerate() {
+        let is_refused = is_refusal_at(log, place + 1);
+        let shown = is_shown(alloc, &subject, entry, &log[place + 1..])?;
+        write_line_if(&mut text, shown, &index, log, &told, entry, is_refused)?;
+        told.note(entry, is_refused)?;
+    }
+    Ok(text)
+}

@@ -1,0 +1,93 @@
+// What an event counts in a book.
+
+ghost use Rattle.std.specs.Prelude.{◌≡◌};
+ghost use Rattle.event_log.specs.Views.{code_of, event_of};
+ghost use Rattle.protocol_core.specs.Steps.{reply_of};
+ghost use Rattle.seats.specs.Tallies.{totals_in};
+ghost use Rattle.turns.specs.Counted.{counted, refused_totals, taken_totals};
+ghost use Rattle.turns.specs.Turns.{turn_counted};
+ghost use Rattle.turns.specs.Views.{told_of};
+
+use event_log::{Event, Refusal};
+use protocol_core::Reply;
+use segment::ScriptName;
+use turns::Turn;
+
+/// Four numbers for a book.
+#[derive(Clone, Copy, Debug, PartialEq, Eq)]
+pub struct Tally {
+    pub events: u64,
+    pub given: u64,
+    pub commits: u64,
+    pub committed: u64,
+}
+
+fn nothing() -> Tally
+    ensures { result ≡ record { events = 0; given = 0; commits = 0; committed = 0 } }
+{
+    Tally {
+        events: 0,
+        given: 0,
+        commits: 0,
+        committed: 0,
+    }
+}
+
+/// One event, which gave out that job, or none where that is 0.
+fn one_event(job: u64) -> Tally
+    ensures { result ≡ record { events = 1; given = job; commits = 0; committed = 0 } }
+{
+    Tally {
+        events: 1,
+        given: job,
+        commits: 0,
+        committed: 0,
+    }
+}
+
+/// An event that is refused 38 or 39 isn't logged.
+fn of_refused(refusal: Refusal) -> Tally
+    ensures { totals_in result ≡ refused_totals (code_of refusal) }
+{
+    match refusal {
+        Refusal::Halted | Refusal::NoMemory => nothing(),
+        _ => one_event(0),
+    }
+}
+
+fn of_taken(event: Event) -> Tally
+    ensures { totals_in result ≡ taken_totals (event_of event) }
+{
+    match event {
+        Event::Commit(job) => Tally {
+            events: 1,
+            given: 0,
+            commits: 1,
+            committed: job,
+        },
+        _ => one_event(0),
+    }
+}
+
+/// What an event counts, by its answer.
+pub fn tally_of<S: ScriptName>(event: Event, told: &Reply<S>) -> Tally
+    ensures { totals_in result ≡ counted (event_of event) (reply_of told.now) }
+{
+    match told {
+        Reply::Job(job) => one_event(job.number()),
+        Reply::Ok => of_taken(event),
+        Reply::Refused(refusal) => of_refused(*refusal),
+    }
+}
+
+/// What a turn counts.
+pub fn turn_tally<S: ScriptName>(told: &Turn<S>) -> Tally
+    ensures { totals_in result ≡ turn_counted (told_of told.now) }
+{
+    match told {
+        Turn::Job(job) => one_event(job.number()),
+        Turn::Did => one_event(0),
+        Turn::Refused(refusal) => of_refused(*refusal),
+        Turn::Again | Turn::End => nothing(),
+    }
+}

@@ -1,0 +1,87 @@
+// A thread's loop.
+
+ghost use Rattle.std.specs.Prelude.{◌≡◌};
+ghost use Rattle.script_check.specs.Trees.{script_of};
+
+use crate::seat::Seat;
+use crate::shared::Shared;
+use event_log::Refusal;
+use protocol_core::Reply;
+use script_check::Checked;
+use segment::{Job, ScriptName};
+use std::alloc::Global;
+use std::sync::Wait;
+use std::sync::ledger::Ledger;
+use std::thread;
+use turns::Turn;
+
+/// What is told of a job before it is run.
+pub trait Gate {
+    /// The job of that number is about to be run.
+    fn enter(&self, job: u64);
+}
+
+/// Gives the run up for a refusal 37, 38 or 39.
+fn heed<S: ScriptName, E: Ledger, G: Ledger, C: Ledger, J: Ledger, R: Wait>(
+    rt: &R,
+    shared: &Shared<S, E, G, C, J>,
+    refusal: Refusal,
+) {
+    if matches!(
+        refusal,
+        Refusal::Limit | Refusal::Halted | Refusal::NoMemory
+    ) {
+        shared.give_up(rt, refusal);
+    }
+}
+
+/// Runs the job outside the lock, and commits what was done on it.
+fn run_job<S: ScriptName, E: Ledger, G: Ledger, C: Ledger, J: Ledger, K: Gate, R: Wait>(
+    rt: &R,
+    alloc: Global,
+    shared: &Shared<S, E, G, C, J>,
+    seat: &mut Seat<E, G, C, J>,
+    script: &Checked,
+    gate: &K,
+    job: Job<S>,
+)
+    requires { script_of script.now ≡ S.script }
+    ensures { seat.new.number ≡ seat.old.number }
+{
+    gate.enter(job.number());
+    match job.run(alloc, script) {
+        Ok(done) => {
+            if let Reply::Refused(refusal) = shared.commit(rt, alloc, seat, done) {
+                heed(rt, shared, refusal);
+            }
+        }
+        Err(_) => shared.give_up(rt, Refusal::NoMemory),
+    }
+}
+
+/// One thread's loop, over the turns of its seat: given a job, it tells the gate, runs the job outside the lock and commits it. Where it must
+/// wait for another's job it lets other threads go on. It ends with the run: it gives the run up where a job finds no memory, or an event of
+/// its own is refused 37, 38 or 39.
+pub fn work<S: ScriptName, E: Ledger, G: Ledger, C: Ledger, J: Ledger, K: Gate, R: Wait>(
+    rt: &R,
+    alloc: Global,
+    shared: &Shared<S, E, G, C, J>,
+    seat: Seat<E, G, C, J>,
+    script: &Checked,
+    gate: &K,
+) -> Seat<E, G, C, J>
+    requires { script_of script.now ≡ S.script }
+    ensures { result.number ≡ seat.number }
+{
+    let mut seat = seat;
+    for _ in rt.forever() {
+        match shared.turn(rt, alloc, &mut seat) {
+            Turn::Job(job) => run_job(rt, alloc, shared, &mut seat, script, gate, job),
+            Turn::Did => {}
+            Turn::Refused(refusal) => heed(rt, shared, refusal),
+            Turn::Again => thread::yield_now(),
+            Turn::End => break,
+        }
+    }
+    seat
+}

@@ -1,0 +1,4 @@
+pub mod Jobs
+pub mod Codes
+pub mod Counted
+pub mod Few

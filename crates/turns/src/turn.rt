@@ -1,0 +1,19 @@
+// What a turn comes to.
+
+use event_log::Refusal;
+use segment::{Job, ScriptName};
+
+/// What a turn comes to.
+#[derive(Drop)]
+pub enum Turn<S: ScriptName> {
+    /// A claim was applied: its job is to be run and committed.
+    Job(Job<S>),
+    /// Another event was applied.
+    Did,
+    /// The turn's event was refused.
+    Refused(Refusal),
+    /// Nothing can be done before a job is committed that is out.
+    Again,
+    /// Nothing is left to do, or the run was given up.
+    End,
+}

@@ -264,6 +264,11 @@ impl<S: ScriptName, E: Ledger, G: Ledger, C: Ledger, J: Ledger> Shared<S, E, G, 
         self.locked.lock(rt).give_up(refusal);
     }
 
+    /// The refusal for which the run was given up, if it was.
+    pub fn given_up<R: Wait>(&self, rt: &R) -> Option<Refusal> {
+        self.locked.lock(rt).turning.given_up()
+    }
+
     /// Claims the worker's next part of its task.
     pub fn claim<R: Wait>(
         &self,

@@ -79,7 +79,8 @@ taken_counts log c e seat handed told same r h =
     let n = length (claims log) in
     let jobs = happens-jobs c e handed in
     let claimed = claims-event log e seat es (no_event es q) (not_refused es q) in
-    let more : length (claims (log ++ In e seat ∷ es)) ≡ length (claims log) + length (claim_in e) = ap length claimed ∙ length-append (claims log) (claim_in e) in (
+    let more : length (claims (log ++ In e seat ∷ es)) ≡ length (claims log) + length (claim_in e) =
+    ap length claimed ∙ length-append (claims log) (claim_in e) in (
       totals-event log e seat es (no_event es q)
           ∙ ap (λ b. plus (totals_of log) (record (answered_totals b n e) { events = 1 })) (not_refused es q)
           ∙ ap (plus (totals_of log)) (sym (told_taken c e handed told n same r h)),

@@ -28,8 +28,8 @@ invariant_of-self g c =
     let told = reply_of c.apply-told.result in
     let h = answers_counted (state_of before) (state_of after) e c.args.seat c.args.done told c.self.invariant.0 c.apply-told.ensures.answers in (
       h.jobs,
-      commits_now (totals_of (log_of before.log)) (counted e told) after.log c.self.inside.commits c.commits_behind-self-inside.result h.totals c.self.invariant.1
-          c.commits_behind-self-inside.ensures,
+      commits_now (totals_of (log_of before.log)) (counted e told) after.log c.self.inside.commits c.commits_behind-self-inside.result
+          h.totals c.self.invariant.1 c.commits_behind-self-inside.ensures,
     )
 
 pub returns-clause-counted : goal.returns-clause-counted

@@ -14,4 +14,5 @@ pub record GrowsTo (p q : Piece) : Type 0 where
 -- with further answers a task goes on from what it did before
 abbrev pub ReplaysGrow : Type 0
 ReplaysGrow =
-    (script : Script) (spec : Birth) (base : Id) (answers further : List Outcome) → GrowsTo (replay script spec base answers) (replay script spec base (answers ++ further))
+    (script : Script) (spec : Birth) (base : Id) (answers further : List Outcome) →
+        GrowsTo (replay script spec base answers) (replay script spec base (answers ++ further))

@@ -57,7 +57,8 @@ fn holds_of_others(
 
 /// The own attempt waits for no Hold to the dead.
 fn keep_holds_of_others(alloc: Global, here: &mut Here, worker: WorkerId) -> Result<(), Halt>
-    ensures { (run : Run) → here.old.worker.run ≡ Some run → OnOk result (here.new ≡ with_run here.old (record run { holds = filter (λ k. not (k.object.owner == worker)) run.holds })) }
+    ensures { (run : Run) → here.old.worker.run ≡ Some run →
+        OnOk result (here.new ≡ with_run here.old (record run { holds = filter (λ k. not (k.object.owner == worker)) run.holds })) }
 {
     if let Some(run) = &mut here.worker.run {
         let others = holds_of_others(alloc, &run.holds, worker)?;

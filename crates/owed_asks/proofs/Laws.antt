@@ -131,7 +131,7 @@ delivered_network c k (Some l) = by_party l.receiver
     by_party : (p : Party) → (delivered_to (with_delivered c k) l p).whole.network ≡ c.network ++ (delivered_to (with_delivered c k) l p).out.letters
     by_party (TheWorker w) =
         either_network c (is_live_worker (worker_at c w)) (worker_does (with_delivered c k) w (λ h. reached h l.sender l.message)) (moved
-            (with_delivered c k))
+        (with_delivered c k))
         (worker_network (with_delivered c k) w (λ h. reached h l.sender l.message)) (none_sent c.network)
     by_party (TheNode n) =
         either_network c (is_live_node (node_at c n)) (node_does (with_delivered c k) n (λ h. node_reached h l.sender l.message)) (moved (with_delivered c k))
@@ -189,11 +189,11 @@ runs_keep s slots some slot apart gs right = record {
   routes = routes_stay (opening_run s.nodes slots) gs (opening_keeps_routes s.nodes slots);
 }
 
-one_more : (r : Running) (gs : List Handing) (g : Handing) → after_events r (gs ++ g ∷ []) ≡ after_event (after_events r gs) g
+pub one_more : (r : Running) (gs : List Handing) (g : Handing) → after_events r (gs ++ g ∷ []) ≡ after_event (after_events r gs) g
 one_more r [] g = refl
 one_more r (h ∷ gs) g = one_more (after_event r h) gs g
 
-all_right : (s : Setting) (r : Running) (gs : List Handing) (g : Handing) → AreRight s r gs → IsRight s (after_events r gs).whole g.event g.handed →
+pub all_right : (s : Setting) (r : Running) (gs : List Handing) (g : Handing) → AreRight s r gs → IsRight s (after_events r gs).whole g.event g.handed →
     AreRight s r (gs ++ g ∷ [])
 all_right s r [] g right is = (is, tt)
 all_right s r (h ∷ gs) g right is = (right.0, all_right s (after_event r h) gs g right.1 is)
@@ -408,11 +408,11 @@ module _ (s : Setting) (r : Running) (keeps : RunKeeps s r) (calm : IsCalm r.log
       item_at c.network k ≡ Some (letter (TheNode n) (TheWorker w) (Give a t v)) →
       IsUnbegun (seen s r) a → birth_at (births r.log) a.object ≡ Some spec →
       Among (Begun a v) (happens c (Deliver k) handed).out.entries ×
-          Sends (happens c (Deliver k) handed).out.letters (TheWorker w) (TheWorker v) (Push a spec)
+      Sends (happens c (Deliver k) handed).out.letters (TheWorker w) (TheWorker v) (Push a spec)
   give_is_paid n w a t v k spec handed sent unbegun born =
       let own : w ≡ a.object.owner = same_worker w a.object.owner (keeps.routes.letters _ (among_at c.network k _ sent)) in
       let d : IsDone a t v n spec k handed = give n a t v k spec handed (subst (λ u. item_at c.network k ≡ Some (letter (TheNode n) (TheWorker u)
-          (Give a t v))) own sent) unbegun born in
+      (Give a t v))) own sent) unbegun born in
       (d.logs, subst (λ u. Sends (happens c (Deliver k) handed).out.letters (TheWorker u) (TheWorker v) (Push a spec)) (sym own) d.sends)
 
   -- ---- an Elsewhere
@@ -439,10 +439,10 @@ module _ (s : Setting) (r : Running) (keeps : RunKeeps s r) (calm : IsCalm r.log
       let done = elsewhere_is_asked h n a t m q.task (found a q node.0) (asked_now a q t now) (no_dead a.object.owner q.owner q.there) in
       let is : attempt a.object q.task.number ≡ a = ap (attempt a.object) q.number in
       let out = delivery c k a.object.owner (TheNode n) (Elsewhere a t m) q.owner node.0 sent q.there
-          (live_worker a.object.owner q.owner q.there) node.1 handed in
+      (live_worker a.object.owner q.owner q.there) node.1 handed in
       subst (λ o. Sends o.letters (TheWorker a.object.owner) (TheNode m) (Ask a (t + 1))) (sym out)
       (subst (λ i. Sends (release_step (reached h (TheNode n) (Elsewhere a t m))).there.out.letters (TheWorker a.object.owner) (TheNode m) (Ask i
-          (t + 1))) is done)
+      (t + 1))) is done)
     where
       earlier : (q : IsAskedFor a) → t < q.t → ⊥
       earlier q less =
@@ -496,7 +496,7 @@ module _ (s : Setting) (r : Running) (keeps : RunKeeps s r) (calm : IsCalm r.log
       let first : LegalTo L.Whole (setting_of s r.whole) r.log = keeps.step.sound.between.legal in
       let new : next_serial o.owner (births r.log) ≤ o.serial =
       born_behind L.Whole (setting_of s next) r.log event seat entries (subst (LegalTo L.Whole
-          (setting_of s next)) grows legal) first.rest first.begins o a birth
+      (setting_of s next)) grows legal) first.rest first.begins o a birth
       born in
       let serial : next_serial o.owner (births r.log) ≡ length x.0.objects + 1 = k.serial in
       let none : item_at x.0.objects o.serial ≡ None = nothing_past x.0.objects o.serial (omega (arith, new, serial)) in
@@ -557,7 +557,7 @@ module _ (s : Setting) (r : Running) (keeps : RunKeeps s r) (calm : IsCalm r.log
       let stands : birth_at (births log) o ≡ Some (Task f args depth retries) =
       birth_stands L.Whole (setting_of s next) log legal o a (Task f args depth retries)
       (subst (λ es. Among (Born o a (Task f args depth retries)) es) (sym grows) (behind r.log (In event seat) entries (Born o a
-          (Task f args depth retries)) born)) in
+      (Task f args depth retries)) born)) in
       let node : x.0.node ≡ n = same_node x.0.node n (sym (places s log next d o.owner x.0 x.1) ∙ place) in
       by_task x.0 x.1 k stands node (task_of (item_at x.0.objects o.serial)) refl
     where
@@ -573,9 +573,9 @@ module _ (s : Setting) (r : Running) (keeps : RunKeeps s r) (calm : IsCalm r.log
           Sends letters (TheWorker o.owner) (TheNode n) (Ask (attempt o 0) 0)
       new_letter x node sent = elim (among-append_cases r.whole.network letters _ (subst (λ ls. Sends ls (TheWorker o.owner) (TheNode x.node) (Ask
           (attempt o 0) 0)) sends sent)) [
-        | inl old ↦ absurd (unasked o a (Task f args depth retries) born x.node (o.owner, old))
-        | inr new ↦ subst (λ m. Sends letters (TheWorker o.owner) (TheNode m) (Ask (attempt o 0) 0)) node new
-      ]
+            | inl old ↦ absurd (unasked o a (Task f args depth retries) born x.node (o.owner, old))
+            | inr new ↦ subst (λ m. Sends letters (TheWorker o.owner) (TheNode m) (Ask (attempt o 0) 0)) node new
+          ]
 
       is_task : (value : Value) → birth_at (births log) o ≡ Some (Task f args depth retries) → birth_at (births log) o ≡ Some (Put value) → ⊥
       is_task value e g = let h : ◌≡◌ {A = Option Birth} (Some (Task f args depth retries)) (Some (Put value)) = sym e ∙ g in absurd (cc)
@@ -636,7 +636,7 @@ gives_are_begun s slots some slot apart gs right g step is taken calm = λ n w a
     let r : Running = after_events (opening_run s.nodes slots) gs in
     let k : IsTaken r.whole g.event g.handed step = is_taken r.whole g.event g.handed step taken in
     let f = give_is_paid s r (runs_keep s slots some slot apart gs right)
-        (calm_so_far r g step taken calm) n w a t v brings.0 spec g.handed brings.2 unbegun born in
+    (calm_so_far r g step taken calm) n w a t v brings.0 spec g.handed brings.2 unbegun born in
     let same : (happens r.whole (Deliver brings.0) g.handed).out ≡ (happens r.whole g.event g.handed).out =
     ap (λ e. (happens r.whole e g.handed).out) (sym brings.1) in (
       subst (λ es. Among (Begun a v) es) (ap (λ (o : Outbox). o.entries) same ∙ sym k.entries) f.0,
@@ -648,7 +648,7 @@ elsewheres_are_asked s slots some slot apart gs right g step is taken calm = λ 
     let r : Running = after_events (opening_run s.nodes slots) gs in
     let k : IsTaken r.whole g.event g.handed step = is_taken r.whole g.event g.handed step taken in
     let f = elsewhere_is_paid s r (runs_keep s slots some slot apart gs right)
-        (calm_so_far r g step taken calm) n w a t m brings.0 g.handed brings.2 latest unbegun in
+    (calm_so_far r g step taken calm) n w a t m brings.0 g.handed brings.2 latest unbegun in
     let same : (happens r.whole (Deliver brings.0) g.handed).out ≡ (happens r.whole g.event g.handed).out =
     ap (λ e. (happens r.whole e g.handed).out) (sym brings.1) in
     subst (λ ls. Sends ls (TheWorker w) (TheNode m) (Ask a (t + 1))) (ap (λ (o : Outbox). o.letters) same ∙ sym k.letters) f
@@ -661,5 +661,5 @@ births_are_asked s slots some slot apart gs right g step is taken calm = λ o a 
     birth_is_paid s r (runs_keep s slots some slot apart gs right) (calm_so_far r g step taken calm) (after_event r g).log (after_event r g).whole
     next.step next.asks next.routes calm g.event g.seat step.entries step.letters (last_log r g step taken)
     (ap (λ (c : Whole). c.network) (last_whole r g step taken ∙ k.whole) ∙ happens_network r.whole g.event g.handed ∙
-        ap (λ ls. r.whole.network ++ ls) (sym k.letters))
+    ap (λ ls. r.whole.network ++ ls) (sym k.letters))
     o a f args depth retries n born place

@@ -3,3 +3,8 @@ pub mod Routing
 pub mod RouteEvents
 pub mod Splits
 pub mod Laws
+pub mod SlotUsers
+pub mod Users
+pub mod Waiting
+pub mod UserEvents
+pub mod RightSlots

@@ -106,14 +106,14 @@ worker_routes c w f steps k = by_worker (worker_at c w) refl
         (record { who = refl; home = refl; letters = k.letters; follow = k.follow; mine = k.owners w x at }) in
         let g : Here = release_step (f start) in
         let a : Routes c w x.node g = release_step-kept ToldBy OverOf GivenBy Anyhow (Routes c w x.node)
-            (routes_kept c w x.node ToldBy OverOf GivenBy) (f start)
+        (routes_kept c w x.node ToldBy OverOf GivenBy) (f start)
         (steps x node begins) in
         routes_end (record c { workers = changed_at c.workers w (λ _. g.worker) }) x.node g.there a.letters a.follow
         (λ v y e. elim (changed_cases c.workers w v (λ _. g.worker) y e) [
           | inl (same, _, _, is) ↦ subst (λ i. OwnerAsks (c.network ++ g.there.out.letters) i y) (sym same)
               (subst (OwnerAsks (c.network ++ g.there.out.letters) w) (sym is) a.mine)
           | inr (_, before) ↦ owner_more c.network (c.network ++ g.there.out.letters) v y (λ l. among-more c.network g.there.out.letters l)
-          (k.owners v y before)
+              (k.owners v y before)
         ])
 
     by_node : (x : Worker) → worker_at c w ≡ Some x → (o : Option Node) → KeepsRoutes (worker_does_at c w x f o).whole

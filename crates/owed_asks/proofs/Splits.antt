@@ -360,12 +360,22 @@ unfolding breaks_of
 calm_unbroken a log place calm e = by_worker (worker_of a log) e
   where
     by_node : (w : ℕ) (o : Option ℕ) →
-        Among place (B.at_worker o [] (λ n. breaks_from (record { attempt = a; worker = w; node = n; is_accepted = B.is_some
-            (accepts_of a log) }) 0 false log)) → ⊥
+        Among place (B.at_worker o [] (λ n. breaks_from (record {
+          attempt = a;
+          worker = w;
+          node = n;
+          is_accepted = B.is_some
+              (accepts_of a log);
+        }) 0 false log)) → ⊥
     by_node w None f = let g = f.1 in absurd (cc)
     by_node w (Some n) f =
-        let g : Among place [] = subst (λ ps. Among place ps) (unbroken (record { attempt = a; worker = w; node = n; is_accepted = B.is_some
-            (accepts_of a log) }) log 0 false calm) f in
+        let g : Among place [] = subst (λ ps. Among place ps) (unbroken (record {
+          attempt = a;
+          worker = w;
+          node = n;
+          is_accepted = B.is_some
+              (accepts_of a log);
+        }) log 0 false calm) f in
         let i = g.1 in absurd (cc)
 
     by_worker : (o : Option ℕ) → Among place (B.at_worker o [] (λ w. B.at_worker (node_of w log) []
@@ -377,4 +387,4 @@ calm_unbroken a log place calm e = by_worker (worker_of a log) e
 pub calm_before : (log : List Entry) (e : Event) (seat : ℕ) (es : List Entry) → has_event es ≡ false → IsCalm (log ++ In e seat ∷ es) → IsCalm log
 calm_before log e seat es none calm =
     (any_split is_failure (accepted_events log) (if refused_next es then [] else e ∷ []) (ap (list_any is_failure) (sym
-        (accepted-event log e seat es none)) ∙ calm)).0
+    (accepted-event log e seat es none)) ∙ calm)).0

@@ -1,4 +1,4 @@
--- What is owed of asks, in every run.
+-- What is owed of asks and slots, in every run.
 use Rattle.std.specs.Prelude.{◌≡◌, ◌<◌, ◌≤◌, ℕ, List}
 use Rattle.event_log.specs.Rules.{Setting}
 use Rattle.meaning.specs.Mains.{KeepsMainApart}
@@ -7,6 +7,7 @@ use Rattle.protocol_laws.specs.Coming.{IsRight}
 use Rattle.protocol_owed.specs.Replies.{BirthIsAsked, ElsewhereIsAsked, GiveIsBegun, Happening}
 use Rattle.protocol_owed.specs.Runs.{Handing, Running, after_event, after_events, answer_to, opening_run, seen}
 use Rattle.protocol_owed.specs.Seen.{IsCalm}
+use Rattle.protocol_owed.specs.Turns.{AllSlotsAreRight}
 use Rattle.lease_discipline.specs.Slots.{AreRight}
 
 -- the event as it was accepted: what was so before, what it logged and sent, and what is so after it
@@ -39,3 +40,12 @@ ElsewheresAreAsked = EveryEvent ElsewhereIsAsked
 -- the attempt of a Give is begun, and pushed to the worker that was given
 abbrev pub GivesAreBegun : Type 0
 GivesAreBegun = EveryEvent GiveIsBegun
+
+-- ---- slots
+
+-- whatever events come, killed or lost: on each live node a worker has a slot only where it was given, is busy or may go on; whoever was given
+-- or is busy has one; and none is free while something stands in the queue
+abbrev pub SlotsAreAllRight : Type 0
+SlotsAreAllRight =
+    (s : Setting) (slots : ℕ) → 0 < s.nodes → 1 ≤ slots → KeepsMainApart s.script → (gs : List Handing) → AreRight s (opening_run s.nodes slots) gs →
+    AllSlotsAreRight (seen s (after_events (opening_run s.nodes slots) gs))

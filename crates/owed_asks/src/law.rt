@@ -1,6 +1,6 @@
-// The laws of what is owed of asks.
+// The laws of what is owed of asks and slots.
 
-ghost use Rattle.owed_asks.specs.Law.{BirthsAreAsked, ElsewheresAreAsked, GivesAreBegun};
+ghost use Rattle.owed_asks.specs.Law.{BirthsAreAsked, ElsewheresAreAsked, GivesAreBegun, SlotsAreAllRight};
 
 /// As long as nothing was killed or lost, a task that is born is asked for at its owner's own node, in the event of its birth.
 pub fn births_are_asked()
@@ -17,4 +17,12 @@ pub fn elsewheres_are_asked()
 /// in the event that delivers it.
 pub fn gives_are_begun()
     ensures { GivesAreBegun }
+{}
+
+/// Whatever events come, killed or lost, on each live node: the slots in use are never more than there are, and no worker has two; who has one is
+/// a live worker of the node that was given for an attempt which it hasn't begun, whose job is out, or whose attempt may go on, so one whose
+/// attempt waits or has stopped has none; who was given or is busy has one; and none is free while an ask, or a live worker whose attempt may go
+/// on, stands in the queue.
+pub fn slots_are_all_right()
+    ensures { SlotsAreAllRight }
 {}

@@ -1,0 +1,25 @@
+// The laws of replies.
+
+ghost use Rattle.owed_replies.specs.Law.{EventsKeepReplies, LawOfEnds, LawOfReplies, OpeningKeepsReplies};
+
+/// A run begins with nothing owed: nothing was sent, and main goes on.
+pub fn opening_keeps_replies()
+    ensures { OpeningKeepsReplies }
+{}
+
+/// Every event keeps what replies need, accepted or refused: what was sent went to whom it should, and speaks of what was born; a stopped attempt
+/// is over as soon as none of its Holds waits, and then its owner was told; and whoever asked for an object is kept in mind until it is answered.
+pub fn events_keep_replies()
+    ensures { EventsKeepReplies }
+{}
+
+/// As long as nothing was killed or lost: an attempt that ended was reported to its owner, unless some of its Holds wait.
+pub fn law_of_ends()
+    ensures { LawOfEnds }
+{}
+
+/// As long as nothing was killed or lost, in the event that calls for it: a Finished is acknowledged, and the first one is accepted; and at the
+/// acceptance everyone who asked before is told the places.
+pub fn law_of_replies()
+    ensures { LawOfReplies }
+{}

@@ -87,7 +87,7 @@ pub is_taken : (c : Whole) (e : Event) (handed : Handed) (step : Step) → answe
 is_taken c e handed step f = taken_so c e handed step (refusal c e handed) f
 
 -- what a delivery to a live worker makes
-delivery : (c : Whole) (k w : ℕ) (from : Party) (m : Message) (x : Worker) (node : Node) → item_at c.network k ≡ Some (letter from (TheWorker w) m) →
+pub delivery : (c : Whole) (k w : ℕ) (from : Party) (m : Message) (x : Worker) (node : Node) → item_at c.network k ≡ Some (letter from (TheWorker w) m) →
     worker_at c w ≡ Some x → x.is_live ≡ true → node_at c x.node ≡ Some node → (handed : Handed) →
     (happens c (Deliver k) handed).out ≡ (release_step (reached (here c w x node) from m)).there.out
 delivery c k w from m x node sent at live home handed =
@@ -621,10 +621,10 @@ module _ (s : Setting) (r : Running) (keeps : RunKeeps s r) (calm : IsCalm r.log
 last_log : (r : Running) (g : Handing) (step : Step) → answer_to r g ≡ Takes step → (after_event r g).log ≡ r.log ++ In g.event g.seat ∷ step.entries
 last_log r g step e = ap (λ a. r.log ++ logged g.event g.seat a) e
 
-last_whole : (r : Running) (g : Handing) (step : Step) → answer_to r g ≡ Takes step → (after_event r g).whole ≡ step.whole
+pub last_whole : (r : Running) (g : Handing) (step : Step) → answer_to r g ≡ Takes step → (after_event r g).whole ≡ step.whole
 last_whole r g step e = ap (whole_after r.whole) e
 
-calm_so_far : (r : Running) (g : Handing) (step : Step) → answer_to r g ≡ Takes step → IsCalm (after_event r g).log → IsCalm r.log
+pub calm_so_far : (r : Running) (g : Handing) (step : Step) → answer_to r g ≡ Takes step → IsCalm (after_event r g).log → IsCalm r.log
 calm_so_far r g step e calm =
     let t : IsTaken r.whole g.event g.handed step = is_taken r.whole g.event g.handed step e in
     let counted = happens-counted r.whole g.event g.handed in

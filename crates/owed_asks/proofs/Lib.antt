@@ -8,3 +8,5 @@ pub mod Users
 pub mod Waiting
 pub mod UserEvents
 pub mod RightSlots
+pub mod WaitsTell
+pub mod Needs

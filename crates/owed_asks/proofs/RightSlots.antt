@@ -87,7 +87,7 @@ module _ (s : Setting) (r : Running) (keeps : RunKeeps s r) (uses : KeepsUses r.
       let numbers : (nat_lt 0 n && nat_lt n (s.nodes + length (joins r.log) + 1)) ≡ true =
       and_left (nat_lt 0 n && nat_lt n (s.nodes + length (joins r.log) + 1)) (not (node_is_killed n r.log)) e in
       let stays : not (node_is_killed n r.log) ≡ true = and_right (nat_lt 0 n && nat_lt n (s.nodes + length (joins r.log) + 1)) (not
-          (node_is_killed n r.log)) e in
+      (node_is_killed n r.log)) e in
       let node = by_number n (above (and_left (nat_lt 0 n) (nat_lt n (s.nodes + length (joins r.log) + 1)) numbers))
       (below (and_right (nat_lt 0 n) (nat_lt n (s.nodes + length (joins r.log) + 1)) numbers)) in
       (node.0, node.1, one_not (node_is_killed n r.log) node.0.is_live stays (b.knows.node_lives n node.0 node.1))
@@ -113,8 +113,14 @@ module _ (s : Setting) (r : Running) (keeps : RunKeeps s r) (uses : KeepsUses r.
       by_use : (x : Worker) → IsAsTold (course (seen s r) w) x → HasUse c.network n w x → IsOneToRun (seen s r) w
       by_use x told (inl goes) = inr (inr (told.pace ∙ goes))
       by_use x told (inr (inl out)) = inr (inl (out.0, told.pace ∙ out.1))
-      by_use x told (inr (inr leased)) = inl (record { attempt = leased.0; t = leased.1.0; node = n; given = leased.1.1; unbegun = told.began leased.0 ∙
-          leased.2 })
+      by_use x told (inr (inr leased)) = inl (record {
+        attempt = leased.0;
+        t = leased.1.0;
+        node = n;
+        given = leased.1.1;
+        unbegun = told.began leased.0 ∙
+            leased.2;
+      })
 
   pub of_runners : (n : ℕ) (node : Node) → node_at c n ≡ Some node → node.is_live ≡ true → (w : ℕ) → has ((seen s r).holders n) w ≡ true →
       LivesOn (seen s r) w n × IsOneToRun (seen s r) w

@@ -81,9 +81,9 @@ lease_pushed : (ls : List Lease) (w v : ℕ) (b a : Attempt) → lease_in (ls ++
     (lease_in ls v a ≡ true) ⊎ (w ≡ v)
 lease_pushed ls w v b a e = elim (list_any-push_cases (λ (l : Lease). (l.worker == v) && same_attempt l.attempt a) ls
     (record { worker = w; attempt = b }) e) [
-  | inl f ↦ inl f
-  | inr f ↦ inr (same_number w v (and_left (w == v) (same_attempt b a) f))
-]
+      | inl f ↦ inl f
+      | inr f ↦ inr (same_number w v (and_left (w == v) (same_attempt b a) f))
+    ]
 
 -- ---- who has a use for a slot
 
@@ -235,7 +235,7 @@ module _ (ws : List Worker) (net : List Letter) (n : ℕ) (but gone : ℕ → Ty
       let sent : List Letter = with_letter net t.out.letters l in
       let more : More (sent_in t) sent = letter_more net t.out.letters l in
       let v : Used but gone (look_in t) sent n t.node.scheduler = used_more but gone (look_in t) (look_in t) (sent_in t) sent n t.node.scheduler more
-          (λ i x e _. e) u in
+      (λ i x e _. e) u in
       let gave : Gave sent n k.attempt w = (
         k.t,
         subst (λ m. Among (letter (TheNode m) (TheWorker k.attempt.object.owner) (Give k.attempt k.t w)) sent) c.number
@@ -264,7 +264,7 @@ module _ (ws : List Worker) (net : List Letter) (n : ℕ) (but gone : ℕ → Ty
           leases_used (opens_worker t) k (next_worker t) (record { number = c.number; counted = c.counted })
           (record { worker = new_worker n; there = newest t c; home = refl; lives = refl }) refl
           (used_more but gone (look_in t) (look_in (opens_worker t)) (sent_in t) (sent_in t) n t.node.scheduler (λ l i. i)
-              (λ w x f _. opened_forth t w x f) u)
+          (λ w x f _. opened_forth t w x f) u)
       by_idle (Some w) e =
           let i : has t.node.scheduler.idle w ≡ true = least-in t.node.scheduler.idle w e in
           elim (u.idle w i) [
@@ -348,14 +348,17 @@ module _ (ws : List Worker) (net : List Letter) (n : ℕ) where
       IsAnswered (look_in ws net n but Nobody t) n w → UsedThere ws net n but Nobody t → UsedThere ws net n but Nobody (asks_slot t w)
   slot_used but t w c fresh asks u =
       at_test (λ b. UsedThere ws net n but Nobody (if b then t else grants (with_scheduler t s)))
-          (has t.node.scheduler.holders w || has t.node.scheduler.answered w)
+      (has t.node.scheduler.holders w || has t.node.scheduler.answered w)
       (λ _. u)
       (λ _. grants_used ws net n but Nobody (with_scheduler t s) (record { number = c.number; counted = c.counted }) (none_gone s.idle) (none_gone s.answered)
       (λ v x k e there queued. fresh v x k (left_in t.node.scheduler.idle w v e) there queued)
       (record {
         holders = u.holders;
-        answered = λ v e. elim (pushed_in t.node.scheduler.answered w v e) [ inl f ↦ u.answered v f | inr same ↦ inl (subst (IsAnswered
-            (look_in ws net n but Nobody t) n) same asks) ];
+        answered = λ v e. elim (pushed_in t.node.scheduler.answered w v e) [
+          | inl f ↦ u.answered v f
+          | inr same ↦ inl (subst (IsAnswered
+              (look_in ws net n but Nobody t) n) same asks)
+        ];
         idle = λ v e. u.idle v (left_in t.node.scheduler.idle w v e);
         leased = u.leased;
       }))
@@ -371,12 +374,21 @@ module _ (ws : List Worker) (net : List Letter) (n : ℕ) where
       (λ v x k e there queued. fresh v x k (left_in t.node.scheduler.idle w v e) there queued)
       (record {
         holders = u.holders;
-        answered = λ v e. elim (u.answered v (left_in t.node.scheduler.answered w v e)) [ inl f ↦ inl f | inr same ↦ absurd
-            (not_left t.node.scheduler.answered w v e (sym same)) ];
-        idle = λ v e. elim (u.idle v (left_in t.node.scheduler.idle w v e)) [ inl f ↦ inl f | inr same ↦ absurd (not_left t.node.scheduler.idle w v e
-            (sym same)) ];
-        leased = λ v a e. let l = lease_left t.node.scheduler.leases w v a e in elim (u.leased v a l.0) [ inl f ↦ inl f | inr same ↦ absurd (l.1
-            (sym same)) ];
+        answered = λ v e. elim (u.answered v (left_in t.node.scheduler.answered w v e)) [
+          | inl f ↦ inl f
+          | inr same ↦ absurd
+              (not_left t.node.scheduler.answered w v e (sym same))
+        ];
+        idle = λ v e. elim (u.idle v (left_in t.node.scheduler.idle w v e)) [
+          | inl f ↦ inl f
+          | inr same ↦ absurd (not_left t.node.scheduler.idle w v e
+              (sym same))
+        ];
+        leased = λ v a e. let l = lease_left t.node.scheduler.leases w v a e in elim (u.leased v a l.0) [
+          | inl f ↦ inl f
+          | inr same ↦ absurd (l.1
+              (sym same))
+        ];
       })
     where
       s : Scheduler
@@ -393,7 +405,7 @@ module _ (ws : List Worker) (net : List Letter) (n : ℕ) where
   said_used t s l less u =
       used_less Nobody Nobody (look_in ws net n Nobody Nobody t) (with_letter net t.out.letters l) n t.node.scheduler s less
       (used_more Nobody Nobody (look_in ws net n Nobody Nobody t) (look_in ws net n Nobody Nobody t) (net ++ t.out.letters)
-          (with_letter net t.out.letters l) n
+      (with_letter net t.out.letters l) n
       t.node.scheduler (letter_more net t.out.letters l) (λ i x e _. e) u)
 
   same_less : (s : Scheduler) → IsLess s s
@@ -401,7 +413,7 @@ module _ (ws : List Worker) (net : List Letter) (n : ℕ) where
 
   pub asked_used : (t : There) (k : AskKey) → Counts ws net n Nobody Nobody t →
       (reply_to t.node.scheduler k ≡ None → IsFreshFor (look_in ws net n Nobody Nobody t) t.node.scheduler k) → T t →
-          T (asked_by t k (reply_to t.node.scheduler k))
+      T (asked_by t k (reply_to t.node.scheduler k))
   asked_used t k c fresh u = by_reply (reply_to t.node.scheduler k) refl
     where
       by_reply : (x : Option Reply) → reply_to t.node.scheduler k ≡ x → T (asked_by t k x)
@@ -415,7 +427,7 @@ module _ (ws : List Worker) (net : List Letter) (n : ℕ) where
   back_used : (t : There) (w : ℕ) (a : Attempt) → T t → T (is_back t w a)
   back_used t w a u =
       at_test (λ b. may_be_idle t.node.scheduler w a ≡ b →
-          T (if b then with_scheduler t (with_idle t.node.scheduler w) else t)) (may_be_idle t.node.scheduler w a)
+      T (if b then with_scheduler t (with_idle t.node.scheduler w) else t)) (may_be_idle t.node.scheduler w a)
       (λ _ e. record {
         holders = u.holders;
         answered = u.answered;
@@ -436,7 +448,7 @@ module _ (ws : List Worker) (net : List Letter) (n : ℕ) where
 
   reached_from_used : (t : There) (w : ℕ) (m : Message) → Counts ws net n Nobody Nobody t →
       ((a : Attempt) (i : ℕ) → m ≡ Ask a i → reply_to t.node.scheduler (ask_key a i) ≡ None →
-          IsFreshFor (look_in ws net n Nobody Nobody t) t.node.scheduler (ask_key a i)) →
+      IsFreshFor (look_in ws net n Nobody Nobody t) t.node.scheduler (ask_key a i)) →
       T t → T (node_reached_from t w m)
   reached_from_used t w (Ask a i) c fresh u = asked_used t (ask_key a i) c (fresh a i refl) u
   reached_from_used t w (Back a) c fresh u = back_used t w a u

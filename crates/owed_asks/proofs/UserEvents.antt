@@ -139,7 +139,7 @@ module _ (c : Whole) (k : Knowing c) (n : ℕ) (node : Node) (at : node_at c n �
       unpassed (inr off) r = alive off
       unpassed (inl (m, on)) r =
           not_sent_on (reply_in node.scheduler.asks (ask_key a t)) a t m r ((k.right.each n node at).replies.told a t (Elsewhere a t m) (inr (inl
-              (m, refl))) on)
+          (m, refl))) on)
 
   pub fresh_node : IsFresh (worker_at c) node.scheduler
   fresh_node w x key idle there queued =
@@ -244,7 +244,7 @@ module _ (c : Whole) (me n : ℕ) (old : Worker) (at : item_at c.workers me ≡ 
       let stored : Here = with_store g (with_primary (store_here h) o run.attempt.number content) in
       let v : U (Some HasStopped) g = stops_slot HasStopped h ended refl unasking u in
       let held : U (Some HasStopped) (holds_ids stored o ids) = holds_ids-kept ToldBy OverOf GivenBy Anyhow (U (Some HasStopped)) (kept
-          (Some HasStopped)) stored o ids
+      (Some HasStopped)) stored o ids
       (record { who = v.who; home = v.home; lives = v.lives; number = v.number; counted = v.counted; used = v.used; fresh = v.fresh }) in
       frees_uses c me n old at (Some HasStopped) None (leaves_if_free (holds_ids stored o ids))
       (leaves_if_free-kept ToldBy OverOf GivenBy Anyhow (U (Some HasStopped)) (kept (Some HasStopped)) (holds_ids stored o ids) held)
@@ -270,7 +270,7 @@ module _ (c : Whole) (me n : ℕ) (old : Worker) (at : item_at c.workers me ≡ 
           let next : Run = with_outcomes run o in
           let g : Here = logs_all (with_run h next) es in
           let v : U None (with_run h next) = worker_uses c me n old at None None h (record h.worker { run = Some next }) refl refl refl (λ _. inl
-              (inl refl)) (λ _. refl) u in
+          (inl refl)) (λ _. refl) u in
           let borne : Here = bears_all g run.attempt o.births in
           let b : U None borne = bears_all-kept ToldBy OverOf GivenBy Anyhow (U None) (kept None) g run.attempt o.births
           (record { who = v.who; home = v.home; lives = v.lives; number = v.number; counted = v.counted; used = v.used; fresh = v.fresh }) in
@@ -296,7 +296,7 @@ module _ (c : Whole) (me n : ℕ) (old : Worker) (at : item_at c.workers me ≡ 
 module _ (c d : Whole) (n : ℕ) (t : There) (same_nodes : d.nodes ≡ c.nodes) (same_network : d.network ≡ c.network)
     (others : (m : ℕ) (w : ℕ) (x : Worker) → m ≢ n → worker_at c w ≡ Some x → x.node ≡ m → worker_at d w ≡ Some x) (k : KeepsUses c)
     (now : t.node.is_live ≡ true → Used Nobody Nobody (λ w. item_at (d.workers ++ repeated t.opened (new_worker n)) w)
-        (d.network ++ t.out.letters) n t.node.scheduler) where
+    (d.network ++ t.out.letters) n t.node.scheduler) where
   uses_end : KeepsUses (after_node d n t).whole
   uses_end m node e live = elim (changed_cases d.nodes n m (λ _. t.node) node e) [
     | inl (same, _, _, is) ↦
@@ -380,7 +380,7 @@ claim_event c w e knowing k =
     let slot : has_slot w (Some node) ≡ true = ap (has_slot w) (sym home) ∙ and_right (x.is_live && is_ready_run x.run) (has_slot w (node_at c x.node)) f in
     claim_uses d w x.node x at (here d w x node) (length c.jobs + 1)
     (is_false (has node.scheduler.answered w) (λ asks. not_both (has node.scheduler.holders w) slot
-        ((knowing.full.each x.node node home).parts.apart w asks))) u) k
+    ((knowing.full.each x.node node home).parts.apart w asks))) u) k
 
 commit_event : (c : Whole) (j : ℕ) (handed : Handed) (g : Option Given) → commit_refusal c j handed g ≡ None → Knowing c → KeepsUses c →
     KeepsUses (committed_by c j handed g).whole
@@ -426,7 +426,7 @@ module _ (c d : Whole) (i w : ℕ) (from : Party) (x : Worker) (at : worker_at d
       let slot = (promise c knowing.leases i w from a spec x node sent there_too home live unbegun).slot in
       push_uses d w x.node x at start a spec
       (is_false (has node.scheduler.idle w) (λ idle. not_both (has node.scheduler.holders w) slot
-          ((knowing.leases.nodes x.node node home).idle w idle).slotless)) u)
+      ((knowing.leases.nodes x.node node home).idle w idle).slotless)) u)
       (λ _ _. u) refl
 
   heard_worker : (u : ℕ) → from ≡ TheWorker u → (m : Message) → item_at c.network i ≡ Some (letter from (TheWorker w) m) → Q start →
@@ -497,7 +497,7 @@ node_event c delivered n from m came live knowing k = by_node (node_at c n) refl
         uses_end c d n (node_reached t from m) refl refl (λ j w x _ at_w _. at_w) k
         (λ _. reached_used c.workers c.network n t from m (record { number = refl; counted = refl })
         (λ a i u from_u is none v x idle at_v. unbegun_key c knowing n node at e v x a i idle (subst (λ xs. item_at xs v ≡ Some x) all at_v)
-            (inl none) (u, asked_by a i u from_u is))
+        (inl none) (u, asked_by a i u from_u is))
         first)
       where
         asked_by : (a : Attempt) (i u : ℕ) → from ≡ TheWorker u → m ≡ Ask a i → Among (letter (TheWorker u) (TheNode n) (Ask a i)) c.network
@@ -517,7 +517,7 @@ letter_event c delivered i s (TheWorker w) m sent knowing k =
 letter_event c delivered i s (TheNode n) m sent knowing k =
     let d : Whole = record c { delivered = delivered } in
     at_test (λ b. is_live_node (node_at c n) ≡ b →
-        KeepsUses (if b then node_does d n (λ h. node_reached h s m) else moved d).whole) (is_live_node (node_at c n))
+    KeepsUses (if b then node_does d n (λ h. node_reached h s m) else moved d).whole) (is_live_node (node_at c n))
     (λ _ e. node_event c delivered n s m (among_at c.network i _ sent) e knowing k) (λ _ _. k) refl
 
 deliver_event : (c : Whole) (i : ℕ) (l : Option Letter) → item_at c.network i ≡ l → Knowing c → KeepsUses c → KeepsUses (delivered_by c i l).whole

@@ -192,7 +192,7 @@ module _ (c : Whole) (me n : ℕ) (old : Worker) (there : item_at c.workers me �
           ap (λ (z : Worker). has_begun k.attempt z.began) (sym (is_me y x h.there.opened w same at)) ∙
           began k (subst (λ v. has h.there.node.scheduler.idle v ≡ true) same idle) ∙
           u.fresh w h.worker k idle (subst (λ v. look h.worker h.there.opened v ≡ Some h.worker) (sym same)
-              (at_me c me n old there h.worker h.there.opened)) queued
+          (at_me c me n old there h.worker h.there.opened)) queued
       | inr apart ↦ u.fresh w x k idle (sym (at_other c me n old there h.worker y h.there.opened w apart) ∙ at) queued
     ];
   }
@@ -204,8 +204,11 @@ module _ (c : Whole) (me n : ℕ) (old : Worker) (there : item_at c.workers me �
       any w f = elim (by_number w me) [ inl same ↦ subst (IsHere (look y h.there.opened) n) (sym same) here_now | inr apart ↦ moved_here h y w apart f ]
 
       mine : (w : ℕ) → w ≡ me → HasUse (sent_so h) n me y ⊎ (q ≡ Some (pace_by y.run)) → IsUser (look y h.there.opened) (sent_so h) n w ⊎ Exempt q y w
-      mine w same (inl why) = inl (subst (IsUser (look y h.there.opened) (sent_so h) n) (sym same) (record { here = here_me h y h.there.opened (node ∙
-          u.home) (live ∙ u.lives); why = why }))
+      mine w same (inl why) = inl (subst (IsUser (look y h.there.opened) (sent_so h) n) (sym same) (record {
+        here = here_me h y h.there.opened (node ∙
+            u.home) (live ∙ u.lives);
+        why = why;
+      }))
       mine w same (inr f) = inr (same, f)
 
   -- so where it began no other attempt
@@ -297,7 +300,7 @@ module _ (c : Whole) (me n : ℕ) (old : Worker) (there : item_at c.workers me �
       (slot_narrow h.there h.me)
       (slot_used (workers_with c me n old there h.worker) c.network n (Exempt p h.worker) h.there h.me (counts (Exempt p h.worker) Nobody p h u) u.fresh
       (subst (IsAnswered (look h.worker h.there.opened) n) (sym u.who)
-          (record { here = here_me h h.worker h.there.opened u.home u.lives; goes = goes })) u.used) p u
+      (record { here = here_me h h.worker h.there.opened u.home u.lives; goes = goes })) u.used) p u
 
   waits_not : (p : Option Pace) (h : Here) (run : Run) (y : Id) (f : Option Fetching) → h.worker.run ≡ Some run → run.phase ≡ Waits y f → Uses p h →
       has h.there.node.scheduler.answered me ≡ true → ⊥

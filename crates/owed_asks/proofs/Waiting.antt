@@ -1,12 +1,12 @@
 -- As long as an attempt that began to wait for an object waits, it waits for that one.
-use Rattle.std.proofs.Common.{◌≡◌, ℕ, List, [], ◌∷◌, Some, None, Option, refl, ap, ◌∙◌}
-use Rattle.std.specs.Prelude.{Bool, true, false, if◌then◌else◌}
+use Rattle.std.proofs.Common.{◌≡◌, ℕ, zero, suc, ◌+◌, List, [], ◌∷◌, length, Some, None, Option, refl, ap, ◌∙◌}
+use Rattle.std.specs.Prelude.{Bool, true, false, if◌then◌else◌, ◌==◌}
 use Rattle.meaning.proofs.BirthLaws.{same_id-refl}
 use Rattle.meaning.specs.Births.{same_id}
 use Rattle.meaning.specs.Values.{Id, Outcome}
-use Rattle.event_log.specs.Entries.{Fault, Faulted, OwnerDied}
+use Rattle.event_log.specs.Entries.{Fault, Faulted, OwnerDied, Released}
 use Rattle.protocol.specs.Sets.{fault, has}
-use Rattle.protocol.specs.Messages.{Gone, Where}
+use Rattle.protocol.specs.Messages.{Gone, Unhold, Where}
 use Rattle.protocol.specs.Stores.{copy_in}
 use Rattle.protocol.specs.Tables.{Fetching, HasEnded, HasFaulted, Object, Out, OwnTask, Phase, Ready, Run, Waits, is_waiting_for, knows_dead, live_place}
 use Rattle.protocol.specs.Tables.{has_content, is_lost, is_same_id, needed_by, object_needed, owner_of, settled_number, task_of, without_place}
@@ -18,6 +18,11 @@ use Rattle.protocol.specs.Asking.{answers_faulted, answers_faulted_by, answers_g
 use Rattle.protocol.specs.Recovery.{first_stop, gives_up, members, recovers, recovers_by, remakes, remakes_by}
 use Rattle.protocol.specs.Places.{looks_elsewhere, looks_elsewhere_by, looks_for, looks_here_by, needs_at, needs_by, needs_own}
 use Rattle.protocol.specs.Commits.{asks_where}
+use Rattle.protocol.specs.Holders.{unhold_reached}
+use Rattle.protocol.specs.Releases.{drops_copies, entries_made, lets_go, lets_go_of, may_release, release_pass, release_passes, release_step}
+use Rattle.protocol.specs.Releases.{releases, releases_by}
+use Rattle.protocol.specs.Tables.{released, without_holder}
+use Rattle.protocol.specs.Steps.{each_from, own_id, says_to_node}
 use Rattle.protocol_owed.specs.Courses.{Rests}
 use Rattle.lease_discipline.specs.Told.{pace_by, pace_in}
 
@@ -190,3 +195,37 @@ module _ (y : Id) where
       by_run : (r : Option Run) → NeedsOnly r → pace_by r ≡ Rests → is_same_id (needed_by r) y ≡ true
       by_run None n g = absurd (cc)
       by_run (Some run) n g = by_phase run run.phase refl n g
+
+  -- ---- to the end of the event
+
+  lets_go_of-waits : (h : Here) (e o : Id) → WaitsOnly h → WaitsOnly (lets_go_of h e o)
+  lets_go_of-waits h e o w = either (is_own h o) (unhold_reached h e o) (says h o.owner (Unhold e o)) (either (is_own h o) (changes h o
+      (without_holder e)) h w w) w
+
+  lets_go-waits : (h : Here) (e : Id) (os : List Id) → WaitsOnly h → WaitsOnly (lets_go h e os)
+  lets_go-waits h e [] w = w
+  lets_go-waits h e (o ∷ os) w = lets_go-waits (lets_go_of h e o) e os (lets_go_of-waits h e o w)
+
+  drops_copies-waits : (h : Here) (e : Id) (ns : List ℕ) → WaitsOnly h → WaitsOnly (drops_copies h e ns)
+  drops_copies-waits h e [] w = w
+  drops_copies-waits h e (n ∷ ns) w = drops_copies-waits (says_to_node h n (Unhold e e)) e ns w
+
+  releases_by-waits : (h : Here) (k : ℕ) (x : Option Object) → WaitsOnly h → WaitsOnly (releases_by h k x)
+  releases_by-waits h k None w = w
+  releases_by-waits h k (Some x) w =
+      let e : Id = own_id h k in
+      let g : Here = logs (changes h e released) (Released e) in
+      either (may_release h.worker x) (releases h e x) h (drops_copies-waits (lets_go g e x.ids) e x.places (lets_go-waits g e x.ids w)) w
+
+  passes-waits : (h : Here) (k n : ℕ) → WaitsOnly h → WaitsOnly (each_from (λ g i. releases_by g i (own_object g i)) h k n)
+  passes-waits h k zero w = w
+  passes-waits h k (suc n) w = passes-waits (releases_by h k (own_object h k)) (k + 1) n (releases_by-waits h k (own_object h k) w)
+
+  release_passes-waits : (b : Bool) (n : ℕ) (h : Here) → WaitsOnly h → WaitsOnly (release_passes b n h)
+  release_passes-waits true n h w = w
+  release_passes-waits false zero h w = w
+  release_passes-waits false (suc n) h w =
+      release_passes-waits (entries_made (release_pass h) == entries_made h) n (release_pass h) (passes-waits h 1 (length h.worker.objects) w)
+
+  pub release_step-waits : (h : Here) → WaitsOnly h → WaitsOnly (release_step h)
+  release_step-waits h w = release_passes-waits false (length h.worker.objects + 1) h w

@@ -1,10 +1,13 @@
 -- What is owed of asks and slots, in every run.
-use Rattle.std.specs.Prelude.{◌≡◌, ◌<◌, ◌≤◌, ℕ, List}
+use Rattle.std.specs.Prelude.{◌≡◌, ◌≢◌, ◌<◌, ◌≤◌, ℕ, List}
+use Rattle.event_log.specs.Entries.{Attempt}
 use Rattle.event_log.specs.Rules.{Setting}
 use Rattle.meaning.specs.Mains.{KeepsMainApart}
+use Rattle.meaning.specs.Values.{Id}
 use Rattle.protocol.specs.Answers.{Step, Takes}
+use Rattle.protocol.specs.Messages.{TheWorker, Where}
 use Rattle.protocol_laws.specs.Coming.{IsRight}
-use Rattle.protocol_owed.specs.Replies.{BirthIsAsked, ElsewhereIsAsked, GiveIsBegun, Happening}
+use Rattle.protocol_owed.specs.Replies.{BirthIsAsked, CopyIsGot, ElsewhereIsAsked, GiveIsBegun, Happening, NewlyWaits, Says}
 use Rattle.protocol_owed.specs.Runs.{Handing, Running, after_event, after_events, answer_to, opening_run, seen}
 use Rattle.protocol_owed.specs.Seen.{IsCalm}
 use Rattle.protocol_owed.specs.Turns.{AllSlotsAreRight}
@@ -40,6 +43,17 @@ ElsewheresAreAsked = EveryEvent ElsewhereIsAsked
 -- the attempt of a Give is begun, and pushed to the worker that was given
 abbrev pub GivesAreBegun : Type 0
 GivesAreBegun = EveryEvent GiveIsBegun
+
+-- a copy that reaches a worker that waits for it answers its attempt
+abbrev pub CopiesAreGot : Type 0
+CopiesAreGot = EveryEvent CopyIsGot
+
+-- the owner of another worker's object is asked where it is, as soon as a commit leaves an attempt to wait for it
+abbrev pub NewForeignWaitIsAsked : Happening → Type 0
+NewForeignWaitIsAsked h = (w : ℕ) (a : Attempt) (y : Id) → NewlyWaits h w a y → y.owner ≢ w → Says h (TheWorker w) (TheWorker y.owner) (Where y)
+
+abbrev pub NewForeignWaitsAreAsked : Type 0
+NewForeignWaitsAreAsked = EveryEvent NewForeignWaitIsAsked
 
 -- ---- slots
 

@@ -1,6 +1,6 @@
 // The laws of what is owed of asks and slots.
 
-ghost use Rattle.owed_asks.specs.Law.{BirthsAreAsked, ElsewheresAreAsked, GivesAreBegun, SlotsAreAllRight};
+ghost use Rattle.owed_asks.specs.Law.{BirthsAreAsked, CopiesAreGot, ElsewheresAreAsked, GivesAreBegun, NewForeignWaitsAreAsked, SlotsAreAllRight};
 
 /// As long as nothing was killed or lost, a task that is born is asked for at its owner's own node, in the event of its birth.
 pub fn births_are_asked()
@@ -17,6 +17,18 @@ pub fn elsewheres_are_asked()
 /// in the event that delivers it.
 pub fn gives_are_begun()
     ensures { GivesAreBegun }
+{}
+
+/// As long as nothing was killed or lost, a copy that reaches a worker whose attempt waits for the object answers it, in the event that delivers
+/// it.
+pub fn copies_are_got()
+    ensures { CopiesAreGot }
+{}
+
+/// As long as nothing was killed or lost, the owner of another worker's object is asked where it is, in the commit that leaves an attempt to wait
+/// for it.
+pub fn new_foreign_waits_are_asked()
+    ensures { NewForeignWaitsAreAsked }
 {}
 
 /// Whatever events come, killed or lost, on each live node: the slots in use are never more than there are, and no worker has two; who has one is

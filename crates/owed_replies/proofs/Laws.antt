@@ -16,6 +16,8 @@ use Rattle.owed_replies.specs.Law.{IsPaid, LawOfReplies, happening}
 use Rattle.owed_replies.proofs.Advancing.{Advances, IsBrought}
 use Rattle.owed_replies.proofs.Happens.{event_advances}
 use Rattle.owed_replies.proofs.Replies.{accepted_owed, finish_owed}
+use Rattle.owed_replies.proofs.Requests.{request_owed}
+use Rattle.owed_replies.proofs.Waiting.{hold_owed, places_owed}
 use Rattle.owed_replies.proofs.Runs.{RunReplies, event_run, run_replies}
 
 -- an event that was taken wasn't refused, and is what happens
@@ -53,6 +55,9 @@ module _ (s : Setting) (r : Running) (k : RunReplies s r) (calm : IsCalm r.log) 
 
   pub is_paid : IsPaid (happening s r e seat step)
   is_paid = record {
+    requests = request_owed s r k calm e seat handed step answered;
+    places = places_owed s r k calm e seat handed step answered;
+    holds = hold_owed s r k calm e seat handed step answered;
     finishes = finish_owed s r k calm e seat handed step answered;
     accepted = accepted_owed s r k calm e seat handed step answered brought step_after;
   }

@@ -11,4 +11,6 @@ pub mod Quiet
 pub mod Delivered
 pub mod Runs
 pub mod Replies
+pub mod Waiting
+pub mod Requests
 pub mod Laws

@@ -21,6 +21,7 @@ use Rattle.protocol.specs.Tables.{AskedAt, AtRest, ByTask, Maker, Object, OwnTas
 use Rattle.protocol.specs.Whole.{Whole, worker_at}
 use Rattle.protocol_legal.specs.Knows.{IsBegun, IsTask, KnowsMaker, KnowsObject, KnowsProgress, KnowsPut, KnowsTask, once}
 use Rattle.protocol_legal.specs.Lost.{IsLost, RisingTo}
+use Rattle.protocol_legal.specs.Made.{IsMadeAt}
 use Rattle.protocol_legal.specs.Past.{past}
 use Rattle.protocol_legal.specs.Whole.{Between}
 use Rattle.protocol_owed.specs.Seen.{AcceptedAt, IsCalm, IsKnownAt, PutAt, is_failure}
@@ -225,7 +226,7 @@ module _ (s : Setting) (log : List Entry) (c : Whole) (b : Between s log c) (cal
   pub no_dead_workers : (w : ℕ) (x : Worker) → worker_at c w ≡ Some x → (v : ℕ) → has x.dead_workers v ≡ true → ⊥
   no_dead_workers w x at v h = worker_alive log calm v ((b.knows.workers w x at (all_live w x at)).dead v h)
 
-  knows_of : (y : Id) (x : Worker) (z : Object) → worker_at c y.owner ≡ Some x → item_at x.objects y.serial ≡ Some z → KnowsObject (past log b.asked) x y z
+  pub knows_of : (y : Id) (x : Worker) (z : Object) → worker_at c y.owner ≡ Some x → item_at x.objects y.serial ≡ Some z → KnowsObject (past log b.asked) x y z
   knows_of y x z at there = (b.knows.workers y.owner x at (all_live y.owner x at)).objects y.serial z there
 
   pub no_fault : (y : Id) (x : Worker) (z : Object) → worker_at c y.owner ≡ Some x → item_at x.objects y.serial ≡ Some z → z.fault ≡ None
@@ -235,7 +236,7 @@ module _ (s : Setting) (log : List Entry) (c : Whole) (b : Between s log c) (cal
       by_fault None e = e
       by_fault (Some f) e = absurd (no_cause log calm f.kind f.object ((knows_of y x z at there).known f e).cause)
 
-  released_among : (y : Id) → Among y (releases_of y log) → Among (Released y) log
+  pub released_among : (y : Id) → Among y (releases_of y log) → Among (Released y) log
   released_among y i = let r = flat_among (released_in y) log y i in by_entry r.0 r.2 r.1
     where
       by_entry : (x : Entry) → Among y (released_in y x) → Among x log → Among (Released y) log
@@ -277,7 +278,7 @@ module _ (s : Setting) (log : List Entry) (c : Whole) (b : Between s log c) (cal
     place = place;
   }
 
-  same_node : (m n : ℕ) → ◌≡◌ {A = Option ℕ} (Some m) (Some n) → m ≡ n
+  pub same_node : (m n : ℕ) → ◌≡◌ {A = Option ℕ} (Some m) (Some n) → m ≡ n
   same_node m n e = cc
 
   below_length : (xs : List ℕ) (k w : ℕ) → slice_get xs k ≡ Some w → k < length xs
@@ -308,6 +309,27 @@ module _ (s : Setting) (log : List Entry) (c : Whole) (b : Between s log c) (cal
       let below = below_length task.begun number v there in
       let count = q.2 in
       omega (arith, first, below, count)
+
+  pub put_no_task : (spec : Birth) (v : Value) → IsTask spec → Some spec ≡ Some (Put v) → ⊥
+  put_no_task (Put u) v t e = t
+  put_no_task (Task g args depth retries) v t e = cc
+
+  -- what was made of a content whose place is known was made there
+  pub same_home : (y : Id) (x : Worker) (z : Object) (number n home : ℕ) → worker_at c y.owner ≡ Some x → item_at x.objects y.serial ≡ Some z →
+      IsKnownAt log y number n → IsMadeAt log y number home → home ≡ n
+  same_home y x z number n home at there (inl p) (inl q) = same_node home n (sym q.home ∙ p.place)
+  same_home y x z number n home at there (inr p) (inr q) =
+      same_node home n (sym q.home ∙ ap (λ w. node_of w log) (same_node q.worker p.worker (sym q.runs ∙ p.ran)) ∙ p.place)
+  same_home y x z number n home at there (inl p) (inr q) = absurd (put_not_run z.maker (knows_of y x z at there).maker p.value p.put q.worker q.runs)
+    where
+      put_not_run : (m : Maker) → KnowsMaker (past log b.asked) x.node y z m → (v : Value) → birth_at (births log) y ≡ Some (Put v) → (w : ℕ) → worker_of (attempt y number) log ≡ Some w → ⊥
+      put_not_run WasPut k v put w ran = nothing_in [] w refl (number, ap (λ xs. slice_get xs number) (sym k.unbegun) ∙ ran)
+      put_not_run (ByTask task) k v put w ran = put_no_task task.spec v k.is_task (sym k.spec ∙ put)
+  same_home y x z number n home at there (inr p) (inl q) = absurd (run_not_put z.maker (knows_of y x z at there).maker q.value q.born p.worker p.ran)
+    where
+      run_not_put : (m : Maker) → KnowsMaker (past log b.asked) x.node y z m → (v : Value) → birth_at (births log) y ≡ Some (Put v) → (w : ℕ) → worker_of (attempt y number) log ≡ Some w → ⊥
+      run_not_put WasPut k v put w ran = nothing_in [] w refl (number, ap (λ xs. slice_get xs number) (sym k.unbegun) ∙ ran)
+      run_not_put (ByTask task) k v put w ran = put_no_task task.spec v k.is_task (sym k.spec ∙ put)
 
   pub put_known : (y : Id) (x : Worker) (z : Object) (number n : ℕ) → worker_at c y.owner ≡ Some x → item_at x.objects y.serial ≡ Some z → (Among (Released y) log → ⊥) →
       IsKnownAt log y number n → HasContentAt z number n

@@ -18,8 +18,9 @@ pub fn law_of_ends()
     ensures { LawOfEnds }
 {}
 
-/// As long as nothing was killed or lost, in the event that calls for it: a Finished is acknowledged, and the first one is accepted; and at the
-/// acceptance everyone who asked before is told the places.
+/// As long as nothing was killed or lost, in the event that calls for it: whoever asks for what is there, or missed a copy, is told the places; at
+/// the acceptance everyone who asked before is told them; a worker that waits uses the places that reach it; a Hold and a Finished are acknowledged,
+/// and the first Finished is accepted.
 pub fn law_of_replies()
     ensures { LawOfReplies }
 {}

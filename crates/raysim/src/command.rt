@@ -16,7 +16,7 @@ use std::{fs, io};
 enum Command {
     Check,
     Serial,
-    Run,
+    Run(Cluster, Form),
 }
 
 /// Does what the words ask, and says with which status the program ends.
@@ -64,7 +64,9 @@ fn report_form(json: bool) -> Form {
 fn over_run<R: Files + Print + Eprint + AllocGlobal>(
     rt: &R,
     options: &RunOptions<'_>,
-) -> io::Result<ExitCode> {
+) -> io::Result<ExitCode>
+    requires { IsCluster options.now.nodes options.now.slots }
+{
     if let Some(missing) = missing_option(options) {
         return not_there(rt, missing.text());
     }
@@ -72,7 +74,12 @@ fn over_run<R: Files + Print + Eprint + AllocGlobal>(
         script: options.script,
         explain: options.explain,
     };
-    over_script(rt, &Command::Run, &script)
+    let cluster = cluster_of(options.nodes, options.slots);
+    over_script(
+        rt,
+        &Command::Run(cluster, report_form(options.json)),
+        &script,
+    )
 }
 
 /// Replays an event file, and tells the refusal on standard error where there is one.
@@ -166,7 +173,9 @@ fn done<R: Files + Print + AllocGlobal>(
     match command {
         Command::Check => check(rt.alloc(), &mut reader, &mut writer),
         Command::Serial => serial(rt.alloc(), &mut reader, &mut writer),
-        Command::Run => run(rt.alloc(), &mut reader, &mut writer),
+        Command::Run(cluster, form) => {
+            run(rt.alloc(), &mut reader, *cluster, *form, &mut writer)
+        }
     }
 }
 

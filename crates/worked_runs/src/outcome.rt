@@ -19,6 +19,19 @@ fn replayed(
     Some(sim(alloc, &mut reader, &mut events, cluster, form, &mut writer))
 }
 
+/// Runs the case's script on its cluster.
+fn ran(
+    alloc: Global,
+    case: &Case,
+    form: Form,
+    written: &mut Vec<u8>,
+) -> Option<Result<u8, Refusal>> {
+    let cluster = Cluster::new(case.nodes, case.slots)?;
+    let mut reader = Tracked::reader(case.script.as_bytes());
+    let mut writer = Tracked::writer(written);
+    Some(run(alloc, &mut reader, cluster, form, &mut writer))
+}
+
 /// Does what a command over a script alone says.
 fn done_with_script(
     alloc: Global,
@@ -34,15 +47,18 @@ fn done_with_script(
     if command == "serial" {
         return Some(serial(alloc, &mut reader, &mut writer));
     }
-    if command == "run" {
-        return Some(run(alloc, &mut reader, &mut writer));
-    }
     None
 }
 
 /// Does what a command of the program says, over readers and a writer in memory. None where there is no such command or cluster.
 fn done(alloc: Global, case: &Case, written: &mut Vec<u8>) -> Option<Result<u8, Refusal>> {
     let command = case.command.as_str();
+    if command == "run" {
+        return ran(alloc, case, Form::Text, written);
+    }
+    if command == "run --json" {
+        return ran(alloc, case, Form::Json, written);
+    }
     if command == "sim" {
         return replayed(alloc, case, Form::Text, written);
     }

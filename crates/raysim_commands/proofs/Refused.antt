@@ -14,6 +14,7 @@ use Rattle.script_check.specs.declared.error.CheckError.TheVariants as faults
 use Rattle.raysim_streams.specs.declared.Refusal.{Refusal}
 use Rattle.raysim_streams.specs.declared.Refusal.TheVariants.{At, NoMemory, Stopped, BadLine, Failed}
 use Rattle.raysim_commands.specs.Scripts.{IsNoScript, IsRefusalOf, IsNoScriptFor, syntax_refusal, check_refusal, Explains}
+use Rattle.protocol_core.specs.Clusters.{Size}
 use Rattle.raysim_commands.specs.RunReports.{ExplainsRun}
 
 -- the parser's error
@@ -85,9 +86,9 @@ explains_read known text a b (BadLine line) h k = absurd (of_text text (BadLine 
 explains_read known text a b (Failed failure) h k = absurd (of_text text (Failed failure) k)
 
 -- `run` refuses for the other commands' causes
-pub explains_as_others : (known : Option (List ℕ)) (read_failed write_failed : Bool) (r : Refusal) → Explains known read_failed write_failed r → ExplainsRun known read_failed write_failed r
-explains_as_others known a b (At code span) h = h
-explains_as_others known a b NoMemory h = h
-explains_as_others known a b (Stopped code) h = absurd h
-explains_as_others known a b (BadLine line) h = absurd h
-explains_as_others known a b (Failed failure) h = h
+pub explains_as_others : (size : Size) (known : Option (List ℕ)) (read_failed write_failed : Bool) (r : Refusal) → Explains known read_failed write_failed r → ExplainsRun size known read_failed write_failed r
+explains_as_others size known a b (At code span) h = h
+explains_as_others size known a b NoMemory h = h
+explains_as_others size known a b (Stopped code) h = absurd h
+explains_as_others size known a b (BadLine line) h = absurd h
+explains_as_others size known a b (Failed failure) h = h

@@ -8,7 +8,7 @@ use Rattle.protocol_core.specs.Clusters.{Size}
 use Rattle.raysim_streams.specs.declared.Failure.TheVariants.{Read, Write, Closed}
 use Rattle.raysim_streams.specs.declared.Refusal.{Refusal}
 use Rattle.raysim_streams.specs.declared.Refusal.TheVariants.{At, NoMemory, Stopped, BadLine, Failed}
-use Rattle.raysim_commands.specs.declared.sim_command.Form.{Form}
+use Rattle.raysim_commands.specs.declared.form.Form.{Form}
 use Rattle.raysim_commands.specs.Scripts.{Explains, IsScript}
 use Rattle.raysim_commands.specs.SimReports.{ExplainsSim, IfBoth, IsEvents, IsSimBegun, IsSimReportOf}
 use Rattle.raysim_commands.proofs.Reading.{known_whole}

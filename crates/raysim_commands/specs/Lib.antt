@@ -1,3 +1,4 @@
+pub mod Reports
 pub mod RunReports
 pub mod Scripts
 pub mod SerialReports

@@ -2,30 +2,22 @@
 use Rattle.std.specs.Prelude.{◌≡◌, ◌⊎◌, ℕ, Bool, true, List, [], Option, take, IfSome}
 use Rattle.std.specs.Io.KnownBytes.{Appends}
 use Rattle.meaning.specs.Syntax.{Script}
-use Rattle.event_log.specs.Entries.{Entry}
 use Rattle.event_files.specs.declared.line.Line.{Line}
 use Rattle.event_files.specs.Files.{IsBadAt, IsFile}
 use Rattle.event_files.specs.Lines.{IsLine, line_text}
 use Rattle.history.specs.Main.{status_of}
-use Rattle.history.specs.Report.{report_text}
 use Rattle.protocol_core.specs.Clusters.{Size}
 use Rattle.protocol_core.specs.States.{first_state}
 use Rattle.protocol_board.specs.declared.stopped.Stopped.{Stopped}
 use Rattle.protocol_board.specs.declared.stopped.Stopped.TheVariants as stops
 use Rattle.protocol_board.specs.Meant.{IsSoundLog}
 use Rattle.protocol_board.specs.Replays.{Play, Plays, PlayStops}
-use Rattle.protocol_board.specs.Reports.{json_text}
 use Rattle.raysim_streams.specs.declared.Failure.TheVariants.{Read, Write, Closed}
 use Rattle.raysim_streams.specs.declared.Refusal.{Refusal}
 use Rattle.raysim_streams.specs.declared.Refusal.TheVariants.{At, NoMemory, Stopped as Stops, BadLine, Failed}
-use Rattle.raysim_commands.specs.declared.sim_command.Form.{Form}
-use Rattle.raysim_commands.specs.declared.sim_command.Form.TheVariants as forms
+use Rattle.raysim_commands.specs.declared.form.Form.{Form}
+use Rattle.raysim_commands.specs.Reports.{IsReportIn}
 use Rattle.raysim_commands.specs.Scripts.{IsAllowed, IsScript, IsNoScriptFor}
-
--- the report of a log, as text or as JSON
-abbrev pub report_in : Form → List Entry → List ℕ
-report_in forms.Text log = report_text log
-report_in forms.Json log = json_text log
 
 -- the bytes are an event file with these lines
 abbrev pub IsEvents : List ℕ → List Line → Type 0
@@ -43,7 +35,7 @@ pub record IsReplayed (script : Script) (size : Size) (lines : List Line) (p : P
 -- the report of the replay of these lines, and its status
 abbrev pub IsSimReportOf : Script → Size → Form → List Line → List ℕ → ℕ → Type 0
 IsSimReportOf script size form lines report status =
-    (p : Play) × IsReplayed script size lines p × (report ≡ report_in form p.run.log) × (status ≡ status_of p.run.log)
+    (p : Play) × IsReplayed script size lines p × IsReportIn form p.run.log report × (status ≡ status_of p.run.log)
 
 -- the replay of these lines stops before an event more than it may apply
 abbrev pub IsTooLong : Script → Size → List Line → Type 0

@@ -3,12 +3,14 @@
 ghost use Rattle.std.specs.Prelude.{◌≡◌, IfOk, IfErr, IfSome, string_bytes};
 ghost use Rattle.script_check.specs.Trees.{script_of};
 ghost use Rattle.raysim_commands.specs.Scripts.{IsUnwritten};
-ghost use Rattle.raysim_commands.specs.RunReports.{IsReportOf, IsRunStop, IsRunReported, IsRunBegun, ExplainsRun};
+ghost use Rattle.raysim_commands.specs.RunReports.{ExplainsRun, IsReportOf, IsRunBegun, IsRunReported, IsRunStop};
 
+use crate::form::{Form, report};
 use crate::script::{checked_script, read_script};
-use board::Board;
+use driving::drive;
+use protocol_board::Board;
+use protocol_core::{Cluster, Core};
 use raysim_streams::{Refusal, Sink, Source, put_all};
-use run_core::Core;
 use script_check::Checked;
 use segment::ScriptName;
 use std::alloc::Global;
@@ -22,42 +24,55 @@ struct RunReport {
 }
 
 /// The report of a script's run.
-fn run_script<S: ScriptName>(alloc: Global, script: &Checked) -> Result<RunReport, Refusal>
+fn run_script<S: ScriptName>(
+    alloc: Global,
+    script: &Checked,
+    cluster: Cluster,
+    form: Form,
+) -> Result<RunReport, Refusal>
     requires { script_of script.now ≡ S.script }
-    ensures reported { IfOk result (λ report. IsReportOf (script_of script.now) (string_bytes report.text) report.status) }
-    ensures stopped { IfErr result (IsRunStop (script_of script.now)) }
+    ensures reported { IfOk result (λ report. IsReportOf (script_of script.now) cluster form (string_bytes report.text) report.status) }
+    ensures stopped { IfErr result (IsRunStop (script_of script.now) cluster) }
 {
-    let core = Core::<S>::new(alloc, script)?;
+    let core = Core::<S>::new(alloc, script, cluster)?;
     let mut board = Board::new(core);
-    if let Err(stopped) = board.drive(alloc, script) {
+    if let Err(unfinished) = drive(alloc, &mut board, script) {
         return Err(Refusal::Stopped {
-            code: stopped.number(),
+            code: unfinished.number(),
         });
     }
-    let text = board.report(alloc)?;
+    let text = report(alloc, &board, form)?;
     let status = board.status();
     Ok(RunReport { text, status })
 }
 
-/// Reads a script's text, runs its remote calls as tasks on one node until no worker is ready, and writes the report of the run: what
-/// main prints and how it ends, then what became of the other attempts (docs/runs.md, "The report"). The status is 0 where main ends
-/// with a value, 1 where it ends with a trap, and 2 where it is open or has a fault.
+/// Reads a script's text, runs its remote calls as tasks on this cluster until nothing is left to do, and writes the run's report
+/// (docs/runs.md, "The report"), or the same as one line of JSON. The status is 0 where main ends with a value, 1 where it ends with a
+/// trap, and 2 where it is open or has a fault.
 ///
 /// Else the refusal says why: `At` where the text is no script that the rules allow, `NoMemory`, `Stopped` where the run stops before
-/// its end, or `Failed` where a read or a write failed. After a failed write a beginning of the report is out; before any other refusal
-/// nothing is written.
-pub fn run<R: Source, W: Sink>(alloc: Global, reader: &mut R, writer: &mut W) -> Result<u8, Refusal>
-    ensures reported { IfOk result (λ status. IfSome (R.left reader.old) (λ text. IsRunReported text status (W.held writer.old) (W.held writer.new))) }
-    ensures refused { IfErr result (λ refusal. ExplainsRun (R.left reader.old) (R.has_failed reader.new) (W.has_failed writer.new) refusal) }
+/// its end, with the number that an event of it is refused (37 at a limit), or with 41 after 100,000 turns; or `Failed` where a read or a
+/// write failed. After a failed write a beginning of the report is out; before any other refusal nothing is written.
+pub fn run<R: Source, W: Sink>(
+    alloc: Global,
+    reader: &mut R,
+    cluster: Cluster,
+    form: Form,
+    writer: &mut W,
+) -> Result<u8, Refusal>
+    ensures reported { IfOk result (λ status. IfSome (R.left reader.old) (λ text.
+        IsRunReported cluster form text status (W.held writer.old) (W.held writer.new))) }
+    ensures refused { IfErr result (λ refusal. ExplainsRun cluster (R.left reader.old) (R.has_failed reader.new) (W.has_failed writer.new) refusal) }
     ensures unwritten { IfErr result (λ refusal. IsUnwritten refusal → W.held writer.new ≡ W.held writer.old) }
-    ensures beginning { IfErr result (λ refusal. IfSome (R.left reader.old) (λ text. IsRunBegun text (W.held writer.old) (W.held writer.new))) }
+    ensures beginning { IfErr result (λ refusal. IfSome (R.left reader.old) (λ text.
+        IsRunBegun cluster form text (W.held writer.old) (W.held writer.new))) }
 {
     let text = read_script(alloc, reader)?;
     let script = match checked_script(alloc, text.as_slice()) {
         Ok(script) => script,
         Err(refusal) => return Err(refusal),
     };
-    let report = match run_script::<Brand>(alloc, &script) {
+    let report = match run_script::<Brand>(alloc, &script, cluster, form) {
         Ok(report) => report,
         Err(refusal) => return Err(refusal),
     };

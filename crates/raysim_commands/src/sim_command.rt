@@ -2,21 +2,20 @@
 
 ghost use Rattle.std.specs.Prelude.{◌≡◌, ◌⊎◌, IfOk, IfErr, IfSome, string_bytes};
 ghost use Rattle.script_check.specs.Trees.{script_of};
-ghost use Rattle.event_log.specs.Views.{log_of};
-ghost use Rattle.protocol_board.specs.Meant.{IsSoundLog};
 ghost use Rattle.raysim_commands.specs.Scripts.{IsUnwritten};
 ghost use Rattle.raysim_commands.specs.SimReports.{ExplainsEvents, ExplainsSim, IfBoth, IsEvents, IsSimBegun, IsSimReported};
-ghost use Rattle.raysim_commands.specs.SimReports.{IsSimReportOf, IsStopOf, report_in, stop_refusal};
+ghost use Rattle.raysim_commands.specs.SimReports.{IsSimReportOf, IsStopOf, stop_refusal};
 
+use crate::form::{Form, report};
 use crate::script::{checked_script, read_script};
 use event_files::{EventError, Line, parse_events};
-use protocol_board::{Board, Replay, Stopped};
+use protocol_board::{Replay, Stopped};
 use protocol_core::{Cluster, Core};
 use raysim_streams::{Refusal, Sink, Source, put_all, read_at_most};
 use script_check::Checked;
 use segment::ScriptName;
 use sequence::Seq;
-use std::alloc::{AllocError, Global};
+use std::alloc::Global;
 use std::marker::Brand;
 
 /// What `sim` writes, and the status that it ends with.
@@ -24,26 +23,6 @@ use std::marker::Brand;
 struct SimReport {
     text: String,
     status: u8,
-}
-
-/// How a report is written.
-#[derive(Clone, Copy, PartialEq, Eq, Debug)]
-pub enum Form {
-    /// In lines.
-    Text,
-    /// As one line of JSON.
-    Json,
-}
-
-/// The report of a run.
-fn report<S: ScriptName>(alloc: Global, board: &Board<S>, form: Form) -> Result<String, AllocError>
-    ensures text { IfOk result (λ text. string_bytes text ≡ report_in form (log_of board.now.log)) }
-    ensures meant { IsSoundLog S.script board.now.first_nodes (log_of board.now.log) }
-{
-    match form {
-        Form::Text => board.report(alloc),
-        Form::Json => board.report_json(alloc),
-    }
 }
 
 /// Why a replay that stopped gives no report.

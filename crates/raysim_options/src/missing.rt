@@ -9,11 +9,8 @@ use crate::RunOptions;
 #[derive(Clone, Copy, Debug, PartialEq, Eq, Drop)]
 pub enum MissingOption {
     Threads,
-    Nodes,
-    Slots,
     Plan,
     History,
-    Json,
 }
 
 impl MissingOption {
@@ -23,11 +20,8 @@ impl MissingOption {
     {
         match self {
             MissingOption::Threads => "raysim run --threads with a number other than 2",
-            MissingOption::Nodes => "raysim run --nodes with a number other than 1",
-            MissingOption::Slots => "raysim run --slots with a number other than 4",
             MissingOption::Plan => "raysim run --plan",
             MissingOption::History => "raysim run --history",
-            MissingOption::Json => "raysim run --json",
         }
     }
 }
@@ -40,20 +34,11 @@ pub fn missing_option(options: &RunOptions<'_>) -> Option<MissingOption>
     if options.threads != 2 {
         return Some(MissingOption::Threads);
     }
-    if options.nodes != 1 {
-        return Some(MissingOption::Nodes);
-    }
-    if options.slots != 4 {
-        return Some(MissingOption::Slots);
-    }
     if options.plan.is_some() {
         return Some(MissingOption::Plan);
     }
     if options.history.is_some() {
         return Some(MissingOption::History);
-    }
-    if options.json {
-        return Some(MissingOption::Json);
     }
     None
 }

@@ -1,4 +1,4 @@
-// The report of a log that no run on one node has: a fault spreads, objects are released, an event is refused.
+// The report of a log in which a fault spreads, objects are released, and an event is refused.
 
 use event_log::{Entry, Event, Refusal};
 use history::{report_text, status_of};

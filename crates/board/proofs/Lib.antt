@@ -1,3 +1,0 @@
-mod Meant
-mod Replies
-mod Turning

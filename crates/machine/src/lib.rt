@@ -1,4 +1,0 @@
-//! The tables of a run on one node, and what each event makes of them and of the log.
-#![tactic(auto)]
-
-pub mod law;

@@ -1,2 +1,0 @@
-mod Jobs
-mod Kept

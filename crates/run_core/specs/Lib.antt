@@ -1,4 +1,0 @@
-pub mod Events
-pub mod States
-pub mod Views
-pub mod Steps

@@ -1,4 +1,0 @@
-pub mod Handed
-pub mod History
-pub mod Logged
-pub mod Views

@@ -1,2 +1,3 @@
 mod Jobs
 mod Kept
+mod Cursors

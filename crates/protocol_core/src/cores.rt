@@ -10,6 +10,7 @@ ghost use Rattle.protocol_core.specs.Steps.{Answers, reply_of};
 ghost use Rattle.protocol_core.specs.Views.{state_of};
 
 use crate::cluster::Cluster;
+use crate::cursor::cursor_behind;
 use crate::reply::Reply;
 use crate::state::State;
 use crate::steps::step;
@@ -20,7 +21,7 @@ use protocol_laws::law::{opening_is_sound, sound_is_legal};
 use script_check::Checked;
 use segment::{Done, ScriptName};
 use sequence::Seq;
-use settling::next;
+use settling::next_from;
 use std::alloc::{AllocError, Global};
 use std::marker::{Model, PhantomData};
 
@@ -29,6 +30,8 @@ use std::marker::{Model, PhantomData};
 #[derive(Drop)]
 pub struct Core<S: ScriptName> {
     state: State,
+    /// Each message before that place was delivered: the search for the next one begins there.
+    cursor: usize,
     script: PhantomData<S>,
 }
 
@@ -37,6 +40,7 @@ impl<S: ScriptName> Model for Core<S> {
     ghost use Rattle.held.specs.Codes.{value_code, outcome_code, birth_code, id_code};
     ghost use Rattle.numbers.specs.Codes.{attempt_code, fault_code};
     ghost use Rattle.values.specs.contracts.value.RunValue as run_values;
+    ghost use Rattle.cursor_laws.specs.Cursors.{IsPast};
     ghost use Rattle.protocol_core.specs.States.{IsSoundRun};
     ghost use Rattle.protocol_core.specs.Views.{RunData, data_of, state_of};
 
@@ -46,7 +50,7 @@ impl<S: ScriptName> Model for Core<S> {
 
     ghost view = { λ c. data_of c.state };
 
-    ghost invariant = { λ c. IsSoundRun S.script (state_of (data_of c.state)) };
+    ghost invariant = { λ c. IsSoundRun S.script (state_of (data_of c.state)) × IsPast c.cursor c.state.whole.delivered };
 }
 
 impl<S: ScriptName> Core<S> {
@@ -62,6 +66,7 @@ impl<S: ScriptName> Core<S> {
         let state = State::new(alloc, cluster)?;
         Ok(Core {
             state,
+            cursor: 0,
             script: PhantomData,
         })
     }
@@ -75,10 +80,11 @@ impl<S: ScriptName> Core<S> {
     }
 
     /// The next event where nothing else is asked for; see docs/protocol.md, "The settle rule". These workers neither claim nor commit.
+    #[tactic(auto, using(crate::proofs::Cursors::next_there))]
     pub fn next(&self, but: &Seq<WorkerId>) -> Option<Event>
         ensures { option_map event_of result ≡ next self.now.whole but.now }
     {
-        match next(&self.state.whole, but) {
+        match next_from(&self.state.whole, but, self.cursor) {
             Some(event) => Some(event_out(&event)),
             None => None,
         }
@@ -102,6 +108,8 @@ impl<S: ScriptName> Core<S> {
         if self.state.is_halted {
             return Reply::Refused(Refusal::Halted);
         }
-        step(alloc, &mut self.state, event, seat, done)
+        let told = step(alloc, &mut self.state, event, seat, done);
+        self.cursor = cursor_behind(&self.state, self.cursor);
+        told
     }
 }

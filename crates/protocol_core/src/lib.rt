@@ -3,6 +3,7 @@
 
 mod cluster;
 mod cores;
+mod cursor;
 mod handed;
 mod opening;
 mod reply;

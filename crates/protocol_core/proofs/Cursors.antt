@@ -1,0 +1,35 @@
+-- The cursor into the messages: it stays right behind each event, and the search for the next event may begin there.
+use Rattle.std.proofs.Common.{◌≡◌, ℕ, zero, suc, ◌+◌, ◌<◌, ◌≤◌, Bool, true, false, List, [], ◌∷◌, length, drop, Option, Some, None, refl, sym, ap, ◌∙◌, subst, inl, inr, arith}
+use Rattle.std.specs.Prelude.{slice_get}
+use Rattle.std.specs.Option.{option_map}
+use Rattle.cursor_laws.specs.Cursors.{IsPast}
+use Rattle.cursor_laws.proofs.Delivered.{one_further, past_after, search_from}
+use Rattle.event_log.specs.Entries.{Claim, Commit, Deliver, Event}
+use Rattle.protocol.specs.Answers.{answer, whole_after}
+use Rattle.protocol.specs.Settling.{first_job, first_ready, next, or_event}
+use Rattle.protocol.specs.Whole.{Whole}
+use Rattle.protocol_core.specs.States.{RunState}
+use Rattle.protocol_core.specs.Steps.{Applies, Follows, Reply, RunsOut}
+use Rattle.segment.specs.Jobs.{Done}
+use Rattle.settling.specs.Turns.{next_from}
+
+-- the search may begin at the cursor
+pub next_there : (c : Whole) (k : ℕ) (but : List ℕ) → IsPast k c.delivered → next_from k c but ≡ next c but
+next_there c k but p =
+    ap (λ o. or_event (option_map (λ j. Deliver j) o)
+      (or_event (option_map (λ j. Commit j) (first_job but 1 c.workers)) (option_map (λ w. Claim w) (first_ready c but 1 c.workers))))
+    (sym (search_from k c.delivered p))
+
+-- the cursor stays right, unless the run halts
+pub past_behind : (before after : RunState) (e : Event) (seat : ℕ) (done : Option Done) (told : Reply) (k : ℕ) → Follows before e seat done after told →
+    IsPast k before.whole.delivered → after.is_halted ≡ false → IsPast k after.whole.delivered
+past_behind before after e seat done told k (inl out) p goes_on = absurd (true_false (sym out.halted ∙ goes_on))
+  where
+    true_false : true ≡ false → ⊥
+    true_false e = cc
+past_behind before after e seat done told k (inr h) p goes_on =
+    subst (λ (c : Whole). IsPast k c.delivered) (sym h.2.whole) (past_after before.whole k e h.0 p)
+
+-- nothing is before the first message
+pub past_none : (bs : List Bool) → IsPast zero bs
+past_none bs = λ i less. absurd (omega (arith, less))

@@ -1,0 +1,5 @@
+use Rattle.cursor_laws.specs.Cursors.{IsPast}
+use Rattle.protocol_core.proofs.cursor.past_delivered.Given as goal
+
+abbrev pub invariant-loop-place : goal.invariant-loop-place
+invariant-loop-place l = IsPast l.place l.delivered

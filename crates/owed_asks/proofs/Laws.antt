@@ -618,7 +618,7 @@ module _ (s : Setting) (r : Running) (keeps : RunKeeps s r) (calm : IsCalm r.log
 
 -- ---- the laws
 
-last_log : (r : Running) (g : Handing) (step : Step) → answer_to r g ≡ Takes step → (after_event r g).log ≡ r.log ++ In g.event g.seat ∷ step.entries
+pub last_log : (r : Running) (g : Handing) (step : Step) → answer_to r g ≡ Takes step → (after_event r g).log ≡ r.log ++ In g.event g.seat ∷ step.entries
 last_log r g step e = ap (λ a. r.log ++ logged g.event g.seat a) e
 
 pub last_whole : (r : Running) (g : Handing) (step : Step) → answer_to r g ≡ Takes step → (after_event r g).whole ≡ step.whole

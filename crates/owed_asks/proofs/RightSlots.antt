@@ -81,7 +81,7 @@ module _ (s : Setting) (r : Running) (keeps : RunKeeps s r) (uses : KeepsUses r.
   b = keeps.step.sound.between
 
   -- a live node is there
-  there : (n : ℕ) → node_lives s.nodes n r.log ≡ true → (node : Node) × (node_at c n ≡ Some node) × (node.is_live ≡ true)
+  pub there : (n : ℕ) → node_lives s.nodes n r.log ≡ true → (node : Node) × (node_at c n ≡ Some node) × (node.is_live ≡ true)
   unfolding node_lives
   there n e =
       let numbers : (nat_lt 0 n && nat_lt n (s.nodes + length (joins r.log) + 1)) ≡ true =

@@ -1,6 +1,13 @@
-//! A worker's part in an event of the whole run: its step, and then what can be released.
-#![tactic(auto)]
+//! A worker's part in an event of the whole run: its step, and then what can be released. Its steps are a message that reaches it, a tick,
+//! and what it does when it is told of a death; its claims and commits stand with what it does as an owner.
+#![tactic(auto, unfolding(meaning::specs::Births::same_id, event_log::specs::Words::same_attempt))]
 
+mod deaths;
+mod messages;
+mod node_deaths;
 mod part;
+mod runs_on;
+mod ticks;
+mod worker_deaths;
 
 pub use part::{Act, take_part};

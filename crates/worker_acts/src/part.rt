@@ -4,13 +4,13 @@ ghost use Rattle.std.specs.Prelude.{◌≡◌, OnOk};
 ghost use Rattle.protocol.specs.Releases.{release_step};
 ghost use Rattle.worker_acts.specs.Acts.{act_step};
 
+use crate::deaths::{notice_node_step, notice_step};
+use crate::messages::reached;
+use crate::ticks::tick_step;
 use numbers::{NodeId, WorkerId};
 use owner_steps::{claim_step, commit_step};
 use protocol_data::{Halt, Here, Message, Outcomes, Party};
 use std::alloc::Global;
-use worker_events::tick_step;
-use worker_messages::reached;
-use worker_notices::{notice_node_step, notice_step};
 use worker_steps::release_all;
 
 /// What a worker does in an event.

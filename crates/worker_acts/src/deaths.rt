@@ -1,0 +1,55 @@
+// Notices of deaths.
+
+ghost use Rattle.std.specs.Prelude.{◌≡◌, OnOk, Some, None};
+ghost use Rattle.protocol.specs.Notices.{hears_of_node, hears_of_worker, notice_node_step, notice_step};
+
+use crate::node_deaths::{add_dead_node, lose_fetch, lose_places, move_asks};
+use crate::runs_on::break_where;
+use crate::worker_deaths::{add_dead_worker, drop_holds, drop_stop, lose_owner};
+use number_lists::has_node;
+use numbers::{NodeId, WorkerId};
+use protocol_data::{Halt, Here, Party};
+use std::alloc::Global;
+use worker_steps::knows_dead;
+
+/// What a worker's death ends.
+fn hear_of_worker(alloc: Global, here: &mut Here, worker: WorkerId) -> Result<(), Halt>
+    ensures { OnOk result (here.new ≡ hears_of_worker here.old worker) }
+{
+    add_dead_worker(here, worker)?;
+    break_where(alloc, here, &Party::TheWorker(worker))?;
+    lose_owner(alloc, here, worker)?;
+    drop_holds(alloc, here, worker)?;
+    drop_stop(here, worker)
+}
+
+/// The worker is told that the other is dead. What it knows already changes nothing.
+pub fn notice_step(alloc: Global, here: &mut Here, worker: WorkerId) -> Result<(), Halt>
+    ensures { OnOk result (here.new ≡ notice_step here.old worker) }
+{
+    if knows_dead(&here.worker, worker) {
+        return Ok(());
+    }
+    hear_of_worker(alloc, here, worker)
+}
+
+/// What a node's death ends.
+fn hear_of_node(alloc: Global, here: &mut Here, node: NodeId) -> Result<(), Halt>
+    ensures { OnOk result (here.new ≡ hears_of_node here.old node) }
+{
+    add_dead_node(here, node)?;
+    break_where(alloc, here, &Party::TheNode(node))?;
+    lose_places(alloc, here, node)?;
+    move_asks(here, node)?;
+    lose_fetch(alloc, here, node)
+}
+
+/// The worker is told that the node is dead. What it knows already changes nothing.
+pub fn notice_node_step(alloc: Global, here: &mut Here, node: NodeId) -> Result<(), Halt>
+    ensures { OnOk result (here.new ≡ notice_node_step here.old node) }
+{
+    if has_node(&here.worker.dead_nodes, node) {
+        return Ok(());
+    }
+    hear_of_node(alloc, here, node)
+}

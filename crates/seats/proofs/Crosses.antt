@@ -64,8 +64,19 @@ nodes_send : IsSend (Seq.the_row NodeId.the_row)
 nodes_send = search (node.the_send, crosses, sendable) depth 60 fits 20000
 
 message_send : IsSend Message.the_field.row
-message_send = search (content_send, origin_send, objects_send, nodes_send, attempt.the_send, object.the_send, node.the_send, worker.the_send,
-    fault.the_send, crosses, sendable) depth 60 fits 20000
+message_send = search (
+  content_send,
+  origin_send,
+  objects_send,
+  nodes_send,
+  attempt.the_send,
+  object.the_send,
+  node.the_send,
+  worker.the_send,
+  fault.the_send,
+  crosses,
+  sendable,
+) depth 60 fits 20000
 
 letter_send : IsSend Letter.the_field.row
 letter_send = search (message_send, party.the_field_send, crosses, sendable) depth 60 fits 20000
@@ -94,8 +105,10 @@ module _ (S : RattleType) (n : script_name.Ghosts S.Denot) (s : IsSend S) where
 
   module _ (E G C J : RattleType) (e : ledger.Ghosts E.Denot) (g : ledger.Ghosts G.Denot) (c : ledger.Ghosts C.Denot) (j : ledger.Ghosts J.Denot) where
     locked_send : IsSend (Locked.the_row S E G C J n e g c j)
-    locked_send = declared_send (Locked.the_type S E G C J n e g c j) (as_row_send (Turning.the_field S n) turning_send,
-        (book.the_send E e, (book.the_send G g, (book.the_send C c, (book.the_send J j, tt)))))
+    locked_send = declared_send (Locked.the_type S E G C J n e g c j) (
+      as_row_send (Turning.the_field S n) turning_send,
+      (book.the_send E e, (book.the_send G g, (book.the_send C c, (book.the_send J j, tt)))),
+    )
 
     pub shared_sync : IsSync (Shared.the_row S E G C J n e g c j)
     shared_sync = search (locked_send, crosses, sendable) depth 60 fits 20000

@@ -3,7 +3,6 @@ use Rattle.std.specs.Prelude.{◌≡◌, ℕ, List, length}
 use Rattle.event_log.specs.Books.{totals_of}
 use Rattle.event_log.specs.Entries.{Entry}
 use Rattle.event_log.specs.Views.{log_of}
-use Rattle.protocol_core.specs.Views.{RunData}
 use Rattle.seats.specs.Books.{SeatOf, sums}
 use Rattle.seats.specs.declared.threads.Ended.{Ended}
 use Rattle.seats.specs.declared.threads.Ended.TheVariants as ends

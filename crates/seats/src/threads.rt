@@ -60,9 +60,13 @@ fn run_shared<
 {
     let (shared, seats) = Shared::<S, E, G, C, J>::new(alloc, blanks, board, plan, n)?;
     let lent = &shared;
-    let back = thread::map_vec(rt, seats, &|seat| -> Seat<E, G, C, J>
-        requires { script_of script.now ≡ S.script }
-    { work(rt, alloc, lent, seat, script, gate) })?;
+    let back = thread::map_vec(
+        rt,
+        seats,
+        &|seat| -> Seat<E, G, C, J>
+            requires { script_of script.now ≡ S.script }
+        { work(rt, alloc, lent, seat, script, gate) },
+    )?;
     if let Some(refusal) = shared.given_up(rt) {
         return Ok(Ended::GivenUp(refusal));
     }
@@ -90,5 +94,7 @@ pub fn run_on_threads<S: ScriptName + Send + Sync, K: Gate + Sync, R: Threads + 
     ensures { IfOk result (λ end. IsEnd n end) }
 {
     let blanks = Blanks::new(u64::from(n));
-    run_shared::<S, Brand, Brand, Brand, Brand, K, R>(rt, alloc, blanks, board, plan, n, script, gate)
+    run_shared::<S, Brand, Brand, Brand, Brand, K, R>(
+        rt, alloc, blanks, board, plan, n, script, gate,
+    )
 }

@@ -21,12 +21,12 @@ map_vec-requires-sync-F g c κs within =
     let shared = Shared.the_row S E G C J g.S.ScriptName g.E.Ledger g.G.Ledger g.C.Ledger g.J.Ledger in
     let y = shared_sync S g.S.ScriptName b.send-S E G C J g.E.Ledger g.G.Ledger g.C.Ledger g.J.Ledger in
     let lent : List RattleType =
-            (shr_ref_field (record { mir = named 7; lft = κs.1.1.1.1.1.1.1.0 }) R tt).row
-            ∷ (shr_ref_field (record { mir = named 8; lft = κs.1.1.1.1.1.1.1.1.0 }) Global.the_row tt).row
-            ∷ (shr_ref_field (record { mir = named 9; lft = κs.1.1.1.1.1.1.1.1.1.0 }) shared tt).row
-            ∷ (shr_ref_field (record { mir = named 10; lft = κs.1.1.1.1.1.1.1.1.1.1.0 }) Checked.the_row tt).row
-            ∷ (shr_ref_field (record { mir = named 11; lft = κs.1.1.1.1.1.1.1.1.1.1.1.0 }) K tt).row
-            ∷ [] in
+    (shr_ref_field (record { mir = named 7; lft = κs.1.1.1.1.1.1.1.0 }) R tt).row
+    ∷ (shr_ref_field (record { mir = named 8; lft = κs.1.1.1.1.1.1.1.1.0 }) Global.the_row tt).row
+    ∷ (shr_ref_field (record { mir = named 9; lft = κs.1.1.1.1.1.1.1.1.1.0 }) shared tt).row
+    ∷ (shr_ref_field (record { mir = named 10; lft = κs.1.1.1.1.1.1.1.1.1.1.0 }) Checked.the_row tt).row
+    ∷ (shr_ref_field (record { mir = named 11; lft = κs.1.1.1.1.1.1.1.1.1.1.1.0 }) K tt).row
+    ∷ [] in
     let all : AllSync (shape (type_at [] lent)).fields =
-            (shr_sync _ _ _ b.sync-R, (shr_sync _ _ _ heap.the_sync, (shr_sync _ _ _ y, (shr_sync _ _ _ checked_sync, (shr_sync _ _ _ b.sync-K, tt))))) in
+    (shr_sync _ _ _ b.sync-R, (shr_sync _ _ _ heap.the_sync, (shr_sync _ _ _ y, (shr_sync _ _ _ checked_sync, (shr_sync _ _ _ b.sync-K, tt))))) in
     record { shared = (recorded_sync _ _ _ (type_at [] lent).to_one (struct_sync (shape (type_at [] lent)) all)).shared }

@@ -1,4 +1,5 @@
 pub mod Begun
+pub mod Driven
 pub mod Reading
 pub mod Refused
 pub mod Simulated

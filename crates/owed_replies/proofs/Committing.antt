@@ -107,7 +107,7 @@ held_among ks k j =
 
 -- ---- an acceptance
 
-own_item : (h : Here) (o : Id) (x : Object) → object_at h o ≡ Some x → (is_own h o ≡ true) × (item_at h.worker.objects o.serial ≡ Some x)
+pub own_item : (h : Here) (o : Id) (x : Object) → object_at h o ≡ Some x → (is_own h o ≡ true) × (item_at h.worker.objects o.serial ≡ Some x)
 own_item h o x e =
     at_test (λ b. is_own h o ≡ b → (if b then own_object h o.serial else None) ≡ Some x → (is_own h o ≡ true) × (item_at h.worker.objects o.serial ≡ Some x))
     (is_own h o) (λ _ t f. (t, f)) (λ _ _ f. absurd (cc)) refl e

@@ -17,6 +17,7 @@ use Rattle.owed_replies.proofs.Advancing.{Advances, IsBrought}
 use Rattle.owed_replies.proofs.Happens.{event_advances}
 use Rattle.owed_replies.proofs.Replies.{accepted_owed, finish_owed}
 use Rattle.owed_replies.proofs.Requests.{request_owed}
+use Rattle.owed_replies.proofs.Using.{used_owed}
 use Rattle.owed_replies.proofs.Waiting.{hold_owed, places_owed}
 use Rattle.owed_replies.proofs.Runs.{RunReplies, event_run, run_replies}
 
@@ -60,6 +61,7 @@ module _ (s : Setting) (r : Running) (k : RunReplies s r) (calm : IsCalm r.log) 
     holds = hold_owed s r k calm e seat handed step answered;
     finishes = finish_owed s r k calm e seat handed step answered;
     accepted = accepted_owed s r k calm e seat handed step answered brought step_after;
+    owner = used_owed s r k calm e seat handed step answered brought step_after;
   }
 
 pub law_of_replies : LawOfReplies

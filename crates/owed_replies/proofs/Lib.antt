@@ -13,4 +13,5 @@ pub mod Runs
 pub mod Replies
 pub mod Waiting
 pub mod Requests
+pub mod Using
 pub mod Laws

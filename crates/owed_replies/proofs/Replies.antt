@@ -120,7 +120,7 @@ module _ (s : Setting) (r : Running) (k : RunReplies s r) (calm : IsCalm r.log) 
 
   -- the object there has the task, whose first attempt runs and isn't accepted, or is
   pub data Stage (a : Attempt) (z : Object) : Type 0 where
-    Pends : (task : OwnTask) (is : task_in z.maker ≡ Some task) (present : if_present a task ≡ true) (unsettled : z.settled ≡ None) → Stage a z
+    Pends : (task : OwnTask) (is : task_in z.maker ≡ Some task) (present : if_present a task ≡ true) (unsettled : z.settled ≡ None) (kept : z.is_released ≡ false) → Stage a z
     IsAccepted : Among (Accepted a) r.log → Stage a z
 
   accepted_in_log : (a : Attempt) → Among a (accepts_of a r.log) → Among (Accepted a) r.log
@@ -186,7 +186,7 @@ module _ (s : Setting) (r : Running) (k : RunReplies s r) (calm : IsCalm r.log) 
           by_made (inl (bearer, ids, h, _)) = no_put bearer ids h
           by_made (inr h) = accepted_not number h
 
-  stage : (v : ℕ) (a : Attempt) (n : ℕ) → v ≡ a.object.owner → IsEndedAt r.log a.object a.number n → (x : Worker) → worker_at c v ≡ Some x → x.is_live ≡ true → (z : Object) →
+  pub stage : (v : ℕ) (a : Attempt) (n : ℕ) → v ≡ a.object.owner → IsEndedAt r.log a.object a.number n → (x : Worker) → worker_at c v ≡ Some x → x.is_live ≡ true → (z : Object) →
       item_at x.objects a.object.serial ≡ Some z → Stage a z
   stage v a n own ended x at live z there = by_maker z.maker refl
     where
@@ -212,7 +212,7 @@ module _ (s : Setting) (r : Running) (k : RunReplies s r) (calm : IsCalm r.log) 
           let first = begun_first s r.log c b calm a.object task w m a.number ended.worker p.2 q.begun ended.runs in
           Pends task (ap task_in made)
           (ap (λ g. is_under_way g && (task.number == a.number)) e ∙ own_now a.number task.number (first.1 ∙ sym first.0))
-          (none_settled task q w m e)
+          (none_settled task q w m e) p.1
       by_task task q made AtRest e =
           let p = subst (KnowsProgress (past r.log b.asked) a.object z task) e q.progress in
           let first = begun_first s r.log c b calm a.object task p.0 p.1 a.number ended.worker p.2 q.begun ended.runs in
@@ -229,11 +229,11 @@ module _ (s : Setting) (r : Running) (k : RunReplies s r) (calm : IsCalm r.log) 
     abbrev hap : Happening
     hap = happening s r e seat step
 
-    as_delivery : (i : ℕ) → e ≡ Deliver i → answer c (Deliver i) handed ≡ Takes step
+    pub as_delivery : (i : ℕ) → e ≡ Deliver i → answer c (Deliver i) handed ≡ Takes step
     as_delivery i is = subst (λ f. answer c f handed ≡ Takes step) is answered
 
     -- the owner's own object
-    own_object_at : (v : ℕ) (a : Attempt) (x : Worker) (node : Node) (z : Object) → v ≡ a.object.owner → item_at x.objects a.object.serial ≡ Some z → object_at (here c v x node) a.object ≡ Some z
+    pub own_object_at : (v : ℕ) (a : Attempt) (x : Worker) (node : Node) (z : Object) → v ≡ a.object.owner → item_at x.objects a.object.serial ≡ Some z → object_at (here c v x node) a.object ≡ Some z
     own_object_at v a x node z own there = ap (λ t. if t then item_at x.objects a.object.serial else None) (own_now v a.object.owner own) ∙ there
 
     pub finish_owed : FinishIsAcknowledged hap
@@ -248,7 +248,7 @@ module _ (s : Setting) (r : Running) (k : RunReplies s r) (calm : IsCalm r.log) 
         by_stage : (q : IsEnd i w v a n ids) (h : Here) → here c v q.worker q.node ≡ h → (Among (Accepted a) r.log → ⊥) → Stage a q.object →
             Logged (Accepted a) (release_step (reached h (TheWorker w) (Finished a n ids)))
         by_stage q h same unaccepted (IsAccepted j) = absurd (unaccepted j)
-        by_stage q h same unaccepted (Pends task made present none) =
+        by_stage q h same unaccepted (Pends task made present none kept) =
             subst (λ g. Logged (Accepted a) (release_step (reached g (TheWorker w) (Finished a n ids)))) same
             (end_is_accepted (here c v q.worker q.node) w a n ids task (ap task_of (own_object_at v a q.worker q.node q.object q.own q.item) ∙ made) present)
 
@@ -285,6 +285,23 @@ module _ (s : Setting) (r : Running) (k : RunReplies s r) (calm : IsCalm r.log) 
     none_number None f g = cc
     none_number (Some x) f g = cc
 
+    -- what is accepted now wasn't before
+    pub not_twice : (a : Attempt) → IsInStep s (r.log ++ In e seat ∷ step.entries) step.whole → Among (Accepted a) step.entries → Among (Accepted a) r.log → ⊥
+    not_twice a after logged i =
+        let es : List Entry = In e seat ∷ step.entries in
+        let sane : Sane (r.log ++ es) = legal_logs_are_sane L.Whole (setting_of s step.whole) (r.log ++ es) after.sound.between.legal in
+        let parts : accepts_of a (r.log ++ es) ≡ accepts_of a r.log ++ accepts_of a es = flat_map-append (accepted_in a) r.log es in
+        let first = some_length (accepts_of a r.log) a (accepted_among s r.log c b calm a i) in
+        let second = some_length (accepts_of a es) a (among_flat (accepted_in a) es (Accepted a) a (suc logged.0, logged.1)
+        (subst (λ t. Among a (if t then a ∷ [] else [])) (sym (same_attempt-refl a)) (zero, refl))) in
+        let count : length (accepts_of a (r.log ++ es)) ≡ length (accepts_of a r.log) + length (accepts_of a es) = ap length parts ∙ length-append (accepts_of a r.log) (accepts_of a es) in
+        let once = sane.one_acceptance a in
+        omega (arith, first, second, count, once)
+      where
+        some_length : (xs : List Attempt) (x : Attempt) → Among x xs → 1 ≤ length xs
+        some_length [] x j = absurd (among-nothing x j)
+        some_length (z ∷ xs) x j = omega arith
+
     pub accepted_owed : ((a : Attempt) → Among (Accepted a) step.entries → IsBrought c e a) → IsInStep s (r.log ++ In e seat ∷ step.entries) step.whole → AcceptedIsTold hap
     accepted_owed brought after y number n w m logged at request is =
         let a : Attempt = attempt y number in
@@ -293,28 +310,11 @@ module _ (s : Setting) (r : Running) (k : RunReplies s r) (calm : IsCalm r.log) 
         let out = delivered_out c f.number handed step (TheWorker f.sender) f.owner (Finished a f.node f.ids) q.worker q.node f.sent q.there q.lives q.home (as_delivery f.number f.event) in
         by_stage f q out.1 (stage f.owner a f.node q.own q.ended q.worker q.there q.lives q.object q.item)
       where
-        twice : Among (Accepted (attempt y number)) r.log → ⊥
-        twice i =
-            let a : Attempt = attempt y number in
-            let es : List Entry = In e seat ∷ step.entries in
-            let sane : Sane (r.log ++ es) = legal_logs_are_sane L.Whole (setting_of s step.whole) (r.log ++ es) after.sound.between.legal in
-            let parts : accepts_of a (r.log ++ es) ≡ accepts_of a r.log ++ accepts_of a es = flat_map-append (accepted_in a) r.log es in
-            let first = some_length (accepts_of a r.log) a (accepted_among s r.log c b calm a i) in
-            let second = some_length (accepts_of a es) a (among_flat (accepted_in a) es (Accepted a) a (suc logged.0, logged.1)
-            (subst (λ t. Among a (if t then a ∷ [] else [])) (sym (same_attempt-refl a)) (zero, refl))) in
-            let count : length (accepts_of a (r.log ++ es)) ≡ length (accepts_of a r.log) + length (accepts_of a es) = ap length parts ∙ length-append (accepts_of a r.log) (accepts_of a es) in
-            let once = sane.one_acceptance a in
-            omega (arith, first, second, count, once)
-          where
-            some_length : (xs : List Attempt) (x : Attempt) → Among x xs → 1 ≤ length xs
-            some_length [] x j = absurd (among-nothing x j)
-            some_length (z ∷ xs) x j = omega arith
-
         by_stage : (f : IsBrought c e (attempt y number)) (q : IsEnd f.number f.sender f.owner (attempt y number) f.node f.ids) →
             step.letters ≡ (release_step (reached (here c f.owner q.worker q.node) (TheWorker f.sender) (Finished (attempt y number) f.node f.ids))).there.out.letters →
             Stage (attempt y number) q.object → Tells step.letters y w number n
-        by_stage f q letters (IsAccepted i) = absurd (twice i)
-        by_stage f q letters (Pends task made present unsettled) =
+        by_stage f q letters (IsAccepted i) = absurd (not_twice (attempt y number) after logged i)
+        by_stage f q letters (Pends task made present unsettled kept) =
             let a : Attempt = attempt y number in
             let at_owner : worker_at c y.owner ≡ Some q.worker = subst (λ v. worker_at c v ≡ Some q.worker) q.own q.there in
             let awaited : IsAwaitedBy w q.object = k.replies.askers w y m request is q.worker q.object at_owner q.lives q.item in

@@ -12,7 +12,7 @@ use Rattle.protocol.specs.Jobs.{Handed}
 use Rattle.protocol.specs.Tables.{Run, Worker}
 use Rattle.protocol.specs.Whole.{Whole, first_whole, worker_at}
 use Rattle.protocol_laws.specs.Coming.{IsRight}
-use Rattle.protocol_owed.specs.Replies.{AcceptedIsTold, AtIsUsed, FinishIsAcknowledged, Happening, HoldIsAcknowledged, RequestIsTold}
+use Rattle.protocol_owed.specs.Replies.{AcceptedIsTold, AcceptedIsUsed, AtIsUsed, FinishIsAcknowledged, Happening, HoldIsAcknowledged, RequestIsTold}
 use Rattle.protocol_owed.specs.Runs.{Handing, Running, after_events, answer_to, opening_run, seen}
 use Rattle.protocol_owed.specs.Seen.{IsCalm}
 use Rattle.lease_discipline.specs.Owing.{running}
@@ -67,6 +67,7 @@ happening s r e seat step =
 pub record IsPaid (h : Happening) : Type 0 where
   pub requests : RequestIsTold h
   pub accepted : AcceptedIsTold h
+  pub owner : AcceptedIsUsed h
   pub places : AtIsUsed h
   pub holds : HoldIsAcknowledged h
   pub finishes : FinishIsAcknowledged h

@@ -19,8 +19,8 @@ pub fn law_of_ends()
 {}
 
 /// As long as nothing was killed or lost, in the event that calls for it: whoever asks for what is there, or missed a copy, is told the places; at
-/// the acceptance everyone who asked before is told them; a worker that waits uses the places that reach it; a Hold and a Finished are acknowledged,
-/// and the first Finished is accepted.
+/// the acceptance everyone who asked before is told them, and the owner's own attempt, if it waits, gets the content or fetches it; a worker that waits
+/// uses the places that reach it; a Hold and a Finished are acknowledged, and the first Finished is accepted.
 pub fn law_of_replies()
     ensures { LawOfReplies }
 {}

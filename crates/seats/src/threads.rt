@@ -16,6 +16,7 @@ use script_check::Checked;
 use segment::ScriptName;
 use std::alloc::{AllocError, Global};
 use std::marker::Brand;
+use std::rt::Clock;
 use std::sync::Wait;
 use std::sync::ledger::Ledger;
 use std::thread;
@@ -38,7 +39,7 @@ fn run_shared<
     C: Ledger + Send + Sync,
     J: Ledger + Send + Sync,
     K: Gate + Sync,
-    R: Threads + Wait + Sync,
+    R: Threads + Wait + Clock + Sync,
 >(
     rt: &R,
     alloc: Global,
@@ -79,7 +80,11 @@ fn run_shared<
 /// Runs a script on `n` threads, 1 to 8, beside a plan: each has a seat, takes its turns and runs the jobs that it is given side by side with
 /// the others. Once all are back, the seats' books add up, number by number, to the totals of the log. Where a thread can't be made, another
 /// takes its seat after its own. On want of memory for the seats or the threads the run is dropped.
-pub fn run_on_threads<S: ScriptName + Send + Sync, K: Gate + Sync, R: Threads + Wait + Sync>(
+pub fn run_on_threads<
+    S: ScriptName + Send + Sync,
+    K: Gate + Sync,
+    R: Threads + Wait + Clock + Sync,
+>(
     rt: &R,
     alloc: Global,
     board: Board<S>,

@@ -2,8 +2,8 @@
 
 ghost use Rattle.std.specs.Prelude.{◌≡◌, ◌≤ℤ◌, IfOk, codes, pos, false};
 ghost use Rattle.clap.specs.Words.{app_of, rule_of, with_rule, with_subcommand};
-ghost use Rattle.raysim_options.specs.App.{raysim_app, script_app, explained_app, explain_app, sim_app, run_app, needed};
-ghost use Rattle.raysim_options.specs.App.{place, number, text, flag, first_app, with_cluster, with_files, HasNoGlobals};
+ghost use Rattle.raysim_options.specs.App.{raysim_app, script_app, explained_app, explain_app, sim_app, run_app, log_app, why_app, needed};
+ghost use Rattle.raysim_options.specs.App.{optional, place, number, text, flag, first_app, second_app, with_cluster, with_files, with_views, HasNoGlobals};
 
 use clap::{Arg, ArgAction, Command};
 use std::alloc::{AllocError, Global};
@@ -57,6 +57,14 @@ fn text<'a>(alloc: Global, name: &'a str, help: &'a str) -> Arg<'a>
         .long(name)
         .value_name("FILE")
         .help(help)
+}
+
+/// A word that may be left out.
+fn optional<'a>(alloc: Global, name: &'a str, help: &'a str) -> Arg<'a>
+    ensures rule { rule_of result ≡ optional name.entry.now }
+    ensures local { result.global ≡ false }
+{
+    Arg::new(alloc, name).help(help)
 }
 
 /// An option that is there or not.
@@ -118,6 +126,17 @@ fn add_json<'a>(alloc: Global, command: Command<'a>) -> Result<Command<'a>, Allo
     add(command, flag(alloc, "json", help))
 }
 
+fn add_views<'a>(alloc: Global, command: Command<'a>) -> Result<Command<'a>, AllocError>
+    requires none { HasNoGlobals command }
+    ensures app { IfOk result (λ c. app_of c ≡ with_views (app_of command.entry)) }
+    ensures local { IfOk result HasNoGlobals }
+{
+    let timeline = "Where the run's timeline is written, as Chrome's trace events (nowhere if left out)";
+    let command = add(command, text(alloc, "timeline", timeline))?;
+    let lineage = "Where the graph of the run's objects is written, for Graphviz (nowhere if left out)";
+    add(command, text(alloc, "lineage", lineage))
+}
+
 fn sim<'a>(alloc: Global) -> Result<Command<'a>, AllocError>
     ensures app { IfOk result (λ c. app_of c ≡ sim_app) }
     ensures local { IfOk result HasNoGlobals }
@@ -127,7 +146,8 @@ fn sim<'a>(alloc: Global) -> Result<Command<'a>, AllocError>
     let events = "The file of events, one in each line";
     let command = add(command, needed(alloc, "events", events))?;
     let command = add_cluster(alloc, command)?;
-    add_json(alloc, command)
+    let command = add_json(alloc, command)?;
+    add_views(alloc, command)
 }
 
 fn add_files<'a>(alloc: Global, command: Command<'a>) -> Result<Command<'a>, AllocError>
@@ -151,7 +171,32 @@ fn run<'a>(alloc: Global) -> Result<Command<'a>, AllocError>
     let threads = "How many threads run the tasks, from 1 to 8 (2 if left out)";
     let command = add(command, number(alloc, "threads", MOST_THREADS, threads))?;
     let command = add_cluster(alloc, command)?;
-    add_files(alloc, command)
+    let command = add_files(alloc, command)?;
+    add_views(alloc, command)
+}
+
+fn log<'a>(alloc: Global) -> Result<Command<'a>, AllocError>
+    ensures app { IfOk result (λ c. app_of c ≡ log_app) }
+    ensures local { IfOk result HasNoGlobals }
+{
+    let about = "Tells what happened in a run, a line for each event and for what came of it";
+    let command = start(alloc, "log", about)?;
+    let events = "The file of events, one in each line (if left out, the run goes on to its end by itself)";
+    let command = add(command, optional(alloc, "events", events))?;
+    add_cluster(alloc, command)
+}
+
+fn why<'a>(alloc: Global) -> Result<Command<'a>, AllocError>
+    ensures app { IfOk result (λ c. app_of c ≡ why_app) }
+    ensures local { IfOk result HasNoGlobals }
+{
+    let about = "Tells why an object of a run by a list of events is as it is";
+    let command = start(alloc, "why", about)?;
+    let events = "The file of events, one in each line";
+    let command = add(command, needed(alloc, "events", events))?;
+    let object = "The object, as o1.2 (if left out, the fault with which main ended is explained)";
+    let command = add(command, optional(alloc, "object", object))?;
+    add_cluster(alloc, command)
 }
 
 fn explain<'a>(alloc: Global) -> Result<Command<'a>, AllocError>
@@ -184,11 +229,18 @@ fn first<'a>(alloc: Global) -> Result<Command<'a>, AllocError>
     add_below(command, explained(alloc, "serial", serial)?)
 }
 
+fn second<'a>(alloc: Global) -> Result<Command<'a>, AllocError>
+    ensures { IfOk result (λ c. app_of c ≡ second_app) }
+{
+    let command = add_below(first(alloc)?, sim(alloc)?)?;
+    add_below(command, run(alloc)?)
+}
+
 /// The command `raysim` with its subcommands.
 pub fn raysim<'a>(alloc: Global) -> Result<Command<'a>, AllocError>
     ensures { IfOk result (λ c. app_of c ≡ raysim_app) }
 {
-    let command = add_below(first(alloc)?, sim(alloc)?)?;
-    let command = add_below(command, run(alloc)?)?;
+    let command = add_below(second(alloc)?, log(alloc)?)?;
+    let command = add_below(command, why(alloc)?)?;
     add_below(command, explain(alloc)?)
 }

@@ -28,6 +28,10 @@ pub enum Request<'a> {
     Sim(SimOptions<'a>),
     /// Run a script.
     Run(RunOptions<'a>),
+    /// Tell what happened in a run.
+    Log(LogOptions<'a>),
+    /// Tell why an object of a run is as it is.
+    Why(WhyOptions<'a>),
     /// Tell what the refusals of this number (from 1 to 50) are.
     Explain(u8),
 }
@@ -40,7 +44,7 @@ pub struct ScriptOptions<'a> {
 }
 
 /// The options of `sim`: the script, the list of events, how many nodes there are and how many slots each has (both from 1
-/// to 64, by default 1 and 4), and whether the report is JSON.
+/// to 64, by default 1 and 4), whether the report is JSON, and where the run's timeline and its lineage are written.
 #[derive(Debug, Drop)]
 pub struct SimOptions<'a> {
     pub script: &'a str,
@@ -48,10 +52,13 @@ pub struct SimOptions<'a> {
     pub nodes: u8,
     pub slots: u8,
     pub json: bool,
+    pub timeline: Option<&'a str>,
+    pub lineage: Option<&'a str>,
 }
 
 /// The options of `run`: the script, how many threads run it (from 1 to 8, by default 2), nodes and slots as for `sim`, a plan of
-/// events to apply, where the events applied are recorded, whether the report is JSON, and whether a refusal's place is shown.
+/// events to apply, where the events applied are recorded, whether the report is JSON, where the timeline and the lineage are written, and
+/// whether a refusal's place is shown.
 #[derive(Debug, Drop)]
 pub struct RunOptions<'a> {
     pub script: &'a str,
@@ -61,7 +68,29 @@ pub struct RunOptions<'a> {
     pub plan: Option<&'a str>,
     pub history: Option<&'a str>,
     pub json: bool,
+    pub timeline: Option<&'a str>,
+    pub lineage: Option<&'a str>,
     pub explain: bool,
+}
+
+/// The options of `log`: the script, the list of events if the run isn't to be driven, and nodes and slots as for `sim`.
+#[derive(Debug, Drop)]
+pub struct LogOptions<'a> {
+    pub script: &'a str,
+    pub events: Option<&'a str>,
+    pub nodes: u8,
+    pub slots: u8,
+}
+
+/// The options of `why`: the script, the list of events, the object if it isn't main's fault that is asked for, and nodes and slots as for
+/// `sim`.
+#[derive(Debug, Drop)]
+pub struct WhyOptions<'a> {
+    pub script: &'a str,
+    pub events: &'a str,
+    pub object: Option<&'a str>,
+    pub nodes: u8,
+    pub slots: u8,
 }
 
 /// Reads the words of the command line, of which the first is the program's name. Where the words are at fault, ask for help or the

@@ -2,10 +2,10 @@
 
 ghost use Rattle.std.specs.Prelude.{◌≡◌, ◌≤◌, IfOk, IfSome, IsErr, option_map};
 ghost use Rattle.clap.specs.Words.{first_of, found_of, rows_of};
-ghost use Rattle.raysim_options.specs.Reads.{IsFlag, IsNumber, IsScriptOptions, IsSimOptions, IsRunOptions, IsRequest};
+ghost use Rattle.raysim_options.specs.Reads.{IsFlag, IsLogOptions, IsNumber, IsRequest, IsRunOptions, IsScriptOptions, IsSimOptions, IsWhyOptions};
 
 use crate::commands::{MOST_NODES, MOST_REFUSAL, MOST_SLOTS, MOST_THREADS};
-use crate::{Request, RunOptions, ScriptOptions, SimOptions, commands};
+use crate::{LogOptions, Request, RunOptions, ScriptOptions, SimOptions, WhyOptions, commands};
 use clap::error::ErrorKind;
 use clap::{ArgMatches, Error};
 use std::alloc::Global;
@@ -63,6 +63,8 @@ fn sim<'a>(matches: &ArgMatches<'a>) -> Option<SimOptions<'a>>
         nodes: number(matches, "nodes", MOST_NODES, 1)?,
         slots: number(matches, "slots", MOST_SLOTS, 4)?,
         json: flag(matches, "json"),
+        timeline: text(matches, "timeline"),
+        lineage: text(matches, "lineage"),
     })
 }
 
@@ -77,7 +79,32 @@ fn run<'a>(matches: &ArgMatches<'a>) -> Option<RunOptions<'a>>
         plan: text(matches, "plan"),
         history: text(matches, "history"),
         json: flag(matches, "json"),
+        timeline: text(matches, "timeline"),
+        lineage: text(matches, "lineage"),
         explain: flag(matches, "explain"),
+    })
+}
+
+fn log<'a>(matches: &ArgMatches<'a>) -> Option<LogOptions<'a>>
+    ensures { IfSome result (IsLogOptions (rows_of (found_of matches.now))) }
+{
+    Some(LogOptions {
+        script: text(matches, "script")?,
+        events: text(matches, "events"),
+        nodes: number(matches, "nodes", MOST_NODES, 1)?,
+        slots: number(matches, "slots", MOST_SLOTS, 4)?,
+    })
+}
+
+fn why<'a>(matches: &ArgMatches<'a>) -> Option<WhyOptions<'a>>
+    ensures { IfSome result (IsWhyOptions (rows_of (found_of matches.now))) }
+{
+    Some(WhyOptions {
+        script: text(matches, "script")?,
+        events: text(matches, "events")?,
+        object: text(matches, "object"),
+        nodes: number(matches, "nodes", MOST_NODES, 1)?,
+        slots: number(matches, "slots", MOST_SLOTS, 4)?,
     })
 }
 
@@ -89,6 +116,8 @@ fn of<'a>(name: &str, matches: &ArgMatches<'a>) -> Option<Request<'a>>
         "serial" => Some(Request::Serial(script(matches)?)),
         "sim" => Some(Request::Sim(sim(matches)?)),
         "run" => Some(Request::Run(run(matches)?)),
+        "log" => Some(Request::Log(log(matches)?)),
+        "why" => Some(Request::Why(why(matches)?)),
         "explain" => Some(Request::Explain(number(matches, "number", MOST_REFUSAL, 1)?)),
         _ => None,
     }

@@ -63,6 +63,37 @@ fn reads_a_simulation(rt: HostRuntime) -> Result<(), Fail> {
 }
 
 #[test]
+fn reads_what_is_to_be_told(rt: HostRuntime) -> Result<(), Fail> {
+    let alloc = rt.alloc();
+    let w = words(alloc, &["raysim", "log", "sq.ray", "--nodes", "2"])?;
+    let Request::Log(log) = options(alloc, w.as_slice())? else {
+        return Err(Fail::from("a log"));
+    };
+    assert_eq!(rt; log.script, "sq.ray");
+    assert_eq!(rt; log.events, None);
+    assert_eq!(rt; log.nodes, 2);
+    let w = words(alloc, &["raysim", "why", "sq.ray", "events", "o1.1"])?;
+    let Request::Why(why) = options(alloc, w.as_slice())? else {
+        return Err(Fail::from("a why"));
+    };
+    assert_eq!(rt; why.events, "events");
+    assert_eq!(rt; why.object, Some("o1.1"));
+    assert_eq!(rt; why.slots, 4);
+    let w = words(alloc, &["raysim", "why", "sq.ray"])?;
+    assert!(rt; options(alloc, w.as_slice()).is_err());
+    let w = words(
+        alloc,
+        &["raysim", "sim", "a.ray", "e", "--timeline", "t", "--lineage=l"],
+    )?;
+    let Request::Sim(sim) = options(alloc, w.as_slice())? else {
+        return Err(Fail::from("a simulation"));
+    };
+    assert_eq!(rt; sim.timeline, Some("t"));
+    assert_eq!(rt; sim.lineage, Some("l"));
+    Ok(())
+}
+
+#[test]
 fn reads_the_short_commands(rt: HostRuntime) -> Result<(), Fail> {
     let alloc = rt.alloc();
     let w = words(alloc, &["raysim", "check", "a.ray"])?;

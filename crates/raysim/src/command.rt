@@ -1,23 +1,19 @@
-// From the words to the exit status.
+// From the words to what is asked.
 
 ghost use Rattle.raysim_options.specs.Reads.{IsCluster};
 
-use raysim_commands::{
-    Cluster, Failure, Form, Refusal, Tracked, check, exit_status, read_script, run, serial, sim,
+use crate::replays::{Replayed, over_events};
+use crate::scripts::{Command, over_script};
+use crate::told::{explain, fault};
+use crate::views::Views;
+use ids::ObjectId;
+use raysim_commands::{Cluster, Form};
+use raysim_options::{
+    LogOptions, Request, RunOptions, ScriptOptions, SimOptions, WhyOptions, missing_option, options,
 };
-use raysim_explain::{Reason, Shown};
-use raysim_options::{Request, RunOptions, ScriptOptions, SimOptions, missing_option, options};
+use std::io;
 use std::process::ExitCode;
 use std::rt::Files;
-use std::{fs, io};
-
-/// A command over a script.
-#[derive(Clone, Copy)]
-enum Command {
-    Check,
-    Serial,
-    Run(Cluster, Form),
-}
 
 /// Does what the words ask, and says with which status the program ends.
 pub fn answer<R: Files + Print + Eprint + AllocGlobal>(
@@ -32,18 +28,14 @@ pub fn answer<R: Files + Print + Eprint + AllocGlobal>(
         }
     };
     match request {
-        Request::Check(options) => over_script(rt, &Command::Check, &options),
-        Request::Serial(options) => over_script(rt, &Command::Serial, &options),
-        Request::Sim(options) => over_events(rt, &options),
+        Request::Check(options) => over_script(rt, &Command::Check, &options, &Views::none()),
+        Request::Serial(options) => over_script(rt, &Command::Serial, &options, &Views::none()),
+        Request::Sim(options) => over_sim(rt, &options),
         Request::Run(options) => over_run(rt, &options),
+        Request::Log(options) => over_log(rt, &options),
+        Request::Why(options) => over_why(rt, &options),
         Request::Explain(number) => explain(rt, number),
     }
-}
-
-/// Says that something is still to come.
-fn not_there<R: Eprint>(rt: &R, what: &str) -> io::Result<ExitCode> {
-    eprintln!(rt; "{what} is not there yet")?;
-    Ok(ExitCode::from(1))
 }
 
 /// The cluster with these numbers.
@@ -68,153 +60,83 @@ fn over_run<R: Files + Print + Eprint + AllocGlobal>(
     requires { IsCluster options.now.nodes options.now.slots }
 {
     if let Some(missing) = missing_option(options) {
-        return not_there(rt, missing.text());
+        let what = missing.text();
+        return fault(rt, what, "is not there yet");
     }
     let script = ScriptOptions {
         script: options.script,
         explain: options.explain,
     };
     let cluster = cluster_of(options.nodes, options.slots);
-    over_script(
-        rt,
-        &Command::Run(cluster, report_form(options.json)),
-        &script,
-    )
+    let command = Command::Run(cluster, report_form(options.json));
+    let views = Views {
+        timeline: options.timeline,
+        lineage: options.lineage,
+    };
+    over_script(rt, &command, &script, &views)
 }
 
-/// Replays an event file, and tells the refusal on standard error where there is one.
-fn over_events<R: Files + Print + Eprint + AllocGlobal>(
+fn over_sim<R: Files + Print + Eprint + AllocGlobal>(
     rt: &R,
     options: &SimOptions<'_>,
 ) -> io::Result<ExitCode>
     requires { IsCluster options.now.nodes options.now.slots }
 {
-    let done = replayed(rt, options);
-    if let Err(refusal) = &done {
-        tell_of_replay(rt, *refusal, options)?;
-    }
-    Ok(ExitCode::from(exit_status(&done)))
+    let replayed = Replayed {
+        script: options.script,
+        events: options.events,
+        cluster: cluster_of(options.nodes, options.slots),
+    };
+    let views = Views {
+        timeline: options.timeline,
+        lineage: options.lineage,
+    };
+    over_events(rt, &replayed, report_form(options.json), &views)
 }
 
-/// Replays an event file. The script is read and checked before the events are read.
-fn replayed<R: Files + Print + AllocGlobal>(rt: &R, options: &SimOptions<'_>) -> Result<u8, Refusal>
+fn over_log<R: Files + Print + Eprint + AllocGlobal>(
+    rt: &R,
+    options: &LogOptions<'_>,
+) -> io::Result<ExitCode>
     requires { IsCluster options.now.nodes options.now.slots }
 {
-    let Ok(events) = fs::open(rt, options.events) else {
-        return without_events(rt, options.script);
-    };
-    let Ok(script) = fs::open(rt, options.script) else {
-        return Err(Refusal::Failed(Failure::Read));
-    };
     let cluster = cluster_of(options.nodes, options.slots);
-    let form = report_form(options.json);
-    let mut script = Tracked::reader(script);
-    let mut events = Tracked::reader(events);
-    let mut writer = Tracked::writer(io::writer(rt));
-    sim(
-        rt.alloc(),
-        &mut script,
-        &mut events,
-        cluster,
-        form,
-        &mut writer,
+    if let Some(events) = options.events {
+        let replayed = Replayed {
+            script: options.script,
+            events,
+            cluster,
+        };
+        return over_events(rt, &replayed, Form::Log, &Views::none());
+    }
+    let script = ScriptOptions {
+        script: options.script,
+        explain: false,
+    };
+    over_script(
+        rt,
+        &Command::Run(cluster, Form::Log),
+        &script,
+        &Views::none(),
     )
 }
 
-/// What is told where there is no event file: the script's refusal, if it has one.
-fn without_events<R: Files + AllocGlobal>(rt: &R, path: &str) -> Result<u8, Refusal> {
-    let Ok(file) = fs::open(rt, path) else {
-        return Err(Refusal::Failed(Failure::Read));
-    };
-    let mut unseen = Vec::new(rt.alloc());
-    let mut writer = Tracked::writer(&mut unseen);
-    check(rt.alloc(), &mut Tracked::reader(file), &mut writer)?;
-    Err(Refusal::Failed(Failure::Read))
-}
-
-/// Tells a replay's refusal on standard error.
-fn tell_of_replay<R: Eprint>(rt: &R, refusal: Refusal, options: &SimOptions<'_>) -> io::Result<()> {
-    let script = options.script;
-    if let Refusal::Failed(Failure::Read) = refusal {
-        let events = options.events;
-        return eprintln!(rt; "{refusal}\nreading {script} or {events} failed");
-    }
-    let explain = false;
-    tell(rt, refusal, &ScriptOptions { script, explain }, b"")
-}
-
-/// Does a command, and tells its refusal on standard error where it has one.
-fn over_script<R: Files + Print + Eprint + AllocGlobal>(
+fn over_why<R: Files + Print + Eprint + AllocGlobal>(
     rt: &R,
-    command: &Command,
-    options: &ScriptOptions<'_>,
-) -> io::Result<ExitCode> {
-    let mut text = Vec::new(rt.alloc());
-    let done = done(rt, command, options.script, &mut text);
-    if let Err(refusal) = &done {
-        tell(rt, *refusal, options, text.as_slice())?;
-    }
-    Ok(ExitCode::from(exit_status(&done)))
-}
-
-/// Does a command. The script's text is left in `text` as far as it was read.
-fn done<R: Files + Print + AllocGlobal>(
-    rt: &R,
-    command: &Command,
-    path: &str,
-    text: &mut Vec<u8>,
-) -> Result<u8, Refusal> {
-    let Ok(file) = fs::open(rt, path) else {
-        return Err(Refusal::Failed(Failure::Read));
+    options: &WhyOptions<'_>,
+) -> io::Result<ExitCode>
+    requires { IsCluster options.now.nodes options.now.slots }
+{
+    let replayed = Replayed {
+        script: options.script,
+        events: options.events,
+        cluster: cluster_of(options.nodes, options.slots),
     };
-    *text = read_script(rt.alloc(), &mut Tracked::reader(file))?;
-    let mut reader = Tracked::reader(text.as_slice());
-    let mut writer = Tracked::writer(io::writer(rt));
-    match command {
-        Command::Check => check(rt.alloc(), &mut reader, &mut writer),
-        Command::Serial => serial(rt.alloc(), &mut reader, &mut writer),
-        Command::Run(cluster, form) => {
-            run(rt.alloc(), &mut reader, *cluster, *form, &mut writer)
-        }
-    }
-}
-
-/// Tells a refusal on standard error; where nobody reads the output any more, nothing is told.
-fn tell<R: Eprint>(
-    rt: &R,
-    refusal: Refusal,
-    options: &ScriptOptions<'_>,
-    text: &[u8],
-) -> io::Result<()> {
-    match refusal {
-        Refusal::Failed(Failure::Closed) => Ok(()),
-        Refusal::Failed(Failure::Read) => {
-            let file = options.script;
-            eprintln!(rt; "{refusal}\nreading {file} failed")
-        }
-        Refusal::Failed(Failure::Write) => {
-            eprintln!(rt; "{refusal}\nwriting the standard output failed")
-        }
-        Refusal::At { code, span } if options.explain => {
-            let shown = Shown {
-                file: options.script,
-                code,
-                text,
-                start: span.start,
-                end: span.end,
-            };
-            eprintln!(rt; "{refusal}\n{shown}")
-        }
-        _ => eprintln!(rt; "{refusal}"),
-    }
-}
-
-/// Tells what the refusals of this number are.
-fn explain<R: Print + Eprint>(rt: &R, number: u8) -> io::Result<ExitCode> {
-    let Some(reason) = Reason::of(number) else {
-        eprintln!(rt; "nothing is refused {number}")?;
-        return Ok(ExitCode::from(1));
+    let Some(text) = options.object else {
+        return over_events(rt, &replayed, Form::WhyMain, &Views::none());
     };
-    println!(rt; "{reason}")?;
-    Ok(ExitCode::SUCCESS)
+    match ObjectId::read(text.as_bytes()) {
+        Some(object) => over_events(rt, &replayed, Form::Why(object), &Views::none()),
+        None => fault(rt, text, "is no object: one is written as o1.2"),
+    }
 }

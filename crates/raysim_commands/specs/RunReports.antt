@@ -13,7 +13,7 @@ use Rattle.raysim_streams.specs.declared.Refusal.{Refusal}
 use Rattle.raysim_streams.specs.declared.Refusal.TheVariants.{At, NoMemory, Stopped as Stops, BadLine, Failed}
 use Rattle.raysim_commands.specs.declared.form.Form.{Form}
 use Rattle.raysim_commands.specs.Scripts.{IsScript, Explains}
-use Rattle.raysim_commands.specs.Reports.{report_in}
+use Rattle.raysim_commands.specs.Reports.{IsReportIn}
 
 -- a run on such a cluster, as it begins
 abbrev pub first_run : Size → RunState
@@ -27,7 +27,7 @@ pub record IsEndOf (script : Script) (size : Size) (c : RunState) : Type 0 where
 -- the report of the run of the script, and its status
 abbrev pub IsReportOf : Script → Size → Form → List ℕ → ℕ → Type 0
 IsReportOf script size form report status =
-    (c : RunState) × IsEndOf script size c × (report ≡ report_in form c.log) × (status ≡ status_of c.log)
+    (c : RunState) × IsEndOf script size c × IsReportIn form c.log report × (status ≡ status_of c.log)
 
 -- why a run of the script gives no report
 abbrev pub IsRunStop : Script → Size → Refusal → Type 0

@@ -16,7 +16,7 @@ use Rattle.raysim_streams.specs.declared.Failure.TheVariants.{Read, Write, Close
 use Rattle.raysim_streams.specs.declared.Refusal.{Refusal}
 use Rattle.raysim_streams.specs.declared.Refusal.TheVariants.{At, NoMemory, Stopped as Stops, BadLine, Failed}
 use Rattle.raysim_commands.specs.declared.form.Form.{Form}
-use Rattle.raysim_commands.specs.Reports.{report_in}
+use Rattle.raysim_commands.specs.Reports.{IsReportIn}
 use Rattle.raysim_commands.specs.Scripts.{IsAllowed, IsScript, IsNoScriptFor}
 
 -- the bytes are an event file with these lines
@@ -35,7 +35,7 @@ pub record IsReplayed (script : Script) (size : Size) (lines : List Line) (p : P
 -- the report of the replay of these lines, and its status
 abbrev pub IsSimReportOf : Script → Size → Form → List Line → List ℕ → ℕ → Type 0
 IsSimReportOf script size form lines report status =
-    (p : Play) × IsReplayed script size lines p × (report ≡ report_in form p.run.log) × (status ≡ status_of p.run.log)
+    (p : Play) × IsReplayed script size lines p × IsReportIn form p.run.log report × (status ≡ status_of p.run.log)
 
 -- the replay of these lines stops before an event more than it may apply
 abbrev pub IsTooLong : Script → Size → List Line → Type 0

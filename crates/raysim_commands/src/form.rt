@@ -1,34 +1,54 @@
-// How a report is written.
+// What is written of a run.
 
 ghost use Rattle.std.specs.Prelude.{◌≡◌, IfOk, string_bytes};
 ghost use Rattle.event_log.specs.Views.{log_of};
 ghost use Rattle.protocol_board.specs.Meant.{IsSoundLog};
-ghost use Rattle.raysim_commands.specs.Reports.{report_in};
+ghost use Rattle.raysim_commands.specs.Reports.{IsReportIn};
 
+use ids::ObjectId;
+use lineage_text::lineage_text;
+use log_text::log_text;
 use protocol_board::Board;
 use segment::ScriptName;
 use std::alloc::{AllocError, Global};
+use timeline::timeline_json;
+use why_text::{why_main_text, why_text};
 
-/// How a report is written.
+/// What is written of a run. The last five are those of docs/reading-a-log.md.
 #[derive(Clone, Copy, PartialEq, Eq, Debug)]
 pub enum Form {
-    /// In lines.
+    /// Its report, in lines.
     Text,
-    /// As one line of JSON.
+    /// Its report, as one line of JSON.
     Json,
+    /// What happened: a line for each entry of its log.
+    Log,
+    /// Why the object is as it is, in sentences.
+    Why(ObjectId),
+    /// Why main ended with a fault, in sentences.
+    WhyMain,
+    /// Its timeline, as Chrome's trace events.
+    Timeline,
+    /// What its objects are made of, as a graph for Graphviz.
+    Lineage,
 }
 
-/// The report of a run.
+/// What is written of a run, in a form.
 pub fn report<S: ScriptName>(
     alloc: Global,
     board: &Board<S>,
     form: Form,
 ) -> Result<String, AllocError>
-    ensures text { IfOk result (λ text. string_bytes text ≡ report_in form (log_of board.now.log)) }
+    ensures text { IfOk result (λ text. IsReportIn form (log_of board.now.log) (string_bytes text)) }
     ensures meant { IsSoundLog S.script board.now.first_nodes (log_of board.now.log) }
 {
     match form {
         Form::Text => board.report(alloc),
         Form::Json => board.report_json(alloc),
+        Form::Log => log_text(alloc, board.log()),
+        Form::Why(object) => why_text(alloc, board.log(), object),
+        Form::WhyMain => why_main_text(alloc, board.log()),
+        Form::Timeline => timeline_json(alloc, board.log()),
+        Form::Lineage => lineage_text(alloc, board.log()),
     }
 }

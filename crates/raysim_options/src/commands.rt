@@ -131,9 +131,11 @@ fn add_views<'a>(alloc: Global, command: Command<'a>) -> Result<Command<'a>, All
     ensures app { IfOk result (λ c. app_of c ≡ with_views (app_of command.entry)) }
     ensures local { IfOk result HasNoGlobals }
 {
-    let timeline = "Where the run's timeline is written, as Chrome's trace events (nowhere if left out)";
+    let timeline =
+        "Where the run's timeline is written, as Chrome's trace events (nowhere if left out)";
     let command = add(command, text(alloc, "timeline", timeline))?;
-    let lineage = "Where the graph of the run's objects is written, for Graphviz (nowhere if left out)";
+    let lineage =
+        "Where the graph of the run's objects is written, for Graphviz (nowhere if left out)";
     add(command, text(alloc, "lineage", lineage))
 }
 
@@ -181,7 +183,8 @@ fn log<'a>(alloc: Global) -> Result<Command<'a>, AllocError>
 {
     let about = "Tells what happened in a run, a line for each event and for what came of it";
     let command = start(alloc, "log", about)?;
-    let events = "The file of events, one in each line (if left out, the run goes on to its end by itself)";
+    let events =
+        "The file of events, one in each line (if left out, the run goes on to its end by itself)";
     let command = add(command, optional(alloc, "events", events))?;
     add_cluster(alloc, command)
 }

@@ -83,7 +83,15 @@ fn reads_what_is_to_be_told(rt: HostRuntime) -> Result<(), Fail> {
     assert!(rt; options(alloc, w.as_slice()).is_err());
     let w = words(
         alloc,
-        &["raysim", "sim", "a.ray", "e", "--timeline", "t", "--lineage=l"],
+        &[
+            "raysim",
+            "sim",
+            "a.ray",
+            "e",
+            "--timeline",
+            "t",
+            "--lineage=l",
+        ],
     )?;
     let Request::Sim(sim) = options(alloc, w.as_slice())? else {
         return Err(Fail::from("a simulation"));

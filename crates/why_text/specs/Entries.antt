@@ -37,16 +37,22 @@ got_text births m a y c =
 abbrev pub ended_text : List Bearing → Moment → Attempt → Outcome → List ℕ
 ended_text births m a c = named_text births a ++ (codes " ended" ++ (when_text m ++ (codes ": " ++ (content_text c ++ codes ".\n"))))
 
+unfoldable pub accepted_head : ℕ → List ℕ
+accepted_head w = codes "w" ++ (decimal w ++ codes " accepted ")
+
 -- w1 accepted a1.1#0 (sq) in event 14 (deliver 7).
 abbrev pub accepted_text : List Bearing → Moment → Attempt → List ℕ
-accepted_text births m a =
-    codes "w" ++ (decimal a.object.owner ++ (codes " accepted " ++ (named_text births a ++ (when_text m ++ codes ".\n"))))
+accepted_text births m a = accepted_head a.object.owner ++ (named_text births a ++ (when_text m ++ codes ".\n"))
+
+unfoldable pub get_note : Id → List ℕ
+get_note y = codes ", at its get of " ++ (id_text y ++ codes ": ")
+
+unfoldable pub faulted_head : List Bearing → Moment → Attempt → List ℕ
+faulted_head births m a = named_text births a ++ (codes " ended with a fault" ++ when_text m)
 
 -- a1.2#0 (sum) ended with a fault in event 20 (claim 3), at its get of o1.1: PutLost o1.1 (it was put, and its copy was lost).
 abbrev pub faulted_text : List Bearing → Moment → Attempt → Id → Fault → List ℕ
-faulted_text births m a y f =
-    named_text births a ++ (codes " ended with a fault" ++ (when_text m ++ (codes ", at its get of " ++ (id_text y ++ (codes ": "
-    ++ (fault_words f ++ codes ".\n"))))))
+faulted_text births m a y f = faulted_head births m a ++ (get_note y ++ (fault_words f ++ codes ".\n"))
 
 -- w1 gave up o1.1 in event 7 (notice 1 2): RetriesUsed o1.1 (every run that it was allowed broke).
 abbrev pub given_up_text : Moment → Id → Fault → List ℕ

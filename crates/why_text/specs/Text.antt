@@ -4,7 +4,7 @@ use Rattle.std.specs.List.{flat_map}
 use Rattle.report.specs.Values.{id_text}
 use Rattle.meaning.specs.Values.{Id, Birth}
 use Rattle.meaning.specs.Births.{Bearing, birth_at, same_id}
-use Rattle.event_log.specs.Entries.{Fault, Entry, Faulted, Resolved, main_attempt}
+use Rattle.event_log.specs.Entries.{Entry, Faulted, Resolved, main_attempt}
 use Rattle.event_log.specs.Events.{refused_next}
 use Rattle.event_log.specs.Words.{Lack, births, faults_of}
 use Rattle.event_log.specs.Views.{fault_of}
@@ -45,16 +45,19 @@ cause_text log o None = []
 cause_text log o (Some z) = if same_id z o then [] else codes "\n" ++ account log z
 
 -- an object's account, and that of the object in which its fault began
-abbrev pub why_text : List Entry → Id → List ℕ
+unfoldable pub why_text : List Entry → Id → List ℕ
 why_text log o = account log o ++ cause_text log o (cause log o)
 
 abbrev pub lack_of : CodeLack → Lack
 lack_of x = record { object = id_of x.object; fault = fault_of x.fault }
 
+unfoldable pub main_lack_text : List Entry → Lack → List ℕ
+main_lack_text log x = codes "Main ended with a fault: " ++ (fault_words x.fault ++ (codes ".\n\n" ++ why_text log x.object))
+
 -- why a get of main was answered with a fault
 abbrev pub lack_text : List Entry → Option Lack → List ℕ
 lack_text log None = codes "Main did not end with a fault.\n"
-lack_text log (Some x) = codes "Main ended with a fault: " ++ (fault_words x.fault ++ (codes ".\n\n" ++ why_text log x.object))
+lack_text log (Some x) = main_lack_text log x
 
 abbrev pub why_main_text : List Entry → List ℕ
 why_main_text log = lack_text log (first (faults_of main_attempt log))

@@ -42,7 +42,8 @@ fn write_sentences(
     index: &BirthIndex,
     log: &[Entry],
 ) -> Result<(), AllocError>
-    ensures { IsIndexOf index.now log.now → OnOk result (string_bytes text.new
+    requires { IsIndexOf index.now log.now }
+    ensures { OnOk result (string_bytes text.new
         ≡ string_bytes text.old ++ sentences (seen_of subject.now) (births (log_of log.now)) first_moment (log_of log.now)) }
 {
     let mut moment = Moment::first();
@@ -59,13 +60,13 @@ fn write_sentences(
 pub fn write_account(
     alloc: Global,
     text: &mut String,
-    index: &BirthIndex,
     log: &[Entry],
     object: ObjectId,
 ) -> Result<(), AllocError>
-    ensures { IsIndexOf index.now log.now → OnOk result (string_bytes text.new ≡ string_bytes text.old ++ account (log_of log.now) (id_of object)) }
+    ensures { OnOk result (string_bytes text.new ≡ string_bytes text.old ++ account (log_of log.now) (id_of object)) }
 {
+    let index = BirthIndex::of(alloc, log)?;
     let subject = Subject::of(alloc, log, object)?;
     write_unborn(text, object, index.birth(log, object))?;
-    write_sentences(alloc, text, &subject, index, log)
+    write_sentences(alloc, text, &subject, &index, log)
 }

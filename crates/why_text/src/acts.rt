@@ -7,8 +7,8 @@ ghost use Rattle.event_log.specs.Words.{births};
 ghost use Rattle.event_log.specs.Views.{attempt_of, fault_of, log_of};
 ghost use Rattle.log_words.specs.Index.{IsIndexOf};
 ghost use Rattle.why_text.specs.Moments.{moment_of};
-ghost use Rattle.why_text.specs.Entries.{accepted_text, again_note, began_text, ended_text, faulted_text, given_up_text, got_text, made_text};
-ghost use Rattle.why_text.specs.Entries.{released_text};
+ghost use Rattle.why_text.specs.Entries.{accepted_head, accepted_text, again_note, began_text, ended_text, faulted_head, faulted_text, get_note};
+ghost use Rattle.why_text.specs.Entries.{given_up_text, got_text, made_text, released_text};
 
 use crate::moments::{Moment, write_when};
 use event_log::Entry;
@@ -105,6 +105,13 @@ pub fn write_ended(
     text.push_str(".\n")
 }
 
+#[tactic(auto, unfolding(crate::specs::Entries::accepted_head))]
+fn write_accepted_head(text: &mut String, owner: WorkerId) -> Result<(), AllocError>
+    ensures { OnOk result (string_bytes text.new ≡ string_bytes text.old ++ accepted_head owner.0) }
+{
+    write!(text, "{owner} accepted ")
+}
+
 pub fn write_accepted(
     text: &mut String,
     index: &BirthIndex,
@@ -115,11 +122,34 @@ pub fn write_accepted(
     ensures { IsIndexOf index.now log.now → OnOk result (string_bytes text.new ≡ string_bytes text.old
         ++ accepted_text (births (log_of log.now)) (moment_of moment.now) (attempt_of attempt)) }
 {
-    let owner = attempt.object.owner;
-    write!(text, "{owner} accepted ")?;
+    write_accepted_head(text, attempt.object.owner)?;
     write_named(text, index, log, attempt)?;
     write_when(text, moment)?;
     text.push_str(".\n")
+}
+
+#[tactic(auto, unfolding(crate::specs::Entries::get_note))]
+fn write_get(text: &mut String, object: ObjectId) -> Result<(), AllocError>
+    ensures { OnOk result (string_bytes text.new ≡ string_bytes text.old ++ get_note (id_of object)) }
+{
+    write!(text, ", at its get of {object}: ")
+}
+
+#[tactic(auto, unfolding(crate::specs::Entries::faulted_head))]
+fn write_faulted_head(
+    text: &mut String,
+    index: &BirthIndex,
+    log: &[Entry],
+    moment: &Moment,
+    attempt: AttemptId,
+) -> Result<(), AllocError>
+    ensures { IsIndexOf index.now log.now → OnOk result (string_bytes text.new ≡ string_bytes text.old
+        ++ faulted_head (births (log_of log.now)) (moment_of moment.now) (attempt_of attempt)) }
+{
+    write_named(text, index, log, attempt)?;
+    text.push_str(" ended with a fault")?;
+    write_when(text, moment)?;
+    Ok(())
 }
 
 pub fn write_faulted(
@@ -134,10 +164,8 @@ pub fn write_faulted(
     ensures { IsIndexOf index.now log.now → OnOk result (string_bytes text.new ≡ string_bytes text.old
         ++ faulted_text (births (log_of log.now)) (moment_of moment.now) (attempt_of attempt) (id_of object) (fault_of fault)) }
 {
-    write_named(text, index, log, attempt)?;
-    text.push_str(" ended with a fault")?;
-    write_when(text, moment)?;
-    write!(text, ", at its get of {object}: ")?;
+    write_faulted_head(text, index, log, moment, attempt)?;
+    write_get(text, object)?;
     write_fault(text, fault)?;
     text.push_str(".\n")
 }

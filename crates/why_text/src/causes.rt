@@ -7,14 +7,13 @@ ghost use Rattle.event_log.specs.Entries.{main_attempt};
 ghost use Rattle.event_log.specs.Words.{faulted_in, faults_of};
 ghost use Rattle.event_log.specs.Views.{entry_of, fault_of, log_of};
 ghost use Rattle.history.specs.Main.{first};
-ghost use Rattle.log_words.specs.Index.{IsIndexOf};
-ghost use Rattle.why_text.specs.Text.{cause, cause_in, cause_text, lack_of, lack_text, why_main_text, why_text};
+ghost use Rattle.why_text.specs.Text.{cause, cause_in, cause_text, lack_of, lack_text, main_lack_text, why_main_text, why_text};
 
 use crate::account::write_account;
 use event_log::Entry;
 use history::main_end::is_main;
 use ids::ObjectId;
-use log_words::{BirthIndex, write_fault};
+use log_words::write_fault;
 use std::alloc::{AllocError, Global};
 use story_text::is_same;
 use values::Fault;
@@ -66,12 +65,11 @@ fn cause(log: &[Entry], object: ObjectId) -> Option<ObjectId>
 fn write_cause(
     alloc: Global,
     text: &mut String,
-    index: &BirthIndex,
     log: &[Entry],
     object: ObjectId,
     cause: Option<ObjectId>,
 ) -> Result<(), AllocError>
-    ensures { IsIndexOf index.now log.now → OnOk result (string_bytes text.new
+    ensures { OnOk result (string_bytes text.new
         ≡ string_bytes text.old ++ cause_text (log_of log.now) (id_of object) (option_map id_of cause)) }
 {
     let Some(cause) = cause else {
@@ -81,20 +79,20 @@ fn write_cause(
         return Ok(());
     }
     text.push_str("\n")?;
-    write_account(alloc, text, index, log, cause)
+    write_account(alloc, text, log, cause)
 }
 
+#[tactic(auto, unfolding(crate::specs::Text::why_text))]
 fn write_why(
     alloc: Global,
     text: &mut String,
-    index: &BirthIndex,
     log: &[Entry],
     object: ObjectId,
 ) -> Result<(), AllocError>
-    ensures { IsIndexOf index.now log.now → OnOk result (string_bytes text.new ≡ string_bytes text.old ++ why_text (log_of log.now) (id_of object)) }
+    ensures { OnOk result (string_bytes text.new ≡ string_bytes text.old ++ why_text (log_of log.now) (id_of object)) }
 {
-    write_account(alloc, text, index, log, object)?;
-    write_cause(alloc, text, index, log, object, cause(log, object))
+    write_account(alloc, text, log, object)?;
+    write_cause(alloc, text, log, object, cause(log, object))
 }
 
 /// Why an object is as it is, in sentences, in the order of the log: what made it and what was made with it, the attempts of its task and
@@ -106,8 +104,7 @@ pub fn why_text(alloc: Global, log: &[Entry], object: ObjectId) -> Result<String
     ensures { IfOk result (λ text. string_bytes text ≡ why_text (log_of log.now) (id_of object)) }
 {
     let mut text = String::new(alloc);
-    let index = BirthIndex::of(alloc, log)?;
-    write_why(alloc, &mut text, &index, log, object)?;
+    write_why(alloc, &mut text, log, object)?;
     Ok(text)
 }
 
@@ -151,23 +148,34 @@ fn main_lack(log: &[Entry]) -> Option<Lack>
     None
 }
 
+fn write_main_lack(
+    alloc: Global,
+    text: &mut String,
+    log: &[Entry],
+    lack: Lack,
+) -> Result<(), AllocError>
+    ensures { OnOk result (string_bytes text.new ≡ string_bytes text.old ++ main_lack_text (log_of log.now) (lack_of lack)) }
+{
+    text.push_str("Main ended with a fault: ")?;
+    write_fault(text, lack.fault)?;
+    text.push_str(".\n\n")?;
+    write_why(alloc, text, log, lack.object)?;
+    Ok(())
+}
+
 fn write_lack(
     alloc: Global,
     text: &mut String,
-    index: &BirthIndex,
     log: &[Entry],
     lack: Option<Lack>,
 ) -> Result<(), AllocError>
-    ensures { IsIndexOf index.now log.now → OnOk result
+    ensures { OnOk result
         (string_bytes text.new ≡ string_bytes text.old ++ lack_text (log_of log.now) (option_map lack_of lack)) }
 {
     let Some(lack) = lack else {
         return text.push_str("Main did not end with a fault.\n");
     };
-    text.push_str("Main ended with a fault: ")?;
-    write_fault(text, lack.fault)?;
-    text.push_str(".\n\n")?;
-    write_why(alloc, text, index, log, lack.object)
+    write_main_lack(alloc, text, log, lack)
 }
 
 /// Why main ended with a fault: why the object that it was to get is as it is, or that it did not end with one.
@@ -175,7 +183,6 @@ pub fn why_main_text(alloc: Global, log: &[Entry]) -> Result<String, AllocError>
     ensures { IfOk result (λ text. string_bytes text ≡ why_main_text (log_of log.now)) }
 {
     let mut text = String::new(alloc);
-    let index = BirthIndex::of(alloc, log)?;
-    write_lack(alloc, &mut text, &index, log, main_lack(log))?;
+    write_lack(alloc, &mut text, log, main_lack(log))?;
     Ok(text)
 }

@@ -11,7 +11,10 @@ ghost use Rattle.why_text.specs.Runs.{seen_of};
 ghost use Rattle.why_text.specs.Events.{event_sentence};
 ghost use Rattle.why_text.specs.Entries.{birth_sentence, entry_sentence, faulted_sentence, got_sentence, sentence};
 
-use crate::acts::{write_accepted, write_began, write_ended, write_faulted, write_given_up, write_got, write_made, write_released};
+use crate::acts::{
+    write_accepted, write_began, write_ended, write_faulted, write_given_up, write_got, write_made,
+    write_released,
+};
 use crate::events::write_event_sentence;
 use crate::moments::Moment;
 use crate::runs::Subject;
@@ -108,7 +111,9 @@ fn write_entry_sentence(
             object,
             attempt,
             birth,
-        } => write_birth_sentence(alloc, text, subject, index, log, moment, *object, *attempt, birth),
+        } => write_birth_sentence(
+            alloc, text, subject, index, log, moment, *object, *attempt, birth,
+        ),
         Entry::Begun { attempt, worker } => {
             if is_same(attempt.object, subject) {
                 return write_began(text, index, log, moment, *attempt, *worker);
@@ -119,7 +124,9 @@ fn write_entry_sentence(
             attempt,
             object,
             content,
-        } => write_got_sentence(text, subject, index, log, moment, *attempt, *object, content),
+        } => write_got_sentence(
+            text, subject, index, log, moment, *attempt, *object, content,
+        ),
         Entry::Ended { attempt, content } => {
             if is_same(attempt.object, subject) {
                 return write_ended(text, index, log, moment, *attempt, content);

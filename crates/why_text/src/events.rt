@@ -1,13 +1,15 @@
 // What an event says of an object.
 
 ghost use Rattle.std.specs.Prelude.{◌≡◌, ◌++◌, OnOk, map, string_bytes};
-ghost use Rattle.std.specs.List.{flat_map};
+ghost use Rattle.std.specs.List.{flat_map, list_any};
 ghost use Rattle.values.specs.Values.{id_of};
 ghost use Rattle.event_log.specs.Views.{attempt_of, event_of};
 ghost use Rattle.why_text.specs.Moments.{moment_of};
 ghost use Rattle.why_text.specs.Runs.{run_seen, seen_of};
-ghost use Rattle.why_text.specs.Events.{concerns, concerns_node, copies_text, dead_text, event_sentence, fate_at, fate_on, fate_text, fate_unless};
-ghost use Rattle.why_text.specs.Events.{kill_text, node_kill_text, notice_text, owner_note};
+ghost use Rattle.why_text.specs.Events.{concerns, concerns_node, copies_head, copies_text, dead_node_text, dead_text};
+ghost use Rattle.why_text.specs.Events.{event_sentence, fate_at, fate_on, fate_text, fate_unless, is_at, is_on};
+ghost use Rattle.why_text.specs.Events.{kill_text, learned_text, node_kill_text, node_note, node_notice_text};
+ghost use Rattle.why_text.specs.Events.{notice_text, owner_note, worker_note};
 
 use crate::moments::{Moment, write_when};
 use crate::runs::{Run, Subject, is_node};
@@ -79,6 +81,28 @@ fn write_fates_at(text: &mut String, node: u32, runs: &[Run]) -> Result<(), Allo
     Ok(())
 }
 
+fn is_any_on(worker: u32, runs: &[Run]) -> bool
+    ensures { result ≡ list_any (is_on worker) (map run_seen runs.now) }
+{
+    for run in runs {
+        if run.worker == worker {
+            return true;
+        }
+    }
+    false
+}
+
+fn is_any_at(node: u32, runs: &[Run]) -> bool
+    ensures { result ≡ list_any (is_at node) (map run_seen runs.now) }
+{
+    for run in runs {
+        if is_node(node, run.node) {
+            return true;
+        }
+    }
+    false
+}
+
 /// Whether the worker owns the object, or ran its task.
 #[tactic(auto, unfolding(crate::specs::Events::concerns))]
 fn concerns(subject: &Subject, worker: u32) -> bool
@@ -87,12 +111,7 @@ fn concerns(subject: &Subject, worker: u32) -> bool
     if subject.object.owner.0 == worker {
         return true;
     }
-    for run in &subject.runs {
-        if run.worker == worker {
-            return true;
-        }
-    }
-    false
+    is_any_on(worker, &subject.runs)
 }
 
 /// Whether such a worker is on the node.
@@ -103,12 +122,7 @@ fn concerns_node(subject: &Subject, node: u32) -> bool
     if is_node(node, subject.home) {
         return true;
     }
-    for run in &subject.runs {
-        if is_node(node, run.node) {
-            return true;
-        }
-    }
-    false
+    is_any_at(node, &subject.runs)
 }
 
 #[tactic(auto, unfolding(crate::specs::Events::dead_text))]
@@ -146,6 +160,13 @@ fn write_owner(text: &mut String, object: ObjectId, dies: bool) -> Result<(), Al
     Ok(())
 }
 
+#[tactic(auto, unfolding(crate::specs::Events::dead_node_text))]
+fn write_dead_node(text: &mut String, node: NodeId) -> Result<(), AllocError>
+    ensures { OnOk result (string_bytes text.new ≡ string_bytes text.old ++ dead_node_text node.0) }
+{
+    write!(text, "{node} died")
+}
+
 fn write_node_kill(
     text: &mut String,
     subject: &Subject,
@@ -154,25 +175,70 @@ fn write_node_kill(
 ) -> Result<(), AllocError>
     ensures { OnOk result (string_bytes text.new ≡ string_bytes text.old ++ node_kill_text (seen_of subject.now) (moment_of moment.now) node.0) }
 {
-    write!(text, "{node} died")?;
+    write_dead_node(text, node)?;
     write_when(text, moment)?;
     write_owner(text, subject.object, is_node(node.0, subject.home))?;
     write_fates_at(text, node.0, &subject.runs)?;
     text.push_str(".\n")
 }
 
+#[tactic(auto, unfolding(crate::specs::Events::learned_text))]
+fn write_learned(text: &mut String, worker: WorkerId) -> Result<(), AllocError>
+    ensures { OnOk result (string_bytes text.new ≡ string_bytes text.old ++ learned_text worker.0) }
+{
+    write!(text, "{worker} learned")
+}
+
+#[tactic(auto, unfolding(crate::specs::Events::worker_note))]
+fn write_dead_worker_note(text: &mut String, dead: WorkerId) -> Result<(), AllocError>
+    ensures { OnOk result (string_bytes text.new ≡ string_bytes text.old ++ worker_note dead.0) }
+{
+    write!(text, " that {dead} was dead.\n")
+}
+
 fn write_notice(
     text: &mut String,
     moment: &Moment,
     worker: WorkerId,
-    kind: &str,
-    dead: u32,
+    dead: WorkerId,
 ) -> Result<(), AllocError>
-    ensures { OnOk result (string_bytes text.new ≡ string_bytes text.old ++ notice_text (moment_of moment.now) worker.0 kind.now dead) }
+    ensures { OnOk result (string_bytes text.new ≡ string_bytes text.old ++ notice_text (moment_of moment.now) worker.0 dead.0) }
 {
-    write!(text, "{worker} learned")?;
+    write_learned(text, worker)?;
     write_when(text, moment)?;
-    write!(text, " that {kind}{dead} was dead.\n")
+    write_dead_worker_note(text, dead)
+}
+
+#[tactic(auto, unfolding(crate::specs::Events::node_note))]
+fn write_dead_node_note(text: &mut String, dead: NodeId) -> Result<(), AllocError>
+    ensures { OnOk result (string_bytes text.new ≡ string_bytes text.old ++ node_note dead.0) }
+{
+    write!(text, " that {dead} was dead.\n")
+}
+
+fn write_node_notice(
+    text: &mut String,
+    moment: &Moment,
+    worker: WorkerId,
+    dead: NodeId,
+) -> Result<(), AllocError>
+    ensures { OnOk result (string_bytes text.new ≡ string_bytes text.old ++ node_notice_text (moment_of moment.now) worker.0 dead.0) }
+{
+    write_learned(text, worker)?;
+    write_when(text, moment)?;
+    write_dead_node_note(text, dead)
+}
+
+#[tactic(auto, unfolding(crate::specs::Events::copies_head))]
+fn write_copies_head(
+    text: &mut String,
+    node: NodeId,
+    did: &str,
+    object: ObjectId,
+) -> Result<(), AllocError>
+    ensures { OnOk result (string_bytes text.new ≡ string_bytes text.old ++ copies_head node.0 did.now (id_of object)) }
+{
+    write!(text, "{node}{did}{object}")
 }
 
 fn write_copies(
@@ -184,7 +250,7 @@ fn write_copies(
 ) -> Result<(), AllocError>
     ensures { OnOk result (string_bytes text.new ≡ string_bytes text.old ++ copies_text (moment_of moment.now) node.0 did.now (id_of object)) }
 {
-    write!(text, "{node}{did}{object}")?;
+    write_copies_head(text, node, did, object)?;
     write_when(text, moment)?;
     text.push_str(".\n")
 }
@@ -215,13 +281,15 @@ pub fn write_event_sentence(
         }
         Event::Notice { worker, dead } => {
             if (owner == worker.0 || owner == dead.0) && concerns(subject, dead.0) {
-                return write_notice(text, moment, *worker, "w", dead.0);
+                return write_notice(text, moment, *worker, *dead);
             }
             Ok(())
         }
         Event::NoticeNode { worker, dead } => {
-            if (owner == worker.0 || is_node(dead.0, subject.home)) && concerns_node(subject, dead.0) {
-                return write_notice(text, moment, *worker, "n", dead.0);
+            if (owner == worker.0 || is_node(dead.0, subject.home))
+                && concerns_node(subject, dead.0)
+            {
+                return write_node_notice(text, moment, *worker, *dead);
             }
             Ok(())
         }

@@ -1,6 +1,7 @@
 // What comes of a case. The program's commands are called here alone.
 
 use crate::case::{Case, Outcome};
+use ids::ObjectId;
 use raysim_commands::{Cluster, Form, Refusal, Tracked, check, run, serial, sim};
 use script_syntax::{parse, print_program};
 use std::alloc::{AllocError, Global};
@@ -50,20 +51,42 @@ fn done_with_script(
     None
 }
 
+/// What a command over a script and a list of events writes.
+fn form_of(command: &str) -> Option<Form> {
+    match command {
+        "sim" => Some(Form::Text),
+        "sim --json" => Some(Form::Json),
+        "sim --timeline" => Some(Form::Timeline),
+        "sim --lineage" => Some(Form::Lineage),
+        "log" => Some(Form::Log),
+        "why" => Some(Form::WhyMain),
+        _ => {
+            let object = ObjectId::read(command.strip_prefix("why ")?.as_bytes())?;
+            Some(Form::Why(object))
+        }
+    }
+}
+
+/// What a command over a run that goes on to its end by itself writes.
+fn form_of_run(command: &str) -> Option<Form> {
+    match command {
+        "run" => Some(Form::Text),
+        "run --json" => Some(Form::Json),
+        "run --timeline" => Some(Form::Timeline),
+        "run --lineage" => Some(Form::Lineage),
+        "log of a run" => Some(Form::Log),
+        _ => None,
+    }
+}
+
 /// Does what a command of the program says, over readers and a writer in memory. None where there is no such command or cluster.
 fn done(alloc: Global, case: &Case, written: &mut Vec<u8>) -> Option<Result<u8, Refusal>> {
     let command = case.command.as_str();
-    if command == "run" {
-        return ran(alloc, case, Form::Text, written);
+    if let Some(form) = form_of(command) {
+        return replayed(alloc, case, form, written);
     }
-    if command == "run --json" {
-        return ran(alloc, case, Form::Json, written);
-    }
-    if command == "sim" {
-        return replayed(alloc, case, Form::Text, written);
-    }
-    if command == "sim --json" {
-        return replayed(alloc, case, Form::Json, written);
+    if let Some(form) = form_of_run(command) {
+        return ran(alloc, case, form, written);
     }
     done_with_script(alloc, command, case.script.as_bytes(), written)
 }

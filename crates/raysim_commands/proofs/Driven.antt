@@ -10,13 +10,13 @@ use Rattle.driving.specs.Stops.{unfinished_code}
 use Rattle.driving.specs.Drives.{EndsSo, StopsSo}
 use Rattle.raysim_streams.specs.declared.Refusal.TheVariants.{Stopped}
 use Rattle.raysim_commands.specs.declared.form.Form.{Form}
-use Rattle.raysim_commands.specs.Reports.{report_in}
+use Rattle.raysim_commands.specs.Reports.{IsReportIn}
 use Rattle.raysim_commands.specs.RunReports.{IsReportOf, IsRunStop, first_run}
 
 -- it ends, and its report is written
 pub run_ends : (script named : Script) (size : Size) (form : Form) (before after : RunState) (report : List ℕ) (status : ℕ) →
     script ≡ named → before ≡ first_run size → EndsSo named before after → IsSoundLog named after.first_nodes after.log →
-    report ≡ report_in form after.log → status ≡ status_of after.log → IsReportOf script size form report status
+    IsReportIn form after.log report → status ≡ status_of after.log → IsReportOf script size form report status
 run_ends script named size form before after report status own first ends meant written told =
     let driven = subst (λ s. EndsSo s (first_run size) after) (sym own) (subst (λ b. EndsSo named b after) first ends) in
     let sound = subst (λ s. IsSoundLog s after.first_nodes after.log) (sym own) meant in

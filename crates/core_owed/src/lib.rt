@@ -1,0 +1,4 @@
+//! What each event of a core owes and pays.
+#![tactic(auto)]
+
+pub mod law;

@@ -1,15 +1,13 @@
 -- The cursor into the messages: it stays right behind each event, and the search for the next event may begin there.
-use Rattle.std.proofs.Common.{◌≡◌, ℕ, zero, suc, ◌+◌, ◌<◌, ◌≤◌, Bool, true, false, List, [], ◌∷◌, length, drop, Option, Some, None, refl, sym, ap, ◌∙◌, subst, inl, inr, arith}
-use Rattle.std.specs.Prelude.{slice_get}
+use Rattle.std.proofs.Common.{◌≡◌, ℕ, zero, true, false, Bool, List, Option, sym, ap, ◌∙◌, subst, inl, inr, arith}
 use Rattle.std.specs.Option.{option_map}
 use Rattle.cursor_laws.specs.Cursors.{IsPast}
-use Rattle.cursor_laws.proofs.Delivered.{one_further, past_after, search_from}
+use Rattle.cursor_laws.proofs.Delivered.{past_after, search_from}
 use Rattle.event_log.specs.Entries.{Claim, Commit, Deliver, Event}
-use Rattle.protocol.specs.Answers.{answer, whole_after}
 use Rattle.protocol.specs.Settling.{first_job, first_ready, next, or_event}
 use Rattle.protocol.specs.Whole.{Whole}
 use Rattle.protocol_core.specs.States.{RunState}
-use Rattle.protocol_core.specs.Steps.{Applies, Follows, Reply, RunsOut}
+use Rattle.protocol_core.specs.Steps.{Follows, Reply}
 use Rattle.segment.specs.Jobs.{Done}
 use Rattle.settling.specs.Turns.{next_from}
 

@@ -19,8 +19,8 @@ ROOTS = [
     ("What the commands promise", ["raysim_commands", "raysim_streams", "raysim_options"]),
     ("What a run and its parts promise in addition",
      ["board", "run_core", "history", "segment", "serial", "script_check", "script_syntax", "script_tokens", "event_files", "report_json",
-      "log_text", "story_text", "lineage_text", "timeline"]),
-    ("What the laws say in addition", ["meaning", "event_log", "meaning_laws", "kind_laws", "protocol_laws"]),
+      "log_text", "story_text", "why_text", "lineage_text", "timeline"]),
+    ("What the laws say in addition", ["meaning", "event_log", "meaning_laws", "kind_laws", "protocol_laws", "owed_laws"]),
 ]
 
 

@@ -9,14 +9,14 @@ use Rattle.meaning.specs.Values.{values_of}
 use Rattle.values.specs.Values.{value_of as task_value}
 use Rattle.values.specs.declared.value.RunValue.{RunValue, List as TaskList}
 use Rattle.values.proofs.Rows.{value_of-list as task_list}
-use Rattle.evaluation.specs.Values.{value_of}
-use Rattle.evaluation.specs.Machines.{argument_of, made_of}
+use Rattle.frames.specs.Values.{value_of}
+use Rattle.frames.specs.Machines.{argument_of, made_of}
 use Rattle.evaluation.specs.TaskValues.{IsTaskValue, AreTaskValues, EachTaskValue, AreTaskArguments, IsTaskBirth, AreTaskBirths}
-use Rattle.evaluation.specs.declared.value.Value.{Value, List as AList}
-use Rattle.evaluation.specs.declared.value.Items.{Items}
-use Rattle.evaluation.specs.declared.machine.Argument.{Argument}
-use Rattle.evaluation.specs.declared.machine.Made.{Made}
-use Rattle.evaluation.proofs.Rows.{list_is}
+use Rattle.frames.specs.declared.value.Value.{Value, List as AList}
+use Rattle.frames.specs.declared.value.Items.{Items}
+use Rattle.frames.specs.declared.halt.Argument.{Argument}
+use Rattle.frames.specs.declared.halt.Made.{Made}
+use Rattle.frames.proofs.Rows.{list_is}
 
 pub from_list : (v : Value) (r : RunValue) (row : Vec RunValue Global) (xs : List RunValue) (ys : List Value) (i : ℕ) → value_of v ≡ meant.Items (values_of (map value_of ys)) → map value_of ys ≡ map task_value (take i xs) → length xs ≤ i → xs ≡ row.items → r ≡ TaskList row → value_of v ≡ task_value r
 from_list v r row xs ys i e f h is value =

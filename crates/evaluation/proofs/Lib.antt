@@ -1,9 +1,3 @@
-pub mod Rows
-pub mod Binds
-pub mod States
-pub mod Dereferencing
-pub mod Sizes
-pub mod Steps
 pub mod Conversions
-pub mod Endings
+pub mod Standing
 pub mod TaskRuns

@@ -4,15 +4,14 @@ ghost use Rattle.std.specs.Prelude.{◌≡◌, IfOk, IfErr, map};
 ghost use Rattle.meaning.specs.Values as meant;
 ghost use Rattle.values.specs.Values.{value_of as task_value, content_of, id_of};
 ghost use Rattle.task_spec.specs.Births.{argument_of as task_argument, birth_of};
-ghost use Rattle.evaluation.specs.Values.{value_of, outcome_of};
-ghost use Rattle.evaluation.specs.Machines.{argument_of, made_of};
-ghost use Rattle.evaluation.specs.TaskValues.{IsNamed, IsTaskValue, EachTaskValue, AreTaskArguments, IsTaskBirth, AreTaskBirths};
+ghost use Rattle.frames.specs.Values.{value_of, outcome_of};
+ghost use Rattle.frames.specs.Machines.{argument_of, made_of};
+ghost use Rattle.evaluation.specs.TaskValues.{IsNamed, IsTaskValue, EachTaskValue, IsTaskOutcome, AreTaskArguments, IsTaskBirth, AreTaskBirths};
 
-use crate::machine::{Argument, Made};
-use crate::operators::list;
-use crate::value::{Outcome, Value};
+use frames::{Argument, Made, Outcome, Value, list};
 use ids::ObjectId;
 use std::alloc::{AllocError, AllocFailed, Global};
+use std::rc::Rc;
 use task_spec::Birth;
 use values::{Content, RunValue};
 
@@ -52,7 +51,7 @@ pub(crate) fn from_value(alloc: Global, value: &RunValue) -> Result<Value, Alloc
 {
     match value {
         RunValue::Int(number) => Ok(Value::Int(*number)),
-        RunValue::Id(object) => Ok(Value::Id(*object)),
+        RunValue::Id(object) => Ok(Value::Id(Rc::new(alloc, *object)?)),
         RunValue::List(items) => {
             let mut values = Vec::new(alloc);
             for item in items {
@@ -109,7 +108,7 @@ pub(crate) fn named(reference: &Value) -> Result<ObjectId, ConversionError>
     ensures plain { IfErr result (λ e. e ≡ ConversionError.HasOutcome → IsNamed (value_of reference.now) → ⊥) }
 {
     match reference {
-        Value::Id(object) => Ok(*object),
+        Value::Id(object) => Ok(**object),
         Value::Int(_) => Err(ConversionError::HasOutcome),
         Value::List(_) => Err(ConversionError::HasOutcome),
         Value::Known(_) => Err(ConversionError::HasOutcome),
@@ -124,7 +123,7 @@ pub(crate) fn to_value(alloc: Global, value: &Value) -> Result<RunValue, Convers
 {
     match value {
         Value::Int(number) => Ok(RunValue::Int(*number)),
-        Value::Id(object) => Ok(RunValue::Id(*object)),
+        Value::Id(object) => Ok(RunValue::Id(**object)),
         Value::Known(_) => Err(ConversionError::HasOutcome),
         Value::List(items) => {
             let mut values = Vec::new(alloc);
@@ -133,6 +132,22 @@ pub(crate) fn to_value(alloc: Global, value: &Value) -> Result<RunValue, Convers
             }
             Ok(RunValue::List(values))
         }
+    }
+}
+
+/// A run's outcome, as a task has it.
+pub(crate) fn to_content(alloc: Global, outcome: &Outcome) -> Result<Content, ConversionError>
+    ensures value { IfOk result (λ c. content_of c ≡ outcome_of outcome.now) }
+    ensures broken { IfErr result (λ e. e ≡ ConversionError.Broken → outcome_of outcome.now ≡ meant.Trapped meant.Broken) }
+    ensures plain { IfErr result (λ e. e ≡ ConversionError.HasOutcome → IsTaskOutcome (outcome_of outcome.now) → ⊥) }
+{
+    match outcome {
+        Outcome::Value(value) => match to_value(alloc, value) {
+            Ok(value) => Ok(Content::Value(value)),
+            Err(error) => Err(error),
+        },
+        Outcome::Trap(trap) => Ok(Content::Trap(*trap)),
+        Outcome::Broken => Err(ConversionError::Broken),
     }
 }
 

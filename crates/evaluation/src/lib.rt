@@ -1,16 +1,9 @@
-//! The evaluator of scripts: one for tasks that run in pieces and for the serial run.
+//! Tasks run in pieces, and main run serially, on the register machine: between the values of tasks and those of a run.
 #![tactic(auto)]
 
-mod calls;
 mod convert;
-mod machine;
-mod operators;
 mod piece;
-mod run;
-mod scope;
 mod serial;
-mod start;
-mod value;
 
 pub use piece::{Piece, PieceError, Stop, run_piece};
 pub use serial::{SerialError, SerialRun, run_serially};

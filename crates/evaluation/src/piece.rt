@@ -1,22 +1,21 @@
 // A piece of a task's run.
 
-ghost use Rattle.std.specs.Prelude.{◌≡◌, IfOk, IfErr, IsTrue, map};
-ghost use Rattle.meaning.specs.Values.{Trapped, Broken};
-ghost use Rattle.meaning.specs.Runs.{Over};
+ghost use Rattle.std.specs.Prelude.{◌≡◌, IfOk, IfErr, Some, map};
+ghost use Rattle.meaning.specs.Values.{Val, Trapped, Broken};
+ghost use Rattle.meaning.specs.Runs.{Over, stopped};
 ghost use Rattle.meaning.specs.Runs as runs;
 ghost use Rattle.meaning.specs.Meaning.{replay};
 ghost use Rattle.script_check.specs.Trees.{script_of};
-ghost use Rattle.values.specs.Values.{content_of, id_of};
+ghost use Rattle.values.specs.Values.{value_of, content_of, id_of};
 ghost use Rattle.task_spec.specs.Births.{birth_of};
-ghost use Rattle.evaluation.specs.Machines.{InPieces};
-ghost use Rattle.evaluation.specs.Endings.{CameTo, has_told, stopped_at};
-ghost use Rattle.evaluation.specs.TaskValues.{IsTaskStop, IsTaskPiece};
-ghost use Rattle.evaluation.specs.Pieces.{piece_of, stop_of};
+ghost use Rattle.frames.specs.Tasks.{stopped_by};
+ghost use Rattle.evaluation.specs.TaskValues.{IsTaskPiece};
+ghost use Rattle.evaluation.specs.Pieces.{piece_of, stop_of, IsNoTaskStop, Stands};
 
-use crate::convert::{ConversionError, from_contents, named, to_births, to_value, to_values};
-use crate::machine::{Halt, Machine};
-use crate::start::run_birth;
-use crate::value::Value;
+use crate::convert::{
+    ConversionError, from_arguments, from_contents, named, to_births, to_value, to_values,
+};
+use frames::{Attempt, Halt, run_task};
 use ids::ObjectId;
 use script_check::Checked;
 use std::alloc::{AllocError, AllocFailed, Global};
@@ -72,42 +71,53 @@ impl<T: Drop> From<AllocFailed<T>> for PieceError {
 }
 
 /// Where a run stopped, as tasks have it.
-pub(crate) fn to_stop(alloc: Global, ended: Result<Value, Halt>) -> Result<Stop, ConversionError>
-    ensures told { IfOk result (λ s. IsTrue (has_told ended)) }
-    ensures value { IfOk result (λ s. stop_of s ≡ stopped_at ended) }
-    ensures broken { IfErr result (λ e. e ≡ ConversionError.Broken → IsTrue (has_told ended) × (stopped_at ended ≡ Over (Trapped Broken))) }
-    ensures plain { IfErr result (λ e. e ≡ ConversionError.HasOutcome → IsTrue (has_told ended) × (IsTaskStop (stopped_at ended) → ⊥)) }
+fn to_stop(alloc: Global, halt: &Halt) -> Result<Stop, ConversionError>
+    ensures value { IfOk result (λ s. stopped_by halt.now ≡ Some (stop_of s)) }
+    ensures broken { IfErr result (λ e. e ≡ ConversionError.Broken → stopped_by halt.now ≡ Some (Over (Trapped Broken))) }
+    ensures plain { IfErr result (λ e. e ≡ ConversionError.HasOutcome → IsNoTaskStop (stopped_by halt.now)) }
 {
-    match ended {
-        Ok(value) => match to_value(alloc, &value) {
+    match halt {
+        Halt::Over(value) => match to_value(alloc, value) {
             Ok(value) => Ok(Stop::Ends(Content::Value(value))),
             Err(error) => Err(error),
         },
-        Err(Halt::Needs(reference)) => match named(&reference) {
+        Halt::Asks(reference, _) => match named(reference) {
             Ok(object) => Ok(Stop::Needs(object)),
             Err(error) => Err(error),
         },
-        Err(Halt::Trap(trap)) => Ok(Stop::Ends(Content::Trap(trap))),
-        Err(Halt::Broken) => Err(ConversionError::Broken),
-        Err(Halt::NoMemory) => Err(ConversionError::NoMemory),
+        Halt::Trap(trap) => Ok(Stop::Ends(Content::Trap(*trap))),
+        Halt::Broken => Err(ConversionError::Broken),
+        Halt::Bears(_, _) => Err(ConversionError::NoMemory),
+        Halt::Shows(_) => Err(ConversionError::NoMemory),
+        Halt::NoMemory => Err(ConversionError::NoMemory),
     }
 }
 
-/// What a machine did up to where it stopped, as tasks have it.
-fn to_piece(machine: &Machine, ended: Result<Value, Halt>) -> Result<Piece, ConversionError>
-    ensures value { IfOk result (λ p. (q : runs.Piece) → CameTo (InPieces q) machine.now ended → piece_of p ≡ q) }
-    ensures broken { IfErr result (λ e. e ≡ ConversionError.Broken → (q : runs.Piece) → CameTo (InPieces q) machine.now ended →
-        q.stop ≡ Over (Trapped Broken)) }
-    ensures plain { IfErr result (λ e. e ≡ ConversionError.HasOutcome → (q : runs.Piece) → CameTo (InPieces q) machine.now ended →
-        IsTaskPiece q → ⊥) }
+/// What an attempt did up to where it stopped, as tasks have it.
+fn to_piece(alloc: Global, attempt: &Attempt) -> Result<Piece, ConversionError>
+    ensures value { IfOk result (λ p. (q : runs.Piece) → Stands attempt.now q → piece_of p ≡ q) }
+    ensures broken { IfErr result (λ e. e ≡ ConversionError.Broken → (q : runs.Piece) → Stands attempt.now q → q.stop ≡ Over (Trapped Broken)) }
+    ensures plain { IfErr result (λ e. e ≡ ConversionError.HasOutcome → (q : runs.Piece) → Stands attempt.now q → IsTaskPiece q → ⊥) }
 {
-    let stop = to_stop(machine.alloc, ended)?;
-    let births = to_births(machine.alloc, &machine.births)?;
-    let prints = to_values(machine.alloc, &machine.prints)?;
+    let stop = to_stop(alloc, &attempt.halt)?;
+    let births = to_births(alloc, &attempt.births)?;
+    let prints = to_values(alloc, &attempt.prints)?;
     Ok(Piece {
         births,
         prints,
         stop,
+    })
+}
+
+/// A put's piece: it ends with its value at once.
+fn put_piece(alloc: Global, value: &RunValue) -> Result<Piece, AllocError>
+    ensures { IfOk result (λ p. piece_of p ≡ stopped (Over (Val (value_of value.now)))) }
+{
+    let value = value.copy(alloc)?;
+    Ok(Piece {
+        births: Vec::new(alloc),
+        prints: Vec::new(alloc),
+        stop: Stop::Ends(Content::Value(value)),
     })
 }
 
@@ -125,13 +135,31 @@ pub fn run_piece(
     ensures broken { IfErr result (λ e. e ≡ PieceError.Broken →
         (replay (script_of script.now) (birth_of spec.now) (id_of base) (map content_of answers.now)).stop ≡ Over (Trapped Broken)) }
 {
-    let answers = from_contents(alloc, answers)?;
-    let mut machine = Machine::in_pieces(alloc, base, answers);
-    let ended = run_birth(&mut machine, script.functions(), spec);
-    match to_piece(&machine, ended) {
-        Ok(piece) => Ok(piece),
-        Err(ConversionError::Broken) => Err(PieceError::Broken),
-        Err(ConversionError::HasOutcome) => unreachable!(),
-        Err(ConversionError::NoMemory) => Err(PieceError::NoMemory),
+    match spec {
+        Birth::Put(value) => Ok(put_piece(alloc, value)?),
+        Birth::Task {
+            function,
+            arguments,
+            depth,
+            retries: _,
+        } => {
+            let arguments = from_arguments(alloc, arguments)?;
+            let answers = from_contents(alloc, answers)?;
+            let attempt = run_task(
+                alloc,
+                script,
+                function.as_str(),
+                &arguments,
+                *depth,
+                base,
+                answers,
+            )?;
+            match to_piece(alloc, &attempt) {
+                Ok(piece) => Ok(piece),
+                Err(ConversionError::Broken) => Err(PieceError::Broken),
+                Err(ConversionError::HasOutcome) => unreachable!(),
+                Err(ConversionError::NoMemory) => Err(PieceError::NoMemory),
+            }
+        }
     }
 }

@@ -1,22 +1,17 @@
 // The serial run.
 
-ghost use Rattle.std.specs.Prelude.{◌≡◌, IfOk, IfErr, List, map};
+ghost use Rattle.std.specs.Prelude.{◌≡◌, IfOk, IfErr, map};
 ghost use Rattle.meaning.specs.Values.{Trapped, Broken};
 ghost use Rattle.meaning.specs.Runs.{serial_end, serial_trace};
 ghost use Rattle.meaning.specs.Law.{prints_of};
 ghost use Rattle.meaning.specs.Meaning.{serial_run};
 ghost use Rattle.script_check.specs.Trees.{script_of};
 ghost use Rattle.values.specs.Values.{value_of, content_of};
-ghost use Rattle.meaning.specs.Values as meant;
-ghost use Rattle.evaluation.specs.Machines.{Serially};
-ghost use Rattle.evaluation.specs.Endings.{CameTo};
+ghost use Rattle.frames.specs.Values.{value_of as run_value_of, outcome_of};
 ghost use Rattle.evaluation.specs.TaskValues.{EachTaskValue, IsTaskOutcome};
 
-use crate::convert::{ConversionError, to_values};
-use crate::machine::{Halt, Machine};
-use crate::piece::{Stop, to_stop};
-use crate::start::run_main;
-use crate::value::Value;
+use crate::convert::{ConversionError, to_content, to_values};
+use frames::{SerialEnd, run_main};
 use script_check::Checked;
 use std::alloc::Global;
 use values::{Content, RunValue};
@@ -38,22 +33,16 @@ pub enum SerialError {
     NoMemory,
 }
 
-/// What a machine printed, and how it ended, as tasks have it.
-fn to_serial(machine: &Machine, ended: Result<Value, Halt>) -> Result<SerialRun, ConversionError>
-    ensures prints { IfOk result (λ r. (printed : List meant.Value) (c : meant.Outcome) → CameTo (Serially printed c) machine.now ended →
-        map value_of r.prints.items ≡ printed) }
-    ensures end { IfOk result (λ r. (printed : List meant.Value) (c : meant.Outcome) → CameTo (Serially printed c) machine.now ended →
-        content_of r.end ≡ c) }
-    ensures broken { IfErr result (λ e. e ≡ ConversionError.Broken → (printed : List meant.Value) (c : meant.Outcome) →
-        CameTo (Serially printed c) machine.now ended → c ≡ Trapped Broken) }
-    ensures plain { IfErr result (λ e. e ≡ ConversionError.HasOutcome → (printed : List meant.Value) (c : meant.Outcome) →
-        CameTo (Serially printed c) machine.now ended → EachTaskValue printed → IsTaskOutcome c → ⊥) }
+/// What main printed, and how it ended, as tasks have it.
+fn to_serial(alloc: Global, run: &SerialEnd) -> Result<SerialRun, ConversionError>
+    ensures prints { IfOk result (λ r. map value_of r.prints.items ≡ map run_value_of run.now.prints.items) }
+    ensures end { IfOk result (λ r. content_of r.end ≡ outcome_of run.now.end) }
+    ensures broken { IfErr result (λ e. e ≡ ConversionError.Broken → outcome_of run.now.end ≡ Trapped Broken) }
+    ensures plain { IfErr result (λ e. e ≡ ConversionError.HasOutcome →
+        EachTaskValue (map run_value_of run.now.prints.items) → IsTaskOutcome (outcome_of run.now.end) → ⊥) }
 {
-    let stop = to_stop(machine.alloc, ended)?;
-    let Stop::Ends(end) = stop else {
-        return Err(ConversionError::Broken);
-    };
-    let prints = to_values(machine.alloc, &machine.prints)?;
+    let end = to_content(alloc, &run.end)?;
+    let prints = to_values(alloc, &run.prints)?;
     Ok(SerialRun { prints, end })
 }
 
@@ -68,12 +57,13 @@ pub fn run_serially(alloc: Global, script: &Checked) -> Result<SerialRun, Serial
     ensures plain { IfErr result (λ e. e ≡ SerialError.HasReference → EachTaskValue (prints_of (serial_trace (serial_run (script_of script.now)))) →
         IsTaskOutcome (serial_end (serial_run (script_of script.now))) → ⊥) }
 {
-    let mut machine = Machine::serial(alloc);
-    let ended = run_main(&mut machine, script.functions());
-    match to_serial(&machine, ended) {
-        Ok(run) => Ok(run),
-        Err(ConversionError::Broken) => Err(SerialError::Broken),
-        Err(ConversionError::HasOutcome) => Err(SerialError::HasReference),
-        Err(ConversionError::NoMemory) => Err(SerialError::NoMemory),
+    match run_main(alloc, script) {
+        Ok(run) => match to_serial(alloc, &run) {
+            Ok(run) => Ok(run),
+            Err(ConversionError::Broken) => Err(SerialError::Broken),
+            Err(ConversionError::HasOutcome) => Err(SerialError::HasReference),
+            Err(ConversionError::NoMemory) => Err(SerialError::NoMemory),
+        },
+        Err(_) => Err(SerialError::NoMemory),
     }
 }

@@ -10,3 +10,4 @@ mod statements;
 
 pub use functions::compile;
 pub use instruction::{Code, Instruction, Operand, Spawn};
+pub use names::number_of;

@@ -71,7 +71,7 @@ pub(crate) fn place_or(names: &[Register<'_>], name: &str, other: u32) -> Result
 }
 
 /// The number of a function that takes as many arguments; one past the last where there is none.
-pub(crate) fn number_of(script: &[CheckedFunction], name: &str, count: usize) -> usize
+pub fn number_of(script: &[CheckedFunction], name: &str, count: usize) -> usize
     ensures { result ≡ number_of (script_of script.now) name.now count }
 {
     let mut number = 0;

@@ -5,4 +5,10 @@ pub mod Calling
 pub mod Stepping
 pub mod Going
 pub mod Meeting
+pub mod SerialRuns
 pub mod Starting
+pub mod Finding
+pub mod Mismatching
+pub mod Deeper
+pub mod Making
+pub mod Stopping

@@ -7,14 +7,14 @@ use values::Trap;
 
 /// An argument of a remote call, and whether it is dereferenced before the body.
 #[derive(Drop)]
-pub(crate) struct Argument {
+pub struct Argument {
     pub value: Value,
     pub is_dereferenced: bool,
 }
 
 /// What makes an object.
 #[derive(Drop)]
-pub(crate) enum Made {
+pub enum Made {
     Put(Value),
     Task {
         function: String,
@@ -27,7 +27,7 @@ pub(crate) enum Made {
 /// Why the machine stops: the run is over, it asks or tells something outside, or it is out of memory. A birth and a get say which
 /// register takes what they are given.
 #[derive(Drop)]
-pub(crate) enum Halt {
+pub enum Halt {
     Over(Value),
     Trap(Trap),
     /// An operand of the wrong kind, which a checked script never meets.

@@ -2,12 +2,21 @@
 #![tactic(auto)]
 
 mod asking;
+mod attempt;
 mod course;
 mod halt;
 mod jumping;
+mod mismatch;
 mod operators;
 mod registers;
+mod serially;
 mod start;
 mod step;
 mod value;
 mod working;
+
+pub use attempt::{Attempt, run_task};
+pub use halt::{Argument, Halt, Made};
+pub use operators::list;
+pub use serially::{SerialEnd, run_main};
+pub use value::{Items, Outcome, Value};

@@ -10,12 +10,12 @@ ghost use Rattle.frame_laws.specs.Law as laws;
 ghost use Rattle.frame_laws.specs.Law.{entry_or, values_in, marks_in};
 ghost use Rattle.frame_code.specs.Views.{code_of};
 ghost use Rattle.frames.specs.Values.{value_of};
-ghost use Rattle.frames.specs.Machines.{argument_of};
+ghost use Rattle.frames.specs.Machines.{argument_of, state_of};
 ghost use Rattle.frames.specs.Courses.{Standing, answers_of};
 ghost use Rattle.frames.specs.Values.{outcome_of};
 
 use crate::course::Course;
-use crate::halt::{Argument, Halt};
+use crate::halt::Argument;
 use crate::registers::State;
 use crate::value::{Outcome, Value};
 use frame_code::Code;
@@ -38,13 +38,34 @@ fn first_registers(alloc: Global, arguments: &[Argument]) -> Result<Vec<Value>, 
 }
 
 /// Where a task of the function with that number begins: two instructions for each argument before a plain call.
-fn task_entry(code: &Code, function: usize, arguments: usize) -> Result<usize, Halt>
-    ensures { IfOk result (λ pc. pc ≡ entry_or 0 (slice_get (code_of code.now).entries function) - (arguments + arguments)) }
+fn task_entry(code: &Code, function: usize, arguments: usize) -> usize
+    ensures { result ≡ entry_or 0 (slice_get (code_of code.now).entries function) - (arguments + arguments) }
 {
     let Some(entry) = code.entries.get(function) else {
-        return Err(Halt::Broken);
+        return 0;
     };
-    Ok(entry.saturating_sub(arguments).saturating_sub(arguments))
+    entry.saturating_sub(arguments).saturating_sub(arguments)
+}
+
+/// The first state of a task of the function with that number, where it is one of the script and takes as many arguments.
+pub(crate) fn first_state(
+    alloc: Global,
+    code: &Code,
+    function: usize,
+    arguments: &[Argument],
+) -> Result<State, AllocError>
+    ensures { IfOk result (λ s. (script : Script) (g : Name) (f : Function) → code_of code.now ≡ laws.code_of script →
+        function ≡ number_of script g (length arguments.now) → length arguments.now ≡ length f.parameters →
+        state_of s ≡ laws.first_state script g f (map argument_of arguments.now)) }
+{
+    let pc = task_entry(code, function, arguments.len());
+    let registers = first_registers(alloc, arguments)?;
+    Ok(State {
+        pc,
+        base: 0,
+        registers,
+        callers: Vec::new(alloc),
+    })
 }
 
 impl Course {
@@ -56,20 +77,13 @@ impl Course {
         arguments: &[Argument],
         base: ObjectId,
         answers: Vec<Outcome>,
-    ) -> Result<Course, Halt>
+    ) -> Result<Course, AllocError>
         ensures stands { IfOk result (λ k. (script : Script) (g : Name) (f : Function) (depth retries : ℕ) → code_of code.now ≡ laws.code_of script →
             function ≡ number_of script g (length arguments.now) → find script g ≡ Some f → length arguments.now ≡ length f.parameters → depth ≤ 32 →
             Standing script (32 - depth) (Task g (map argument_of arguments.now) depth retries) (id_of base) [] k) }
         ensures answers { IfOk result (λ k. answers_of k ≡ map outcome_of answers.items) }
     {
-        let pc = task_entry(code, function, arguments.len())?;
-        let registers = first_registers(alloc, arguments)?;
-        let state = State {
-            pc,
-            base: 0,
-            registers,
-            callers: Vec::new(alloc),
-        };
+        let state = first_state(alloc, code, function, arguments)?;
         Ok(Course {
             state,
             births: Vec::new(alloc),

@@ -12,7 +12,7 @@ use values::Trap;
 /// A value, as a run has it. Its lists, ids and outcomes are shared, so that an equal value costs no more than a count.
 #[derive(Drop)]
 #[cycle(value)]
-pub(crate) enum Value {
+pub enum Value {
     Int(i64),
     List(Rc<Items>),
     /// A reference in a run in pieces.
@@ -24,14 +24,14 @@ pub(crate) enum Value {
 /// The items of a list.
 #[derive(Drop)]
 #[cycle(value)]
-pub(crate) struct Items {
+pub struct Items {
     pub values: Vec<Value>,
 }
 
 /// How a call ends.
 #[derive(Drop)]
 #[cycle(value)]
-pub(crate) enum Outcome {
+pub enum Outcome {
     Value(Value),
     Trap(Trap),
     /// An operand of the wrong kind, which a checked script never meets.

@@ -7,6 +7,7 @@ mod events;
 mod refusals;
 mod text;
 
+pub use attempts::write_named;
 pub use entries::write_line;
 pub use text::log_text;
 

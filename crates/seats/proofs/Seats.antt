@@ -1,5 +1,5 @@
 -- Seats one after the other, and books number by number.
-use Rattle.std.proofs.Common.{◌≡◌, ℕ, zero, suc, ◌+◌, [], ◌∷◌, ◌++◌, ap, ◌∙◌, arith}
+use Rattle.std.proofs.Common.{◌≡◌, ℕ, zero, suc, ◌+◌, [], ◌∷◌, ◌++◌, ap, refl, ◌∙◌, length, arith}
 use Rattle.event_log.specs.Books.{Totals}
 use Rattle.event_log.specs.Laws.{nothing}
 use Rattle.seats.specs.Books.{SeatOf, new_seats}
@@ -22,3 +22,7 @@ parts a a' b b' c c' d d' ea eb ec ed = cc
 
 pub same_totals : (t u : Totals) → t.events ≡ u.events → t.given ≡ u.given → t.commits ≡ u.commits → t.committed ≡ u.committed → t ≡ u
 same_totals t u a b c d = parts t.events u.events t.given u.given t.commits u.commits t.committed u.committed a b c d
+
+pub so_many : (from n : ℕ) → length (new_seats from n) ≡ n
+so_many from zero = refl
+so_many from (suc n) = ap suc (so_many (from + 1) n)

@@ -4,8 +4,10 @@
 mod seat;
 mod shared;
 mod tally;
+mod threads;
 mod working;
 
 pub use seat::{Blanks, Seat};
 pub use shared::Shared;
+pub use threads::{Ended, run_on_threads};
 pub use working::{Gate, work};

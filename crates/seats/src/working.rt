@@ -10,10 +10,15 @@ use protocol_core::Reply;
 use script_check::Checked;
 use segment::{Job, ScriptName};
 use std::alloc::Global;
+use std::rt::Clock;
 use std::sync::Wait;
 use std::sync::ledger::Ledger;
 use std::thread;
+use std::time::Duration;
 use turns::Turn;
+
+/// How many microseconds a thread sleeps before it asks again, where it must wait for another's job.
+const PAUSE: u64 = 100;
 
 /// What is told of a job before it is run.
 pub trait Gate {
@@ -60,9 +65,9 @@ fn run_job<S: ScriptName, E: Ledger, G: Ledger, C: Ledger, J: Ledger, K: Gate, R
 }
 
 /// One thread's loop, over the turns of its seat: given a job, it tells the gate, runs the job outside the lock and commits it. Where it must
-/// wait for another's job it lets other threads go on. It ends with the run: it gives the run up where a job finds no memory, or an event of
-/// its own is refused 37, 38 or 39.
-pub fn work<S: ScriptName, E: Ledger, G: Ledger, C: Ledger, J: Ledger, K: Gate, R: Wait>(
+/// wait for another's job it sleeps for a tenth of a millisecond, and asks again. It ends with the run: it gives the run up where a job finds
+/// no memory, or an event of its own is refused 37, 38 or 39.
+pub fn work<S: ScriptName, E: Ledger, G: Ledger, C: Ledger, J: Ledger, K: Gate, R: Wait + Clock>(
     rt: &R,
     alloc: Global,
     shared: &Shared<S, E, G, C, J>,
@@ -79,7 +84,7 @@ pub fn work<S: ScriptName, E: Ledger, G: Ledger, C: Ledger, J: Ledger, K: Gate, 
             Turn::Job(job) => run_job(rt, alloc, shared, &mut seat, script, gate, job),
             Turn::Did => {}
             Turn::Refused(refusal) => heed(rt, shared, refusal),
-            Turn::Again => thread::yield_now(),
+            Turn::Again => thread::sleep(rt, Duration::from_micros(PAUSE)),
             Turn::End => break,
         }
     }

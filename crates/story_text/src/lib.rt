@@ -6,6 +6,7 @@ mod mentions;
 mod runners;
 mod text;
 
+pub use mentions::{is_in_birth, is_same};
 pub use text::story_text;
 
 #[cfg(test)]

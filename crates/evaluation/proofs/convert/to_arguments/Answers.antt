@@ -1,10 +1,10 @@
 use Rattle.std.proofs.Common.{◌≡◌, map}
-use Rattle.evaluation.specs.Machines.{argument_of}
+use Rattle.frames.specs.Machines.{argument_of}
 use Rattle.evaluation.specs.TaskValues.{AreTaskArguments}
 use Rattle.evaluation.specs.declared.convert.ConversionError.{ConversionError}
 use Rattle.evaluation.specs.declared.convert.ConversionError.TheVariants.{HasOutcome}
 use Rattle.evaluation.proofs.Conversions.{argument_within}
-use Rattle.evaluation.proofs.States.{handed_on}
+use Rattle.evaluation.proofs.Standing.{handed_on}
 use Rattle.evaluation.proofs.convert.to_arguments.Goals as goal
 
 pub returns-in_err-value-clause-plain : goal.returns-in_err-value-clause-plain

@@ -1,10 +1,10 @@
 use Rattle.std.proofs.Common.{◌≡◌, map}
-use Rattle.evaluation.specs.Machines.{made_of}
+use Rattle.frames.specs.Machines.{made_of}
 use Rattle.evaluation.specs.TaskValues.{AreTaskBirths}
 use Rattle.evaluation.specs.declared.convert.ConversionError.{ConversionError}
 use Rattle.evaluation.specs.declared.convert.ConversionError.TheVariants.{HasOutcome}
 use Rattle.evaluation.proofs.Conversions.{birth_within}
-use Rattle.evaluation.proofs.States.{handed_on}
+use Rattle.evaluation.proofs.Standing.{handed_on}
 use Rattle.evaluation.proofs.convert.to_births.Goals as goal
 
 pub returns-in_err-to_birth-clause-plain : goal.returns-in_err-to_birth-clause-plain

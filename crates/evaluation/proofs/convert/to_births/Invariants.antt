@@ -1,6 +1,6 @@
 use Rattle.std.proofs.Common.{◌≡◌, map, take}
 use Rattle.task_spec.specs.Births.{birth_of}
-use Rattle.evaluation.specs.Machines.{made_of}
+use Rattle.frames.specs.Machines.{made_of}
 use Rattle.evaluation.proofs.convert.to_births.Given as goal
 
 abbrev pub invariant-loop-made : goal.invariant-loop-made

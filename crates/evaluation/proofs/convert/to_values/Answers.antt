@@ -1,10 +1,10 @@
 use Rattle.std.proofs.Common.{◌≡◌, map}
-use Rattle.evaluation.specs.Values.{value_of}
+use Rattle.frames.specs.Values.{value_of}
 use Rattle.evaluation.specs.TaskValues.{EachTaskValue}
 use Rattle.evaluation.specs.declared.convert.ConversionError.{ConversionError}
 use Rattle.evaluation.specs.declared.convert.ConversionError.TheVariants.{HasOutcome}
 use Rattle.evaluation.proofs.Conversions.{value_within}
-use Rattle.evaluation.proofs.States.{handed_on}
+use Rattle.evaluation.proofs.Standing.{handed_on}
 use Rattle.evaluation.proofs.convert.to_values.Goals as goal
 
 pub returns-in_err-to_value-clause-plain : goal.returns-in_err-to_value-clause-plain

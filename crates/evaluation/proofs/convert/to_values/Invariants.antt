@@ -1,6 +1,6 @@
 use Rattle.std.proofs.Common.{◌≡◌, map, take}
 use Rattle.values.specs.Values.{value_of as task_value}
-use Rattle.evaluation.specs.Values.{value_of}
+use Rattle.frames.specs.Values.{value_of}
 use Rattle.evaluation.proofs.convert.to_values.Given as goal
 
 abbrev pub invariant-loop-value : goal.invariant-loop-value

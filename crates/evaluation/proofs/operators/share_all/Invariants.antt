@@ -1,6 +1,0 @@
-use Rattle.std.proofs.Common.{◌≡◌, map, take}
-use Rattle.evaluation.specs.Values.{value_of}
-use Rattle.evaluation.proofs.operators.share_all.Given as goal
-
-abbrev pub invariant-loop-item : goal.invariant-loop-item
-invariant-loop-item l = map value_of l.values.items ≡ map value_of (take l.item-index l.items)

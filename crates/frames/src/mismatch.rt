@@ -1,0 +1,125 @@
+// Tasks that no function takes: the script has none of that name, or it takes another number of arguments. A checked script makes none.
+
+ghost use Rattle.std.specs.Prelude.{◌≡◌, ◌∷◌, IfOk, IfErr, OnOk, List, Some, drop, length, map, take};
+ghost use Rattle.meaning.specs.Values as meant;
+ghost use Rattle.meaning.specs.Meaning.{find, parameters_of};
+ghost use Rattle.meaning.specs.Runs.{Stop};
+ghost use Rattle.script_check.specs.Trees.{script_of};
+ghost use Rattle.frames.specs.Values.{outcome_of};
+ghost use Rattle.frames.specs.Machines.{argument_of, GivesHalt};
+ghost use Rattle.frames.specs.Tasks.{matched, mismatch_end, mismatch_stop, ended_by, stopped_by};
+
+use crate::halt::{Argument, Halt};
+use crate::value::Outcome;
+use script_check::CheckedFunction;
+use std::alloc::AllocError;
+
+/// How many parameters a function has: none where the script doesn't have it.
+fn parameter_count(script: &[CheckedFunction], name: &str) -> usize
+    ensures { result ≡ length (parameters_of (find (script_of script.now) name.now)) }
+{
+    for function in script {
+        if function.name.as_str() == name {
+            return function.parameters.len();
+        }
+    }
+    0
+}
+
+/// The arguments that have a parameter.
+fn matched<'a>(script: &[CheckedFunction], name: &str, arguments: &'a [Argument]) -> &'a [Argument]
+    ensures { map argument_of result.now ≡ matched (script_of script.now) name.now (map argument_of arguments.now) }
+{
+    let count = parameter_count(script, name).min(arguments.len());
+    &arguments[..count]
+}
+
+/// Gets an argument of a serial run, where it has a mark.
+fn pass_known(argument: &Argument) -> Result<(), Halt>
+    ensures goes { OnOk result ((args : List meant.Argument) → mismatch_end (argument_of argument.now ∷ args) ≡ mismatch_end args) }
+    ensures halt { IfErr result (λ h. (args : List meant.Argument) → GivesHalt (mismatch_end (argument_of argument.now ∷ args)) h) }
+{
+    if !argument.is_dereferenced {
+        return Ok(());
+    }
+    if !argument.value.is_reference() {
+        return Err(Halt::Broken);
+    }
+    match argument.value.known() {
+        Ok(_) => Ok(()),
+        Err(halt) => Err(halt),
+    }
+}
+
+/// Gets an argument of a run in pieces, where it has a mark. Gives how many answers are used then.
+fn pass_answered(argument: &Argument, answers: &[Outcome], used: usize) -> Result<usize, Halt>
+    ensures goes { IfOk result (λ n. (args : List meant.Argument) →
+        mismatch_stop (argument_of argument.now ∷ args) (map outcome_of (drop used answers.now)) ≡ mismatch_stop args (map outcome_of (drop n answers.now))) }
+    ensures halt { IfErr result (λ h. (args : List meant.Argument) (s : Stop) → stopped_by h ≡ Some s →
+        mismatch_stop (argument_of argument.now ∷ args) (map outcome_of (drop used answers.now)) ≡ s) }
+{
+    if !argument.is_dereferenced {
+        return Ok(used);
+    }
+    if !argument.value.is_reference() {
+        return Err(Halt::Broken);
+    }
+    if used >= answers.len() {
+        return Err(Halt::Asks(argument.value.share()?, 0));
+    }
+    match answers[used].got() {
+        Ok(_) => Ok(used + 1),
+        Err(halt) => Err(halt),
+    }
+}
+
+/// The outcome that a halt ends a run with. It is out of memory where it has none.
+pub(crate) fn outcome(halt: Halt) -> Result<Outcome, AllocError>
+    ensures { IfOk result (λ c. ended_by halt ≡ Some (outcome_of c)) }
+{
+    match halt {
+        Halt::Over(value) => Ok(Outcome::Value(value)),
+        Halt::Trap(trap) => Ok(Outcome::Trap(trap)),
+        Halt::Broken => Ok(Outcome::Broken),
+        Halt::Bears(_, _) => Err(AllocError),
+        Halt::Asks(_, _) => Err(AllocError),
+        Halt::Shows(_) => Err(AllocError),
+        Halt::NoMemory => Err(AllocError),
+    }
+}
+
+/// How such a task ends in a serial run.
+pub(crate) fn end_mismatch(
+    script: &[CheckedFunction],
+    name: &str,
+    arguments: &[Argument],
+) -> Result<Outcome, AllocError>
+    ensures { IfOk result (λ c. mismatch_end (matched (script_of script.now) name.now (map argument_of arguments.now)) ≡ outcome_of c) }
+{
+    for argument in matched(script, name, arguments) {
+        if let Err(halt) = pass_known(argument) {
+            return outcome(halt);
+        }
+    }
+    Ok(Outcome::Broken)
+}
+
+/// Where such a task stops in pieces.
+pub(crate) fn stop_mismatch(
+    script: &[CheckedFunction],
+    name: &str,
+    arguments: &[Argument],
+    answers: &[Outcome],
+) -> Halt
+    ensures { (s : Stop) → stopped_by result ≡ Some s →
+        mismatch_stop (matched (script_of script.now) name.now (map argument_of arguments.now)) (map outcome_of answers.now) ≡ s }
+{
+    let mut used = 0;
+    for argument in matched(script, name, arguments) {
+        match pass_answered(argument, answers, used) {
+            Ok(count) => used = count,
+            Err(halt) => return halt,
+        }
+    }
+    Halt::Broken
+}

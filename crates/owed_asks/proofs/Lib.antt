@@ -1,0 +1,12 @@
+pub mod NodeAnswers
+pub mod Routing
+pub mod RouteEvents
+pub mod Splits
+pub mod Laws
+pub mod SlotUsers
+pub mod Users
+pub mod Waiting
+pub mod UserEvents
+pub mod RightSlots
+pub mod WaitsTell
+pub mod Needs

@@ -1,0 +1,104 @@
+-- The worked examples of what is owed.
+use Rattle.std.proofs.Common.{◌≡◌, ℕ, zero, suc, List, [], ◌∷◌, Some, Option, refl, ap, sym, subst, ◌∙◌, arith}
+use Rattle.meaning.specs.Values.{Argument, Id, Name, Task}
+use Rattle.event_log.specs.Breaks.{Among}
+use Rattle.event_log.specs.Entries.{Accepted, Attempt, Born, Deliver, main_attempt}
+use Rattle.event_log.specs.Events.{node_of}
+use Rattle.event_log.specs.Rules.{Setting}
+use Rattle.event_log.specs.Words.{attempt}
+use Rattle.protocol.specs.Messages.{Ask, Finished, FinishedAck, Letter, TheNode, TheWorker, letter}
+use Rattle.protocol.specs.Numbered.{item_at}
+use Rattle.protocol.specs.Sets.{object_id}
+use Rattle.protocol_owed.specs.Replies.{BirthIsAsked, FinishIsAcknowledged, Says}
+use Rattle.protocol_owed.proofs.Letters.{among-nothing}
+use Rattle.lease_discipline.specs.Examples.{first_one, given_log, one_once}
+use Rattle.owed_laws.specs.Examples.{BirthsAreJudged, EndsAreJudged, acknowledged, birth_comes, end_comes, ended_network}
+
+-- ---- a birth
+
+born_parts : (o : Id) (a : Attempt) (f : Name) (args : List Argument) (depth retries : ℕ) →
+    Among (Born o a (Task f args depth retries)) (Born (object_id 1 1) main_attempt one_once ∷ []) → object_id 1 1 ≡ o
+born_parts o a f args depth retries (zero, e) = cc
+born_parts o a f args depth retries (suc k, e) = absurd (cc)
+
+on_one : (n : ℕ) → ◌≡◌ {A = Option ℕ} (Some 1) (Some n) → 1 ≡ n
+on_one n e = cc
+
+birth_is_paid : (s : Setting) → BirthIsAsked (birth_comes s (letter (TheWorker 1) (TheNode 1) (Ask first_one 0) ∷ []))
+birth_is_paid s o a f args depth retries n born place =
+    let is : object_id 1 1 ≡ o = born_parts o a f args depth retries born in
+    let after = (birth_comes s (letter (TheWorker 1) (TheNode 1) (Ask first_one 0) ∷ [])).after.log in
+    let node : 1 ≡ n = on_one n (ap (λ (p : Id). node_of p.owner after) is ∙ place) in
+    (zero, asked o n is node)
+  where
+    asked : (o : Id) (n : ℕ) → object_id 1 1 ≡ o → 1 ≡ n →
+        ◌≡◌ {A = Option Letter} (Some (letter (TheWorker 1) (TheNode 1) (Ask first_one 0))) (Some (letter (TheWorker o.owner) (TheNode n) (Ask
+        (attempt o 0) 0)))
+    asked o n e f =
+        ap (λ (p : Id). Some (letter (TheWorker p.owner) (TheNode 1) (Ask (attempt p 0) 0))) e ∙
+        ap (λ m. Some (letter (TheWorker o.owner) (TheNode m) (Ask (attempt o 0) 0))) f
+
+asks_by : (s : Setting) (ls : List Letter) → BirthIsAsked (birth_comes s ls) → Says (birth_comes s ls) (TheWorker 1) (TheNode 1) (Ask first_one 0)
+asks_by s ls p = p (object_id 1 1) main_attempt _ _ _ _ 1 (zero, refl) refl
+
+not_there : Among (letter (TheWorker 1) (TheNode 1) (Ask first_one 0)) (letter (TheWorker 1) (TheNode 2) (Ask first_one 0) ∷ []) → ⊥
+not_there (zero, e) = numbers (ap (λ (l : Letter). l.receiver) (same e))
+  where
+    same : ◌≡◌ {A = Option Letter} (Some (letter (TheWorker 1) (TheNode 2) (Ask first_one 0))) (Some (letter (TheWorker 1) (TheNode 1) (Ask first_one 0))) →
+        letter (TheWorker 1) (TheNode 2) (Ask first_one 0) ≡ letter (TheWorker 1) (TheNode 1) (Ask first_one 0)
+    same f = cc
+
+    numbers : TheNode 2 ≡ TheNode 1 → ⊥
+    numbers f = let g : ◌≡◌ {A = ℕ} 2 1 = cc in omega (arith, g)
+not_there (suc k, e) = absurd (cc)
+
+pub births_are_judged : BirthsAreJudged
+births_are_judged = record {
+  paid = birth_is_paid;
+  unasked = λ s p. among-nothing _ (asks_by s [] p);
+  elsewhere = λ s p. not_there (asks_by s (letter (TheWorker 1) (TheNode 2) (Ask first_one 0) ∷ []) p);
+}
+
+-- ---- an end
+
+end_parts : (w v : ℕ) (a : Attempt) (n : ℕ) (ids : List Id) →
+    ◌≡◌ {A = Option Letter} (Some (letter (TheWorker 2) (TheWorker 1) (Finished first_one 1 []))) (Some (letter (TheWorker w) (TheWorker v)
+    (Finished a n ids))) →
+    (2 ≡ w) × (1 ≡ v) × (first_one ≡ a)
+end_parts w v a n ids e =
+    let same : letter (TheWorker 2) (TheWorker 1) (Finished first_one 1 []) ≡ letter (TheWorker w) (TheWorker v) (Finished a n ids) = cc in
+    let from : TheWorker 2 ≡ TheWorker w = ap (λ (l : Letter). l.sender) same in
+    let to : TheWorker 1 ≡ TheWorker v = ap (λ (l : Letter). l.receiver) same in
+    let says : Finished first_one 1 [] ≡ Finished a n ids = ap (λ (l : Letter). l.message) same in
+    (cc, cc, cc)
+
+first_number : (k : ℕ) → Deliver 1 ≡ Deliver k → 1 ≡ k
+first_number k e = cc
+
+end_is_paid : (s : Setting) → FinishIsAcknowledged (end_comes s (Accepted first_one ∷ []) acknowledged)
+end_is_paid s w v a n ids brings =
+    let parts = end_parts w v a n ids
+    (subst (λ i. item_at ended_network i ≡ Some (letter (TheWorker w) (TheWorker v) (Finished a n ids))) (sym (first_number brings.0 brings.1)) brings.2) in
+    ((zero, sent w v a parts.0 parts.1 parts.2), λ _. (zero, ap (λ i. Some (Accepted i)) parts.2))
+  where
+    sent : (w v : ℕ) (a : Attempt) → 2 ≡ w → 1 ≡ v → first_one ≡ a →
+        ◌≡◌ {A = Option Letter} (Some (letter (TheWorker 1) (TheWorker 2) (FinishedAck first_one))) (Some (letter (TheWorker v) (TheWorker w)
+        (FinishedAck a)))
+    sent w v a e f g = cc
+
+unaccepted_yet : Among (Accepted first_one) given_log → ⊥
+unaccepted_yet (zero, e) = absurd (cc)
+unaccepted_yet (suc zero, e) = absurd (cc)
+unaccepted_yet (suc (suc zero), e) = absurd (cc)
+unaccepted_yet (suc (suc (suc zero)), e) = absurd (cc)
+unaccepted_yet (suc (suc (suc (suc zero))), e) = absurd (cc)
+unaccepted_yet (suc (suc (suc (suc (suc zero)))), e) = absurd (cc)
+unaccepted_yet (suc (suc (suc (suc (suc (suc zero))))), e) = absurd (cc)
+unaccepted_yet (suc (suc (suc (suc (suc (suc (suc k)))))), e) = absurd (cc)
+
+pub ends_are_judged : EndsAreJudged
+ends_are_judged = record {
+  paid = end_is_paid;
+  unaccepted = λ s p. among-nothing _ ((p 2 1 first_one 1 [] (1, refl, refl)).1 unaccepted_yet);
+  unacknowledged = λ s p. among-nothing _ (p 2 1 first_one 1 [] (1, refl, refl)).0;
+}

@@ -1,0 +1,2 @@
+pub mod Paid
+pub mod Judged

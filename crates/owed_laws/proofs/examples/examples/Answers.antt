@@ -1,0 +1,8 @@
+use Rattle.owed_laws.proofs.Judged.{births_are_judged, ends_are_judged}
+use Rattle.owed_laws.proofs.examples.examples.Goals as goal
+
+pub returns-clause-births : goal.returns-clause-births
+returns-clause-births c = births_are_judged
+
+pub returns-clause-ends : goal.returns-clause-ends
+returns-clause-ends c = ends_are_judged

@@ -1,0 +1,68 @@
+-- What is owed by an accepted event, as far as every event of every run is proved to pay it. The whole of what is owed is `Owed` of protocol_owed.
+use Rattle.std.specs.Prelude.{◌≡◌, ◌≢◌, ◌<◌, ◌≤◌, ℕ, true, List, Some}
+use Rattle.event_log.specs.Events.{node_lives, node_of}
+use Rattle.event_log.specs.Rules.{Setting}
+use Rattle.meaning.specs.Mains.{KeepsMainApart}
+use Rattle.meaning.specs.Values.{Id}
+use Rattle.protocol.specs.Answers.{Step, Takes}
+use Rattle.protocol.specs.Messages.{Fetch, Missing, TheNode, TheWorker}
+use Rattle.protocol_laws.specs.Coming.{IsRight}
+use Rattle.protocol_owed.specs.Replies.{AcknowledgedGoesBack, BirthIsAsked, Brings, CopyIsGot, ElsewhereIsAsked, GiveIsBegun, Happening, Says}
+use Rattle.protocol_owed.specs.Runs.{FetchIsMet, Handing, Running, after_events, answer_to, opening_run, seen}
+use Rattle.protocol_owed.specs.Seen.{IsCalm}
+use Rattle.protocol_owed.specs.Turns.{AllSlotsAreRight, AsksAreAnswered, ClaimIsAnswered}
+use Rattle.lease_discipline.specs.Slots.{AreRight}
+use Rattle.lease_discipline.specs.Told.{entries_of}
+use Rattle.owed_asks.specs.Law.{NewForeignWaitIsAsked, happening}
+use Rattle.owed_replies.specs.Law.{IsPaid}
+
+-- a Fetch that reaches a live node is answered by what its store has
+abbrev pub FetchesAreMet : Happening → Type 0
+FetchesAreMet h =
+    (n w number : ℕ) (y : Id) → Brings h (TheWorker w) (TheNode n) (Fetch y number) → node_lives h.before.setting.nodes n h.before.log ≡ true →
+    FetchIsMet h.before h.letters n w y number
+
+abbrev pub MissingGoesOn : Happening → Type 0
+MissingGoesOn h =
+    (i w n number m : ℕ) (y : Id) → y.owner ≢ w → Brings h (TheNode i) (TheWorker w) (Missing y number m) → node_of w h.before.log ≡ Some n →
+    Says h (TheWorker w) (TheWorker y.owner) (Missing y number m)
+
+-- as long as nothing was killed or lost
+pub record RepliesArePaid (h : Happening) : Type 0 where
+  -- a task that is born is asked for, at its owner's own node
+  pub births : BirthIsAsked h
+  -- another worker's object is asked for in the commit that leaves an attempt to wait for it
+  pub waits : NewForeignWaitIsAsked h
+  -- an Elsewhere is followed, and a Give begins its attempt
+  pub elsewhere : ElsewhereIsAsked h
+  pub gives : GiveIsBegun h
+  -- a copy answers the attempt that waits for it
+  pub copies : CopyIsGot h
+  -- what a worker's node lacks of another's object is handed on to the owner
+  pub missing : MissingGoesOn h
+  -- a FinishedAck goes back to the worker's node
+  pub acknowledged : AcknowledgedGoesBack h
+  -- ends and answers to whoever asks
+  pub replies : IsPaid h
+
+-- what an accepted event owes, by log, network and slots before and after it
+pub record EventIsPaid (h : Happening) : Type 0 where
+  -- a live node answers asks and Fetches
+  pub asks : AsksAreAnswered h.before h.event h.letters
+  pub fetches : FetchesAreMet h
+  -- who has a slot has a use for it, who was given or is busy has one, and none is free while something stands in the queue
+  pub slots : AllSlotsAreRight h.after
+  pub replies : IsCalm h.after.log → RepliesArePaid h
+
+pub record AnswerPays (s : Setting) (r : Running) (g : Handing) : Type 0 where
+  -- accepted or refused: 31 to a live worker's claim exactly where it isn't ready
+  pub claims : ClaimIsAnswered (seen s r) g.event (entries_of (answer_to r g))
+  pub accepted : (step : Step) → answer_to r g ≡ Takes step → EventIsPaid (happening s r g step)
+
+-- in every run, of each event; where what is handed in with commits is what replays do
+abbrev pub EventsArePaid : Type 0
+EventsArePaid =
+    (s : Setting) (slots : ℕ) → 0 < s.nodes → 1 ≤ slots → KeepsMainApart s.script →
+    (gs : List Handing) → AreRight s (opening_run s.nodes slots) gs → (g : Handing) →
+    let r : Running = after_events (opening_run s.nodes slots) gs in
+    IsRight s r.whole g.event g.handed → AnswerPays s r g

@@ -1,0 +1,12 @@
+// The law of what is owed, as far as it is proved.
+
+ghost use Rattle.owed_laws.specs.Law.{EventsArePaid};
+
+/// In every run, of each event that comes, by log, network and slots before and after it. Whatever was killed or lost: a live worker's claim is
+/// answered 31 exactly where it isn't ready; an accepted event answers the ask or Fetch that it brings to a live node, and leaves the slots of each
+/// live node right. As long as nothing was killed or lost: it asks for each task that is born, and for each foreign object for which an attempt
+/// newly waits, follows an Elsewhere, begins what a Give gives, gets a copy, hands on what a node lacks, sends back the worker of a FinishedAck,
+/// and makes the replies of `owed_replies`.
+pub fn events_are_paid()
+    ensures { EventsArePaid }
+{}

@@ -1,0 +1,387 @@
+-- What an event has to make of the whole, so that each message still gets its reply.
+use Rattle.std.proofs.Common.{◌≡◌, ℕ, zero, suc, ◌+◌, ◌<◌, ◌≤◌, List, [], ◌∷◌, ◌++◌, length, Some, None, Option, refl, ap, sym, subst, ◌∙◌, ◌⊎◌, inl, inr}
+use Rattle.std.proofs.Common.{arith}
+use Rattle.std.specs.Prelude.{true, false, if◌then◌else◌, slice_get}
+use Rattle.std.specs.List.{AllByRecursion, flat_map}
+use Rattle.std.proofs.lemmas.List.Concat.{flat_map-append}
+use Rattle.meaning.proofs.BirthLaws.{at_test, same_id-refl}
+use Rattle.meaning.specs.Births.{Bearing, birth_at, same_id}
+use Rattle.meaning.specs.Readings.{IsBorn}
+use Rattle.meaning.specs.Values.{Birth, Id, Outcome, Put}
+use Rattle.event_log.specs.Breaks.{Among}
+use Rattle.event_log.specs.Entries.{Accepted, Attempt, Born, Claim, Commit, Deliver, Ended, Entry, Event, Evict, In, Join, Kill, KillNode, Lose, Notice, NoticeNode}
+use Rattle.event_log.specs.Entries.{Tick, main_attempt}
+use Rattle.event_log.specs.Events.{accepted_events}
+use Rattle.event_log.specs.Legal as L
+use Rattle.event_log.specs.Rules.{Setting}
+use Rattle.event_log.specs.Sane.{Sane}
+use Rattle.event_log.proofs.Extending.{birth_at-more}
+use Rattle.event_log.specs.Words.{births, main_bearing, born_in, ended_in, ends_of, faults_of, same_attempt}
+use Rattle.event_log.proofs.SaneLaws.{legal_logs_are_sane}
+use Rattle.event_log.proofs.WordLaws.{same_attempt-refl}
+use Rattle.protocol.specs.Messages.{Letter, letter, Message, Party, TheWorker, TheNode, Ask, Give, Elsewhere, Wait, Back, Push, Finished, FinishedAck, Failed}
+use Rattle.protocol.specs.Messages.{Where, At, Gone, Fetch, CopyOf, Missing, Hold, HoldAck, Unhold}
+use Rattle.protocol.specs.Numbered.{item_at}
+use Rattle.protocol.specs.Tables.{HasEnded, HasFaulted, Object, Out, Phase, Ready, Run, Waits, Worker}
+use Rattle.protocol.specs.Whole.{Moved, Whole, worker_at}
+use Rattle.protocol_legal.specs.Knows.{KnowsPhase, KnowsRun, KnowsWorker}
+use Rattle.protocol_legal.specs.Made.{IsMade}
+use Rattle.protocol_legal.specs.Past.{past}
+use Rattle.protocol_legal.specs.Says.{Says}
+use Rattle.protocol_legal.specs.Whole.{Between, setting_of}
+use Rattle.protocol_owed.specs.Replies.{IsRequest}
+use Rattle.protocol_owed.specs.Seen.{delivered_in, letters_by}
+use Rattle.protocol_owed.proofs.Letters.{among-append_cases, among-behind, among-more, among-nothing}
+use Rattle.protocol_owed.proofs.Nodes.{there_more}
+use Rattle.lease_discipline.specs.Told.{IsInStep, attempt_by}
+use Rattle.owed_replies.specs.Kept.{IsAwaitedBy, IsBornIn, IsGoingOn, IsOverInTime, IsReported, IsRightBetween, IsRightLetter, KeepsReplies, RunIsRight, came_by}
+use Rattle.owed_replies.proofs.Objects.{Grows, IsGrown}
+
+-- ---- lists
+
+module _ {X Y : Type 0} (f : X → List Y) where
+  pub among_flat : (xs : List X) (x : X) (y : Y) → Among x xs → Among y (f x) → Among y (flat_map f xs)
+  among_flat [] x y (k, e) i = absurd (cc)
+  among_flat (z ∷ xs) x y (zero, e) i = let same : z ≡ x = cc in among-more (f z) (flat_map f xs) y (subst (λ u. Among y (f u)) (sym same) i)
+  among_flat (z ∷ xs) x y (suc k, e) i = among-behind (f z) (flat_map f xs) y (among_flat xs x y (k, e) i)
+
+  pub flat_among : (xs : List X) (y : Y) → Among y (flat_map f xs) → (x : X) × Among x xs × Among y (f x)
+  flat_among [] y i = absurd (among-nothing y i)
+  flat_among (z ∷ xs) y i = elim (among-append_cases (f z) (flat_map f xs) y i) [
+    | inl j ↦ (z, (zero, refl), j)
+    | inr j ↦ let r = flat_among xs y j in (r.0, (suc r.1.0, r.1.1), r.2)
+  ]
+
+pub all_among : (P : Letter → Type 0) (ls : List Letter) (l : Letter) → AllByRecursion P ls → Among l ls → P l
+all_among P [] l all (k, e) = absurd (cc)
+all_among P (x ∷ ls) l all (zero, e) = let same : x ≡ l = cc in subst P same all.0
+all_among P (x ∷ ls) l all (suc k, e) = all_among P ls l all.1 (k, e)
+
+-- ---- what a log says of births and ends
+
+birth_among : (xs : List Bearing) (y : Bearing) → Among y xs → (b : Birth) × (birth_at xs y.object ≡ Some b)
+birth_among [] y (k, e) = absurd (cc)
+birth_among (x ∷ xs) y (zero, e) =
+    let same : x ≡ y = cc in
+    (x.birth, ap (λ (z : Bearing). if same_id x.object z.object then Some x.birth else birth_at xs z.object) (sym same) ∙ ap (λ b. if b then Some x.birth else birth_at xs x.object) (same_id-refl x.object))
+birth_among (x ∷ xs) y (suc k, e) = first (birth_among xs y (k, e))
+  where
+    first : ((b : Birth) × (birth_at xs y.object ≡ Some b)) → (b : Birth) × ((if same_id x.object y.object then Some x.birth else birth_at xs y.object) ≡ Some b)
+    first r = at_test (λ t. (b : Birth) × ((if t then Some x.birth else birth_at xs y.object) ≡ Some b)) (same_id x.object y.object) (λ _. (x.birth, refl)) (λ _. r)
+
+-- what an entry bears was born
+pub entry_born : (log : List Entry) (o : Id) → IsBornIn log o → IsBorn (births log) o
+entry_born log o (a, b, i) =
+    let x : Bearing = record { object = o; birth = b } in
+    let j = among_flat born_in log (Born o a b) x i (zero, refl) in
+    birth_among (births log) x (suc j.0, j.1)
+
+pub end_among : (log : List Entry) (a : Attempt) (b : Outcome) → Among (Ended a b) log → Among b (ends_of a log)
+end_among log a b i = among_flat (ended_in a) log (Ended a b) b i (subst (λ t. Among b (if t then b ∷ [] else [])) (sym (same_attempt-refl a)) (zero, refl))
+
+pub item_below : {X : Type 0} (xs : List X) (n : ℕ) → 1 ≤ n → n < length xs + 1 → (z : X) × (item_at xs n ≡ Some z)
+item_below xs zero some below = absurd (omega (arith, some))
+item_below {X} xs (suc i) some below = got xs i (omega (arith, below))
+  where
+    got : (ys : List X) (j : ℕ) → j < length ys → (z : X) × (slice_get ys j ≡ Some z)
+    got [] j e = absurd (omega (arith, e))
+    got (y ∷ ys) zero e = (y, refl)
+    got (y ∷ ys) (suc j) e = got ys j (omega (arith, e))
+
+-- ---- what is born is in its owner's table
+
+pub owner_has : (s : Setting) (log : List Entry) (c : Whole) → Between s log c → (y : Id) → IsBorn (births log) y → (x : Worker) → worker_at c y.owner ≡ Some x → x.is_live ≡ true →
+    1 ≤ y.serial → (z : Object) × (item_at x.objects y.serial ≡ Some z)
+owner_has s log c b y born x at live some =
+    let sane : Sane log = legal_logs_are_sane L.Whole (setting_of s c) log b.legal in
+    let below = sane.serials y born.0 born.1 in
+    let knows : KnowsWorker (setting_of s c) (past log b.asked) y.owner x = b.knows.workers y.owner x at live in
+    let next = knows.serial in
+    item_below x.objects y.serial some (omega (arith, below, next))
+
+-- a content that was made is of what was born
+pub made_born : (s : Setting) (log : List Entry) (c : Whole) → Between s log c → (y : Id) (number : ℕ) → IsMade log y number → IsBorn (births log) y
+made_born s log c b y number (n, inl p) = (Put p.value, p.born)
+made_born s log c b y number (n, inr p) = (legal_logs_are_sane L.Whole (setting_of s c) log b.legal).born y number p.worker p.runs
+
+-- what is asked for was born
+pub request_born : (s : Setting) (log : List Entry) (c : Whole) → Between s log c → KeepsReplies log c → (v w : ℕ) (y : Id) (m : Message) →
+    Among (letter (TheWorker v) (TheWorker w) m) c.network → IsRequest y m → IsBorn (births log) y
+request_born s log c b k v w y m i (inl is) =
+    let r : IsRightLetter log (letter (TheWorker v) (TheWorker w) (Where y)) = subst (λ n. IsRightLetter log (letter (TheWorker v) (TheWorker w) n)) is (k.letters _ i) in
+    r.2
+request_born s log c b k v w y m i (inr (number, n, is)) =
+    let told : Says (past log b.asked) (letter (TheWorker v) (TheWorker w) (Missing y number n)) =
+    subst (λ q. Says (past log b.asked) (letter (TheWorker v) (TheWorker w) q)) is (all_among (Says (past log b.asked)) c.network _ b.knows.told i) in
+    made_born s log c b y number told.0
+
+-- what was born stays so
+pub born_more : (log es : List Entry) (o : Id) → IsBornIn log o → IsBornIn (log ++ es) o
+born_more log es o (f, x, i) = (f, x, among-more log es _ i)
+
+pub known_more : (log es : List Entry) (o : Id) → IsBorn (births log) o → IsBorn (births (log ++ es)) o
+known_more log es o (x, e) = (x, ap (λ xs. birth_at (main_bearing ∷ xs) o) (flat_map-append born_in log es) ∙ birth_at-more (births log) (flat_map born_in es) o x e)
+
+-- what is right beside a log is right beside more
+pub right_more : (p es : List Entry) (from to : Party) (m : Message) → IsRightBetween p from to m → IsRightBetween (p ++ es) from to m
+right_more p es (TheWorker v) (TheWorker w) (Where y) r = (r.0, r.1, known_more p es y r.2)
+right_more p es (TheWorker v) (TheWorker w) (Hold e o) r = (r.0, born_more p es o r.1)
+right_more p es (TheWorker v) (TheWorker w) (Missing y number n) r = r
+right_more p es (TheWorker v) (TheWorker w) (Finished a n ids) r = r
+right_more p es (TheWorker v) (TheWorker w) (At y number ns) r = r
+right_more p es (TheWorker v) (TheWorker w) (Ask a t) r = tt
+right_more p es (TheWorker v) (TheWorker w) (Give a t u) r = tt
+right_more p es (TheWorker v) (TheWorker w) (Elsewhere a t n) r = tt
+right_more p es (TheWorker v) (TheWorker w) (Wait a t) r = tt
+right_more p es (TheWorker v) (TheWorker w) (Back a) r = tt
+right_more p es (TheWorker v) (TheWorker w) (Push a spec) r = tt
+right_more p es (TheWorker v) (TheWorker w) (FinishedAck a) r = tt
+right_more p es (TheWorker v) (TheWorker w) (Failed a g) r = tt
+right_more p es (TheWorker v) (TheWorker w) (Gone y g) r = tt
+right_more p es (TheWorker v) (TheWorker w) (Fetch y number) r = tt
+right_more p es (TheWorker v) (TheWorker w) (CopyOf y number c) r = tt
+right_more p es (TheWorker v) (TheWorker w) (HoldAck e o) r = tt
+right_more p es (TheWorker v) (TheWorker w) (Unhold e o) r = tt
+right_more p es (TheWorker v) (TheNode n) m r = tt
+right_more p es (TheNode v) to m r = tt
+
+-- ---- an event
+
+-- a worker after the event is one of before, whose askers are kept in mind, or has no objects yet
+pub record IsOfOld (c : Whole) (w : ℕ) (y : Worker) : Type 0 where
+  pub worker : Worker
+  pub there : worker_at c w ≡ Some worker
+  pub lived : worker.is_live ≡ true
+  pub grows : Grows worker.objects y.objects
+
+-- the attempt is the present one of a live worker
+pub record IsPresent (c : Whole) (a : Attempt) : Type 0 where
+  pub number : ℕ
+  pub worker : Worker
+  pub there : worker_at c number ≡ Some worker
+  pub lives : worker.is_live ≡ true
+  pub present : attempt_by worker.run ≡ Some a
+
+-- the event brings the end of the attempt to a live worker
+pub record IsBrought (c : Whole) (e : Event) (a : Attempt) : Type 0 where
+  pub number : ℕ
+  pub sender : ℕ
+  pub owner : ℕ
+  pub node : ℕ
+  pub ids : List Id
+  pub worker : Worker
+  pub event : e ≡ Deliver number
+  pub sent : item_at c.network number ≡ Some (letter (TheWorker sender) (TheWorker owner) (Finished a node ids))
+  pub there : worker_at c owner ≡ Some worker
+  pub lives : worker.is_live ≡ true
+
+-- what the event e makes of the whole c, with these entries and letters
+pub record Advances (log : List Entry) (c : Whole) (e : Event) (seat : ℕ) (m : Moved) : Type 0 where
+  pub network : m.whole.network ≡ c.network ++ m.out.letters
+  pub letters : (l : Letter) → Among l m.out.letters → IsRightLetter (log ++ In e seat ∷ m.out.entries) l
+  pub runs : (w : ℕ) (y : Worker) (run : Run) → worker_at m.whole w ≡ Some y → y.run ≡ Some run →
+      RunIsRight (log ++ In e seat ∷ m.out.entries) m.whole.network w run × IsOverInTime run
+  pub objects : (w : ℕ) (y : Worker) → worker_at m.whole w ≡ Some y → y.is_live ≡ true → IsOfOld c w y ⊎ (y.objects ≡ [])
+  pub asked : (k v : ℕ) (o : Id) (n : Message) → e ≡ Deliver k → item_at c.network k ≡ Some (letter (TheWorker v) (TheWorker o.owner) n) → IsRequest o n →
+      (y : Worker) (z : Object) → worker_at m.whole o.owner ≡ Some y → y.is_live ≡ true → item_at y.objects o.serial ≡ Some z → IsAwaitedBy v z
+  pub goes_on : (a : Attempt) → IsGoingOn c a → IsGoingOn m.whole a ⊎ IsPresent m.whole a
+  pub ended : (a : Attempt) (b : Outcome) → Among (Ended a b) m.out.entries → IsPresent m.whole a
+  pub accepts : (a : Attempt) → Among (Accepted a) m.out.entries → IsBrought c e a
+
+module _ (s : Setting) (log : List Entry) (c : Whole) (e : Event) (seat : ℕ) (m : Moved) (before : IsInStep s log c)
+    (after : IsInStep s (log ++ In e seat ∷ m.out.entries) m.whole) (k : KeepsReplies log c) (sent : (i : ℕ) → e ≡ Deliver i → (l : Letter) × (item_at c.network i ≡ Some l))
+    (accepted : accepted_events (log ++ In e seat ∷ m.out.entries) ≡ accepted_events log ++ e ∷ []) (a : Advances log c e seat m) where
+  abbrev next : List Entry
+  next = log ++ In e seat ∷ m.out.entries
+
+  abbrev b : Between s log c
+  b = before.sound.between
+
+  abbrev d : Between s next m.whole
+  d = after.sound.between
+
+  right_still : (l : Letter) → IsRightLetter log l → IsRightLetter next l
+  right_still l r = right_more log (In e seat ∷ m.out.entries) l.sender l.receiver l.message r
+
+  -- ---- attempts that ended
+
+  same_run : (x y : Run) → ◌≡◌ {A = Option Run} (Some x) (Some y) → x ≡ y
+  same_run x y f = cc
+
+  no_end : (f : Attempt) (x : Outcome) → Among x (ends_of f next) → ends_of f next ≡ [] → ⊥
+  no_end f x i g = among-nothing x (subst (λ xs. Among x xs) g i)
+
+  some_end : (f : Attempt) (x : Outcome) → Among x (ends_of f next) → 1 ≤ length (ends_of f next)
+  some_end f x i = counted (ends_of f next) i.0 i.1
+    where
+      counted : (xs : List Outcome) (j : ℕ) → slice_get xs j ≡ Some x → 1 ≤ length xs
+      counted [] j g = absurd (cc)
+      counted (y ∷ xs) j g = omega arith
+
+  -- the present attempt of a live worker that ended is over and reported, or goes on
+  settles : (f : Attempt) (x : Outcome) → Among (Ended f x) next → same_attempt f main_attempt ≡ false → IsPresent m.whole f →
+      ((w : ℕ) × IsReported m.whole.network w f) ⊎ IsGoingOn m.whole f
+  settles f x i other p = by_run p.worker.run refl
+    where
+      by_run : (r : Option Run) → p.worker.run ≡ r → ((w : ℕ) × IsReported m.whole.network w f) ⊎ IsGoingOn m.whole f
+      by_run None g = let h : attempt_by None ≡ Some f = ap attempt_by (sym g) ∙ p.present in absurd (cc)
+      by_run (Some run) g =
+          let same : run.attempt ≡ f = there (ap attempt_by (sym g) ∙ p.present) in
+          let knows : KnowsRun (setting_of s m.whole) next p.number p.worker run = (d.knows.workers p.number p.worker p.there p.lives).run run g in
+          let right = a.runs p.number p.worker run p.there g in
+          let here : Among x (ends_of run.attempt next) = subst (λ q. Among x (ends_of q next)) (sym same) (end_among next f x i) in
+          let told : (phase : Phase) → run.phase ≡ phase → run.is_over ≡ true → IsReported m.whole.network p.number f = λ phase h over.
+          by_phase run same right.0 here knows phase h over in
+          at_test (λ t. run.is_over ≡ t → ((w : ℕ) × IsReported m.whole.network w f) ⊎ IsGoingOn m.whole f) run.is_over
+          (λ _ over. inl (p.number, told run.phase refl over))
+          (λ _ going. inr (record { number = p.number; worker = p.worker; run = run; there = p.there; at = g; present = same; going = going })) refl
+        where
+          there : ◌≡◌ {A = Option Attempt} (Some run.attempt) (Some f) → run.attempt ≡ f
+          there h = cc
+
+          by_phase : (r : Run) → r.attempt ≡ f → RunIsRight next m.whole.network p.number r → Among x (ends_of r.attempt next) →
+              KnowsRun (setting_of s m.whole) next p.number p.worker r → (phase : Phase) → r.phase ≡ phase → r.is_over ≡ true → IsReported m.whole.network p.number f
+          by_phase r same right here knows (HasEnded y) h over =
+              subst (λ q. IsReported m.whole.network p.number q) same (right.told y h over (subst (λ q. same_attempt q main_attempt ≡ false) (sym same) other))
+          by_phase r same right here knows (HasFaulted y) h over =
+              let q = subst (λ z. KnowsPhase (setting_of s m.whole) next p.worker r z) h knows.phase in
+              let sane : Sane next = legal_logs_are_sane L.Whole (setting_of s m.whole) next d.legal in
+              let once = sane.one_end r.attempt in
+              let some = some_end r.attempt x here in
+              let faulted : length (faults_of r.attempt next) ≡ 1 = ap length q.1 in
+              absurd (omega (arith, once, some, faulted))
+          by_phase r same right here knows Ready h over = absurd (no_end r.attempt x here (subst (λ z. KnowsPhase (setting_of s m.whole) next p.worker r z) h knows.phase).ended)
+          by_phase r same right here knows (Out j) h over = absurd (no_end r.attempt x here (subst (λ z. KnowsPhase (setting_of s m.whole) next p.worker r z) h knows.phase).ended)
+          by_phase r same right here knows (Waits y g) h over = absurd (no_end r.attempt x here (subst (λ z. KnowsPhase (setting_of s m.whole) next p.worker r z) h knows.phase).0.ended)
+
+  ends_still : (f : Attempt) (x : Outcome) → Among (Ended f x) next → same_attempt f main_attempt ≡ false →
+      ((w : ℕ) × IsReported m.whole.network w f) ⊎ IsGoingOn m.whole f
+  ends_still f x i other = elim (among-append_cases log (In e seat ∷ m.out.entries) (Ended f x) i) [
+    | inl old ↦ by_old (k.ends f x old other)
+    | inr new ↦ by_new new
+  ]
+    where
+      by_old : ((w : ℕ) × IsReported c.network w f) ⊎ IsGoingOn c f → ((w : ℕ) × IsReported m.whole.network w f) ⊎ IsGoingOn m.whole f
+      by_old (inl (w, r)) = inl (w, (r.0, r.1, subst (λ ls. Among (letter (TheWorker w) (TheWorker f.object.owner) (Finished f r.0 r.1)) ls) (sym a.network)
+          (among-more c.network m.out.letters _ r.2)))
+      by_old (inr g) = elim (a.goes_on f g) [ inl h ↦ inr h | inr p ↦ settles f x i other p ]
+
+      by_new : Among (Ended f x) (In e seat ∷ m.out.entries) → ((w : ℕ) × IsReported m.whole.network w f) ⊎ IsGoingOn m.whole f
+      by_new (zero, h) = absurd (cc)
+      by_new (suc j, h) = settles f x i other (a.ended f x (j, h))
+
+  -- ---- whoever asked
+
+  item_still : (i : ℕ) (l : Letter) → item_at c.network i ≡ Some l → item_at m.whole.network i ≡ Some l
+  item_still i l g = ap (λ ls. item_at ls i) a.network ∙ there_more c.network m.out.letters i l g
+
+  same_letter : (x y : Letter) → ◌≡◌ {A = Option Letter} (Some x) (Some y) → x ≡ y
+  same_letter x y f = cc
+
+  -- what a delivery brought was in the network before
+  brought_by : (l : Letter) (i : ℕ) (u : Letter) → item_at c.network i ≡ Some u → Among l (delivered_in m.whole.network (Deliver i)) → item_at c.network i ≡ Some l
+  brought_by l i u at j =
+      let f : delivered_in m.whole.network (Deliver i) ≡ u ∷ [] = ap letters_by (item_still i u at) in
+      let same : l ≡ u = only (subst (λ ls. Among l ls) f j) in
+      at ∙ ap (λ x. Some x) (sym same)
+    where
+      only : Among l (u ∷ []) → l ≡ u
+      only (zero, g) = cc
+      only (suc n, g) = absurd (cc)
+
+  -- an event that brings a letter is its delivery
+  brings : (f : Event) (l : Letter) (net : List Letter) → Among l (delivered_in net f) → (i : ℕ) × (f ≡ Deliver i)
+  brings (Deliver i) l net j = (i, refl)
+  brings (Claim w) l net j = absurd (among-nothing l j)
+  brings (Commit i) l net j = absurd (among-nothing l j)
+  brings (Tick w) l net j = absurd (among-nothing l j)
+  brings (Notice w v) l net j = absurd (among-nothing l j)
+  brings (NoticeNode w n) l net j = absurd (among-nothing l j)
+  brings (Evict n o) l net j = absurd (among-nothing l j)
+  brings (Lose n o) l net j = absurd (among-nothing l j)
+  brings (Kill w) l net j = absurd (among-nothing l j)
+  brings (KillNode n) l net j = absurd (among-nothing l j)
+  brings Join l net j = absurd (among-nothing l j)
+
+  positive : (xs : List Object) (n : ℕ) (z : Object) → item_at xs n ≡ Some z → 1 ≤ n
+  positive xs zero z f = absurd (cc)
+  positive xs (suc n) z f = omega arith
+
+  among_item : (i : ℕ) (l : Letter) → item_at c.network i ≡ Some l → Among l c.network
+  among_item zero l f = absurd (cc)
+  among_item (suc i) l f = (i, f)
+
+  askers_still : (v : ℕ) (y : Id) (n : Message) → Among (letter (TheWorker v) (TheWorker y.owner) n) (came_by m.whole.network next) → IsRequest y n →
+      (x : Worker) (z : Object) → worker_at m.whole y.owner ≡ Some x → x.is_live ≡ true → item_at x.objects y.serial ≡ Some z → IsAwaitedBy v z
+  askers_still v y n i is x z at live there =
+      let l : Letter = letter (TheWorker v) (TheWorker y.owner) n in
+      let r = flat_among (delivered_in m.whole.network) (accepted_events next) l i in
+      elim (among-append_cases (accepted_events log) (e ∷ []) r.0 (subst (λ es. Among r.0 es) accepted r.1)) [
+        | inl old ↦ by_old r.0 old r.2
+        | inr new ↦ by_new r.0 new r.2
+      ]
+    where
+      by_old : (f : Event) → Among f (accepted_events log) → Among (letter (TheWorker v) (TheWorker y.owner) n) (delivered_in m.whole.network f) → IsAwaitedBy v z
+      by_old f old j =
+          let l : Letter = letter (TheWorker v) (TheWorker y.owner) n in
+          let q = brings f l m.whole.network j in
+          let u = k.delivered q.0 (subst (λ g. Among g (accepted_events log)) q.1 old) in
+          let was : item_at c.network q.0 ≡ Some l = brought_by l q.0 u.0 u.1 (subst (λ g. Among l (delivered_in m.whole.network g)) q.1 j) in
+          let brought : Among l (delivered_in c.network (Deliver q.0)) = subst (λ o. Among l (letters_by o)) (sym was) (zero, refl) in
+          let came : Among l (came_by c.network log) = among_flat (delivered_in c.network) (accepted_events log) (Deliver q.0) l (subst (λ g. Among g (accepted_events log)) q.1 old) brought in
+          let born : IsBorn (births log) y = request_born s log c b k v y.owner y n (among_item q.0 l was) is in
+          elim (a.objects y.owner x at live) [
+            | inl o ↦ by_worker o came born
+            | inr none ↦ empty none
+          ]
+        where
+          by_worker : IsOfOld c y.owner x → Among (letter (TheWorker v) (TheWorker y.owner) n) (came_by c.network log) → IsBorn (births log) y → IsAwaitedBy v z
+          by_worker o came born =
+              let w = owner_has s log c b y born o.worker o.there o.lived (positive x.objects y.serial z there) in
+              let awaited : IsAwaitedBy v w.0 = k.askers v y n came is o.worker w.0 o.there o.lived w.1 in
+              let g : IsGrown x.objects y.serial w.0 = o.grows y.serial w.0 w.1 in
+              let same : g.object ≡ z = same_object g.object z (sym g.there ∙ there) in
+              subst (IsAwaitedBy v) same (elim awaited [ inl t ↦ g.succeeds.askers v t | inr t ↦ inr (g.succeeds.answered t) ])
+            where
+              same_object : (p q : Object) → ◌≡◌ {A = Option Object} (Some p) (Some q) → p ≡ q
+              same_object p q f = cc
+
+          empty : x.objects ≡ [] → IsAwaitedBy v z
+          empty none = nothing_there y.serial (sym (ap (λ ys. item_at ys y.serial) none) ∙ there)
+            where
+              nothing_there : (j : ℕ) → item_at [] j ≡ Some z → IsAwaitedBy v z
+              nothing_there zero f = absurd (cc)
+              nothing_there (suc j) f = absurd (cc)
+
+      by_new : (f : Event) → Among f (e ∷ []) → Among (letter (TheWorker v) (TheWorker y.owner) n) (delivered_in m.whole.network f) → IsAwaitedBy v z
+      by_new f (suc j, g) i = absurd (cc)
+      by_new f (zero, g) i =
+          let same : e ≡ f = cc in
+          let l : Letter = letter (TheWorker v) (TheWorker y.owner) n in
+          let q = brings f l m.whole.network i in
+          let is_delivery : e ≡ Deliver q.0 = same ∙ q.1 in
+          let u = sent q.0 is_delivery in
+          a.asked q.0 v y n is_delivery (brought_by l q.0 u.0 u.1 (subst (λ h. Among l (delivered_in m.whole.network h)) q.1 i)) is x z at live there
+
+  delivered_still : (i : ℕ) → Among (Deliver i) (accepted_events next) → (l : Letter) × (item_at m.whole.network i ≡ Some l)
+  delivered_still i j = elim (among-append_cases (accepted_events log) (e ∷ []) (Deliver i) (subst (λ es. Among (Deliver i) es) accepted j)) [
+    | inl old ↦ let u = k.delivered i old in (u.0, item_still i u.0 u.1)
+    | inr new ↦ let u = sent i (only new) in (u.0, item_still i u.0 u.1)
+  ]
+    where
+      only : Among (Deliver i) (e ∷ []) → e ≡ Deliver i
+      only (zero, g) = cc
+      only (suc n, g) = absurd (cc)
+
+  pub advanced : KeepsReplies next m.whole
+  advanced = record {
+    letters = λ l i. elim (among-append_cases c.network m.out.letters l (subst (λ ls. Among l ls) a.network i)) [
+      | inl old ↦ right_still l (k.letters l old)
+      | inr new ↦ a.letters l new
+    ];
+    runs = λ w x run at is. (a.runs w x run at is).0;
+    in_time = λ w x run at is. (a.runs w x run at is).1;
+    delivered = delivered_still;
+    askers = askers_still;
+    ends = ends_still;
+  }

@@ -1,0 +1,423 @@
+-- How an attempt begins here, is given out and is committed, and how an end is accepted, keeps what is true of messages and attempts.
+use Rattle.std.proofs.Common.{◌≡◌, ℕ, zero, suc, ◌+◌, List, [], ◌∷◌, ◌++◌, length, Some, None, Option, refl, ap, sym, subst, ◌∙◌, ◌⊎◌, inl, inr}
+use Rattle.std.specs.Prelude.{Bool, true, false, if◌then◌else◌, not, ◌==◌, ◌&&◌}
+use Rattle.std.specs.List.{list_any}
+use Rattle.meaning.proofs.BirthLaws.{at_test}
+use Rattle.meaning.specs.Readings.{IsBorn}
+use Rattle.meaning.specs.Runs.{Needs, Over, Stop, next_id}
+use Rattle.meaning.specs.Values.{Birth, Id, Outcome, Put, Task, Value}
+use Rattle.values.specs.Listed.{each_once, ids_in_outcome}
+use Rattle.event_log.specs.Breaks.{Among}
+use Rattle.event_log.specs.Commits.{commit_entries}
+use Rattle.event_log.specs.Entries.{Accepted, Attempt, Ended, Entry, Faulted, OwnerDied, Released}
+use Rattle.event_log.specs.Holding.{ids_of_birth}
+use Rattle.event_log.specs.Words.{attempt, births, same_attempt}
+use Rattle.protocol.specs.Jobs.{AtEnd, AtGet, Outcomes, Stopped, stop_of}
+use Rattle.protocol.specs.Messages.{Ask, FinishedAck, Hold, Letter, TheWorker, Unhold, Where}
+use Rattle.protocol.specs.Numbered.{changed_at, item_at}
+use Rattle.protocol.specs.Sets.{fault}
+use Rattle.protocol.specs.Stores.{Store, with_primary}
+use Rattle.protocol.specs.Tables.{AskedAt, ByTask, HasEnded, HasFaulted, Holding, Object, Out, OwnTask, Run, Waits, is_waiting_for, knows_dead, needed_by}
+use Rattle.protocol.specs.Tables.{new_object, new_run, new_task, put_object, task_in, task_of, released, with_content, with_holder, with_task, without_holder}
+use Rattle.protocol.specs.Steps.{Here, changes, each_from, is_own, logs, logs_all, object_at, own_id, own_object, says, says_to_node, store_here, with_run, with_store}
+use Rattle.protocol.specs.Steps.{with_task_of, with_worker}
+use Rattle.protocol.specs.Runs.{begins_run, faults, gives_slot_back, is_free, push_reached}
+use Rattle.protocol.specs.Asking.{asks_at, rests}
+use Rattle.protocol.specs.Places.{answers_settled, needs_own}
+use Rattle.protocol.specs.Holders.{awaits_hold_by, holding, holds_id, holds_ids, same_holding, sends_hold, unhold_reached, with_holding}
+use Rattle.protocol.specs.Commits.{bears, bears_all, claim_by, claim_step, commit_by, commit_step, ends, needs}
+use Rattle.protocol.specs.Commits.{next_id_here, rests_if_waiting, stops, stops_by, with_object, with_outcomes}
+use Rattle.protocol.specs.Ends.{accepts, finished_by, finished_reached, hears_of_end, if_present}
+use Rattle.protocol.specs.Releases.{drops_copies, may_release, lets_go, lets_go_of, release_pass, release_passes, release_step, releases, releases_by, entries_made}
+use Rattle.protocol_owed.proofs.Letters.{among-append_cases, among-push_cases}
+use Rattle.owed_replies.specs.Kept.{IsBornIn, IsOverInTime, RunIsRight}
+use Rattle.owed_replies.proofs.Objects.{Grows, pushed_grows, put_grows, same_grows, succeeds_alike}
+use Rattle.owed_replies.proofs.Moves.{IsKept, answers_settled-kept, needs_own-kept, rests_if_waiting-kept}
+use Rattle.owed_replies.proofs.Paying.{Does, Pays, frees_does, leaves_pays, not_both, objects_does, pays_kept, run_does, said, says_to_node_does, writes_does}
+use Rattle.lease_discipline.proofs.Tame.{changed_here}
+
+-- ---- releases leave the attempt as it is
+
+abbrev IsAs : Option Run → Here → Type 0
+IsAs r h = h.worker.run ≡ r
+
+either_run : (r : Option Run) (b : Bool) (x y : Here) → IsAs r x → IsAs r y → IsAs r (if b then x else y)
+either_run r true x y p q = p
+either_run r false x y p q = q
+
+lets_go_of-run : (r : Option Run) (h : Here) (e o : Id) → IsAs r h → IsAs r (lets_go_of h e o)
+lets_go_of-run r h e o p = either_run r (is_own h o) (unhold_reached h e o) (says h o.owner (Unhold e o)) (either_run r (is_own h o) (changes h o (without_holder e)) h p p) p
+
+lets_go-run : (r : Option Run) (h : Here) (e : Id) (os : List Id) → IsAs r h → IsAs r (lets_go h e os)
+lets_go-run r h e [] p = p
+lets_go-run r h e (o ∷ os) p = lets_go-run r (lets_go_of h e o) e os (lets_go_of-run r h e o p)
+
+drops_copies-run : (r : Option Run) (h : Here) (e : Id) (ns : List ℕ) → IsAs r h → IsAs r (drops_copies h e ns)
+drops_copies-run r h e [] p = p
+drops_copies-run r h e (n ∷ ns) p = drops_copies-run r (says_to_node h n (Unhold e e)) e ns p
+
+releases-run : (r : Option Run) (h : Here) (e : Id) (x : Object) → IsAs r h → IsAs r (releases h e x)
+releases-run r h e x p = drops_copies-run r (lets_go (logs (changes h e released) (Released e)) e x.ids) e x.places
+    (lets_go-run r (logs (changes h e released) (Released e)) e x.ids p)
+
+releases_by-run : (r : Option Run) (h : Here) (k : ℕ) (x : Option Object) → IsAs r h → IsAs r (releases_by h k x)
+releases_by-run r h k None p = p
+releases_by-run r h k (Some x) p = either_run r (may_release h.worker x) (releases h (own_id h k) x) h (releases-run r h (own_id h k) x p) p
+
+each-run : (r : Option Run) (f : Here → ℕ → Here) → ((g : Here) (k : ℕ) → IsAs r g → IsAs r (f g k)) → (h : Here) (k n : ℕ) → IsAs r h → IsAs r (each_from f h k n)
+each-run r f each h k zero p = p
+each-run r f each h k (suc n) p = each-run r f each (f h k) (k + 1) n (each h k p)
+
+release_pass-run : (r : Option Run) (h : Here) → IsAs r h → IsAs r (release_pass h)
+release_pass-run r h p = each-run r (λ g k. releases_by g k (own_object g k)) (λ g k q. releases_by-run r g k (own_object g k) q) h 1 (length h.worker.objects) p
+
+release_passes-run : (r : Option Run) (b : Bool) (n : ℕ) (h : Here) → IsAs r h → IsAs r (release_passes b n h)
+release_passes-run r true n h p = p
+release_passes-run r false zero h p = p
+release_passes-run r false (suc n) h p =
+    release_passes-run r (entries_made (release_pass h) == entries_made h) n (release_pass h) (release_pass-run r h p)
+
+pub release_step-run : (h : Here) → (release_step h).worker.run ≡ h.worker.run
+release_step-run h = release_passes-run h.worker.run false (length h.worker.objects + 1) h refl
+
+-- ---- what a commit logs
+
+commits_accept_none : (a b : Attempt) (o : Id) (bs : List Birth) (vs : List Value) (stop : Stop) → Among (Accepted b) (commit_entries a o bs vs stop) → ⊥
+commits_accept_none a b o (x ∷ bs) vs stop (zero, e) = cc
+commits_accept_none a b o (x ∷ bs) vs stop (suc k, e) = commits_accept_none a b (next_id o) bs vs stop (k, e)
+commits_accept_none a b o [] (v ∷ vs) stop (zero, e) = cc
+commits_accept_none a b o [] (v ∷ vs) stop (suc k, e) = commits_accept_none a b o [] vs stop (k, e)
+commits_accept_none a b o [] [] (Over c) (zero, e) = cc
+commits_accept_none a b o [] [] (Over c) (suc k, e) = cc
+commits_accept_none a b o [] [] (Needs y) (k, e) = cc
+
+commits_end_own : (a b : Attempt) (c : Outcome) (o : Id) (bs : List Birth) (vs : List Value) (stop : Stop) → Among (Ended b c) (commit_entries a o bs vs stop) → a ≡ b
+commits_end_own a b c o (x ∷ bs) vs stop (zero, e) = absurd (cc)
+commits_end_own a b c o (x ∷ bs) vs stop (suc k, e) = commits_end_own a b c (next_id o) bs vs stop (k, e)
+commits_end_own a b c o [] (v ∷ vs) stop (zero, e) = absurd (cc)
+commits_end_own a b c o [] (v ∷ vs) stop (suc k, e) = commits_end_own a b c o [] vs stop (k, e)
+commits_end_own a b c o [] [] (Over d) (zero, e) = cc
+commits_end_own a b c o [] [] (Over d) (suc k, e) = absurd (cc)
+commits_end_own a b c o [] [] (Needs y) (k, e) = absurd (cc)
+
+held_among : (ks : List Holding) (k j : Holding) → Among j (with_holding ks k) → Among j ks ⊎ (j ≡ k)
+held_among ks k j =
+    at_test (λ b. Among j (if b then ks else ks ++ k ∷ []) → Among j ks ⊎ (j ≡ k)) (list_any (λ i. same_holding i k) ks)
+    (λ _ i. inl i) (λ _ i. among-push_cases ks k j i)
+
+-- ---- an acceptance
+
+pub own_item : (h : Here) (o : Id) (x : Object) → object_at h o ≡ Some x → (is_own h o ≡ true) × (item_at h.worker.objects o.serial ≡ Some x)
+own_item h o x e =
+    at_test (λ b. is_own h o ≡ b → (if b then own_object h o.serial else None) ≡ Some x → (is_own h o ≡ true) × (item_at h.worker.objects o.serial ≡ Some x))
+    (is_own h o) (λ _ t f. (t, f)) (λ _ _ f. absurd (cc)) refl e
+
+-- the object has its content then
+pub accepted_object : (h : Here) (a : Attempt) (task : OwnTask) (n : ℕ) (ids : List Id) (x : Object) → object_at h a.object ≡ Some x →
+    object_at (accepts h a task n ids) a.object ≡ Some (with_content a.number n ids (with_task (rests task) x))
+accepted_object h a task n ids x e =
+    let there = own_item h a.object x e in
+    let once : item_at (changed_at h.worker.objects a.object.serial (with_task (rests task))) a.object.serial ≡ Some (with_task (rests task) x) =
+    changed_here h.worker.objects a.object.serial (with_task (rests task)) x there.1 in
+    let twice = changed_here (changed_at h.worker.objects a.object.serial (with_task (rests task))) a.object.serial (with_content a.number n ids)
+    (with_task (rests task) x) once in
+    ap (λ b. if b then item_at (changed_at (changed_at h.worker.objects a.object.serial (with_task (rests task))) a.object.serial
+    (with_content a.number n ids)) a.object.serial else None) there.0 ∙ twice
+
+-- where the acceptance is kept, what follows it is
+pub finished_reached-kept : (P : Here → Type 0) → IsKept P → (h : Here) (w : ℕ) (a : Attempt) (n : ℕ) (ids : List Id) →
+    ((task : OwnTask) → P (accepts h a task n ids)) → P h → P (finished_reached h w a n ids)
+finished_reached-kept P kept h w a n ids accept p = by_object (object_at h a.object) refl
+  where
+    says_so : (g : Here) → P g → P (hears_of_end g w a)
+    says_so g q = kept.says g w (FinishedAck a) tt q
+
+    by_task : (x : Object) → object_at h a.object ≡ Some x → (t : Option OwnTask) → P (finished_by h w a n ids t)
+    by_task x e None = says_so h p
+    by_task x e (Some task) =
+        at_test (λ b. P (if b then answers_settled (hears_of_end (accepts h a task n ids) w a) a.object else hears_of_end h w a)) (if_present a task)
+        (λ _. answers_settled-kept P kept (hears_of_end (accepts h a task n ids) w a) a.object
+        (with_content a.number n ids (with_task (rests task) x)) (accepted_object h a task n ids x e) refl refl
+        (says_so (accepts h a task n ids) (accept task)))
+        (λ _. says_so h p)
+
+    by_object : (o : Option Object) → object_at h a.object ≡ o → P (finished_by h w a n ids (task_of o))
+    by_object None e = says_so h p
+    by_object (Some x) e = by_task x e (task_in x.maker)
+
+-- ---- steps that stand apart
+
+module _ (log : List Entry) (net : List Letter) (me : ℕ) (old : List Object) (ok fin : Attempt → Type 0) where
+  abbrev Q : Here → Type 0
+  Q = Does log net me old ok fin
+
+  abbrev P : Here → Type 0
+  P = Pays log net me old ok fin
+
+  some_run : (x r : Run) → Some x ≡ Some r → x ≡ r
+  some_run x r e = cc
+
+  in_phase_there : (g : Here) (next : Run) → g.worker.run ≡ Some next → IsOverInTime next → Q g → P g
+  in_phase_there g next e i q = record { does = q; in_time = λ r f. subst IsOverInTime (some_run next r (sym e ∙ f)) i }
+
+  in_phase : (h : Here) (next : Run) → IsOverInTime next → Q (with_run h next) → P (with_run h next)
+  in_phase h next i q = record { does = q; in_time = λ r e. subst IsOverInTime (some_run next r e) i }
+
+  -- an attempt begins, and none was answered so far
+  pub push_pays : (h : Here) (a : Attempt) (spec : Birth) → P h → P (push_reached h a spec)
+  push_pays h a spec p =
+      at_test (λ b. P (if b then begins_run h a spec else h)) (is_free h.worker.run && not (list_any (λ b. same_attempt b a) h.worker.began))
+      (λ _. record {
+        does = record {
+          who = p.does.who;
+          objects = p.does.objects;
+          run = λ r e. let same : new_run a spec (own_id h (length h.worker.objects + 1)) ≡ r = some_run _ r e in
+              subst (RunIsRight log (net ++ h.there.out.letters) me) same (record {
+                needs = λ y i. absurd (cc);
+                holds = λ k i. absurd (none k i);
+                told = λ c i. absurd (cc);
+                main = λ _ i. absurd (cc);
+              });
+          out = p.does.out;
+        };
+        in_time = λ r e. subst IsOverInTime (some_run _ r e) (λ t. absurd (cc));
+      }) (λ _. p)
+    where
+      none : (k : Holding) → Among k [] → ⊥
+      none k (i, e) = cc
+
+  pub claim_pays : (h : Here) (j : ℕ) → P h → P (claim_step h j)
+  claim_pays h j p = by_run h.worker.run refl
+    where
+      by_run : (r : Option Run) → h.worker.run ≡ r → P (claim_by h j r)
+      by_run None e = p
+      by_run (Some run) e =
+          let r = p.does.run run e in
+          in_phase h (record run { phase = Out j }) (λ t. absurd (cc)) (run_does log net me old ok fin h (record run { phase = Out j })
+          (record { needs = λ y i. absurd (cc); holds = r.holds; told = λ c i. absurd (cc); main = r.main }) p.does)
+
+  -- ---- births
+
+  -- the attempt isn't over
+  abbrev IsGoing : Here → Type 0
+  IsGoing h = (run : Run) → h.worker.run ≡ Some run → run.is_over ≡ false
+
+  sends_hold_does : (h : Here) (e o : Id) → IsBornIn log o → Q h → IsGoing h → Q (sends_hold h e o) × IsGoing (sends_hold h e o)
+  sends_hold_does h e o b q g = by_run h.worker.run refl
+    where
+      by_run : (r : Option Run) → h.worker.run ≡ r → Q (says (awaits_hold_by h (holding e o) r) o.owner (Hold e o)) × IsGoing (says (awaits_hold_by h (holding e o) r) o.owner (Hold e o))
+      by_run None i = (said log net me old ok fin h (TheWorker o.owner) (Hold e o) (refl, b) q, g)
+      by_run (Some run) i =
+          let r = q.run run i in
+          let next : Run = record run { holds = with_holding run.holds (holding e o) } in
+          (said log net me old ok fin (with_run h next) (TheWorker o.owner) (Hold e o) (refl, b) (run_does log net me old ok fin h next (record {
+            needs = r.needs;
+            holds = λ k j. elim (held_among run.holds (holding e o) k j) [ inl f ↦ r.holds k f | inr f ↦ subst (λ (m : Holding). IsBornIn log m.object) (sym f) b ];
+            told = r.told;
+            main = r.main;
+          }) q), λ s f. let same : next ≡ s = some_run next s f in subst (λ (x : Run). x.is_over ≡ false) same (g run i))
+
+  abbrev Both : Here → Type 0
+  Both h = Q h × IsGoing h
+
+  either_both : (b : Bool) (x y : Here) → Both x → Both y → Both (if b then x else y)
+  either_both true x y p q = p
+  either_both false x y p q = q
+
+  changes_both : (h : Here) (ys : List Object) → Grows h.worker.objects ys → Both h → Both (with_worker h (record h.worker { objects = ys }))
+  changes_both h ys grows b = (objects_does log net me old ok fin h ys grows b.0, b.1)
+
+  holds_id_does : (h : Here) (e o : Id) → IsBornIn log o → Both h → Both (holds_id h e o)
+  holds_id_does h e o b q =
+      either_both (is_own h o) _ _ (changes_both h _ (same_grows h.worker.objects o.serial (with_holder e) (λ y. succeeds_alike y (with_holder e y) refl refl refl)) q)
+      (either_both (knows_dead h.worker o.owner) h (sends_hold h e o) q (sends_hold_does h e o b q.0 q.1))
+
+  holds_ids_does : (h : Here) (e : Id) (os : List Id) → ((o : Id) → Among o os → IsBornIn log o) → Both h → Both (holds_ids h e os)
+  holds_ids_does h e [] b q = q
+  holds_ids_does h e (o ∷ os) b q = holds_ids_does (holds_id h e o) e os (λ p i. b p (suc i.0, i.1)) (holds_id_does h e o (b o (zero, refl)) q)
+
+  with_store_both : (h : Here) (s : Store) → Both h → Both (with_store h s)
+  with_store_both h s (q, g) = (record { who = q.who; objects = q.objects; run = q.run; out = record { letters = q.out.letters; quiet = q.out.quiet; ended = q.out.ended } }, g)
+
+  asks_both : (h : Here) (o : Id) (task : OwnTask) (t n : ℕ) → Both h → Both (asks_at h o task t n)
+  asks_both h o task t n q =
+      let next : OwnTask = record task { progress = AskedAt t n } in
+      let r = changes_both h _ (put_grows h o next) q in
+      (says_to_node_does log net me old ok fin (with_task_of h o next) n (Ask (attempt o task.number) t) r.0, r.1)
+
+  bears_both : (h : Here) (a : Attempt) (b : Birth) → ((o : Id) → Among o (each_once (ids_of_birth b)) → IsBornIn log o) → Both h → Both (bears h a b)
+  bears_both h a (Put v) ids q =
+      holds_ids_does _ (next_id_here h) (each_once (ids_of_birth (Put v))) ids
+      (with_store_both _ _ (changes_both h _ (pushed_grows h.worker.objects (put_object a (each_once (ids_of_birth (Put v))) h.worker.node)) q))
+  bears_both h a (Task g args depth retries) ids q =
+      let spec : Birth = Task g args depth retries in
+      let x : Object = new_object (ByTask (new_task spec)) a (each_once (ids_of_birth spec)) in
+      asks_both (holds_ids (with_object h x) (next_id_here h) (each_once (ids_of_birth spec))) (next_id_here h) (new_task spec) 0 _
+      (holds_ids_does (with_object h x) (next_id_here h) (each_once (ids_of_birth spec)) ids (changes_both h _ (pushed_grows h.worker.objects x) q))
+
+  bears_all_both : (h : Here) (a : Attempt) (bs : List Birth) → ((b : Birth) → Among b bs → (o : Id) → Among o (each_once (ids_of_birth b)) → IsBornIn log o) → Both h → Both (bears_all h a bs)
+  bears_all_both h a [] ids q = q
+  bears_all_both h a (b ∷ bs) ids q = bears_all_both (bears h a b) a bs (λ c i. ids c (suc i.0, i.1)) (bears_both h a b (ids b (zero, refl)) q)
+
+  -- ---- stops
+
+  if_run : (b : Bool) (x y : Here) (r : Option Run) → x.worker.run ≡ r → y.worker.run ≡ r → (if b then x else y).worker.run ≡ r
+  if_run true x y r p q = p
+  if_run false x y r p q = q
+
+  abbrev NeedIsBorn : Here → Id → Type 0
+  NeedIsBorn g y = needed_by g.worker.run ≡ Some y → (y.owner == me) ≡ false → IsBorn (births log) y
+
+  needs_pays : (h : Here) (run : Run) (y : Id) → h.worker.run ≡ Some run → NeedIsBorn (needs h run y) y → Both h → P (needs h run y)
+  needs_pays h run y e later q =
+      let r = q.0.run run e in
+      let next : Run = record run { phase = Waits y None } in
+      let g : Here = with_run h next in
+      at_test (λ b. is_own h y ≡ b →
+      NeedIsBorn (rests_if_waiting (if b then needs_own g y else if knows_dead h.worker y.owner then faults g (fault OwnerDied y) else says g y.owner (Where y)) y) y →
+      P (rests_if_waiting (if b then needs_own g y else if knows_dead h.worker y.owner then faults g (fault OwnerDied y) else says g y.owner (Where y)) y))
+      (is_own h y)
+      (λ _ own _. rests_if_waiting-kept P (pays_kept log net me old ok fin) (needs_own g y) y (needs_own-kept P (pays_kept log net me old ok fin) g y
+      (in_phase h next (λ t. absurd (cc)) (run_does log net me old ok fin h next (record {
+        needs = λ z i foreign. absurd (not_own y z (subst (λ v. (y.owner == v) ≡ true) q.0.who own) foreign (same_need z i));
+        holds = r.holds;
+        told = λ c i. absurd (cc);
+        main = r.main;
+      }) q.0))))
+      (λ _ foreign needed.
+      at_test (λ b. NeedIsBorn (rests_if_waiting (if b then faults g (fault OwnerDied y) else says g y.owner (Where y)) y) y →
+      P (rests_if_waiting (if b then faults g (fault OwnerDied y) else says g y.owner (Where y)) y)) (knows_dead h.worker y.owner)
+      (λ _ _. rests_if_waiting-kept P (pays_kept log net me old ok fin) (faults g (fault OwnerDied y)) y
+      (leaves_pays log net me old ok fin _ (frees_does log net me old ok fin _ (writes_does log net me old ok fin (with_run h (record run { phase = HasFaulted (fault OwnerDied y) }))
+      (Faulted run.attempt y (fault OwnerDied y) ∷ []) refl
+      (run_does log net me old ok fin h (record run { phase = HasFaulted (fault OwnerDied y) })
+      (record { needs = λ z i. absurd (cc); holds = r.holds; told = λ c i. absurd (cc); main = r.main }) q.0)))))
+      (λ _ needs_it.
+      let said_so : Here = says g y.owner (Where y) in
+      let is_born : IsBorn (births log) y = needs_it (ap needed_by (if_run (is_waiting_for said_so.worker y) (gives_slot_back said_so) said_so (Some next) refl refl))
+      (subst (λ v. (y.owner == v) ≡ false) q.0.who foreign) in
+      rests_if_waiting-kept P (pays_kept log net me old ok fin) said_so y
+      (in_phase_there said_so next refl (λ t. absurd (cc))
+      (said log net me old ok fin g (TheWorker y.owner) (Where y) (refl, foreign, is_born)
+      (run_does log net me old ok fin h next (record {
+        needs = λ z i _. subst (IsBorn (births log)) (same_need z i) is_born;
+        holds = r.holds;
+        told = λ c i. absurd (cc);
+        main = r.main;
+      }) q.0)))) needed) refl later
+    where
+      same_need : (z : Id) → Some y ≡ Some z → y ≡ z
+      same_need z i = cc
+
+      not_own : (x z : Id) → (x.owner == me) ≡ true → (z.owner == me) ≡ false → x ≡ z → ⊥
+      not_own x z own foreign same = let f : (z.owner == me) ≡ true = subst (λ (i : Id). (i.owner == me) ≡ true) same own in cc
+
+  ends_pays : (h : Here) (run : Run) (c : Outcome) → h.worker.run ≡ Some run → ((o : Id) → Among o (each_once (ids_in_outcome c)) → IsBornIn log o) → Both h → P (ends h run c)
+  ends_pays h run c e ids q =
+      let r = q.0.run run e in
+      let next : Run = record run { phase = HasEnded c } in
+      let going : run.is_over ≡ false = q.1 run e in
+      let ended : Both (with_run h next) = (run_does log net me old ok fin h next (record {
+        needs = λ z i. absurd (cc);
+        holds = r.holds;
+        told = λ _ _ over. absurd (not_both run.is_over over going);
+        main = r.main;
+      }) q.0, λ s f. let same : next ≡ s = some_run next s f in subst (λ (x : Run). x.is_over ≡ false) same going) in
+      let kept : Both (with_store (with_run h next) (with_primary (store_here h) run.attempt.object run.attempt.number c)) = with_store_both _ _ ended in
+      let held = holds_ids_does _ run.attempt.object (each_once (ids_in_outcome c)) ids kept in
+      (pays_kept log net me old ok fin).frees _ (leaves_pays log net me old ok fin _ held.0)
+
+  stops_pays : (h : Here) (stop : Stopped) → ((y : Id) → stop ≡ AtGet y → NeedIsBorn (stops h stop) y) → ((c : Outcome) → stop ≡ AtEnd c → (o : Id) → Among o (each_once (ids_in_outcome c)) → IsBornIn log o) →
+      Both h → P (stops h stop)
+  stops_pays h stop later ids q = by_run h.worker.run refl stop refl
+    where
+      nobody : (r : Run) → None ≡ Some r → IsOverInTime r
+      nobody r g = absurd (cc)
+
+      by_run : (r : Option Run) → h.worker.run ≡ r → (s : Stopped) → stop ≡ s → P (stops_by h s r)
+      by_run None e s f = record { does = q.0; in_time = λ r g. nobody r (sym e ∙ g) }
+      by_run (Some run) e (AtGet y) f = needs_pays h run y e (subst (λ i. NeedIsBorn i y) (there f) (later y f)) q
+        where
+          there : stop ≡ AtGet y → stops h stop ≡ needs h run y
+          there g = ap (stops h) g ∙ ap (stops_by h (AtGet y)) e
+      by_run (Some run) e (AtEnd c) f = ends_pays h run c e (ids c f) q
+
+  -- ---- a commit
+
+  -- what the commit's births and its end name was born, and so was what the attempt waits for then
+  pub record NamesBorn (h : Here) (d : Outcomes) : Type 0 where
+    pub births : (b : Birth) → Among b d.births → (o : Id) → Among o (each_once (ids_of_birth b)) → IsBornIn log o
+    pub end : (c : Outcome) → d.stop ≡ AtEnd c → (o : Id) → Among o (each_once (ids_in_outcome c)) → IsBornIn log o
+    pub need : (y : Id) → d.stop ≡ AtGet y → NeedIsBorn (commit_step h d) y
+
+  -- births, prints and the attempt's own end
+  writes_commit : (h : Here) (run : Run) (d : Outcomes) (g : Here) → fin run.attempt → Q g →
+      Q (logs_all g (commit_entries run.attempt (next_id_here h) d.births d.prints (stop_of d.stop)))
+  writes_commit h run d g fine q =
+      let es : List Entry = commit_entries run.attempt (next_id_here h) d.births d.prints (stop_of d.stop) in
+      record {
+        who = q.who;
+        objects = q.objects;
+        run = q.run;
+        out = record {
+          letters = q.out.letters;
+          quiet = λ b i. elim (among-append_cases g.there.out.entries es _ i) [
+            | inl f ↦ q.out.quiet b f
+            | inr f ↦ absurd (commits_accept_none run.attempt b (next_id_here h) d.births d.prints (stop_of d.stop) f)
+          ];
+          ended = λ b c i. elim (among-append_cases g.there.out.entries es _ i) [
+            | inl f ↦ q.out.ended b c f
+            | inr f ↦ subst fin (commits_end_own run.attempt b c (next_id_here h) d.births d.prints (stop_of d.stop) f) fine
+          ];
+        };
+      }
+
+  pub commit_pays : (h : Here) (d : Outcomes) (run : Run) → h.worker.run ≡ Some run → run.is_over ≡ false → fin run.attempt → NamesBorn h d → P h →
+      P (commit_step h d)
+  commit_pays h d run e going fine names p =
+      let r = p.does.run run e in
+      let next : Run = with_outcomes run d in
+      let entries : List Entry = commit_entries run.attempt (next_id_here h) d.births d.prints (stop_of d.stop) in
+      let logged : Both (logs_all (with_run h next) entries) = (
+        writes_commit h run d (with_run h next) fine (run_does log net me old ok fin h next (record { needs = λ z i. absurd (cc); holds = r.holds; told = λ c i. absurd (cc); main = r.main }) p.does),
+        λ s f. subst (λ (x : Run). x.is_over ≡ false) (some_run next s f) going,
+      ) in
+      let bore = bears_all_both (logs_all (with_run h next) entries) run.attempt d.births names.births logged in
+      let same : commit_step h d ≡ stops (bears_all (logs_all (with_run h next) entries) run.attempt d.births) d.stop = ap (commit_by h d) e in
+      subst P (sym same)
+      (stops_pays (bears_all (logs_all (with_run h next) entries) run.attempt d.births) d.stop (λ y f. subst (λ g. NeedIsBorn g y) same (names.need y f)) names.end bore)
+
+  -- ---- an acceptance
+
+  accepts_pays : (h : Here) (a : Attempt) (task : OwnTask) (n : ℕ) (ids : List Id) → ok a → P h → P (accepts h a task n ids)
+  accepts_pays h a task n ids k p =
+      let kept = pays_kept log net me old ok fin in
+      let g : Here = with_task_of h a.object (rests task) in
+      let q : P g = kept.objects h _ (put_grows h a.object (rests task)) p in
+      let settled : P (changes g a.object (with_content a.number n ids)) = kept.objects g _
+      (same_grows g.worker.objects a.object.serial (with_content a.number n ids) (λ y. record { askers = λ w f. inr (inl refl); answered = λ _. inl refl })) q in
+      record {
+        does = record {
+          who = settled.does.who;
+          objects = settled.does.objects;
+          run = settled.does.run;
+          out = record {
+            letters = settled.does.out.letters;
+            ended = λ b c i. elim (among-push_cases h.there.out.entries (Accepted a) (Ended b c) i) [
+              | inl f ↦ p.does.out.ended b c f
+              | inr f ↦ absurd (no_end b c f)
+            ];
+            quiet = λ b i. elim (among-push_cases h.there.out.entries (Accepted a) (Accepted b) i) [
+              | inl f ↦ p.does.out.quiet b f
+              | inr f ↦ let same : b ≡ a = cc in subst ok (sym same) k
+            ];
+          };
+        };
+        in_time = settled.in_time;
+      }
+    where
+      no_end : (b : Attempt) (c : Outcome) → Ended b c ≡ Accepted a → ⊥
+      no_end b c e = absurd (cc)
+
+  pub finish_pays : (h : Here) (w : ℕ) (a : Attempt) (n : ℕ) (ids : List Id) → ok a → P h → P (finished_reached h w a n ids)
+  finish_pays h w a n ids k p = finished_reached-kept P (pays_kept log net me old ok fin) h w a n ids (λ task. accepts_pays h a task n ids k p) p

@@ -1,0 +1,71 @@
+-- The law of replies, of every run.
+use Rattle.std.proofs.Common.{◌≡◌, ℕ, List, [], ◌∷◌, ◌++◌, Some, None, Option, refl, ap, sym, subst, ◌∙◌}
+use Rattle.std.specs.Prelude.{Bool, true, false, if◌then◌else◌}
+use Rattle.event_log.specs.Breaks.{Among}
+use Rattle.event_log.specs.Entries.{Accepted, Attempt, Entry, Event, In}
+use Rattle.event_log.specs.Rules.{Setting}
+use Rattle.protocol.specs.Answers.{Answer, Refuses, Step, Takes, answer, decided, given_out, logged, takes, whole_after}
+use Rattle.protocol.specs.Events.{happens}
+use Rattle.protocol.specs.Jobs.{Handed}
+use Rattle.protocol.specs.Refusals.{is_within_limits, refusal}
+use Rattle.protocol.specs.Whole.{Moved, Whole}
+use Rattle.protocol_owed.specs.Runs.{Running, after_events, opening_run}
+use Rattle.protocol_owed.specs.Seen.{IsCalm}
+use Rattle.lease_discipline.specs.Told.{IsInStep}
+use Rattle.owed_replies.specs.Law.{IsPaid, LawOfReplies, happening}
+use Rattle.owed_replies.proofs.Advancing.{Advances, IsBrought}
+use Rattle.owed_replies.proofs.Happens.{event_advances}
+use Rattle.owed_replies.proofs.Replies.{accepted_owed, finish_owed}
+use Rattle.owed_replies.proofs.Requests.{request_owed}
+use Rattle.owed_replies.proofs.Using.{used_owed}
+use Rattle.owed_replies.proofs.Waiting.{hold_owed, places_owed}
+use Rattle.owed_replies.proofs.Runs.{RunReplies, event_run, run_replies}
+
+-- an event that was taken wasn't refused, and is what happens
+record IsTaken (c : Whole) (e : Event) (handed : Handed) (step : Step) : Type 0 where
+  unrefused : refusal c e handed ≡ None
+  same : takes (happens c e handed) (given_out c e) ≡ Takes step
+
+taken : (c : Whole) (e : Event) (handed : Handed) (step : Step) → answer c e handed ≡ Takes step → IsTaken c e handed step
+taken c e handed step answered = by_code (refusal c e handed) refl answered
+  where
+    by_limit : (t : Bool) → refusal c e handed ≡ None → (if t then takes (happens c e handed) (given_out c e) else Refuses 37) ≡ Takes step → IsTaken c e handed step
+    by_limit true is f = record { unrefused = is; same = f }
+    by_limit false is f = absurd (cc)
+
+    by_code : (o : Option ℕ) → refusal c e handed ≡ o → decided c e handed o ≡ Takes step → IsTaken c e handed step
+    by_code None is f = by_limit (is_within_limits (happens c e handed).whole) is f
+    by_code (Some code) is f = absurd (cc)
+
+module _ (s : Setting) (r : Running) (k : RunReplies s r) (calm : IsCalm r.log) (e : Event) (seat : ℕ) (handed : Handed) (step : Step) (answered : answer r.whole e handed ≡ Takes step)
+    (after : IsInStep s (r.log ++ logged e seat (answer r.whole e handed)) (whole_after r.whole (answer r.whole e handed))) where
+  step_after : IsInStep s (r.log ++ In e seat ∷ step.entries) step.whole
+  step_after = subst (λ a. IsInStep s (r.log ++ logged e seat a) (whole_after r.whole a)) answered after
+
+  brought : (a : Attempt) → Among (Accepted a) step.entries → IsBrought r.whole e a
+  brought a i =
+      let t = taken r.whole e handed step answered in
+      let m : Moved = happens r.whole e handed in
+      let advances : Advances r.log r.whole e seat m = event_advances s r.log r.whole k.step k.replies seat e handed t.unrefused
+      (subst (λ x. IsInStep s (r.log ++ logged e seat x) (whole_after r.whole x)) (answered ∙ sym t.same) after) in
+      advances.accepts a (subst (λ es. Among (Accepted a) es) (sym (ap entries_in t.same)) i)
+    where
+      entries_in : Answer → List Entry
+      entries_in (Takes x) = x.entries
+      entries_in (Refuses code) = []
+
+  pub is_paid : IsPaid (happening s r e seat step)
+  is_paid = record {
+    requests = request_owed s r k calm e seat handed step answered;
+    places = places_owed s r k calm e seat handed step answered;
+    holds = hold_owed s r k calm e seat handed step answered;
+    finishes = finish_owed s r k calm e seat handed step answered;
+    accepted = accepted_owed s r k calm e seat handed step answered brought step_after;
+    owner = used_owed s r k calm e seat handed step answered brought step_after;
+  }
+
+pub law_of_replies : LawOfReplies
+law_of_replies s slots some apart gs right calm g right_now step answered =
+    let r : Running = after_events (opening_run s.nodes slots) gs in
+    let k : RunReplies s r = run_replies s slots some apart gs right in
+    is_paid s r k calm g.event g.seat g.handed step answered (event_run s apart r g right_now k).step

@@ -1,0 +1,17 @@
+pub mod Objects
+pub mod Moves
+pub mod Paying
+pub mod Committing
+pub mod Steady
+pub mod Advancing
+pub mod Known
+pub mod Events
+pub mod Happens
+pub mod Quiet
+pub mod Delivered
+pub mod Runs
+pub mod Replies
+pub mod Waiting
+pub mod Requests
+pub mod Using
+pub mod Laws

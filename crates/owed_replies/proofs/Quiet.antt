@@ -1,0 +1,389 @@
+-- What tables say of a run in which nothing was killed or lost: no fault, no second attempt, and each content where it was made.
+use Rattle.std.proofs.Common.{◌≡◌, ℕ, zero, suc, ◌+◌, ◌<◌, List, [], ◌∷◌, ◌++◌, length, Some, None, Option, refl, ap, sym, subst, ◌∙◌, inl, inr, arith}
+use Rattle.std.specs.Prelude.{Bool, true, false, if◌then◌else◌, not, ◌==◌, ◌&&◌, ◌||◌, is_some, is_none, slice_get}
+use Rattle.std.specs.List.{list_any}
+use Rattle.std.specs.Option.{unwrap_or}
+use Rattle.std.proofs.lemmas.Bool.Decides.{nat_tests}
+use Rattle.meaning.proofs.BirthLaws.{at_test, same_id-true}
+use Rattle.meaning.specs.Births.{birth_at, same_id}
+use Rattle.meaning.specs.Values.{Birth, Id, Put, Task, Value}
+use Rattle.event_log.specs.Breaks.{Among, BreakRising, at_worker, CauseOf, Standing, breaks, breaks_from, breaks_of}
+use Rattle.event_log.specs.Breaks.{is_some as some_of}
+use Rattle.event_log.specs.Entries.{Accepted, Attempt, Claim, Commit, Deliver, Ended, Entry, Event, Evict, Fault, FaultKind, In, Join, Kill, KillNode, Lose, Notice}
+use Rattle.event_log.specs.Entries.{NoticeNode, OwnerDied, PutLost, Released, RetriesUsed, Tick, Refused, Opened, Begun, Born, Got, Printed, Faulted, Resolved}
+use Rattle.event_log.specs.Events.{accepted_events, is_killed, is_live, kills, kills_node, loses, node_is_killed, node_of, on_node, refused_next, was_lost}
+use Rattle.event_log.specs.Rules.{Setting}
+use Rattle.event_log.specs.Words.{accepted_in, accepts_of, attempt, births, released_in, releases_of, runs_of, worker_of}
+use Rattle.event_log.proofs.WordLaws.{same_attempt-refl}
+use Rattle.protocol.specs.Numbered.{item_at}
+use Rattle.protocol.specs.Sets.{has, is_empty}
+use Rattle.protocol.specs.Tables.{AskedAt, AtRest, ByTask, Maker, Object, OwnTask, Progress, RunsOn, WasPut, Worker, has_content, is_pending, is_pending_by, is_under_way, settled_number}
+use Rattle.protocol.specs.Whole.{Whole, worker_at}
+use Rattle.protocol_legal.specs.Knows.{IsBegun, IsTask, KnowsMaker, KnowsObject, KnowsProgress, KnowsPut, KnowsTask, once}
+use Rattle.protocol_legal.specs.Lost.{IsLost, RisingTo}
+use Rattle.protocol_legal.specs.Made.{IsMadeAt}
+use Rattle.protocol_legal.specs.Past.{past}
+use Rattle.protocol_legal.specs.Whole.{Between}
+use Rattle.protocol_owed.specs.Seen.{AcceptedAt, IsCalm, IsKnownAt, PutAt, is_failure}
+use Rattle.lease_discipline.proofs.Told.{places}
+use Rattle.owed_replies.proofs.Advancing.{among_flat, flat_among}
+
+-- ---- nothing breaks
+
+any_none : (p : Event → Bool) → ((e : Event) → is_failure e ≡ false → p e ≡ false) → (es : List Event) → list_any is_failure es ≡ false → list_any p es ≡ false
+any_none p fits [] h = refl
+any_none p fits (e ∷ es) h =
+    ap (λ b. b || list_any p es) (fits e (neither (is_failure e) (list_any is_failure es) h).0) ∙ any_none p fits es (neither (is_failure e) (list_any is_failure es) h).1
+  where
+    neither : (x y : Bool) → (x || y) ≡ false → (x ≡ false) × (y ≡ false)
+    neither true y f = absurd (cc)
+    neither false y f = (refl, f)
+
+kills_none : (w n : ℕ) (e : Event) → is_failure e ≡ false → kills w n e ≡ false
+kills_none w n (Kill v) h = absurd (cc)
+kills_none w n (KillNode m) h = absurd (cc)
+kills_none w n (Claim v) h = refl
+kills_none w n (Commit j) h = refl
+kills_none w n (Deliver k) h = refl
+kills_none w n (Tick v) h = refl
+kills_none w n (Notice v u) h = refl
+kills_none w n (NoticeNode v m) h = refl
+kills_none w n (Evict m o) h = refl
+kills_none w n (Lose m o) h = refl
+kills_none w n Join h = refl
+
+node_none : (n : ℕ) (e : Event) → is_failure e ≡ false → kills_node n e ≡ false
+node_none n (KillNode m) h = absurd (cc)
+node_none n (Kill v) h = refl
+node_none n (Claim v) h = refl
+node_none n (Commit j) h = refl
+node_none n (Deliver k) h = refl
+node_none n (Tick v) h = refl
+node_none n (Notice v u) h = refl
+node_none n (NoticeNode v m) h = refl
+node_none n (Evict m o) h = refl
+node_none n (Lose m o) h = refl
+node_none n Join h = refl
+
+loses_none : (n : ℕ) (o : Id) (e : Event) → is_failure e ≡ false → loses n o e ≡ false
+loses_none n o (Lose m p) h = absurd (cc)
+loses_none n o (Kill v) h = refl
+loses_none n o (KillNode m) h = refl
+loses_none n o (Claim v) h = refl
+loses_none n o (Commit j) h = refl
+loses_none n o (Deliver k) h = refl
+loses_none n o (Tick v) h = refl
+loses_none n o (Notice v u) h = refl
+loses_none n o (NoticeNode v m) h = refl
+loses_none n o (Evict m p) h = refl
+loses_none n o Join h = refl
+
+breaks_none : (s : Standing) (ended : Bool) (e : Event) → is_failure e ≡ false → breaks s ended e ≡ false
+breaks_none s ended e h =
+    ap (λ b. (b && not s.is_accepted) || (ended && (kills_node s.node e || loses s.node s.attempt.object e))) (kills_none s.worker s.node e h) ∙
+    ap (λ b. ended && (b || loses s.node s.attempt.object e)) (node_none s.node e h) ∙ ap (λ b. ended && b) (loses_none s.node s.attempt.object e h) ∙ none ended
+  where
+    none : (b : Bool) → (b && false) ≡ false
+    none true = refl
+    none false = refl
+
+pub tail_calm : (x : Entry) (rest : List Entry) → IsCalm (x ∷ rest) → IsCalm rest
+unfolding accepted_events
+tail_calm (In e seat) rest calm =
+    at_test (λ b. list_any is_failure ((if b then [] else e ∷ []) ++ accepted_events rest) ≡ false → IsCalm rest) (refused_next rest)
+    (λ _ h. h) (λ _ h. behind (is_failure e) (list_any is_failure (accepted_events rest)) h) calm
+  where
+    behind : (p q : Bool) → (p || q) ≡ false → q ≡ false
+    behind true q h = absurd (cc)
+    behind false q h = h
+tail_calm (Refused code) rest calm = calm
+tail_calm (Opened w n) rest calm = calm
+tail_calm (Begun a w) rest calm = calm
+tail_calm (Born o a b) rest calm = calm
+tail_calm (Got a y c) rest calm = calm
+tail_calm (Printed v) rest calm = calm
+tail_calm (Ended a c) rest calm = calm
+tail_calm (Accepted a) rest calm = calm
+tail_calm (Faulted a y f) rest calm = calm
+tail_calm (Resolved o f) rest calm = calm
+tail_calm (Released o) rest calm = calm
+
+head_calm : (e : Event) (seat : ℕ) (rest : List Entry) → IsCalm (In e seat ∷ rest) → refused_next rest ≡ false → is_failure e ≡ false
+unfolding accepted_events
+head_calm e seat rest calm accepted = first (is_failure e) (list_any is_failure (accepted_events rest))
+    (subst (λ b. list_any is_failure ((if b then [] else e ∷ []) ++ accepted_events rest) ≡ false) accepted calm)
+  where
+    first : (p q : Bool) → (p || q) ≡ false → p ≡ false
+    first true q h = h
+    first false q h = refl
+
+pub no_breaks : (s : Standing) (k : ℕ) (ended : Bool) (log : List Entry) → IsCalm log → breaks_from s k ended log ≡ []
+unfolding breaks_from
+no_breaks s k ended [] calm = refl
+no_breaks s k ended (In e seat ∷ rest) calm =
+    at_test (λ b. refused_next rest ≡ b → ((if not b && breaks s ended e then k ∷ [] else []) ++ breaks_from s (k + 1) ended rest) ≡ []) (refused_next rest)
+    (λ _ _. no_breaks s (k + 1) ended rest (tail_calm (In e seat) rest calm))
+    (λ _ accepted. ap (λ b. (if b then k ∷ [] else []) ++ breaks_from s (k + 1) ended rest) (breaks_none s ended e (head_calm e seat rest calm accepted)) ∙
+    no_breaks s (k + 1) ended rest (tail_calm (In e seat) rest calm)) refl
+no_breaks s k ended (Refused code ∷ rest) calm = no_breaks s (k + 1) _ rest (tail_calm (Refused code) rest calm)
+no_breaks s k ended (Opened w n ∷ rest) calm = no_breaks s (k + 1) _ rest (tail_calm (Opened w n) rest calm)
+no_breaks s k ended (Begun a w ∷ rest) calm = no_breaks s (k + 1) _ rest (tail_calm (Begun a w) rest calm)
+no_breaks s k ended (Born o a b ∷ rest) calm = no_breaks s (k + 1) _ rest (tail_calm (Born o a b) rest calm)
+no_breaks s k ended (Got a y c ∷ rest) calm = no_breaks s (k + 1) _ rest (tail_calm (Got a y c) rest calm)
+no_breaks s k ended (Printed v ∷ rest) calm = no_breaks s (k + 1) _ rest (tail_calm (Printed v) rest calm)
+no_breaks s k ended (Ended a c ∷ rest) calm = no_breaks s (k + 1) _ rest (tail_calm (Ended a c) rest calm)
+no_breaks s k ended (Accepted a ∷ rest) calm = no_breaks s (k + 1) _ rest (tail_calm (Accepted a) rest calm)
+no_breaks s k ended (Faulted a y f ∷ rest) calm = no_breaks s (k + 1) _ rest (tail_calm (Faulted a y f) rest calm)
+no_breaks s k ended (Resolved o f ∷ rest) calm = no_breaks s (k + 1) _ rest (tail_calm (Resolved o f) rest calm)
+no_breaks s k ended (Released o ∷ rest) calm = no_breaks s (k + 1) _ rest (tail_calm (Released o) rest calm)
+
+nothing_in : {X : Type 0} (xs : List X) (x : X) → xs ≡ [] → Among x xs → ⊥
+nothing_in {X} xs x e (k, f) = let g : ◌≡◌ {A = Option X} (slice_get [] k) (Some x) = ap (λ ys. slice_get ys k) (sym e) ∙ f in nowhere k g
+  where
+    nowhere : (i : ℕ) → ◌≡◌ {A = Option X} (slice_get [] i) (Some x) → ⊥
+    nowhere zero g = cc
+    nowhere (suc i) g = cc
+
+module _ (log : List Entry) (calm : IsCalm log) where
+  pub none_broken : (a : Attempt) (k : ℕ) → Among k (breaks_of a log) → ⊥
+  unfolding breaks_of
+  none_broken a k i = by_worker (worker_of a log) i
+    where
+      by_node : (w : ℕ) (o : Option ℕ) → Among k (at_worker o [] (λ n. breaks_from (record { attempt = a; worker = w; node = n; is_accepted = some_of (accepts_of a log) }) 0 false log)) → ⊥
+      by_node w None j = nothing_in [] k refl j
+      by_node w (Some n) j = nothing_in _ k (no_breaks (record { attempt = a; worker = w; node = n; is_accepted = some_of (accepts_of a log) }) 0 false log calm) j
+
+      by_worker : (o : Option ℕ) → Among k (at_worker o [] (λ w. at_worker (node_of w log) [] (λ n. breaks_from (record { attempt = a; worker = w; node = n; is_accepted = some_of (accepts_of a log) }) 0 false log))) → ⊥
+      by_worker None j = nothing_in [] k refl j
+      by_worker (Some w) j = by_node w (node_of w log) j
+
+  pub none_lost : (a : Attempt) → IsLost log a → ⊥
+  none_lost a l = nothing_in _ l.place (no_breaks _ 0 false log calm) l.lost
+
+  pub never_risen : (o : Id) (number cut : ℕ) → RisingTo log o number cut → number ≡ 0
+  never_risen o zero cut r = refl
+  never_risen o (suc number) cut r = absurd (none_broken (attempt o number) r.0 r.2)
+
+  pub node_alive : (n : ℕ) → node_is_killed n log ≡ true → ⊥
+  unfolding node_is_killed
+  node_alive n h = let g : list_any (kills_node n) (accepted_events log) ≡ false = any_none (kills_node n) (node_none n) (accepted_events log) calm in cc
+
+  pub worker_alive : (w : ℕ) → is_killed w log ≡ true → ⊥
+  unfolding is_killed
+  worker_alive w h = by_node (node_of w log) h
+    where
+      by_node : (o : Option ℕ) → on_node o false (λ n. list_any (kills w n) (accepted_events log)) ≡ true → ⊥
+      by_node None g = cc
+      by_node (Some n) g = let f : list_any (kills w n) (accepted_events log) ≡ false = any_none (kills w n) (kills_none w n) (accepted_events log) calm in cc
+
+  pub opened_lives : (w n : ℕ) → node_of w log ≡ Some n → is_live w log ≡ true
+  unfolding is_live
+  opened_lives w n e =
+      ap (λ o. on_node o false (λ m. not (list_any (kills w m) (accepted_events log)))) e ∙ ap not (any_none (kills w n) (kills_none w n) (accepted_events log) calm)
+
+part_calm : (before after : List Entry) → IsCalm (before ++ after) → IsCalm after
+part_calm [] after calm = calm
+part_calm (x ∷ before) after calm = part_calm before after (tail_calm x (before ++ after) calm)
+
+pub none_lost_put : (log : List Entry) → IsCalm log → (before after : List Entry) (n : ℕ) (o : Id) → log ≡ before ++ after → was_lost n o after ≡ true → ⊥
+unfolding was_lost
+none_lost_put log calm before after n o parts lost =
+    let g : list_any (loses n o) (accepted_events after) ≡ false = any_none (loses n o) (loses_none n o) (accepted_events after) (part_calm before after (subst IsCalm parts calm)) in cc
+
+pub no_cause : (log : List Entry) → IsCalm log → (kind : FaultKind) (z : Id) → CauseOf kind log z → ⊥
+no_cause log calm OwnerDied z c = worker_alive log calm z.owner c
+no_cause log calm PutLost z c = none_lost_put log calm c.before c.after c.node z c.parts c.lost
+no_cause log calm RetriesUsed z c = by_places c.places c.all c.broken
+  where
+    by_places : (ks : List ℕ) → length ks ≡ c.retries + 1 → BreakRising log z 0 0 ks → ⊥
+    by_places [] e b = absurd (omega (arith, e))
+    by_places (k ∷ ks) e b = none_broken log calm (attempt z 0) k b.1
+
+-- ---- what an owner's table says
+
+-- no test finds it
+none_there : (xs : List ℕ) → ((n : ℕ) → has xs n ≡ true → ⊥) → xs ≡ []
+none_there [] h = refl
+none_there (x ∷ xs) h = absurd (h x (ap (λ b. b || has xs x) (equal x)))
+  where
+    equal : (n : ℕ) → (n == n) ≡ true
+    equal n = grind (arith, nat_tests)
+
+-- the object has its content, of that number, with a place at that node
+pub record HasContentAt (z : Object) (number n : ℕ) : Type 0 where
+  pub unfaulted : z.fault ≡ None
+  pub whole : has_content z ≡ true
+  pub number_is : settled_number z ≡ number
+  pub place : has z.places n ≡ true
+
+module _ (s : Setting) (log : List Entry) (c : Whole) (b : Between s log c) (calm : IsCalm log) where
+  pub all_live : (w : ℕ) (x : Worker) → worker_at c w ≡ Some x → x.is_live ≡ true
+  all_live w x at = sym (b.knows.lives w x at) ∙ opened_lives log calm w x.node (places s log c b w x at)
+
+  pub no_dead_nodes : (w : ℕ) (x : Worker) → worker_at c w ≡ Some x → x.dead_nodes ≡ []
+  no_dead_nodes w x at = none_there x.dead_nodes (λ n h. node_alive log calm n ((b.knows.workers w x at (all_live w x at)).dead_nodes n h))
+
+  pub no_dead_workers : (w : ℕ) (x : Worker) → worker_at c w ≡ Some x → (v : ℕ) → has x.dead_workers v ≡ true → ⊥
+  no_dead_workers w x at v h = worker_alive log calm v ((b.knows.workers w x at (all_live w x at)).dead v h)
+
+  pub knows_of : (y : Id) (x : Worker) (z : Object) → worker_at c y.owner ≡ Some x → item_at x.objects y.serial ≡ Some z → KnowsObject (past log b.asked) x y z
+  knows_of y x z at there = (b.knows.workers y.owner x at (all_live y.owner x at)).objects y.serial z there
+
+  pub no_fault : (y : Id) (x : Worker) (z : Object) → worker_at c y.owner ≡ Some x → item_at x.objects y.serial ≡ Some z → z.fault ≡ None
+  no_fault y x z at there = by_fault z.fault refl
+    where
+      by_fault : (f : Option Fault) → z.fault ≡ f → z.fault ≡ None
+      by_fault None e = e
+      by_fault (Some f) e = absurd (no_cause log calm f.kind f.object ((knows_of y x z at there).known f e).cause)
+
+  pub released_among : (y : Id) → Among y (releases_of y log) → Among (Released y) log
+  released_among y i = let r = flat_among (released_in y) log y i in by_entry r.0 r.2 r.1
+    where
+      by_entry : (x : Entry) → Among y (released_in y x) → Among x log → Among (Released y) log
+      by_entry (Released p) j k = at_test (λ t. same_id p y ≡ t → Among y (if t then p ∷ [] else []) → Among (Released y) log) (same_id p y)
+          (λ _ e _. subst (λ q. Among (Released q) log) (same_id-true p y e) k) (λ _ _ h. absurd (nothing_in [] y refl h)) refl j
+      by_entry (In e seat) j k = absurd (nothing_in [] y refl j)
+      by_entry (Refused code) j k = absurd (nothing_in [] y refl j)
+      by_entry (Opened w n) j k = absurd (nothing_in [] y refl j)
+      by_entry (Begun a w) j k = absurd (nothing_in [] y refl j)
+      by_entry (Born o a d) j k = absurd (nothing_in [] y refl j)
+      by_entry (Got a o d) j k = absurd (nothing_in [] y refl j)
+      by_entry (Printed v) j k = absurd (nothing_in [] y refl j)
+      by_entry (Ended a d) j k = absurd (nothing_in [] y refl j)
+      by_entry (Accepted a) j k = absurd (nothing_in [] y refl j)
+      by_entry (Faulted a o f) j k = absurd (nothing_in [] y refl j)
+      by_entry (Resolved o f) j k = absurd (nothing_in [] y refl j)
+
+  not_released : (y : Id) (x : Worker) (z : Object) → worker_at c y.owner ≡ Some x → item_at x.objects y.serial ≡ Some z → (Among (Released y) log → ⊥) → z.is_released ≡ false
+  not_released y x z at there unreleased = by_mark z.is_released refl
+    where
+      by_mark : (t : Bool) → z.is_released ≡ t → z.is_released ≡ false
+      by_mark false e = e
+      by_mark true e =
+          let f : releases_of y log ≡ once true y = (knows_of y x z at there).released ∙ ap (λ t. once t y) e in
+          absurd (unreleased (released_among y (subst (λ xs. Among y xs) (sym f) (zero, refl))))
+
+  has_some : (xs : List ℕ) (n : ℕ) → has xs n ≡ true → is_empty xs ≡ false
+  has_some [] n e = absurd (cc)
+  has_some (x ∷ xs) n e = refl
+
+  content_there : (z : Object) (number n : ℕ) → z.settled ≡ Some number → z.fault ≡ None → is_pending z ≡ false → z.is_released ≡ false → has z.places n ≡ true → HasContentAt z number n
+  content_there z number n settled unfaulted rests kept place = record {
+    unfaulted = unfaulted;
+    whole = ap (λ o. is_some o && is_none z.fault && not (is_pending z) && not z.is_released && not (is_empty z.places)) settled ∙
+        ap (λ o. true && is_none o && not (is_pending z) && not z.is_released && not (is_empty z.places)) unfaulted ∙
+        ap (λ t. true && true && not t && not z.is_released && not (is_empty z.places)) rests ∙
+        ap (λ t. true && true && true && not t && not (is_empty z.places)) kept ∙ ap (λ t. true && true && true && true && not t) (has_some z.places n place);
+    number_is = ap (λ o. unwrap_or o 0) settled;
+    place = place;
+  }
+
+  pub same_node : (m n : ℕ) → ◌≡◌ {A = Option ℕ} (Some m) (Some n) → m ≡ n
+  same_node m n e = cc
+
+  below_length : (xs : List ℕ) (k w : ℕ) → slice_get xs k ≡ Some w → k < length xs
+  below_length [] k w e = absurd (cc)
+  below_length (x ∷ xs) zero w e = omega arith
+  below_length (x ∷ xs) (suc k) w e = let r = below_length xs k w e in omega (arith, r)
+
+  pub accepted_among : (a : Attempt) → Among (Accepted a) log → Among a (accepts_of a log)
+  accepted_among a i = among_flat (accepted_in a) log (Accepted a) a i (subst (λ t. Among a (if t then a ∷ [] else [])) (sym (same_attempt-refl a)) (zero, refl))
+
+  -- the present attempt is the first one, and no other was begun
+  pub begun_first : (y : Id) (task : OwnTask) (w n number v : ℕ) → IsBegun (past log b.asked) y task w n → runs_of y log ≡ task.begun → worker_of (attempt y number) log ≡ Some v →
+      (task.number ≡ 0) × (number ≡ 0) × (v ≡ w)
+  begun_first y task w n number v begun runs ran =
+      let first : task.number ≡ 0 = never_risen log calm y task.number begun.place begun.rising in
+      let there : slice_get task.begun number ≡ Some v = ap (λ xs. slice_get xs number) (sym runs) ∙ ran in
+      let below : number < length task.begun = below_length task.begun number v there in
+      let count = begun.count in
+      let none : number ≡ 0 = omega (arith, first, below, count) in
+      (first, none, same_node v w (sym there ∙ ap (slice_get task.begun) (none ∙ sym first) ∙ begun.runs))
+
+  pub none_begun : (y : Id) (task : OwnTask) (t m number v : ℕ) (x : Worker) (z : Object) → KnowsTask (past log b.asked) y z task → task.progress ≡ AskedAt t m →
+      worker_of (attempt y number) log ≡ Some v → ⊥
+  none_begun y task t m number v x z knows asked ran =
+      let q = subst (KnowsProgress (past log b.asked) y z task) asked knows.progress in
+      let first : task.number ≡ 0 = never_risen log calm y task.number q.3.0 (q.4 q.3.0 q.3.1) in
+      let there : slice_get task.begun number ≡ Some v = ap (λ xs. slice_get xs number) (sym knows.begun) ∙ ran in
+      let below = below_length task.begun number v there in
+      let count = q.2 in
+      omega (arith, first, below, count)
+
+  pub put_no_task : (spec : Birth) (v : Value) → IsTask spec → Some spec ≡ Some (Put v) → ⊥
+  put_no_task (Put u) v t e = t
+  put_no_task (Task g args depth retries) v t e = cc
+
+  -- what was made of a content whose place is known was made there
+  pub same_home : (y : Id) (x : Worker) (z : Object) (number n home : ℕ) → worker_at c y.owner ≡ Some x → item_at x.objects y.serial ≡ Some z →
+      IsKnownAt log y number n → IsMadeAt log y number home → home ≡ n
+  same_home y x z number n home at there (inl p) (inl q) = same_node home n (sym q.home ∙ p.place)
+  same_home y x z number n home at there (inr p) (inr q) =
+      same_node home n (sym q.home ∙ ap (λ w. node_of w log) (same_node q.worker p.worker (sym q.runs ∙ p.ran)) ∙ p.place)
+  same_home y x z number n home at there (inl p) (inr q) = absurd (put_not_run z.maker (knows_of y x z at there).maker p.value p.put q.worker q.runs)
+    where
+      put_not_run : (m : Maker) → KnowsMaker (past log b.asked) x.node y z m → (v : Value) → birth_at (births log) y ≡ Some (Put v) → (w : ℕ) → worker_of (attempt y number) log ≡ Some w → ⊥
+      put_not_run WasPut k v put w ran = nothing_in [] w refl (number, ap (λ xs. slice_get xs number) (sym k.unbegun) ∙ ran)
+      put_not_run (ByTask task) k v put w ran = put_no_task task.spec v k.is_task (sym k.spec ∙ put)
+  same_home y x z number n home at there (inr p) (inl q) = absurd (run_not_put z.maker (knows_of y x z at there).maker q.value q.born p.worker p.ran)
+    where
+      run_not_put : (m : Maker) → KnowsMaker (past log b.asked) x.node y z m → (v : Value) → birth_at (births log) y ≡ Some (Put v) → (w : ℕ) → worker_of (attempt y number) log ≡ Some w → ⊥
+      run_not_put WasPut k v put w ran = nothing_in [] w refl (number, ap (λ xs. slice_get xs number) (sym k.unbegun) ∙ ran)
+      run_not_put (ByTask task) k v put w ran = put_no_task task.spec v k.is_task (sym k.spec ∙ put)
+
+  pub put_known : (y : Id) (x : Worker) (z : Object) (number n : ℕ) → worker_at c y.owner ≡ Some x → item_at x.objects y.serial ≡ Some z → (Among (Released y) log → ⊥) →
+      IsKnownAt log y number n → HasContentAt z number n
+  put_known y x z number n at there unreleased known = by_maker z.maker refl known
+    where
+      knows : KnowsObject (past log b.asked) x y z
+      knows = knows_of y x z at there
+
+      unfaulted : z.fault ≡ None
+      unfaulted = no_fault y x z at there
+
+      kept : z.is_released ≡ false
+      kept = not_released y x z at there unreleased
+
+      put_here : KnowsPut log x.node y z → PutAt log y number n → z.maker ≡ WasPut → HasContentAt z number n
+      put_here k p made =
+          let home : x.node ≡ n = same_node x.node n (sym (places s log c b y.owner x at) ∙ p.place) in
+          let where_is : has z.places n ≡ true = elim (k.placed unfaulted kept) [
+            | inl e ↦ subst (λ m. has z.places m ≡ true) home e
+            | inr l ↦ absurd (none_lost_put log calm l.before l.after x.node y l.parts l.lost)
+          ] in
+          content_there z number n (k.settled ∙ ap (λ m. Some m) (sym p.first)) unfaulted (ap is_pending_by made) kept where_is
+
+      no_task : (spec : Birth) (v : Value) → IsTask spec → birth_at (births log) y ≡ Some spec → birth_at (births log) y ≡ Some (Put v) → ⊥
+      no_task (Put u) v t e f = t
+      no_task (Task g args depth retries) v t e f = let h : ◌≡◌ {A = Option Birth} (Some (Task g args depth retries)) (Some (Put v)) = sym e ∙ f in cc
+
+      rested : (task : OwnTask) → KnowsTask (past log b.asked) y z task → z.maker ≡ ByTask task → AcceptedAt log y number n → (q : Progress) → task.progress ≡ q → HasContentAt z number n
+      rested task k made a (AskedAt t m) e = absurd (none_begun y task t m number a.worker x z k e a.ran)
+      rested task k made a (RunsOn w m) e =
+          let q = subst (KnowsProgress (past log b.asked) y z task) e k.progress in
+          let r = begun_first y task w m number a.worker q.2 k.begun a.ran in
+          let same : number ≡ task.number = r.1 ∙ sym r.0 in
+          absurd (nothing_in (accepts_of (attempt y task.number) log) (attempt y task.number) q.3
+          (accepted_among (attempt y task.number) (subst (λ i. Among (Accepted (attempt y i)) log) same a.accepted)))
+      rested task k made a AtRest e =
+          let q = subst (KnowsProgress (past log b.asked) y z task) e k.progress in
+          let r = begun_first y task q.0 q.1 number a.worker q.2 k.begun a.ran in
+          let same : task.number ≡ number = r.0 ∙ sym r.1 in
+          let settled = q.3 unfaulted in
+          let node : q.1 ≡ n = same_node q.1 n (sym q.2.home ∙ ap (λ w. node_of w log) (sym r.2) ∙ a.place) in
+          let where_is : has z.places n ≡ true = elim (settled.placed kept) [
+            | inl f ↦ subst (λ m. has z.places m ≡ true) node f
+            | inr l ↦ absurd (none_lost log calm _ l)
+          ] in
+          content_there z number n (settled.settled ∙ ap (λ m. Some m) same) unfaulted (ap is_pending_by made ∙ ap is_under_way e) kept where_is
+
+      by_maker : (m : Maker) → z.maker ≡ m → IsKnownAt log y number n → HasContentAt z number n
+      by_maker WasPut e (inl p) = put_here (subst (KnowsMaker (past log b.asked) x.node y z) e knows.maker) p e
+      by_maker WasPut e (inr a) =
+          let k = subst (KnowsMaker (past log b.asked) x.node y z) e knows.maker in
+          let f : slice_get [] number ≡ Some a.worker = ap (λ xs. slice_get xs number) (sym k.unbegun) ∙ a.ran in
+          absurd (nothing_in [] a.worker refl (number, f))
+      by_maker (ByTask task) e (inl p) =
+          let k = subst (KnowsMaker (past log b.asked) x.node y z) e knows.maker in
+          absurd (no_task task.spec p.value k.is_task k.spec p.put)
+      by_maker (ByTask task) e (inr a) = rested task (subst (KnowsMaker (past log b.asked) x.node y z) e knows.maker) e a task.progress refl

@@ -1,0 +1,4 @@
+//! Each message its due reply: who is told what, in which event.
+#![tactic(auto)]
+
+pub mod law;

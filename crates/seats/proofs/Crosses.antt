@@ -1,0 +1,114 @@
+-- A run may go to another thread, and a shared run and a checked script may be seen by several: type by type, from what they are made of, since one search
+-- through all of them is too long.
+use denote.RattleType.{RattleType}
+use denote.Param.Send.{IsSend, IsSync, sendable}
+use denote.Param.SendFields.{as_row_send, declared_send}
+use Rattle.std.proofs.Crossing.{crosses}
+use Rattle.std.proofs.marker.PhantomData.TheSendSync as phantom
+use Rattle.std.proofs.sync.ledger.Book.TheSendSync as book
+use Rattle.std.specs.declared.sync.ledger.Ledger as ledger
+use Rattle.sequence.specs.contracts.Seq as Seq
+use Rattle.values.proofs.value.RunValue.TheLaws.TheKnot as value
+use Rattle.held.specs.contracts.content.Content as Content
+use Rattle.held.specs.contracts.origin.Origin as Origin
+use Rattle.held.specs.contracts.printed.Printed as Printed
+use Rattle.numbers.specs.contracts.NodeId as NodeId
+use Rattle.numbers.specs.contracts.ObjectId as ObjectId
+use Rattle.numbers.proofs.AttemptId.TheSendSync as attempt
+use Rattle.numbers.proofs.Fault.TheSendSync as fault
+use Rattle.numbers.proofs.NodeId.TheSendSync as node
+use Rattle.numbers.proofs.ObjectId.TheSendSync as object
+use Rattle.numbers.proofs.WorkerId.TheSendSync as worker
+use Rattle.event_log.specs.contracts.entry.Entry as Entry
+use Rattle.event_files.specs.contracts.plan.PlanLine as PlanLine
+use Rattle.script_syntax.proofs.tree.ValueType.TheLaws.TheKnot as kinds
+use Rattle.script_check.proofs.tree.CheckedExpr.TheLaws.TheKnot as exprs
+use Rattle.script_check.proofs.tree.CheckedStatement.TheLaws.TheKnot as statements
+use Rattle.script_check.specs.contracts.checked.Checked as Checked
+use Rattle.segment.specs.declared.script_name.ScriptName as script_name
+use Rattle.protocol_data.proofs.message.Party.TheSendSync as party
+use Rattle.protocol_data.specs.contracts.message.Letter as Letter
+use Rattle.protocol_data.specs.contracts.message.Message as Message
+use Rattle.protocol_data.specs.contracts.node.Node as Node
+use Rattle.protocol_data.specs.contracts.tables.Worker as Worker
+use Rattle.protocol_data.specs.contracts.whole.Whole as Whole
+use Rattle.protocol_core.specs.contracts.cores.Core as Core
+use Rattle.protocol_board.specs.contracts.board.Board as Board
+use Rattle.turns.specs.contracts.outs.JobOut as JobOut
+use Rattle.turns.specs.contracts.turning.Turning as Turning
+use Rattle.seats.specs.contracts.shared.Locked as Locked
+use Rattle.seats.specs.contracts.shared.Shared as Shared
+
+pub checked_sync : IsSync Checked.the_row
+checked_sync = search (exprs.crosses, statements.crosses, kinds.crosses, crosses, sendable) depth 60 fits 20000
+
+content_send : IsSend Content.the_row
+content_send = search (value.crosses, crosses, sendable) depth 60 fits 20000
+
+origin_send : IsSend Origin.the_row
+origin_send = search (value.crosses, crosses, sendable) depth 60 fits 20000
+
+printed_send : IsSend Printed.the_row
+printed_send = search (value.crosses, crosses, sendable) depth 60 fits 20000
+
+node_send : IsSend Node.the_field.row
+node_send = search (content_send, value.crosses, crosses, sendable) depth 60 fits 20000
+
+worker_send : IsSend Worker.the_field.row
+worker_send = search (content_send, origin_send, printed_send, value.crosses, crosses, sendable) depth 60 fits 20000
+
+objects_send : IsSend (Seq.the_row ObjectId.the_row)
+objects_send = search (object.the_send, crosses, sendable) depth 60 fits 20000
+
+nodes_send : IsSend (Seq.the_row NodeId.the_row)
+nodes_send = search (node.the_send, crosses, sendable) depth 60 fits 20000
+
+message_send : IsSend Message.the_field.row
+message_send = search (
+  content_send,
+  origin_send,
+  objects_send,
+  nodes_send,
+  attempt.the_send,
+  object.the_send,
+  node.the_send,
+  worker.the_send,
+  fault.the_send,
+  crosses,
+  sendable,
+) depth 60 fits 20000
+
+letter_send : IsSend Letter.the_field.row
+letter_send = search (message_send, party.the_field_send, crosses, sendable) depth 60 fits 20000
+
+whole_send : IsSend Whole.the_field.row
+whole_send = search (node_send, worker_send, letter_send, crosses, sendable) depth 60 fits 20000
+
+entry_send : IsSend Entry.the_field.row
+entry_send = search (value.crosses, crosses, sendable) depth 60 fits 20000
+
+lines_send : IsSend (Seq.the_row PlanLine.the_row)
+lines_send = search (crosses, sendable) depth 60 fits 20000
+
+outs_send : IsSend (Seq.the_row JobOut.the_row)
+outs_send = search (crosses, sendable) depth 60 fits 20000
+
+module _ (S : RattleType) (n : script_name.Ghosts S.Denot) (s : IsSend S) where
+  core_send : IsSend (Core.the_row S n)
+  core_send = search (whole_send, entry_send, phantom.the_field_send, crosses, sendable) depth 60 fits 20000
+
+  board_send : IsSend (Board.the_row S n)
+  board_send = search (core_send, crosses, sendable) depth 60 fits 20000
+
+  turning_send : IsSend (Turning.the_row S n)
+  turning_send = search (board_send, lines_send, outs_send, crosses, sendable) depth 60 fits 20000
+
+  module _ (E G C J : RattleType) (e : ledger.Ghosts E.Denot) (g : ledger.Ghosts G.Denot) (c : ledger.Ghosts C.Denot) (j : ledger.Ghosts J.Denot) where
+    locked_send : IsSend (Locked.the_row S E G C J n e g c j)
+    locked_send = declared_send (Locked.the_type S E G C J n e g c j) (
+      as_row_send (Turning.the_field S n) turning_send,
+      (book.the_send E e, (book.the_send G g, (book.the_send C c, (book.the_send J j, tt)))),
+    )
+
+    pub shared_sync : IsSync (Shared.the_row S E G C J n e g c j)
+    shared_sync = search (locked_send, crosses, sendable) depth 60 fits 20000

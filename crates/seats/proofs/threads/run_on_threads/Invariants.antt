@@ -1,0 +1,13 @@
+use Rattle.seats.proofs.threads.run_on_threads.Given as goal
+
+abbrev pub ghosts-run_shared-E-Ledger : goal.ghosts-run_shared-E-Ledger
+ghosts-run_shared-E-Ledger g a = record { name = a.blanks.events.name; parts = a.blanks.events.parts }
+
+abbrev pub ghosts-run_shared-G-Ledger : goal.ghosts-run_shared-G-Ledger
+ghosts-run_shared-G-Ledger g a = record { name = a.blanks.given.name; parts = a.blanks.given.parts }
+
+abbrev pub ghosts-run_shared-C-Ledger : goal.ghosts-run_shared-C-Ledger
+ghosts-run_shared-C-Ledger g a = record { name = a.blanks.commits.name; parts = a.blanks.commits.parts }
+
+abbrev pub ghosts-run_shared-J-Ledger : goal.ghosts-run_shared-J-Ledger
+ghosts-run_shared-J-Ledger g a = record { name = a.blanks.committed.name; parts = a.blanks.committed.parts }

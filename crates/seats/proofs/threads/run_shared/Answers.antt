@@ -1,0 +1,32 @@
+use mathlib.Core.List.{List, [], ◌∷◌}
+use mir.Syntax.{named}
+use denote.RattleType.{RattleType}
+use denote.Struct.Declared.{shape}
+use denote.Struct.Field.{shr_ref_field}
+use denote.Struct.Tuple.{type_at}
+use denote.Param.{param}
+use denote.Param.Send.{AllSync, recorded_sync, struct_sync, shr_sync}
+use Rattle.std.specs.contracts.alloc.Global as Global
+use Rattle.std.proofs.alloc.Global.TheSendSync as heap
+use Rattle.script_check.specs.contracts.checked.Checked as Checked
+use Rattle.seats.specs.contracts.shared.Shared as Shared
+use Rattle.seats.proofs.Crosses.{checked_sync, shared_sync}
+use Rattle.seats.proofs.threads.run_shared.Goals as goal
+
+pub map_vec-requires-sync-F : goal.map_vec-requires-sync-F
+map_vec-requires-sync-F g c κs within =
+    let b = c.type_bounds in
+    let S = param 0 g.row.S in let E = param 1 g.row.E in let G = param 2 g.row.G in let C = param 3 g.row.C in let J = param 4 g.row.J in
+    let K = param 5 g.row.K in let R = param 6 g.row.R in
+    let shared = Shared.the_row S E G C J g.S.ScriptName g.E.Ledger g.G.Ledger g.C.Ledger g.J.Ledger in
+    let y = shared_sync S g.S.ScriptName b.send-S E G C J g.E.Ledger g.G.Ledger g.C.Ledger g.J.Ledger in
+    let lent : List RattleType =
+    (shr_ref_field (record { mir = named 7; lft = κs.1.1.1.1.1.1.1.0 }) R tt).row
+    ∷ (shr_ref_field (record { mir = named 8; lft = κs.1.1.1.1.1.1.1.1.0 }) Global.the_row tt).row
+    ∷ (shr_ref_field (record { mir = named 9; lft = κs.1.1.1.1.1.1.1.1.1.0 }) shared tt).row
+    ∷ (shr_ref_field (record { mir = named 10; lft = κs.1.1.1.1.1.1.1.1.1.1.0 }) Checked.the_row tt).row
+    ∷ (shr_ref_field (record { mir = named 11; lft = κs.1.1.1.1.1.1.1.1.1.1.1.0 }) K tt).row
+    ∷ [] in
+    let all : AllSync (shape (type_at [] lent)).fields =
+    (shr_sync _ _ _ b.sync-R, (shr_sync _ _ _ heap.the_sync, (shr_sync _ _ _ y, (shr_sync _ _ _ checked_sync, (shr_sync _ _ _ b.sync-K, tt))))) in
+    record { shared = (recorded_sync _ _ _ (type_at [] lent).to_one (struct_sync (shape (type_at [] lent)) all)).shared }

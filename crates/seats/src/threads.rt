@@ -1,0 +1,105 @@
+// A run on threads.
+
+ghost use Rattle.std.specs.Prelude.{◌≡◌, ◌≤◌, IfOk};
+ghost use Rattle.protocol_core.specs.Views.{state_of};
+ghost use Rattle.script_check.specs.Trees.{script_of};
+ghost use Rattle.seats.specs.Ends.{IsEnd};
+ghost use Rattle.turns.specs.Counted.{IsFresh};
+
+use crate::seat::{Blanks, Seat};
+use crate::shared::Shared;
+use crate::working::{Gate, work};
+use event_files::RunPlan;
+use event_log::Refusal;
+use protocol_board::Board;
+use script_check::Checked;
+use segment::ScriptName;
+use std::alloc::{AllocError, Global};
+use std::marker::Brand;
+use std::rt::Clock;
+use std::sync::Wait;
+use std::sync::ledger::Ledger;
+use std::thread;
+use std::thread::Threads;
+
+/// How a run on threads ended.
+#[derive(Drop)]
+pub enum Ended<S: ScriptName> {
+    /// Nothing was left to do.
+    Over(Board<S>),
+    /// The run was given up for the refusal.
+    GivenUp(Refusal),
+}
+
+#[tactic(auto, using(crate::proofs::Seats::so_many))]
+fn run_shared<
+    S: ScriptName + Send + Sync,
+    E: Ledger + Send + Sync,
+    G: Ledger + Send + Sync,
+    C: Ledger + Send + Sync,
+    J: Ledger + Send + Sync,
+    K: Gate + Sync,
+    R: Threads + Wait + Clock + Sync,
+>(
+    rt: &R,
+    alloc: Global,
+    blanks: Blanks,
+    board: Board<S>,
+    plan: RunPlan,
+    n: u8,
+    script: &Checked,
+    gate: &K,
+) -> Result<Ended<S>, AllocError>
+    requires some { (1 ≤ n) × (n ≤ 8) }
+    requires fresh { IsFresh (state_of board) }
+    requires script { script_of script.now ≡ S.script }
+    requires events { (blanks.events.name ≡ E.name) × (blanks.events.parts ≡ E.parts) × (E.parts ≡ n) }
+    requires given { (blanks.given.name ≡ G.name) × (blanks.given.parts ≡ G.parts) × (G.parts ≡ n) }
+    requires commits { (blanks.commits.name ≡ C.name) × (blanks.commits.parts ≡ C.parts) × (C.parts ≡ n) }
+    requires committed { (blanks.committed.name ≡ J.name) × (blanks.committed.parts ≡ J.parts) × (J.parts ≡ n) }
+    ensures { IfOk result (λ end. IsEnd n end) }
+{
+    let (shared, seats) = Shared::<S, E, G, C, J>::new(alloc, blanks, board, plan, n)?;
+    let lent = &shared;
+    let back = thread::map_vec(
+        rt,
+        seats,
+        &|seat| -> Seat<E, G, C, J>
+            requires { script_of script.now ≡ S.script }
+        { work(rt, alloc, lent, seat, script, gate) },
+    )?;
+    if let Some(refusal) = shared.given_up(rt) {
+        return Ok(Ended::GivenUp(refusal));
+    }
+    let Ok(board) = shared.close(back) else {
+        unreachable!();
+    };
+    Ok(Ended::Over(board))
+}
+
+/// Runs a script on `n` threads, 1 to 8, beside a plan: each has a seat, takes its turns and runs the jobs that it is given side by side with
+/// the others. Once all are back, the seats' books add up, number by number, to the totals of the log. Where a thread can't be made, another
+/// takes its seat after its own. On want of memory for the seats or the threads the run is dropped.
+pub fn run_on_threads<
+    S: ScriptName + Send + Sync,
+    K: Gate + Sync,
+    R: Threads + Wait + Clock + Sync,
+>(
+    rt: &R,
+    alloc: Global,
+    board: Board<S>,
+    plan: RunPlan,
+    n: u8,
+    script: &Checked,
+    gate: &K,
+) -> Result<Ended<S>, AllocError>
+    requires some { (1 ≤ n) × (n ≤ 8) }
+    requires fresh { IsFresh (state_of board) }
+    requires script { script_of script.now ≡ S.script }
+    ensures { IfOk result (λ end. IsEnd n end) }
+{
+    let blanks = Blanks::new(u64::from(n));
+    run_shared::<S, Brand, Brand, Brand, Brand, K, R>(
+        rt, alloc, blanks, board, plan, n, script, gate,
+    )
+}

@@ -1,0 +1,93 @@
+-- What each entry says of an object.
+use Rattle.std.specs.Prelude.{ℕ, zero, suc, Bool, if◌then◌else◌, List, [], ◌++◌, codes}
+use Rattle.std.specs.Fmt.{decimal}
+use Rattle.report.specs.Values.{id_text}
+use Rattle.meaning.specs.Values.{Id, Birth, Outcome}
+use Rattle.meaning.specs.Births.{Bearing, same_id}
+use Rattle.event_log.specs.Entries.{Attempt, Fault, Entry, In, Begun, Born, Got, Ended, Accepted, Faulted, Resolved, Released}
+use Rattle.log_words.specs.Calls.{birth_text}
+use Rattle.log_words.specs.Contents.{content_text}
+use Rattle.log_words.specs.Faults.{fault_words}
+use Rattle.log_text.specs.Attempts.{named_text}
+use Rattle.story_text.specs.Mentions.{is_in_birth}
+use Rattle.why_text.specs.Moments.{Moment, when_text}
+use Rattle.why_text.specs.Runs.{Subject}
+use Rattle.why_text.specs.Events.{event_sentence}
+
+-- a1.0#0 (main) made o1.1 in event 2 (commit 1): remote(1) sq(7).
+abbrev pub made_text : List Bearing → Moment → Id → Attempt → Birth → List ℕ
+made_text births m o a b =
+    named_text births a ++ (codes " made " ++ (id_text o ++ (when_text m ++ (codes ": " ++ (birth_text b ++ codes ".\n")))))
+
+abbrev pub again_note : ℕ → List ℕ
+again_note zero = []
+again_note (suc n) = codes ", since the one before it broke or its result was lost"
+
+-- a1.1#0 (sq) began on w2 in event 4 (deliver 2).
+abbrev pub began_text : List Bearing → Moment → Attempt → ℕ → List ℕ
+began_text births m a w =
+    named_text births a ++ (codes " began on w" ++ (decimal w ++ (when_text m ++ (again_note a.number ++ codes ".\n"))))
+
+-- a1.0#0 (main) got o1.1 in event 14 (deliver 7): 49.
+abbrev pub got_text : List Bearing → Moment → Attempt → Id → Outcome → List ℕ
+got_text births m a y c =
+    named_text births a ++ (codes " got " ++ (id_text y ++ (when_text m ++ (codes ": " ++ (content_text c ++ codes ".\n")))))
+
+-- a1.1#0 (sq) ended in event 13 (commit 2): 49.
+abbrev pub ended_text : List Bearing → Moment → Attempt → Outcome → List ℕ
+ended_text births m a c = named_text births a ++ (codes " ended" ++ (when_text m ++ (codes ": " ++ (content_text c ++ codes ".\n"))))
+
+unfoldable pub accepted_head : ℕ → List ℕ
+accepted_head w = codes "w" ++ (decimal w ++ codes " accepted ")
+
+-- w1 accepted a1.1#0 (sq) in event 14 (deliver 7).
+abbrev pub accepted_text : List Bearing → Moment → Attempt → List ℕ
+accepted_text births m a = accepted_head a.object.owner ++ (named_text births a ++ (when_text m ++ codes ".\n"))
+
+unfoldable pub get_note : Id → List ℕ
+get_note y = codes ", at its get of " ++ (id_text y ++ codes ": ")
+
+unfoldable pub faulted_head : List Bearing → Moment → Attempt → List ℕ
+faulted_head births m a = named_text births a ++ (codes " ended with a fault" ++ when_text m)
+
+-- a1.2#0 (sum) ended with a fault in event 20 (claim 3), at its get of o1.1: PutLost o1.1 (it was put, and its copy was lost).
+abbrev pub faulted_text : List Bearing → Moment → Attempt → Id → Fault → List ℕ
+faulted_text births m a y f = faulted_head births m a ++ (get_note y ++ (fault_words f ++ codes ".\n"))
+
+-- w1 gave up o1.1 in event 7 (notice 1 2): RetriesUsed o1.1 (every run that it was allowed broke).
+abbrev pub given_up_text : Moment → Id → Fault → List ℕ
+given_up_text m o f =
+    codes "w" ++ (decimal o.owner ++ (codes " gave up " ++ (id_text o ++ (when_text m ++ (codes ": " ++ (fault_words f ++ codes ".\n"))))))
+
+abbrev pub released_text : Moment → Id → List ℕ
+released_text m o =
+    codes "w" ++ (decimal o.owner ++ (codes " released " ++ (id_text o ++ (when_text m ++ codes ": nothing needed it any more.\n"))))
+
+-- it was made, or another was made with it
+abbrev pub birth_sentence : Id → List Bearing → Moment → Id → Attempt → Birth → List ℕ
+birth_sentence o births m p a b = if same_id p o then made_text births m p a b else (if is_in_birth o b then made_text births m p a b else [])
+
+-- an attempt of its task got another object, or an attempt got this one
+abbrev pub got_sentence : Id → List Bearing → Moment → Attempt → Id → Outcome → List ℕ
+got_sentence o births m a y c = if same_id a.object o then got_text births m a y c else (if same_id y o then got_text births m a y c else [])
+
+abbrev pub faulted_sentence : Id → List Bearing → Moment → Attempt → Id → Fault → List ℕ
+faulted_sentence o births m a y f =
+    if same_id a.object o then faulted_text births m a y f else (if same_id y o then faulted_text births m a y f else [])
+
+-- what came of an event
+abbrev pub entry_sentence : Id → List Bearing → Moment → Entry → List ℕ
+entry_sentence o births m (Born p a b) = birth_sentence o births m p a b
+entry_sentence o births m (Begun a w) = if same_id a.object o then began_text births m a w else []
+entry_sentence o births m (Got a y c) = got_sentence o births m a y c
+entry_sentence o births m (Ended a c) = if same_id a.object o then ended_text births m a c else []
+entry_sentence o births m (Accepted a) = if same_id a.object o then accepted_text births m a else []
+entry_sentence o births m (Faulted a y f) = faulted_sentence o births m a y f
+entry_sentence o births m (Resolved p f) = if same_id p o then given_up_text m p f else []
+entry_sentence o births m (Released p) = if same_id p o then released_text m p else []
+entry_sentence o births m _ = []
+
+-- a refused event did nothing
+unfoldable pub sentence : Subject → List Bearing → Moment → Entry → Bool → List ℕ
+sentence s births m (In e seat) refused = if refused then [] else event_sentence s m e
+sentence s births m x refused = entry_sentence s.object births m x

@@ -1,0 +1,63 @@
+-- Why an object is as it is.
+use Rattle.std.specs.Prelude.{ℕ, if◌then◌else◌, List, [], ◌∷◌, ◌++◌, codes, Option, Some, None}
+use Rattle.std.specs.List.{flat_map}
+use Rattle.report.specs.Values.{id_text}
+use Rattle.meaning.specs.Values.{Id, Birth}
+use Rattle.meaning.specs.Births.{Bearing, birth_at, same_id}
+use Rattle.event_log.specs.Entries.{Entry, Faulted, Resolved, main_attempt}
+use Rattle.event_log.specs.Events.{refused_next}
+use Rattle.event_log.specs.Words.{Lack, births, faults_of}
+use Rattle.event_log.specs.Views.{fault_of}
+use Rattle.values.specs.Values.{id_of}
+use Rattle.why_text.specs.declared.causes.Lack.{Lack as CodeLack}
+use Rattle.history.specs.Main.{first}
+use Rattle.log_words.specs.Faults.{fault_words}
+use Rattle.why_text.specs.Moments.{Moment, first_moment, moment_after}
+use Rattle.why_text.specs.Runs.{Subject, subject_of}
+use Rattle.why_text.specs.Entries.{sentence}
+
+-- the sentences of the entries, where `m` is the moment before them
+abbrev pub sentences : Subject → List Bearing → Moment → List Entry → List ℕ
+sentences s births m [] = []
+sentences s births m (x ∷ rest) = sentence s births (moment_after m x) x (refused_next rest) ++ sentences s births (moment_after m x) rest
+
+-- there is no such object
+unfoldable pub unborn_note : Id → Option Birth → List ℕ
+unborn_note o (Some b) = []
+unborn_note o None = codes "There is no " ++ (id_text o ++ codes ".\n")
+
+-- what the log says of an object, entry by entry
+unfoldable pub account : List Entry → Id → List ℕ
+account log o = unborn_note o (birth_at (births log) o) ++ sentences (subject_of log o) (births log) first_moment log
+
+-- the object in which the fault of another began, where the entry says that the other has a fault
+unfoldable pub cause_in : Id → Entry → List Id
+cause_in o (Resolved p f) = if same_id p o then f.object ∷ [] else []
+cause_in o (Faulted a y f) = if same_id a.object o then f.object ∷ [] else (if same_id y o then f.object ∷ [] else [])
+cause_in o _ = []
+
+abbrev pub cause : List Entry → Id → Option Id
+cause log o = first (flat_map (cause_in o) log)
+
+-- where a fault began in another object, that one's account follows
+abbrev pub cause_text : List Entry → Id → Option Id → List ℕ
+cause_text log o None = []
+cause_text log o (Some z) = if same_id z o then [] else codes "\n" ++ account log z
+
+-- an object's account, and that of the object in which its fault began
+unfoldable pub why_text : List Entry → Id → List ℕ
+why_text log o = account log o ++ cause_text log o (cause log o)
+
+abbrev pub lack_of : CodeLack → Lack
+lack_of x = record { object = id_of x.object; fault = fault_of x.fault }
+
+unfoldable pub main_lack_text : List Entry → Lack → List ℕ
+main_lack_text log x = codes "Main ended with a fault: " ++ (fault_words x.fault ++ (codes ".\n\n" ++ why_text log x.object))
+
+-- why a get of main was answered with a fault
+abbrev pub lack_text : List Entry → Option Lack → List ℕ
+lack_text log None = codes "Main did not end with a fault.\n"
+lack_text log (Some x) = main_lack_text log x
+
+abbrev pub why_main_text : List Entry → List ℕ
+why_main_text log = lack_text log (first (faults_of main_attempt log))

@@ -1,0 +1,72 @@
+// What a log says of an object, entry by entry.
+
+ghost use Rattle.std.specs.Prelude.{◌≡◌, ◌++◌, OnOk, option_copied, string_bytes};
+ghost use Rattle.std.specs.Option.{option_map};
+ghost use Rattle.values.specs.Values.{id_of};
+ghost use Rattle.task_spec.specs.Births.{birth_of};
+ghost use Rattle.event_log.specs.Words.{births};
+ghost use Rattle.event_log.specs.Views.{log_of};
+ghost use Rattle.log_words.specs.Index.{IsIndexOf};
+ghost use Rattle.why_text.specs.Moments.{first_moment};
+ghost use Rattle.why_text.specs.Runs.{seen_of, subject_of};
+ghost use Rattle.why_text.specs.Text.{account, sentences, unborn_note};
+
+use crate::entries::write_sentence;
+use crate::moments::Moment;
+use crate::runs::Subject;
+use event_log::Entry;
+use ids::ObjectId;
+use log_words::{BirthIndex, is_refusal_at};
+use std::alloc::{AllocError, Global};
+use task_spec::Birth;
+
+#[tactic(auto, unfolding(crate::specs::Text::unborn_note))]
+fn write_unborn(
+    text: &mut String,
+    object: ObjectId,
+    birth: Option<&Birth>,
+) -> Result<(), AllocError>
+    ensures { OnOk result
+        (string_bytes text.new ≡ string_bytes text.old ++ unborn_note (id_of object) (option_map birth_of (option_copied birth.entry))) }
+{
+    if birth.is_some() {
+        return Ok(());
+    }
+    write!(text, "There is no {object}.\n")
+}
+
+fn write_sentences(
+    alloc: Global,
+    text: &mut String,
+    subject: &Subject,
+    index: &BirthIndex,
+    log: &[Entry],
+) -> Result<(), AllocError>
+    requires { IsIndexOf index.now log.now }
+    ensures { OnOk result (string_bytes text.new
+        ≡ string_bytes text.old ++ sentences (seen_of subject.now) (births (log_of log.now)) first_moment (log_of log.now)) }
+{
+    let mut moment = Moment::first();
+    for (place, entry) in log.iter().enumerate() {
+        let is_refused = is_refusal_at(log, place + 1);
+        moment = moment.after(entry);
+        write_sentence(alloc, text, subject, index, log, &moment, entry, is_refused)?;
+    }
+    Ok(())
+}
+
+/// Writes what the log says of an object.
+#[tactic(auto, unfolding(crate::specs::Text::account))]
+pub fn write_account(
+    alloc: Global,
+    text: &mut String,
+    log: &[Entry],
+    object: ObjectId,
+) -> Result<(), AllocError>
+    ensures { OnOk result (string_bytes text.new ≡ string_bytes text.old ++ account (log_of log.now) (id_of object)) }
+{
+    let index = BirthIndex::of(alloc, log)?;
+    let subject = Subject::of(alloc, log, object)?;
+    write_unborn(text, object, index.birth(log, object))?;
+    write_sentences(alloc, text, &subject, &index, log)
+}

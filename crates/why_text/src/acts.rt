@@ -1,0 +1,201 @@
+// What was made, begun, got, ended, given up and released, in sentences.
+
+ghost use Rattle.std.specs.Prelude.{◌≡◌, ◌++◌, OnOk, string_bytes};
+ghost use Rattle.values.specs.Values.{content_of, id_of};
+ghost use Rattle.task_spec.specs.Births.{birth_of};
+ghost use Rattle.event_log.specs.Words.{births};
+ghost use Rattle.event_log.specs.Views.{attempt_of, fault_of, log_of};
+ghost use Rattle.log_words.specs.Index.{IsIndexOf};
+ghost use Rattle.why_text.specs.Moments.{moment_of};
+ghost use Rattle.why_text.specs.Entries.{accepted_head, accepted_text, again_note, began_text, ended_text, faulted_head, faulted_text, get_note};
+ghost use Rattle.why_text.specs.Entries.{given_up_text, got_text, made_text, released_text};
+
+use crate::moments::{Moment, write_when};
+use event_log::Entry;
+use ids::{AttemptId, ObjectId, WorkerId};
+use log_text::write_named;
+use log_words::{BirthIndex, write_birth, write_content, write_fault};
+use std::alloc::AllocError;
+use task_spec::Birth;
+use values::{Content, Fault};
+
+pub fn write_made(
+    text: &mut String,
+    index: &BirthIndex,
+    log: &[Entry],
+    moment: &Moment,
+    object: ObjectId,
+    attempt: AttemptId,
+    birth: &Birth,
+) -> Result<(), AllocError>
+    ensures { IsIndexOf index.now log.now → OnOk result (string_bytes text.new ≡ string_bytes text.old
+        ++ made_text (births (log_of log.now)) (moment_of moment.now) (id_of object) (attempt_of attempt) (birth_of birth.now)) }
+{
+    write_named(text, index, log, attempt)?;
+    write!(text, " made {object}")?;
+    write_when(text, moment)?;
+    text.push_str(": ")?;
+    write_birth(text, birth)?;
+    text.push_str(".\n")
+}
+
+fn write_again(text: &mut String, number: u32) -> Result<(), AllocError>
+    ensures { OnOk result (string_bytes text.new ≡ string_bytes text.old ++ again_note number) }
+{
+    if number == 0 {
+        return Ok(());
+    }
+    text.push_str(", since the one before it broke or its result was lost")
+}
+
+pub fn write_began(
+    text: &mut String,
+    index: &BirthIndex,
+    log: &[Entry],
+    moment: &Moment,
+    attempt: AttemptId,
+    worker: WorkerId,
+) -> Result<(), AllocError>
+    ensures { IsIndexOf index.now log.now → OnOk result (string_bytes text.new ≡ string_bytes text.old
+        ++ began_text (births (log_of log.now)) (moment_of moment.now) (attempt_of attempt) worker.0) }
+{
+    write_named(text, index, log, attempt)?;
+    write!(text, " began on {worker}")?;
+    write_when(text, moment)?;
+    write_again(text, attempt.number)?;
+    text.push_str(".\n")
+}
+
+pub fn write_got(
+    text: &mut String,
+    index: &BirthIndex,
+    log: &[Entry],
+    moment: &Moment,
+    attempt: AttemptId,
+    object: ObjectId,
+    content: &Content,
+) -> Result<(), AllocError>
+    ensures { IsIndexOf index.now log.now → OnOk result (string_bytes text.new ≡ string_bytes text.old
+        ++ got_text (births (log_of log.now)) (moment_of moment.now) (attempt_of attempt) (id_of object) (content_of content.now)) }
+{
+    write_named(text, index, log, attempt)?;
+    write!(text, " got {object}")?;
+    write_when(text, moment)?;
+    text.push_str(": ")?;
+    write_content(text, content)?;
+    text.push_str(".\n")
+}
+
+pub fn write_ended(
+    text: &mut String,
+    index: &BirthIndex,
+    log: &[Entry],
+    moment: &Moment,
+    attempt: AttemptId,
+    content: &Content,
+) -> Result<(), AllocError>
+    ensures { IsIndexOf index.now log.now → OnOk result (string_bytes text.new ≡ string_bytes text.old
+        ++ ended_text (births (log_of log.now)) (moment_of moment.now) (attempt_of attempt) (content_of content.now)) }
+{
+    write_named(text, index, log, attempt)?;
+    text.push_str(" ended")?;
+    write_when(text, moment)?;
+    text.push_str(": ")?;
+    write_content(text, content)?;
+    text.push_str(".\n")
+}
+
+#[tactic(auto, unfolding(crate::specs::Entries::accepted_head))]
+fn write_accepted_head(text: &mut String, owner: WorkerId) -> Result<(), AllocError>
+    ensures { OnOk result (string_bytes text.new ≡ string_bytes text.old ++ accepted_head owner.0) }
+{
+    write!(text, "{owner} accepted ")
+}
+
+pub fn write_accepted(
+    text: &mut String,
+    index: &BirthIndex,
+    log: &[Entry],
+    moment: &Moment,
+    attempt: AttemptId,
+) -> Result<(), AllocError>
+    ensures { IsIndexOf index.now log.now → OnOk result (string_bytes text.new ≡ string_bytes text.old
+        ++ accepted_text (births (log_of log.now)) (moment_of moment.now) (attempt_of attempt)) }
+{
+    write_accepted_head(text, attempt.object.owner)?;
+    write_named(text, index, log, attempt)?;
+    write_when(text, moment)?;
+    text.push_str(".\n")
+}
+
+#[tactic(auto, unfolding(crate::specs::Entries::get_note))]
+fn write_get(text: &mut String, object: ObjectId) -> Result<(), AllocError>
+    ensures { OnOk result (string_bytes text.new ≡ string_bytes text.old ++ get_note (id_of object)) }
+{
+    write!(text, ", at its get of {object}: ")
+}
+
+#[tactic(auto, unfolding(crate::specs::Entries::faulted_head))]
+fn write_faulted_head(
+    text: &mut String,
+    index: &BirthIndex,
+    log: &[Entry],
+    moment: &Moment,
+    attempt: AttemptId,
+) -> Result<(), AllocError>
+    ensures { IsIndexOf index.now log.now → OnOk result (string_bytes text.new ≡ string_bytes text.old
+        ++ faulted_head (births (log_of log.now)) (moment_of moment.now) (attempt_of attempt)) }
+{
+    write_named(text, index, log, attempt)?;
+    text.push_str(" ended with a fault")?;
+    write_when(text, moment)?;
+    Ok(())
+}
+
+pub fn write_faulted(
+    text: &mut String,
+    index: &BirthIndex,
+    log: &[Entry],
+    moment: &Moment,
+    attempt: AttemptId,
+    object: ObjectId,
+    fault: Fault,
+) -> Result<(), AllocError>
+    ensures { IsIndexOf index.now log.now → OnOk result (string_bytes text.new ≡ string_bytes text.old
+        ++ faulted_text (births (log_of log.now)) (moment_of moment.now) (attempt_of attempt) (id_of object) (fault_of fault)) }
+{
+    write_faulted_head(text, index, log, moment, attempt)?;
+    write_get(text, object)?;
+    write_fault(text, fault)?;
+    text.push_str(".\n")
+}
+
+pub fn write_given_up(
+    text: &mut String,
+    moment: &Moment,
+    object: ObjectId,
+    fault: Fault,
+) -> Result<(), AllocError>
+    ensures { OnOk result
+        (string_bytes text.new ≡ string_bytes text.old ++ given_up_text (moment_of moment.now) (id_of object) (fault_of fault)) }
+{
+    let owner = object.owner;
+    write!(text, "{owner} gave up {object}")?;
+    write_when(text, moment)?;
+    text.push_str(": ")?;
+    write_fault(text, fault)?;
+    text.push_str(".\n")
+}
+
+pub fn write_released(
+    text: &mut String,
+    moment: &Moment,
+    object: ObjectId,
+) -> Result<(), AllocError>
+    ensures { OnOk result (string_bytes text.new ≡ string_bytes text.old ++ released_text (moment_of moment.now) (id_of object)) }
+{
+    let owner = object.owner;
+    write!(text, "{owner} released {object}")?;
+    write_when(text, moment)?;
+    text.push_str(": nothing needed it any more.\n")
+}

@@ -1,0 +1,188 @@
+// Why an object is as it is, down to the object in which its fault began.
+
+ghost use Rattle.std.specs.Prelude.{◌≡◌, ◌++◌, IfOk, OnOk, string_bytes};
+ghost use Rattle.std.specs.Option.{option_map};
+ghost use Rattle.values.specs.Values.{id_of};
+ghost use Rattle.event_log.specs.Entries.{main_attempt};
+ghost use Rattle.event_log.specs.Words.{faulted_in, faults_of};
+ghost use Rattle.event_log.specs.Views.{entry_of, fault_of, log_of};
+ghost use Rattle.history.specs.Main.{first};
+ghost use Rattle.why_text.specs.Text.{cause, cause_in, cause_text, lack_of, lack_text, main_lack_text, why_main_text, why_text};
+
+use crate::account::write_account;
+use event_log::Entry;
+use history::main_end::is_main;
+use ids::ObjectId;
+use log_words::write_fault;
+use std::alloc::{AllocError, Global};
+use story_text::is_same;
+use values::Fault;
+
+/// The object in which the fault of another began, where the entry says that the other has one.
+#[tactic(auto, unfolding(crate::specs::Text::cause_in))]
+fn cause_in(object: ObjectId, entry: &Entry) -> Option<ObjectId>
+    ensures { option_map id_of result ≡ first (cause_in (id_of object) (entry_of entry.now)) }
+{
+    match entry {
+        Entry::Resolved {
+            object: resolved,
+            fault,
+        } => {
+            if is_same(*resolved, object) {
+                return Some(fault.object);
+            }
+            None
+        }
+        Entry::Faulted {
+            attempt,
+            object: got,
+            fault,
+        } => {
+            if is_same(attempt.object, object) {
+                return Some(fault.object);
+            }
+            if is_same(*got, object) {
+                return Some(fault.object);
+            }
+            None
+        }
+        _ => None,
+    }
+}
+
+/// The object in which its fault began, if it has one.
+fn cause(log: &[Entry], object: ObjectId) -> Option<ObjectId>
+    ensures { option_map id_of result ≡ cause (log_of log.now) (id_of object) }
+{
+    for entry in log {
+        if let Some(found) = cause_in(object, entry) {
+            return Some(found);
+        }
+    }
+    None
+}
+
+fn write_cause(
+    alloc: Global,
+    text: &mut String,
+    log: &[Entry],
+    object: ObjectId,
+    cause: Option<ObjectId>,
+) -> Result<(), AllocError>
+    ensures { OnOk result (string_bytes text.new
+        ≡ string_bytes text.old ++ cause_text (log_of log.now) (id_of object) (option_map id_of cause)) }
+{
+    let Some(cause) = cause else {
+        return Ok(());
+    };
+    if is_same(cause, object) {
+        return Ok(());
+    }
+    text.push_str("\n")?;
+    write_account(alloc, text, log, cause)
+}
+
+#[tactic(auto, unfolding(crate::specs::Text::why_text))]
+fn write_why(
+    alloc: Global,
+    text: &mut String,
+    log: &[Entry],
+    object: ObjectId,
+) -> Result<(), AllocError>
+    ensures { OnOk result (string_bytes text.new ≡ string_bytes text.old ++ why_text (log_of log.now) (id_of object)) }
+{
+    write_account(alloc, text, log, object)?;
+    write_cause(alloc, text, log, object, cause(log, object))
+}
+
+/// Why an object is as it is, in sentences, in the order of the log: what made it and what was made with it, the attempts of its task and
+/// what they got, the deaths that broke them, the losses of its copies, who got it, and how it was given up or released, each with its
+/// event. Where it has a fault that began in another object, the same of that one follows, behind an empty line.
+///
+/// It is made of any log, a legal one or not. An object that was never born has one sentence, that there is none.
+pub fn why_text(alloc: Global, log: &[Entry], object: ObjectId) -> Result<String, AllocError>
+    ensures { IfOk result (λ text. string_bytes text ≡ why_text (log_of log.now) (id_of object)) }
+{
+    let mut text = String::new(alloc);
+    write_why(alloc, &mut text, log, object)?;
+    Ok(text)
+}
+
+/// A fault in place of an answer, and the object that was to be got.
+#[derive(Clone, Copy, PartialEq, Eq, Debug)]
+pub struct Lack {
+    pub object: ObjectId,
+    pub fault: Fault,
+}
+
+/// The fault that a get of main is answered with at an entry.
+fn lack_in(entry: &Entry) -> Option<Lack>
+    ensures { option_map lack_of result ≡ first (faulted_in main_attempt (entry_of entry.now)) }
+{
+    let Entry::Faulted {
+        attempt,
+        object,
+        fault,
+    } = entry
+    else {
+        return None;
+    };
+    if is_main(*attempt) {
+        return Some(Lack {
+            object: *object,
+            fault: *fault,
+        });
+    }
+    None
+}
+
+/// The fault that a get of main was answered with first.
+fn main_lack(log: &[Entry]) -> Option<Lack>
+    ensures { option_map lack_of result ≡ first (faults_of main_attempt (log_of log.now)) }
+{
+    for entry in log {
+        if let Some(lack) = lack_in(entry) {
+            return Some(lack);
+        }
+    }
+    None
+}
+
+fn write_main_lack(
+    alloc: Global,
+    text: &mut String,
+    log: &[Entry],
+    lack: Lack,
+) -> Result<(), AllocError>
+    ensures { OnOk result (string_bytes text.new ≡ string_bytes text.old ++ main_lack_text (log_of log.now) (lack_of lack)) }
+{
+    text.push_str("Main ended with a fault: ")?;
+    write_fault(text, lack.fault)?;
+    text.push_str(".\n\n")?;
+    write_why(alloc, text, log, lack.object)?;
+    Ok(())
+}
+
+fn write_lack(
+    alloc: Global,
+    text: &mut String,
+    log: &[Entry],
+    lack: Option<Lack>,
+) -> Result<(), AllocError>
+    ensures { OnOk result
+        (string_bytes text.new ≡ string_bytes text.old ++ lack_text (log_of log.now) (option_map lack_of lack)) }
+{
+    let Some(lack) = lack else {
+        return text.push_str("Main did not end with a fault.\n");
+    };
+    write_main_lack(alloc, text, log, lack)
+}
+
+/// Why main ended with a fault: why the object that it was to get is as it is, or that it did not end with one.
+pub fn why_main_text(alloc: Global, log: &[Entry]) -> Result<String, AllocError>
+    ensures { IfOk result (λ text. string_bytes text ≡ why_main_text (log_of log.now)) }
+{
+    let mut text = String::new(alloc);
+    write_lack(alloc, &mut text, log, main_lack(log))?;
+    Ok(text)
+}

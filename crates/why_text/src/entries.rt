@@ -1,0 +1,198 @@
+// What each entry says of an object.
+
+ghost use Rattle.std.specs.Prelude.{◌≡◌, ◌++◌, OnOk, [], if◌then◌else◌, string_bytes};
+ghost use Rattle.values.specs.Values.{content_of, id_of};
+ghost use Rattle.task_spec.specs.Births.{birth_of};
+ghost use Rattle.event_log.specs.Words.{births};
+ghost use Rattle.event_log.specs.Views.{attempt_of, entry_of, event_of, fault_of, log_of};
+ghost use Rattle.log_words.specs.Index.{IsIndexOf};
+ghost use Rattle.why_text.specs.Moments.{moment_of};
+ghost use Rattle.why_text.specs.Runs.{seen_of};
+ghost use Rattle.why_text.specs.Events.{event_sentence};
+ghost use Rattle.why_text.specs.Entries.{birth_sentence, entry_sentence, faulted_sentence, got_sentence, sentence};
+
+use crate::acts::{
+    write_accepted, write_began, write_ended, write_faulted, write_given_up, write_got, write_made,
+    write_released,
+};
+use crate::events::write_event_sentence;
+use crate::moments::Moment;
+use crate::runs::Subject;
+use event_log::{Entry, Event};
+use ids::{AttemptId, ObjectId};
+use log_words::BirthIndex;
+use std::alloc::{AllocError, Global};
+use story_text::{is_in_birth, is_same};
+use task_spec::Birth;
+use values::{Content, Fault};
+
+fn write_birth_sentence(
+    alloc: Global,
+    text: &mut String,
+    subject: ObjectId,
+    index: &BirthIndex,
+    log: &[Entry],
+    moment: &Moment,
+    object: ObjectId,
+    attempt: AttemptId,
+    birth: &Birth,
+) -> Result<(), AllocError>
+    ensures { IsIndexOf index.now log.now → OnOk result (string_bytes text.new ≡ string_bytes text.old ++ birth_sentence (id_of subject)
+        (births (log_of log.now)) (moment_of moment.now) (id_of object) (attempt_of attempt) (birth_of birth.now)) }
+{
+    if is_same(object, subject) {
+        return write_made(text, index, log, moment, object, attempt, birth);
+    }
+    if is_in_birth(alloc, subject, birth)? {
+        return write_made(text, index, log, moment, object, attempt, birth);
+    }
+    Ok(())
+}
+
+fn write_got_sentence(
+    text: &mut String,
+    subject: ObjectId,
+    index: &BirthIndex,
+    log: &[Entry],
+    moment: &Moment,
+    attempt: AttemptId,
+    object: ObjectId,
+    content: &Content,
+) -> Result<(), AllocError>
+    ensures { IsIndexOf index.now log.now → OnOk result (string_bytes text.new ≡ string_bytes text.old ++ got_sentence (id_of subject)
+        (births (log_of log.now)) (moment_of moment.now) (attempt_of attempt) (id_of object) (content_of content.now)) }
+{
+    if is_same(attempt.object, subject) {
+        return write_got(text, index, log, moment, attempt, object, content);
+    }
+    if is_same(object, subject) {
+        return write_got(text, index, log, moment, attempt, object, content);
+    }
+    Ok(())
+}
+
+fn write_faulted_sentence(
+    text: &mut String,
+    subject: ObjectId,
+    index: &BirthIndex,
+    log: &[Entry],
+    moment: &Moment,
+    attempt: AttemptId,
+    object: ObjectId,
+    fault: Fault,
+) -> Result<(), AllocError>
+    ensures { IsIndexOf index.now log.now → OnOk result (string_bytes text.new ≡ string_bytes text.old ++ faulted_sentence (id_of subject)
+        (births (log_of log.now)) (moment_of moment.now) (attempt_of attempt) (id_of object) (fault_of fault)) }
+{
+    if is_same(attempt.object, subject) {
+        return write_faulted(text, index, log, moment, attempt, object, fault);
+    }
+    if is_same(object, subject) {
+        return write_faulted(text, index, log, moment, attempt, object, fault);
+    }
+    Ok(())
+}
+
+/// Writes what the entry says of the object, where it came of an event.
+fn write_entry_sentence(
+    alloc: Global,
+    text: &mut String,
+    subject: ObjectId,
+    index: &BirthIndex,
+    log: &[Entry],
+    moment: &Moment,
+    entry: &Entry,
+) -> Result<(), AllocError>
+    ensures { IsIndexOf index.now log.now → OnOk result (string_bytes text.new ≡ string_bytes text.old
+        ++ entry_sentence (id_of subject) (births (log_of log.now)) (moment_of moment.now) (entry_of entry.now)) }
+{
+    match entry {
+        Entry::Born {
+            object,
+            attempt,
+            birth,
+        } => write_birth_sentence(
+            alloc, text, subject, index, log, moment, *object, *attempt, birth,
+        ),
+        Entry::Begun { attempt, worker } => {
+            if is_same(attempt.object, subject) {
+                return write_began(text, index, log, moment, *attempt, *worker);
+            }
+            Ok(())
+        }
+        Entry::Got {
+            attempt,
+            object,
+            content,
+        } => write_got_sentence(
+            text, subject, index, log, moment, *attempt, *object, content,
+        ),
+        Entry::Ended { attempt, content } => {
+            if is_same(attempt.object, subject) {
+                return write_ended(text, index, log, moment, *attempt, content);
+            }
+            Ok(())
+        }
+        Entry::Accepted(attempt) => {
+            if is_same(attempt.object, subject) {
+                return write_accepted(text, index, log, moment, *attempt);
+            }
+            Ok(())
+        }
+        Entry::Faulted {
+            attempt,
+            object,
+            fault,
+        } => write_faulted_sentence(text, subject, index, log, moment, *attempt, *object, *fault),
+        Entry::Resolved { object, fault } => {
+            if is_same(*object, subject) {
+                return write_given_up(text, moment, *object, *fault);
+            }
+            Ok(())
+        }
+        Entry::Released(object) => {
+            if is_same(*object, subject) {
+                return write_released(text, moment, *object);
+            }
+            Ok(())
+        }
+        _ => Ok(()),
+    }
+}
+
+fn write_event_unless(
+    text: &mut String,
+    subject: &Subject,
+    moment: &Moment,
+    event: &Event,
+    is_refused: bool,
+) -> Result<(), AllocError>
+    ensures { OnOk result (string_bytes text.new ≡ string_bytes text.old
+        ++ (if is_refused then [] else event_sentence (seen_of subject.now) (moment_of moment.now) (event_of event.now))) }
+{
+    if is_refused {
+        return Ok(());
+    }
+    write_event_sentence(text, subject, moment, event)
+}
+
+/// Writes what the entry says of the object; `moment` is that with the entry, and `is_refused` says of an event that it is refused.
+#[tactic(auto, unfolding(crate::specs::Entries::sentence))]
+pub fn write_sentence(
+    alloc: Global,
+    text: &mut String,
+    subject: &Subject,
+    index: &BirthIndex,
+    log: &[Entry],
+    moment: &Moment,
+    entry: &Entry,
+    is_refused: bool,
+) -> Result<(), AllocError>
+    ensures { IsIndexOf index.now log.now → OnOk result (string_bytes text.new ≡ string_bytes text.old
+        ++ sentence (seen_of subject.now) (births (log_of log.now)) (moment_of moment.now) (entry_of entry.now) is_refused) }
+{
+    if let Entry::In { event, .. } = entry {
+        return write_event_unless(text, subject, moment, event, is_refused);
+    }
+    write_entry_sentence(alloc, text, subject.object, index, log, moment, entry)
+}

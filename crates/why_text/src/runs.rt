@@ -1,0 +1,184 @@
+// An object, and what a log says of the attempts of its task.
+
+ghost use Rattle.std.specs.Prelude.{◌≡◌, ◌++◌, IfOk, OnOk, map};
+ghost use Rattle.std.specs.List.{list_any};
+ghost use Rattle.values.specs.Values.{id_of};
+ghost use Rattle.event_log.specs.Events.{from_one};
+ghost use Rattle.event_log.specs.Words.{opened, opened_in};
+ghost use Rattle.event_log.specs.Views.{attempt_of, entry_of, log_of};
+ghost use Rattle.why_text.specs.Runs.{is_end_of, is_kill, is_killed_in, is_node, run_in, run_of, run_seen, runs_of, seen_of, subject_of};
+
+use event_log::{Entry, Event};
+use ids::{AttemptId, ObjectId};
+use log_words::is_refusal_at;
+use std::alloc::{AllocError, Global};
+use story_text::is_same;
+
+/// An attempt, the numbers of its worker and of the node of that, whether the log never says that it ended, and whether its worker was
+/// killed for itself, not with its node.
+#[derive(Clone, Copy, PartialEq, Eq, Debug)]
+pub struct Run {
+    pub attempt: AttemptId,
+    pub worker: u32,
+    pub node: Option<u32>,
+    pub is_open: bool,
+    pub was_killed: bool,
+}
+
+/// An object, the number of its owner's node, and the attempts of its task.
+#[derive(Drop)]
+pub struct Subject {
+    pub object: ObjectId,
+    pub home: Option<u32>,
+    pub runs: Vec<Run>,
+}
+
+#[tactic(auto, unfolding(event_log::specs::Words::same_attempt, meaning::specs::Births::same_id, crate::specs::Runs::is_end_of))]
+fn is_end_of(attempt: AttemptId, entry: &Entry) -> bool
+    ensures { result ≡ is_end_of (attempt_of attempt) (entry_of entry.now) }
+{
+    match entry {
+        Entry::Ended { attempt: ended, .. } | Entry::Faulted { attempt: ended, .. } => {
+            is_same(ended.object, attempt.object) && ended.number == attempt.number
+        }
+        _ => false,
+    }
+}
+
+fn has_ended(log: &[Entry], attempt: AttemptId) -> bool
+    ensures { result ≡ list_any (is_end_of (attempt_of attempt)) (log_of log.now) }
+{
+    for entry in log {
+        if is_end_of(attempt, entry) {
+            return true;
+        }
+    }
+    false
+}
+
+fn add_opened(nodes: &mut Vec<u32>, entry: &Entry) -> Result<(), AllocError>
+    ensures { OnOk result (nodes.new.items ≡ nodes.old.items ++ opened_in (entry_of entry.now)) }
+{
+    match entry {
+        Entry::Opened { node, .. } => Ok(nodes.push(node.0)?),
+        _ => Ok(()),
+    }
+}
+
+/// The nodes of all workers, by their numbers.
+fn opened(alloc: Global, log: &[Entry]) -> Result<Vec<u32>, AllocError>
+    ensures { IfOk result (λ nodes. nodes.items ≡ opened (log_of log.now)) }
+{
+    let mut nodes = Vec::new(alloc);
+    for entry in log {
+        add_opened(&mut nodes, entry)?;
+    }
+    Ok(nodes)
+}
+
+fn node_of(nodes: &[u32], worker: u32) -> Option<u32>
+    ensures { result ≡ from_one nodes.now worker }
+{
+    if worker == 0 {
+        return None;
+    }
+    let place = (worker - 1) as usize;
+    if place < nodes.len() {
+        return Some(nodes[place]);
+    }
+    None
+}
+
+#[tactic(auto, unfolding(crate::specs::Runs::is_kill))]
+fn is_kill(worker: u32, entry: &Entry) -> bool
+    ensures { result ≡ is_kill worker (entry_of entry.now) }
+{
+    match entry {
+        Entry::In {
+            event: Event::Kill(killed),
+            ..
+        } => killed.0 == worker,
+        _ => false,
+    }
+}
+
+/// Whether an event that kills the worker was taken.
+fn is_killed_in(log: &[Entry], worker: u32) -> bool
+    ensures { result ≡ is_killed_in worker (log_of log.now) }
+{
+    for (place, entry) in log.iter().enumerate() {
+        if is_kill(worker, entry) && !is_refusal_at(log, place + 1) {
+            return true;
+        }
+    }
+    false
+}
+
+fn run_of(log: &[Entry], nodes: &[u32], attempt: AttemptId, worker: u32) -> Run
+    ensures { nodes.now ≡ opened (log_of log.now) → run_seen result ≡ run_of (log_of log.now) (attempt_of attempt) worker }
+{
+    Run {
+        attempt,
+        worker,
+        node: node_of(nodes, worker),
+        is_open: !has_ended(log, attempt),
+        was_killed: is_killed_in(log, worker),
+    }
+}
+
+fn add_run(
+    runs: &mut Vec<Run>,
+    log: &[Entry],
+    nodes: &[u32],
+    object: ObjectId,
+    entry: &Entry,
+) -> Result<(), AllocError>
+    ensures { nodes.now ≡ opened (log_of log.now) → OnOk result
+        (map run_seen runs.new.items ≡ map run_seen runs.old.items ++ run_in (log_of log.now) (id_of object) (entry_of entry.now)) }
+{
+    let Entry::Begun { attempt, worker } = entry else {
+        return Ok(());
+    };
+    if is_same(attempt.object, object) {
+        let run = run_of(log, nodes, *attempt, worker.0);
+        return Ok(runs.push(run)?);
+    }
+    Ok(())
+}
+
+fn runs_of(
+    alloc: Global,
+    log: &[Entry],
+    nodes: &[u32],
+    object: ObjectId,
+) -> Result<Vec<Run>, AllocError>
+    ensures { nodes.now ≡ opened (log_of log.now) → IfOk result (λ runs. map run_seen runs.items ≡ runs_of (log_of log.now) (id_of object)) }
+{
+    let mut runs = Vec::new(alloc);
+    for entry in log {
+        add_run(&mut runs, log, nodes, object, entry)?;
+    }
+    Ok(runs)
+}
+
+impl Subject {
+    /// The object with what the log says of its attempts.
+    pub fn of(alloc: Global, log: &[Entry], object: ObjectId) -> Result<Subject, AllocError>
+        ensures { IfOk result (λ subject. seen_of subject ≡ subject_of (log_of log.now) (id_of object)) }
+    {
+        let nodes = opened(alloc, log)?;
+        let home = node_of(&nodes, object.owner.0);
+        let runs = runs_of(alloc, log, &nodes, object)?;
+        Ok(Subject { object, home, runs })
+    }
+}
+
+/// Whether it is that node.
+pub fn is_node(number: u32, node: Option<u32>) -> bool
+    ensures { result ≡ is_node number node }
+{
+    match node {
+        Some(node) => node == number,
+        None => false,
+    }
+}

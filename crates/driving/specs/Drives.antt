@@ -30,7 +30,7 @@ pub record Commits (script : Script) (before : RunState) (job : JobData) (after 
 abbrev pub Turn : Script → RunState → Event → RunState → Type 0
 Turn script before e after =
     Answers before e 0 None after Accepts ⊎ ((claimed : RunState) × (job : JobData) × Answers before e 0 None claimed (GivesJob job) ×
-        Commits script claimed job after)
+    Commits script claimed job after)
 
 -- behind an event that gave out a job: no memory while it ran, or its commit is refused
 abbrev pub BreaksAfter : Script → RunState → JobData → RunState → Refusal → Type 0

@@ -173,11 +173,11 @@ needs_asks b run z last y f at waits apart =
         let h : Here = with_phase b run (Waits z None) in
         let asked : HasStoppedHere (asks_where h z) =
         subst (λ t. HasStoppedHere (if t then needs_own h z else if knows_dead b.worker z.owner then faults h (fault OwnerDied z) else says h z.owner
-            (Where z))) (sym foreign)
+        (Where z))) (sym foreign)
         (subst (λ t. HasStoppedHere (if t then faults h (fault OwnerDied z) else says h z.owner (Where z))) (sym e) (stopped_by_death b run z)) in
         let rested : HasStoppedHere (needs b run z) =
         at_test (λ t. HasStoppedHere (if t then gives_slot_back (asks_where h z) else asks_where h z)) (is_waiting_for (asks_where h z).worker z)
-            (λ _. asked) (λ _. asked) in
+        (λ _. asked) (λ _. asked) in
         release_step-kept ToldBy OverOf GivenBy Anyhow HasStoppedHere stopped_kept (needs b run z) rested
 
 ends_asks : (b : Here) (run : Run) (content : Outcome) → AsksOwner b.me (release_step (ends b run content))
@@ -190,7 +190,7 @@ ends_asks b run content =
     leaves_if_free-kept ToldBy OverOf GivenBy Anyhow HasStoppedHere stopped_kept (holds_ids stored o ids)
     (holds_ids-kept ToldBy OverOf GivenBy Anyhow HasStoppedHere stopped_kept stored o ids refl) in
     stopped_asks b.me (release_step (ends b run content)) (release_step-kept ToldBy OverOf GivenBy Anyhow HasStoppedHere stopped_kept
-        (ends b run content) held)
+    (ends b run content) held)
 
 stops_ask : (b : Here) (stop : Stopped) (r : Option Run) → pace_by r ≡ GoesOn → AsksOwner b.me (release_step (stops_by b stop r))
 stops_ask b stop None e = absurd (stopped_goes e)
@@ -207,7 +207,7 @@ commit_asks h o run e = subst (λ r. AsksOwner h.me (release_step (commit_by h o
         let borne : Here = bears_all g run.attempt o.births in
         let goes : pace_by borne.worker.run ≡ GoesOn =
         bears_all-kept ToldBy OverOf GivenBy Anyhow (λ z. pace_by z.worker.run ≡ GoesOn)
-            (pace_kept ToldBy OverOf GivenBy GoesOn goes_rests) g run.attempt o.births refl in
+        (pace_kept ToldBy OverOf GivenBy GoesOn goes_rests) g run.attempt o.births refl in
         let me : borne.me ≡ h.me = M.bears_all-kept (λ z. z.me ≡ h.me) (me_stays h.me) g run.attempt o.births refl in
         subst (λ m. AsksOwner m (release_step (stops_by borne o.stop borne.worker.run))) me (stops_ask borne o.stop borne.worker.run goes)
 
@@ -274,7 +274,7 @@ module _ (c : Whole) (j w : ℕ) (handed : Handed) (g : Given) (at : item_at c.j
       made : happens c (Commit j) handed ≡ after_worker d g.worker who.0.node (release_step (commit_step start done.0))
       made =
           ap (λ o. committed_by c j handed o) at ∙ ap (λ o. committed_by c j o (Some g)) done.1 ∙
-              ap (λ o. worker_does_by d g.worker (λ h. commit_step h done.0) o) who.1 ∙
+          ap (λ o. worker_does_by d g.worker (λ h. commit_step h done.0) o) who.1 ∙
           ap (λ o. worker_does_at d g.worker who.0 (λ h. commit_step h done.0) o) node.1
 
       same_worker : (u v : Worker) → ◌≡◌ {A = Option Worker} (Some u) (Some v) → u ≡ v

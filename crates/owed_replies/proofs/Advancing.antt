@@ -262,8 +262,15 @@ module _ (s : Setting) (log : List Entry) (c : Whole) (e : Event) (seat : ℕ) (
   ]
     where
       by_old : ((w : ℕ) × IsReported c.network w f) ⊎ IsGoingOn c f → ((w : ℕ) × IsReported m.whole.network w f) ⊎ IsGoingOn m.whole f
-      by_old (inl (w, r)) = inl (w, (r.0, r.1, subst (λ ls. Among (letter (TheWorker w) (TheWorker f.object.owner) (Finished f r.0 r.1)) ls) (sym a.network)
-          (among-more c.network m.out.letters _ r.2)))
+      by_old (inl (w, r)) = inl (
+        w,
+        (
+          r.0,
+          r.1,
+          subst (λ ls. Among (letter (TheWorker w) (TheWorker f.object.owner) (Finished f r.0 r.1)) ls) (sym a.network)
+              (among-more c.network m.out.letters _ r.2),
+        ),
+      )
       by_old (inr g) = elim (a.goes_on f g) [ inl h ↦ inr h | inr p ↦ settles f x i other p ]
 
       by_new : Among (Ended f x) (In e seat ∷ m.out.entries) → ((w : ℕ) × IsReported m.whole.network w f) ⊎ IsGoingOn m.whole f

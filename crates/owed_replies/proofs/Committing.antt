@@ -209,13 +209,15 @@ module _ (log : List Entry) (net : List Letter) (me : ℕ) (old : List Object) (
       by_run None i = (said log net me old ok fin h (TheWorker o.owner) (Hold e o) (refl, b) q, g)
       by_run (Some run) i =
           let r = q.run run i in
-          let next : Run = record run { holds = with_holding run.holds (holding e o) } in
-          (said log net me old ok fin (with_run h next) (TheWorker o.owner) (Hold e o) (refl, b) (run_does log net me old ok fin h next (record {
-            needs = r.needs;
-            holds = λ k j. elim (held_among run.holds (holding e o) k j) [ inl f ↦ r.holds k f | inr f ↦ subst (λ (m : Holding). IsBornIn log m.object) (sym f) b ];
-            told = r.told;
-            main = r.main;
-          }) q), λ s f. let same : next ≡ s = some_run next s f in subst (λ (x : Run). x.is_over ≡ false) same (g run i))
+          let next : Run = record run { holds = with_holding run.holds (holding e o) } in (
+            said log net me old ok fin (with_run h next) (TheWorker o.owner) (Hold e o) (refl, b) (run_does log net me old ok fin h next (record {
+              needs = r.needs;
+              holds = λ k j. elim (held_among run.holds (holding e o) k j) [ inl f ↦ r.holds k f | inr f ↦ subst (λ (m : Holding). IsBornIn log m.object) (sym f) b ];
+              told = r.told;
+              main = r.main;
+            }) q),
+            λ s f. let same : next ≡ s = some_run next s f in subst (λ (x : Run). x.is_over ≡ false) same (g run i),
+          )
 
   abbrev Both : Here → Type 0
   Both h = Q h × IsGoing h
@@ -317,12 +319,15 @@ module _ (log : List Entry) (net : List Letter) (me : ℕ) (old : List Object) (
       let r = q.0.run run e in
       let next : Run = record run { phase = HasEnded c } in
       let going : run.is_over ≡ false = q.1 run e in
-      let ended : Both (with_run h next) = (run_does log net me old ok fin h next (record {
-        needs = λ z i. absurd (cc);
-        holds = r.holds;
-        told = λ _ _ over. absurd (not_both run.is_over over going);
-        main = r.main;
-      }) q.0, λ s f. let same : next ≡ s = some_run next s f in subst (λ (x : Run). x.is_over ≡ false) same going) in
+      let ended : Both (with_run h next) = (
+        run_does log net me old ok fin h next (record {
+          needs = λ z i. absurd (cc);
+          holds = r.holds;
+          told = λ _ _ over. absurd (not_both run.is_over over going);
+          main = r.main;
+        }) q.0,
+        λ s f. let same : next ≡ s = some_run next s f in subst (λ (x : Run). x.is_over ≡ false) same going,
+      ) in
       let kept : Both (with_store (with_run h next) (with_primary (store_here h) run.attempt.object run.attempt.number c)) = with_store_both _ _ ended in
       let held = holds_ids_does _ run.attempt.object (each_once (ids_in_outcome c)) ids kept in
       (pays_kept log net me old ok fin).frees _ (leaves_pays log net me old ok fin _ held.0)

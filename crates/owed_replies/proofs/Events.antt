@@ -126,15 +126,15 @@ module _ (log : List Entry) (c : Whole) (e : Event) (seat : ℕ) (k : KeepsRepli
           let run : x.run ≡ Some g.run = ap (λ (z : Worker). z.run) is ∙ g.at in
           inr (record { number = me; worker = final.worker; there = there_now; lives = lives; present = stays g.run run g.going ∙ ap (λ b. Some b) g.present })
       | inr apart ↦ inl (record {
-          number = g.number;
-          worker = g.worker;
-          run = g.run;
-          there = there_more (changed_at c.workers me (λ _. final.worker)) (repeated final.there.opened (new_worker x.node)) g.number g.worker
-              (changed_elsewhere c.workers me g.number (λ _. final.worker) g.worker apart g.there);
-          at = g.at;
-          present = g.present;
-          going = g.going;
-        })
+        number = g.number;
+        worker = g.worker;
+        run = g.run;
+        there = there_more (changed_at c.workers me (λ _. final.worker)) (repeated final.there.opened (new_worker x.node)) g.number g.worker
+            (changed_elsewhere c.workers me g.number (λ _. final.worker) g.worker apart g.there);
+        at = g.at;
+        present = g.present;
+        going = g.going;
+      })
     ]
 
     asked_on : (i v : ℕ) (o : Id) (n : Message) → e ≡ Deliver i → item_at c.network i ≡ Some (letter (TheWorker v) (TheWorker o.owner) n) → IsRequest o n →
@@ -240,9 +240,11 @@ module _ (log : List Entry) (c : Whole) (e : Event) (seat : ℕ) (m : Moved) (k 
     where
       old_run : (w : ℕ) (y : Worker) (run : Run) → IsLeft c w y → y.run ≡ Some run → RunIsRight next_log m.whole.network w run × IsOverInTime run
       old_run w y run o g =
-          let h : o.worker.run ≡ Some run = sym o.run ∙ g in
-          (subst (λ ls. RunIsRight next_log ls w run) (sym network)
-          (run_right_more log (In e seat ∷ m.out.entries) c.network m.out.letters w run (k.runs w o.worker run o.there h)), k.in_time w o.worker run o.there h)
+          let h : o.worker.run ≡ Some run = sym o.run ∙ g in (
+            subst (λ ls. RunIsRight next_log ls w run) (sym network)
+                (run_right_more log (In e seat ∷ m.out.entries) c.network m.out.letters w run (k.runs w o.worker run o.there h)),
+            k.in_time w o.worker run o.there h,
+          )
 
       new_run : (n : ℕ) (y : Worker) (run : Run) → new_worker n ≡ y → y.run ≡ Some run → ⊥
       new_run n y run f g = let h : None ≡ Some run = ap (λ (z : Worker). z.run) f ∙ g in absurd (cc)

@@ -492,15 +492,17 @@ module _ (s : Setting) (log : List Entry) (c : Whole) (before : IsInStep s log c
     asks_here j v o n same_event there request =
         let number : i ≡ j = cc in
         let sent_so : item_at c.network i ≡ Some (letter (TheWorker v) (TheWorker o.owner) n) = subst (λ q. item_at c.network q ≡ Some (letter (TheWorker v) (TheWorker o.owner) n)) (sym number) there in
-        let parts = letter_is v o n (sym sent ∙ sent_so) in
-        (parts.1, λ z item.
-        let born : IsBorn (births log) o = request_born s log c before.sound.between k v o.owner o n (among_sent i _ sent_so) request in
-        let old = owner_has s log c before.sound.between o born x (subst (λ w. worker_at c w ≡ Some x) (sym parts.1) at) live (some_serial last_here.worker.objects o.serial z item) in
-        let now : IsAwaited o.serial v (hears first_here).worker.objects = by_request v o n parts.0 parts.1 parts.2 request old.0 old.1 in
-        let then_so : IsAwaited o.serial v last_here.worker.objects = still_awaited o.serial v (hears first_here).worker.objects last_here.worker.objects
-        (steady_end (hears first_here) (hears first_here) (steady_start (hears first_here))).grows now in
-        let same : then_so.object ≡ z = same_object then_so.object z (sym then_so.there ∙ item) in
-        subst (IsAwaitedBy v) same then_so.waits)
+        let parts = letter_is v o n (sym sent ∙ sent_so) in (
+          parts.1,
+          λ z item.
+              let born : IsBorn (births log) o = request_born s log c before.sound.between k v o.owner o n (among_sent i _ sent_so) request in
+              let old = owner_has s log c before.sound.between o born x (subst (λ w. worker_at c w ≡ Some x) (sym parts.1) at) live (some_serial last_here.worker.objects o.serial z item) in
+              let now : IsAwaited o.serial v (hears first_here).worker.objects = by_request v o n parts.0 parts.1 parts.2 request old.0 old.1 in
+              let then_so : IsAwaited o.serial v last_here.worker.objects = still_awaited o.serial v (hears first_here).worker.objects last_here.worker.objects
+              (steady_end (hears first_here) (hears first_here) (steady_start (hears first_here))).grows now in
+              let same : then_so.object ≡ z = same_object then_so.object z (sym then_so.there ∙ item) in
+              subst (IsAwaitedBy v) same then_so.waits,
+        )
       where
         same_object : (p q : Object) → ◌≡◌ {A = Option Object} (Some p) (Some q) → p ≡ q
         same_object p q e = cc
@@ -552,11 +554,14 @@ module _ (s : Setting) (log : List Entry) (c : Whole) (before : IsInStep s log c
       | inr (_, was) ↦ inl (record { worker = y; there = was; lived = λ live. live; run = refl; objects = refl })
     ];
     forth = λ v x was.
-        let y = there_still c.workers w v dead x was in
-        (y.0, y.1, elim (changed_cases c.workers w v dead y.0 y.1) [
-          | inl (_, z, old, is) ↦ ap (λ (u : Worker). u.run) is ∙ ap (λ (u : Worker). u.run) (same_one z x (sym old ∙ was))
-          | inr (_, old) ↦ ap (λ (u : Worker). u.run) (same_one y.0 x (sym old ∙ was))
-        ]);
+        let y = there_still c.workers w v dead x was in (
+          y.0,
+          y.1,
+          elim (changed_cases c.workers w v dead y.0 y.1) [
+            | inl (_, z, old, is) ↦ ap (λ (u : Worker). u.run) is ∙ ap (λ (u : Worker). u.run) (same_one z x (sym old ∙ was))
+            | inr (_, old) ↦ ap (λ (u : Worker). u.run) (same_one y.0 x (sym old ∙ was))
+          ],
+        );
   }
     where
       dead_lives : (x y : Worker) → y ≡ dead x → y.is_live ≡ true → ⊥

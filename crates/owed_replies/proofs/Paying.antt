@@ -215,11 +215,14 @@ module _ (log : List Entry) (net : List Letter) (me : ℕ) (old : List Object) (
             run = λ r f. let same : run ≡ r = cc in subst (RunIsRight log (net ++ (h.there.out.letters ++ l ∷ [])) me) same (record {
               needs = right.needs;
               holds = right.holds;
-              told = λ _ _ _ _. (h.worker.node, each_once (ids_in_outcome c),
-                  subst (Among (letter (TheWorker me) (TheWorker run.attempt.object.owner) (Finished run.attempt h.worker.node (each_once (ids_in_outcome c)))))
-                  (append_assoc net h.there.out.letters (l ∷ []))
-                  (subst (λ v. Among (letter (TheWorker v) (TheWorker run.attempt.object.owner) (Finished run.attempt h.worker.node (each_once (ids_in_outcome c)))) ((net ++ h.there.out.letters) ++ l ∷ [])) d.who
-                  (among-last (net ++ h.there.out.letters) l)));
+              told = λ _ _ _ _. (
+                h.worker.node,
+                each_once (ids_in_outcome c),
+                subst (Among (letter (TheWorker me) (TheWorker run.attempt.object.owner) (Finished run.attempt h.worker.node (each_once (ids_in_outcome c)))))
+                    (append_assoc net h.there.out.letters (l ∷ []))
+                    (subst (λ v. Among (letter (TheWorker v) (TheWorker run.attempt.object.owner) (Finished run.attempt h.worker.node (each_once (ids_in_outcome c)))) ((net ++ h.there.out.letters) ++ l ∷ [])) d.who
+                    (among-last (net ++ h.there.out.letters) l)),
+              );
               main = λ m. absurd (not_both _ m other);
             });
             out = record { letters = λ m i. posts_right h.there l (refl, other) h.there.out.letters d.out.letters m i; quiet = d.out.quiet; ended = d.out.ended };

@@ -240,10 +240,11 @@ module _ (s : Setting) (r : Running) (k : RunReplies s r) (calm : IsCalm r.log) 
     finish_owed w v a n ids (i, is, sent) =
         let q : IsEnd i w v a n ids = end_of i w v a n ids sent in
         let h : Here = here c v q.worker q.node in
-        let out = delivered_out c i handed step (TheWorker w) v (Finished a n ids) q.worker q.node sent q.there q.lives q.home (as_delivery i is) in
-        (subst (λ ls. Among (letter (TheWorker v) (TheWorker w) (FinishedAck a)) ls) (sym out.1) (end_is_heard h w a n ids),
-        λ unaccepted. subst (λ es. Among (Accepted a) es) (sym out.0)
-        (by_stage q h refl unaccepted (stage v a n q.own q.ended q.worker q.there q.lives q.object q.item)))
+        let out = delivered_out c i handed step (TheWorker w) v (Finished a n ids) q.worker q.node sent q.there q.lives q.home (as_delivery i is) in (
+          subst (λ ls. Among (letter (TheWorker v) (TheWorker w) (FinishedAck a)) ls) (sym out.1) (end_is_heard h w a n ids),
+          λ unaccepted. subst (λ es. Among (Accepted a) es) (sym out.0)
+              (by_stage q h refl unaccepted (stage v a n q.own q.ended q.worker q.there q.lives q.object q.item)),
+        )
       where
         by_stage : (q : IsEnd i w v a n ids) (h : Here) → here c v q.worker q.node ≡ h → (Among (Accepted a) r.log → ⊥) → Stage a q.object →
             Logged (Accepted a) (release_step (reached h (TheWorker w) (Finished a n ids)))

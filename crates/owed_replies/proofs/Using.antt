@@ -78,8 +78,11 @@ module _ (g : Here) (y : Id) (z : Object) (run : Run) (number n : ℕ) (at : g.w
           IsServed run g.me y (looks_here_by (with_phase g run (Waits f None)) y z (copy_in (store_here g) y (settled_number z)))
       looks_here h f is same q =
           subst (λ o. IsServed run g.me y (looks_here_by (with_phase g run (Waits f None)) y z o)) (sym (ap (copy_in (store_here g) y) number_is ∙ q.1))
-          (inl (q.0, gets_it (with_store (with_phase g run (Waits f None)) (looked_up (store_here g) y (settled_number z))) (record run { phase = Waits f None }) q.0 y refl
-          (ap (λ i. Some i) is)))
+          (inl (
+            q.0,
+            gets_it (with_store (with_phase g run (Waits f None)) (looked_up (store_here g) y (settled_number z))) (record run { phase = Waits f None }) q.0 y refl
+                (ap (λ i. Some i) is),
+          ))
 
   pub owner_looks : object_needed run.phase ≡ Some y → IsServed run g.me y (needs_own_if_waiting g y)
   owner_looks needs = by_phase run.phase refl needs
@@ -215,8 +218,12 @@ module _ (s : Setting) (r : Running) (k : RunReplies s r) (calm : IsCalm r.log) 
             (λ here_too. kept_there (attempt y number) q.worker.node q.node q.home lives (subst (λ m. IsEndedAt r.log y number m) here_too q.ended) unreleased) in
             elim result [
               | inl g ↦ inl (g.0, subst (λ x. Among (Got x y g.0) step.entries) w.present (subst (λ es. Among (Got w.run.attempt y g.0) es) (sym entries) g.1))
-              | inr g ↦ inr (g.0, g.1, subst (λ v. Among (letter (TheWorker v) (TheNode g.0) (Fetch y g.1)) step.letters) q.own
-                  (subst (λ ls. Among (letter (TheWorker f.owner) (TheNode g.0) (Fetch y g.1)) ls) (sym letters) g.2))
+              | inr g ↦ inr (
+                g.0,
+                g.1,
+                subst (λ v. Among (letter (TheWorker v) (TheNode g.0) (Fetch y g.1)) step.letters) q.own
+                    (subst (λ ls. Among (letter (TheWorker f.owner) (TheNode g.0) (Fetch y g.1)) ls) (sym letters) g.2),
+              )
             ]
           where
             node_lives : (x : Worker) → worker_at c f.owner ≡ Some x → x.is_live ≡ true → (m : Node) → node_at c x.node ≡ Some m → m.is_live ≡ true

@@ -173,8 +173,12 @@ module _ (s : Setting) (r : Running) (k : RunReplies s r) (calm : IsCalm r.log) 
         by_use q ns entries letters (IsAnswered d got) = inl (d, subst (λ f. Among (Got f y d) step.entries) q.present (subst (λ es. Among (Got q.run.attempt y d) es) (sym entries) got))
         by_use q ns entries letters (IsFetched n named fetched) = inr (inl (n, named, subst (λ ls. Among (letter (TheWorker w) (TheNode n) (Fetch y number)) ls) (sym letters) fetched))
         by_use q ns entries letters (IsMissed named missed) =
-            inr (inr (q.worker.node, places s r.log c b w q.worker q.there, named,
-            subst (λ ls. Among (letter (TheWorker w) (TheWorker y.owner) (Missing y number q.worker.node)) ls) (sym letters) missed))
+            inr (inr (
+              q.worker.node,
+              places s r.log c b w q.worker q.there,
+              named,
+              subst (λ ls. Among (letter (TheWorker w) (TheWorker y.owner) (Missing y number q.worker.node)) ls) (sym letters) missed,
+            ))
 
         by_nodes : (q : IsWaiting w a y) (ns : List ℕ) → is_empty ns ≡ false → step.entries ≡ (release_step (reached (here c w q.worker q.node) (TheWorker y.owner) (At y number ns))).there.out.entries →
             step.letters ≡ (release_step (reached (here c w q.worker q.node) (TheWorker y.owner) (At y number ns))).there.out.letters → IsSo ns

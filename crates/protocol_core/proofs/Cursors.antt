@@ -15,7 +15,7 @@ use Rattle.settling.specs.Turns.{next_from}
 pub next_there : (c : Whole) (k : ℕ) (but : List ℕ) → IsPast k c.delivered → next_from k c but ≡ next c but
 next_there c k but p =
     ap (λ o. or_event (option_map (λ j. Deliver j) o)
-      (or_event (option_map (λ j. Commit j) (first_job but 1 c.workers)) (option_map (λ w. Claim w) (first_ready c but 1 c.workers))))
+    (or_event (option_map (λ j. Commit j) (first_job but 1 c.workers)) (option_map (λ w. Claim w) (first_ready c but 1 c.workers))))
     (sym (search_from k c.delivered p))
 
 -- the cursor stays right, unless the run halts

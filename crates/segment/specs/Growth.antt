@@ -15,4 +15,4 @@ pub record GrowsTo (p q : Piece) : Type 0 where
 abbrev pub ReplaysGrow : Type 0
 ReplaysGrow =
     (script : Script) (spec : Birth) (base : Id) (answers further : List Outcome) →
-        GrowsTo (replay script spec base answers) (replay script spec base (answers ++ further))
+    GrowsTo (replay script spec base answers) (replay script spec base (answers ++ further))

@@ -8,6 +8,3 @@ mod entries;
 mod text;
 
 pub use text::lineage_text;
-
-#[cfg(test)]
-mod tests;

@@ -10,6 +10,3 @@ mod text;
 pub use attempts::write_named;
 pub use entries::write_line;
 pub use text::log_text;
-
-#[cfg(test)]
-mod tests;

@@ -9,6 +9,3 @@ mod text;
 mod value;
 
 pub use text::report_json;
-
-#[cfg(test)]
-mod tests;

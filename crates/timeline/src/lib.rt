@@ -9,6 +9,3 @@ mod spans;
 mod text;
 
 pub use text::timeline_json;
-
-#[cfg(test)]
-mod tests;

@@ -10,6 +10,3 @@ mod moments;
 mod runs;
 
 pub use causes::{why_main_text, why_text};
-
-#[cfg(test)]
-mod tests;

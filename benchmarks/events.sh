@@ -7,13 +7,7 @@
 # RAYSIM names another program. First build the proved program: (cd crates/raysim && rt run)
 set -euo pipefail
 cd "$(dirname "$0")"
-raysim=${RAYSIM:-../crates/raysim/out/raysim}
-folder=$(mktemp -d)
-trap 'rm -rf "$folder"' EXIT
-
-empty() {
-    echo 'fn main() -> int { return 0; }'
-}
+. ./shapes.sh
 
 # $1 rounds of $2 calls, and the sum of the last ones' values.
 rounds() {
@@ -37,16 +31,6 @@ nodes() {
     rounds "$1" 30
 }
 
-# $1 calls, and how many values were got.
-got() {
-    echo "fn one(x: int) -> int { return 1; }
-fn main() -> int {
-    let sum = 0;
-    for i in 0 .. $1 { set sum = sum + get remote one(i); }
-    return sum;
-}"
-}
-
 # $1 rounds of 100 calls, each of the one before, and the sum of the last ones' values.
 chain() {
     echo "fn next(x: int) -> int { return x + 1; }
@@ -63,15 +47,8 @@ fn main() -> int {
 
 # $1 trees of 100 tasks, one after the other, and how many tasks they are.
 tree() {
-    echo "fn tree(n: int) -> int {
-    if n == 1 { return 1; }
-    let half = (n - 1) / 2;
-    let left = remote tree(n - 1 - half);
-    if half == 0 { return 1 + get left; }
-    let right = remote tree(half);
-    return 1 + get left + get right;
-}
-fn main() -> int {
+    tree_task
+    echo "fn main() -> int {
     let sum = 0;
     for b in 0 .. $1 { set sum = sum + get remote tree(100); }
     return sum;

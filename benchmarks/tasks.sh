@@ -5,13 +5,7 @@
 # RAYSIM names another program. First build the proved program: (cd crates/raysim && rt run)
 set -euo pipefail
 cd "$(dirname "$0")"
-raysim=${RAYSIM:-../crates/raysim/out/raysim}
-folder=$(mktemp -d)
-trap 'rm -rf "$folder"' EXIT
-
-empty() {
-    echo 'fn main() -> int { return 0; }'
-}
+. ./shapes.sh
 
 # N calls, and the value of the last.
 apart() {
@@ -20,16 +14,6 @@ fn main() -> int {
     let last = put 0;
     for i in 0 .. $1 { let new = remote one(i + 1); set last = new; }
     return get last;
-}"
-}
-
-# N calls, and how many values were got.
-got() {
-    echo "fn one(x: int) -> int { return 1; }
-fn main() -> int {
-    let sum = 0;
-    for i in 0 .. $1 { set sum = sum + get remote one(i); }
-    return sum;
 }"
 }
 
@@ -45,15 +29,8 @@ fn main() -> int {
 
 # A tree of N tasks: each has half of those below it on either side, and its value is how many tasks it and those below it are.
 tree() {
-    echo "fn tree(n: int) -> int {
-    if n == 1 { return 1; }
-    let half = (n - 1) / 2;
-    let left = remote tree(n - 1 - half);
-    if half == 0 { return 1 + get left; }
-    let right = remote tree(half);
-    return 1 + get left + get right;
-}
-fn main() -> int { return get remote tree($1); }"
+    tree_task
+    echo "fn main() -> int { return get remote tree($1); }"
 }
 
 # Processor time of one run of the script $1, in microseconds: the mean of 20 runs.

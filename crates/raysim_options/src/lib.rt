@@ -9,8 +9,6 @@ ghost use Rattle.raysim_options.specs.Reads.{Asks, HasCluster};
 mod commands;
 mod missing;
 mod read;
-#[cfg(test)]
-mod tests;
 
 use clap::Error;
 pub use commands::{MOST_NODES, MOST_REFUSAL, MOST_SLOTS, MOST_THREADS};

@@ -1,4 +1,4 @@
-use crate::{Request, options};
+use raysim_options::{Request, options};
 use std::alloc::Global;
 use std::test::Fail;
 

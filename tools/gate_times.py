@@ -35,8 +35,8 @@ def edits_of(name):
     return len([it for it in os.listdir(folder) if it.endswith(".edit")]) if os.path.isdir(folder) else 0
 
 
-def processes():
-    """The prover's processes now: for each, what tells it from others, its crate, its part of the gate, and its processor seconds."""
+def processes(room):
+    """The prover's processes in that folder now: for each, what tells it from others, its crate, its part of the gate, and its processor seconds."""
     for number in filter(str.isdigit, os.listdir("/proc")):
         try:
             with open(f"/proc/{number}/cmdline", encoding="utf-8", errors="replace") as file:
@@ -47,6 +47,8 @@ def processes():
                 fields = file.read().rpartition(")")[2].split()
             folder = os.readlink(f"/proc/{number}/cwd")
         except OSError:
+            continue
+        if not folder.startswith(f"{room}/"):
             continue
         crate = words[words.index("--crate-name") + 1]
         part = "edits" if "rt-edit" in folder else "tests" if "--test" in words else "proof"
@@ -59,17 +61,19 @@ def measure(cores):
 
     def look():
         while not ended.wait(0.5):
-            for key, crate, part, seconds in processes():
+            for key, crate, part, seconds in processes(room):
                 seen[key] = crate, part, seconds
 
     with tempfile.TemporaryDirectory(prefix="gate-times-") as room:
+        os.mkdir(f"{room}/edits")
         subprocess.run(["git", "clone", "--quiet", TOP, f"{room}/repository"], check=True)
         looking = threading.Thread(target=look)
         looking.start()
         begun = time.monotonic()
         try:
             limit = (lambda: os.sched_setaffinity(0, sorted(os.sched_getaffinity(0))[:cores])) if cores else None
-            ran = subprocess.run([".ci/run"], cwd=f"{room}/repository", preexec_fn=limit, check=False)
+            there = {"cwd": f"{room}/repository", "env": os.environ | {"TMPDIR": f"{room}/edits"}}
+            ran = subprocess.run([".ci/run"], preexec_fn=limit, check=False, **there)
         finally:
             ended.set()
             looking.join()

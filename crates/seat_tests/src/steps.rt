@@ -21,34 +21,32 @@ use std::sync::Wait;
 use std::sync::ledger::Ledger;
 use std::test::Fail;
 
-/// Main's task, on one seat and the other.
+/// Main's first job, claimed and committed; whether that was accepted.
 fn begin<S: ScriptName, E: Ledger, G: Ledger, C: Ledger, J: Ledger, R: Wait>(
     rt: &R,
     alloc: Global,
     script: &Checked,
     shared: &Shared<S, E, G, C, J>,
-    first: &mut Seat<E, G, C, J>,
-    second: &mut Seat<E, G, C, J>,
-) -> Result<(), Fail>
+    seat: &mut Seat<E, G, C, J>,
+) -> bool
     requires { script_of script.now ≡ S.script }
 {
-    let Reply::Job(job) = shared.claim(rt, alloc, first, WorkerId(1)) else {
-        return Err(Fail::from("a job"));
+    let Reply::Job(job) = shared.claim(rt, alloc, seat, WorkerId(1)) else {
+        return false;
     };
-    let done = job.run(alloc, script)?;
-    let Reply::Ok = shared.commit(rt, alloc, second, done) else {
-        return Err(Fail::from("a commit"));
+    let Ok(done) = job.run(alloc, script) else {
+        return false;
     };
-    Ok(())
+    matches!(shared.commit(rt, alloc, seat, done), Reply::Ok)
 }
 
-/// The events of which nothing is done, on one seat.
+/// The events with which nothing is handed in; whether all were accepted.
 fn go_on<S: ScriptName, E: Ledger, G: Ledger, C: Ledger, J: Ledger, R: Wait>(
     rt: &R,
     alloc: Global,
     shared: &Shared<S, E, G, C, J>,
     seat: &mut Seat<E, G, C, J>,
-) -> Result<(), Fail> {
+) -> bool {
     let events = [
         Event::Deliver(1),
         Event::Deliver(2),
@@ -59,12 +57,13 @@ fn go_on<S: ScriptName, E: Ledger, G: Ledger, C: Ledger, J: Ledger, R: Wait>(
             dead: WorkerId(2),
         },
     ];
+    let mut accepted = true;
     for event in events {
-        let Reply::Ok = shared.step(rt, alloc, seat, event) else {
-            return Err(Fail::from("an accepted event"));
-        };
+        if !matches!(shared.step(rt, alloc, seat, event), Reply::Ok) {
+            accepted = false;
+        }
     }
-    Ok(())
+    accepted
 }
 
 /// The report of a run of the script, with the events of two seats.
@@ -85,18 +84,16 @@ fn report_of<S: ScriptName, E: Ledger, G: Ledger, C: Ledger, J: Ledger, R: Wait>
     let plan = RunPlan {
         lines: Seq::new(alloc),
     };
-    let (shared, seats) = Shared::<S, E, G, C, J>::new(alloc, blanks, board, plan, 2)?;
-    let mut seats = seats;
-    let mut second = seats.pop().ok_or("a seat")?;
-    let mut first = seats.pop().ok_or("a seat")?;
-    begin(rt, alloc, script, &shared, &mut first, &mut second)?;
-    go_on(rt, alloc, &shared, &mut second)?;
-    seats.push(first)?;
-    seats.push(second)?;
+    let (shared, mut seats) = Shared::<S, E, G, C, J>::new(alloc, blanks, board, plan, 2)?;
+    let begun = begin(rt, alloc, script, &shared, &mut seats[0]);
+    let went_on = go_on(rt, alloc, &shared, &mut seats[1]);
     let Ok(board) = shared.close(seats) else {
         return Err(Fail::from("all seats"));
     };
-    Ok(board.report(alloc)?)
+    if begun && went_on {
+        return Ok(board.report(alloc)?);
+    }
+    Err(Fail::from("accepted events"))
 }
 
 #[test]

@@ -16,7 +16,7 @@ WORD = re.compile(r"[^\s()\[\]{},;λ]+")
 
 # whose public contracts a user of the program relies on, and what they are for
 ROOTS = [
-    ("What the commands promise", ["raysim_commands", "raysim_streams", "raysim_options"]),
+    ("What the commands promise", ["raysim_commands", "thread_commands", "raysim_streams", "raysim_options"]),
     ("What a run and its parts promise in addition",
      ["protocol_board", "protocol_core", "driving", "history", "segment", "serial", "script_check", "script_syntax", "script_tokens", "event_files", "report_json",
       "log_text", "story_text", "why_text", "lineage_text", "timeline"]),

@@ -20,6 +20,7 @@ fn reads_a_run(rt: HostRuntime) -> Result<(), Fail> {
     let Request::Run(run) = options(alloc, w.as_slice())? else {
         return Err(Fail::from("a run"));
     };
+    assert!(rt; run.on_threads);
     assert_eq!(rt; run.threads, 8);
     assert_eq!(rt; run.nodes, 1);
     assert_eq!(rt; run.slots, 4);

@@ -1,22 +1,25 @@
 // From the words to what is asked.
 
-ghost use Rattle.raysim_options.specs.Reads.{IsCluster};
+ghost use Rattle.raysim_options.specs.Reads.{AreThreads, IsCluster};
 
 use crate::replays::{Replayed, over_events};
 use crate::scripts::{Command, over_script};
+use crate::threads::over_threads;
 use crate::told::{explain, fault};
 use crate::views::Views;
 use ids::ObjectId;
 use raysim_commands::{Cluster, Form};
 use raysim_options::{
-    LogOptions, Request, RunOptions, ScriptOptions, SimOptions, WhyOptions, missing_option, options,
+    LogOptions, Request, RunOptions, ScriptOptions, SimOptions, WhyOptions, options,
 };
 use std::io;
 use std::process::ExitCode;
-use std::rt::Files;
+use std::rt::{Clock, Files};
+use std::sync::Wait;
+use std::thread::Threads;
 
 /// Does what the words ask, and says with which status the program ends.
-pub fn answer<R: Files + Print + Eprint + AllocGlobal>(
+pub fn answer<R: Files + Print + Eprint + AllocGlobal + Threads + Wait + Clock + Sync>(
     rt: &R,
     words: &[String],
 ) -> io::Result<ExitCode> {
@@ -53,27 +56,27 @@ fn report_form(json: bool) -> Form {
     if json { Form::Json } else { Form::Text }
 }
 
-fn over_run<R: Files + Print + Eprint + AllocGlobal>(
+fn over_run<R: Files + Print + Eprint + AllocGlobal + Threads + Wait + Clock + Sync>(
     rt: &R,
     options: &RunOptions<'_>,
 ) -> io::Result<ExitCode>
-    requires { IsCluster options.now.nodes options.now.slots }
+    requires cluster { IsCluster options.now.nodes options.now.slots }
+    requires threads { AreThreads options.now.threads }
 {
-    if let Some(missing) = missing_option(options) {
-        let what = missing.text();
-        return fault(rt, what, "is not there yet");
+    let cluster = cluster_of(options.nodes, options.slots);
+    let form = report_form(options.json);
+    let views = Views {
+        timeline: options.timeline,
+        lineage: options.lineage,
+    };
+    if options.on_threads {
+        return over_threads(rt, options, cluster, form, &views);
     }
     let script = ScriptOptions {
         script: options.script,
         explain: options.explain,
     };
-    let cluster = cluster_of(options.nodes, options.slots);
-    let command = Command::Run(cluster, report_form(options.json));
-    let views = Views {
-        timeline: options.timeline,
-        lineage: options.lineage,
-    };
-    over_script(rt, &command, &script, &views)
+    over_script(rt, &Command::Run(cluster, form), &script, &views)
 }
 
 fn over_sim<R: Files + Print + Eprint + AllocGlobal>(

@@ -20,9 +20,9 @@ pub struct Replayed<'a> {
 
 /// What was read of both files.
 #[derive(Drop)]
-struct Texts {
-    script: Vec<u8>,
-    events: Vec<u8>,
+pub struct Texts {
+    pub script: Vec<u8>,
+    pub events: Vec<u8>,
 }
 
 /// Replays a list of events and writes what is asked for, and other views behind it; the refusal, where there is one, is told on standard
@@ -81,26 +81,35 @@ fn read_file<R: Files + AllocGlobal>(rt: &R, path: &str) -> Result<Vec<u8>, Refu
     read_at_most(rt.alloc(), &mut Tracked::reader(file), usize::MAX)
 }
 
-/// Reads both files. Where there are no events, the script's refusal counts, if it has one.
-fn read_texts<R: Files + AllocGlobal>(rt: &R, replayed: &Replayed<'_>) -> Result<Texts, Refusal> {
-    let Ok(file) = fs::open(rt, replayed.script) else {
-        return Err(Refusal::Failed(Failure::Read));
-    };
-    let script = read_script(rt.alloc(), &mut Tracked::reader(file))?;
-    match read_file(rt, replayed.events) {
-        Ok(events) => Ok(Texts { script, events }),
+/// Reads a file beside a script. Where it can't be read, the script's refusal counts, if it has one.
+pub fn read_behind<R: Files + AllocGlobal>(
+    rt: &R,
+    script: &[u8],
+    path: &str,
+) -> Result<Vec<u8>, Refusal> {
+    match read_file(rt, path) {
+        Ok(bytes) => Ok(bytes),
         Err(refusal) => {
             let mut unseen = Vec::new(rt.alloc());
             let mut writer = Tracked::writer(&mut unseen);
-            let mut reader = Tracked::reader(script.as_slice());
-            check(rt.alloc(), &mut reader, &mut writer)?;
+            check(rt.alloc(), &mut Tracked::reader(script), &mut writer)?;
             Err(refusal)
         }
     }
 }
 
+/// Reads both files.
+fn read_texts<R: Files + AllocGlobal>(rt: &R, replayed: &Replayed<'_>) -> Result<Texts, Refusal> {
+    let Ok(file) = fs::open(rt, replayed.script) else {
+        return Err(Refusal::Failed(Failure::Read));
+    };
+    let script = read_script(rt.alloc(), &mut Tracked::reader(file))?;
+    let events = read_behind(rt, script.as_slice(), replayed.events)?;
+    Ok(Texts { script, events })
+}
+
 /// Writes the other views of a replay, and says with which status the program ends.
-fn with_views<R: Files + Eprint + AllocGlobal>(
+pub fn with_views<R: Files + Eprint + AllocGlobal>(
     rt: &R,
     replayed: &Replayed<'_>,
     texts: &Texts,

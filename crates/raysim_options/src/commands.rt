@@ -170,7 +170,8 @@ fn run<'a>(alloc: Global) -> Result<Command<'a>, AllocError>
 {
     let about = "Runs a script, each remote call as a task, and writes the run's report";
     let command = explained(alloc, "run", about)?;
-    let threads = "How many threads run the tasks, from 1 to 8 (2 if left out)";
+    let threads =
+        "How many threads run the tasks, from 1 to 8 (if left out, 2 with a plan or a history, else the run is driven, one task after the other)";
     let command = add(command, number(alloc, "threads", MOST_THREADS, threads))?;
     let command = add_cluster(alloc, command)?;
     let command = add_files(alloc, command)?;

@@ -7,12 +7,10 @@ ghost use Rattle.raysim_options.specs.App.{raysim_app};
 ghost use Rattle.raysim_options.specs.Reads.{Asks, HasCluster};
 
 mod commands;
-mod missing;
 mod read;
 
 use clap::Error;
 pub use commands::{MOST_NODES, MOST_REFUSAL, MOST_SLOTS, MOST_THREADS};
-pub use missing::{MissingOption, missing_option};
 use std::alloc::Global;
 
 /// What the program was asked to do. Texts are paths of files, as the words have them.
@@ -54,12 +52,13 @@ pub struct SimOptions<'a> {
     pub lineage: Option<&'a str>,
 }
 
-/// The options of `run`: the script, how many threads run it (from 1 to 8, by default 2), nodes and slots as for `sim`, a plan of
-/// events to apply, where the events applied are recorded, whether the report is JSON, where the timeline and the lineage are written, and
-/// whether a refusal's place is shown.
+/// The options of `run`: the script; whether it is run on threads, which it is where a number of threads, a plan or a history is asked for;
+/// how many they are (from 1 to 8, by default 2); nodes and slots as for `sim`; a plan of events to apply; where the events applied are
+/// recorded; whether the report is JSON; where the timeline and the lineage are written; and whether a refusal's place is shown.
 #[derive(Debug, Drop)]
 pub struct RunOptions<'a> {
     pub script: &'a str,
+    pub on_threads: bool,
     pub threads: u8,
     pub nodes: u8,
     pub slots: u8,
@@ -96,7 +95,7 @@ pub struct WhyOptions<'a> {
 pub fn options<'a>(alloc: Global, words: &'a [String]) -> Result<Request<'a>, Error>
     // The request is the one that the words name, with the values that they give; what they leave out has its default.
     ensures asked { IfOk result (Asks (subcommand_of raysim_app (map string_bytes words.entry.now))) }
-    // A run that is asked for has from 1 to 64 nodes, with from 1 to 64 slots each.
+    // A run that is asked for has from 1 to 64 nodes, with from 1 to 64 slots each, and on threads from 1 to 8 of them.
     ensures cluster { IfOk result HasCluster }
 {
     let command = commands::raysim(alloc)?;

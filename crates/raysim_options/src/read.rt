@@ -1,8 +1,9 @@
 // What the matches of a subcommand say.
 
-ghost use Rattle.std.specs.Prelude.{◌≡◌, ◌≤◌, IfOk, IfSome, IsErr, option_map};
+ghost use Rattle.std.specs.Prelude.{◌≡◌, ◌≤◌, IfOk, IfSome, IsErr, is_some, option_map};
 ghost use Rattle.clap.specs.Words.{first_of, found_of, rows_of};
 ghost use Rattle.raysim_options.specs.Reads.{IsFlag, IsLogOptions, IsNumber, IsRequest, IsRunOptions, IsScriptOptions, IsSimOptions, IsWhyOptions};
+ghost use Rattle.raysim_options.specs.Reads.{asks_for_threads};
 
 use crate::commands::{MOST_NODES, MOST_REFUSAL, MOST_SLOTS, MOST_THREADS};
 use crate::{LogOptions, Request, RunOptions, ScriptOptions, SimOptions, WhyOptions, commands};
@@ -27,6 +28,26 @@ fn text<'a>(matches: &ArgMatches<'a>, id: &str) -> Option<&'a str>
     ensures { option_map (λ s. s.now) result ≡ first_of id.now (rows_of (found_of matches.now)) }
 {
     matches.get_str(id)
+}
+
+/// Whether the words give the option a text.
+fn is_given(matches: &ArgMatches<'_>, id: &str) -> bool
+    ensures { result ≡ is_some (first_of id.now (rows_of (found_of matches.now))) }
+{
+    text(matches, id).is_some()
+}
+
+/// Whether the words give a number of threads, a plan or a history.
+fn asks_for_threads(matches: &ArgMatches<'_>) -> bool
+    ensures { result ≡ asks_for_threads (rows_of (found_of matches.now)) }
+{
+    if is_given(matches, "threads") {
+        return true;
+    }
+    if is_given(matches, "plan") {
+        return true;
+    }
+    is_given(matches, "history")
 }
 
 /// Whether the words have a flag.
@@ -73,6 +94,7 @@ fn run<'a>(matches: &ArgMatches<'a>) -> Option<RunOptions<'a>>
 {
     Some(RunOptions {
         script: text(matches, "script")?,
+        on_threads: asks_for_threads(matches),
         threads: number(matches, "threads", MOST_THREADS, 2)?,
         nodes: number(matches, "nodes", MOST_NODES, 1)?,
         slots: number(matches, "slots", MOST_SLOTS, 4)?,

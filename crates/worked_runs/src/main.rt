@@ -7,6 +7,7 @@ mod compared;
 mod file;
 mod line;
 mod outcome;
+mod threaded;
 mod tried;
 
 use std::process::ExitCode;

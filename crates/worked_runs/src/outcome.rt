@@ -1,10 +1,14 @@
 // What comes of a case. The program's commands are called here alone.
 
 use crate::case::{Case, Outcome};
+use crate::threaded::{ran_on_threads, threads_asked};
 use ids::ObjectId;
 use raysim_commands::{Cluster, Form, Refusal, Tracked, check, run, serial, sim};
 use script_syntax::{parse, print_program};
 use std::alloc::{AllocError, Global};
+use std::rt::Clock;
+use std::sync::Wait;
+use std::thread::Threads;
 
 /// Replays the case's events on a run of its script.
 fn replayed(
@@ -80,7 +84,12 @@ fn form_of_run(command: &str) -> Option<Form> {
 }
 
 /// Does what a command of the program says, over readers and a writer in memory. None where there is no such command or cluster.
-fn done(alloc: Global, case: &Case, written: &mut Vec<u8>) -> Option<Result<u8, Refusal>> {
+fn done<R: Threads + Wait + Clock + AllocGlobal + Sync>(
+    rt: &R,
+    case: &Case,
+    written: &mut Vec<u8>,
+) -> Option<Result<u8, Refusal>> {
+    let alloc = rt.alloc();
     let command = case.command.as_str();
     if let Some(form) = form_of(command) {
         return replayed(alloc, case, form, written);
@@ -88,13 +97,20 @@ fn done(alloc: Global, case: &Case, written: &mut Vec<u8>) -> Option<Result<u8, 
     if let Some(form) = form_of_run(command) {
         return ran(alloc, case, form, written);
     }
+    if let Some(asked) = threads_asked(command) {
+        return ran_on_threads(rt, case, asked, written);
+    }
     done_with_script(alloc, command, case.script.as_bytes(), written)
 }
 
 /// What a command of the program comes to: a refusal is one line, with status 1.
-fn outcome_of_command(alloc: Global, case: &Case) -> Result<Option<Outcome>, AllocError> {
+fn outcome_of_command<R: Threads + Wait + Clock + AllocGlobal + Sync>(
+    rt: &R,
+    case: &Case,
+) -> Result<Option<Outcome>, AllocError> {
+    let alloc = rt.alloc();
     let mut bytes = Vec::new(alloc);
-    let Some(answer) = done(alloc, case, &mut bytes) else {
+    let Some(answer) = done(rt, case, &mut bytes) else {
         return Ok(None);
     };
     let mut outcome = Outcome::new(alloc);
@@ -126,9 +142,12 @@ fn outcome_of_print(alloc: Global, case: &Case) -> Result<Outcome, AllocError> {
 }
 
 /// What comes of a case, or None where its command is none.
-pub fn outcome_of(alloc: Global, case: &Case) -> Result<Option<Outcome>, AllocError> {
+pub fn outcome_of<R: Threads + Wait + Clock + AllocGlobal + Sync>(
+    rt: &R,
+    case: &Case,
+) -> Result<Option<Outcome>, AllocError> {
     if case.command.as_str() == "print" {
-        return Ok(Some(outcome_of_print(alloc, case)?));
+        return Ok(Some(outcome_of_print(rt.alloc(), case)?));
     }
-    outcome_of_command(alloc, case)
+    outcome_of_command(rt, case)
 }

@@ -5,7 +5,9 @@ use crate::compared::{are_same, tell_difference};
 use crate::file::{Read, Reading};
 use crate::outcome::outcome_of;
 use std::process::ExitCode;
-use std::rt::Files;
+use std::rt::{Clock, Files};
+use std::sync::Wait;
+use std::thread::Threads;
 use std::{fs, io};
 
 /// How many cases were tried, and how many of them differ.
@@ -31,13 +33,13 @@ fn tell_name<R: Print>(rt: &R, path: &str, case: &Case) -> io::Result<()> {
     println!(rt; "{path} line {line}, {command}: {point}")
 }
 
-fn try_case<R: Print + AllocGlobal>(
+fn try_case<R: Print + AllocGlobal + Threads + Wait + Clock + Sync>(
     rt: &R,
     path: &str,
     case: &Case,
     tally: &mut Tally,
 ) -> io::Result<()> {
-    let Some(got) = outcome_of(rt.alloc(), case)? else {
+    let Some(got) = outcome_of(rt, case)? else {
         tally.count(true);
         tell_name(rt, path, case)?;
         return println!(rt; "  there is no such command");
@@ -56,7 +58,7 @@ fn tell_bad_line<R: Print>(rt: &R, path: &str, line: &str, tally: &mut Tally) ->
     println!(rt; "{path}: no line of a case: {line}")
 }
 
-fn try_file<R: Files + Print + AllocGlobal>(
+fn try_file<R: Files + Print + AllocGlobal + Threads + Wait + Clock + Sync>(
     rt: &R,
     path: &str,
     tally: &mut Tally,
@@ -77,7 +79,10 @@ fn try_file<R: Files + Print + AllocGlobal>(
 }
 
 /// Tries the cases of each file but the first word, which is the program's own name. Status 1 where a case differs.
-pub fn try_files<R: Files + Print + AllocGlobal>(rt: &R, words: &[String]) -> io::Result<ExitCode> {
+pub fn try_files<R: Files + Print + AllocGlobal + Threads + Wait + Clock + Sync>(
+    rt: &R,
+    words: &[String],
+) -> io::Result<ExitCode> {
     let mut tally = Tally {
         cases: 0,
         differ: 0,

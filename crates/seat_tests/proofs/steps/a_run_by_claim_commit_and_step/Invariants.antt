@@ -1,0 +1,17 @@
+use Rattle.script_check.specs.Trees.{script_of}
+use Rattle.seat_tests.proofs.steps.a_run_by_claim_commit_and_step.Given as goal
+
+abbrev pub ghosts-report_of-S-ScriptName : goal.ghosts-report_of-S-ScriptName
+ghosts-report_of-S-ScriptName g a = record { script = script_of a.script.now }
+
+abbrev pub ghosts-report_of-E-Ledger : goal.ghosts-report_of-E-Ledger
+ghosts-report_of-E-Ledger g a = record { name = a.blanks.events.name; parts = a.blanks.events.parts }
+
+abbrev pub ghosts-report_of-G-Ledger : goal.ghosts-report_of-G-Ledger
+ghosts-report_of-G-Ledger g a = record { name = a.blanks.given.name; parts = a.blanks.given.parts }
+
+abbrev pub ghosts-report_of-C-Ledger : goal.ghosts-report_of-C-Ledger
+ghosts-report_of-C-Ledger g a = record { name = a.blanks.commits.name; parts = a.blanks.commits.parts }
+
+abbrev pub ghosts-report_of-J-Ledger : goal.ghosts-report_of-J-Ledger
+ghosts-report_of-J-Ledger g a = record { name = a.blanks.committed.name; parts = a.blanks.committed.parts }

@@ -36,7 +36,7 @@ fn arguments_of(alloc: Global, maker: &Maker) -> Result<Seq<ObjectId>, AllocErro
 pub fn made_from(alloc: Global, here: &Here, serial: u64) -> Result<Seq<ObjectId>, AllocError>
     ensures { IfOk result (λ ids. ids ≡ made_from here.now serial) }
 {
-    let Some(found) = item_at_number(&here.worker.objects, serial) else {
+    let Some(found) = item_at_number(here.worker.objects.rows(), serial) else {
         return Ok(Seq::new(alloc));
     };
     arguments_of(alloc, &found.maker)

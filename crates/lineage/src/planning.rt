@@ -83,7 +83,7 @@ fn stop_at(here: &Here, serial: u64) -> Option<Fault>
 {
     let owner = here.me;
     let object = ObjectId { owner, serial };
-    let Some(found) = item_at_number(&here.worker.objects, serial) else {
+    let Some(found) = item_at_number(here.worker.objects.rows(), serial) else {
         let kind = Cause::PutLost;
         return Some(Fault { kind, object });
     };

@@ -12,8 +12,7 @@ use lease::next_in_circle;
 use lineage::may_try_again;
 use number_lists::{has_node, item_at_number};
 use numbers::{AttemptId, Cause, Fault, NodeId, ObjectId, WorkerId};
-use protocol_data::{Halt, Here, Maker, Message, Object, OwnTask, Progress, Said, Worker};
-use sequence::Seq;
+use protocol_data::{Halt, Here, Maker, Message, Object, Objects, OwnTask, Progress, Said, Worker};
 use std::alloc::Global;
 use worker_steps::{ask_at, is_own, knows_dead, log, request, resolve, say};
 
@@ -23,7 +22,7 @@ pub fn break_attempt(alloc: Global, here: &mut Here, object: ObjectId) -> Result
     ensures { (task : OwnTask) → task_of (item_at here.old.worker.objects object.serial) ≡ Some task
         → OnOk result (here.new ≡ breaks here.old object task) }
 {
-    let Some(found) = item_at_number(&here.worker.objects, object.serial) else {
+    let Some(found) = item_at_number(here.worker.objects.rows(), object.serial) else {
         return Ok(());
     };
     let Maker::ByTask(task) = &found.maker else {
@@ -57,7 +56,7 @@ fn set_begun(object: &mut Object, worker: WorkerId, node: NodeId) -> Result<(), 
 
 /// The same, of the object of that serial.
 fn set_begun_at(
-    objects: &mut Seq<Object>,
+    objects: &mut Objects,
     serial: u64,
     worker: WorkerId,
     node: NodeId,
@@ -72,7 +71,7 @@ fn set_begun_at(
     if place >= objects.len() as u64 {
         return Ok(());
     }
-    let object = &mut objects.items[place as usize];
+    let object = objects.row_mut(place as usize);
     set_begun(object, worker, node)?;
     Ok(())
 }
@@ -88,7 +87,7 @@ fn push(
     ensures { (task : OwnTask) → task_of (item_at here.old.worker.objects object.serial) ≡ Some task
         → OnOk result (here.new ≡ pushes here.old object (with_begun task worker node) worker) }
 {
-    let Some(found) = item_at_number(&here.worker.objects, object.serial) else {
+    let Some(found) = item_at_number(here.worker.objects.rows(), object.serial) else {
         return Ok(());
     };
     let Maker::ByTask(task) = &found.maker else {
@@ -165,7 +164,7 @@ pub fn given_reached(
     if !is_own(here, attempt.object) {
         return Ok(());
     }
-    let Some(found) = item_at_number(&here.worker.objects, attempt.object.serial) else {
+    let Some(found) = item_at_number(here.worker.objects.rows(), attempt.object.serial) else {
         return Ok(());
     };
     let Maker::ByTask(task) = &found.maker else {
@@ -216,7 +215,7 @@ fn ask_on(here: &mut Here, object: ObjectId, t: u32, node: NodeId) -> Result<(),
     ensures { (task : OwnTask) → task_of (item_at here.old.worker.objects object.serial) ≡ Some task
         → OnOk result (here.new ≡ asks_next here.old object task t node) }
 {
-    let Some(found) = item_at_number(&here.worker.objects, object.serial) else {
+    let Some(found) = item_at_number(here.worker.objects.rows(), object.serial) else {
         return Ok(());
     };
     let Maker::ByTask(task) = &found.maker else {
@@ -239,7 +238,7 @@ pub fn elsewhere_reached(
     if !is_own(here, attempt.object) {
         return Ok(());
     }
-    let Some(found) = item_at_number(&here.worker.objects, attempt.object.serial) else {
+    let Some(found) = item_at_number(here.worker.objects.rows(), attempt.object.serial) else {
         return Ok(());
     };
     let Maker::ByTask(task) = &found.maker else {

@@ -11,13 +11,12 @@ use crate::recovery::recover;
 use lineage::{has_content, is_lost};
 use number_lists::add_worker;
 use numbers::{NodeId, ObjectId, WorkerId};
-use protocol_data::{Halt, Here, Message, Object, Party};
-use sequence::Seq;
+use protocol_data::{Halt, Here, Message, Object, Objects, Party};
 use std::alloc::Global;
 use worker_steps::{find_none, is_own, is_present, is_waiting_for, object_at, report_missing, say};
 
 /// The worker waits for the object of that serial.
-fn add_asker_at(objects: &mut Seq<Object>, serial: u64, worker: WorkerId) -> Result<(), Halt>
+fn add_asker_at(objects: &mut Objects, serial: u64, worker: WorkerId) -> Result<(), Halt>
     ensures { OnOk result (objects.new ≡ changed_at objects.old serial (with_asker worker)) }
 {
     if serial == 0 {
@@ -27,7 +26,7 @@ fn add_asker_at(objects: &mut Seq<Object>, serial: u64, worker: WorkerId) -> Res
     if place >= objects.len() as u64 {
         return Ok(());
     }
-    let object = &mut objects.items[place as usize];
+    let object = objects.row_mut(place as usize);
     add_worker(&mut object.askers, worker)?;
     Ok(())
 }

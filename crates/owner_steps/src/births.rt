@@ -12,7 +12,7 @@ use crate::birth_ids::ids_in_birth;
 use held::{Content, Origin};
 use numbers::{AttemptId, NodeId, ObjectId};
 use object_store::put_primary;
-use protocol_data::{Halt, Here, Maker, Message, Object, OwnTask, Progress};
+use protocol_data::{Halt, Here, Maker, Message, Object, Objects, OwnTask, Progress};
 use sequence::Seq;
 use std::alloc::{AllocError, Global};
 use task_spec::Birth;
@@ -129,7 +129,7 @@ fn bear_put(
 }
 
 /// The object of that serial is made by that task.
-fn set_task_at(objects: &mut Seq<Object>, serial: u64, task: OwnTask)
+fn set_task_at(objects: &mut Objects, serial: u64, task: OwnTask)
     ensures { objects.new ≡ changed_at objects.old serial (with_task task) }
 {
     if serial == 0 {
@@ -139,7 +139,7 @@ fn set_task_at(objects: &mut Seq<Object>, serial: u64, task: OwnTask)
     if place >= objects.len() as u64 {
         return;
     }
-    let object = &mut objects.items[place as usize];
+    let object = objects.row_mut(place as usize);
     object.maker = Maker::ByTask(task);
 }
 

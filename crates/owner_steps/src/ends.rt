@@ -12,7 +12,7 @@ use crate::answers::answer_settled;
 use crate::faulted::answer_faulted;
 use number_lists::{add_objects, item_at_number};
 use numbers::{AttemptId, Fault, NodeId, ObjectId, WorkerId};
-use protocol_data::{Halt, Here, Maker, Message, Object, OwnTask, Progress, Said};
+use protocol_data::{Halt, Here, Maker, Message, Object, Objects, OwnTask, Progress, Said};
 use sequence::Seq;
 use std::alloc::Global;
 use worker_steps::{is_own, log, resolve, say, set_progress_at};
@@ -51,7 +51,7 @@ pub fn rest(here: &mut Here, object: ObjectId, number: u32)
 /// The object of that serial has the content of the accepted attempt.
 fn set_content_at(
     alloc: Global,
-    objects: &mut Seq<Object>,
+    objects: &mut Objects,
     serial: u64,
     number: u32,
     node: NodeId,
@@ -68,7 +68,7 @@ fn set_content_at(
     }
     let mut places = Seq::new(alloc);
     places.push(node)?;
-    let object = &mut objects.items[place as usize];
+    let object = objects.row_mut(place as usize);
     object.settled = Some(number);
     object.places = places;
     add_objects(&mut object.ids, ids)?;
@@ -114,7 +114,7 @@ pub fn finished_reached(
     if !is_own(here, attempt.object) {
         return hear_of_end(here, worker, attempt);
     }
-    let Some(found) = item_at_number(&here.worker.objects, attempt.object.serial) else {
+    let Some(found) = item_at_number(here.worker.objects.rows(), attempt.object.serial) else {
         return hear_of_end(here, worker, attempt);
     };
     let Maker::ByTask(task) = &found.maker else {
@@ -142,7 +142,7 @@ pub fn failed_reached(
     if !is_own(here, attempt.object) {
         return hear_of_end(here, worker, attempt);
     }
-    let Some(found) = item_at_number(&here.worker.objects, attempt.object.serial) else {
+    let Some(found) = item_at_number(here.worker.objects.rows(), attempt.object.serial) else {
         return hear_of_end(here, worker, attempt);
     };
     let Maker::ByTask(task) = &found.maker else {

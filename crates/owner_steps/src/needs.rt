@@ -14,7 +14,7 @@ use lineage::{has_content, is_lost};
 use number_lists::{has_node, remove_node};
 use numbers::{NodeId, ObjectId};
 use object_store::get as get_copy;
-use protocol_data::{Halt, Here, Object, Worker};
+use protocol_data::{Halt, Here, Object, Objects, Worker};
 use sequence::Seq;
 use std::alloc::Global;
 use worker_steps::{fault, fetch, get, is_waiting_for, live_place, object_at, set_fetching};
@@ -29,7 +29,7 @@ pub fn settled_number(object: &Object) -> u32
 /// The place is taken out of the object of that serial.
 fn remove_place_at(
     alloc: Global,
-    objects: &mut Seq<Object>,
+    objects: &mut Objects,
     serial: u64,
     node: NodeId,
 ) -> Result<(), Halt>
@@ -42,7 +42,7 @@ fn remove_place_at(
     if place >= objects.len() as u64 {
         return Ok(());
     }
-    let object = &mut objects.items[place as usize];
+    let object = objects.row_mut(place as usize);
     remove_node(alloc, &mut object.places, node)?;
     Ok(())
 }
@@ -60,7 +60,7 @@ pub fn remove_place(
 }
 
 /// The object of that serial has no place.
-fn clear_places_at(alloc: Global, objects: &mut Seq<Object>, serial: u64)
+fn clear_places_at(alloc: Global, objects: &mut Objects, serial: u64)
     ensures { objects.new ≡ changed_at objects.old serial without_places }
 {
     if serial == 0 {
@@ -70,7 +70,7 @@ fn clear_places_at(alloc: Global, objects: &mut Seq<Object>, serial: u64)
     if place >= objects.len() as u64 {
         return;
     }
-    let object = &mut objects.items[place as usize];
+    let object = objects.row_mut(place as usize);
     object.places = Seq::new(alloc);
 }
 

@@ -18,7 +18,7 @@ use worker_steps::{request, resolve};
 fn remake(here: &mut Here, serial: u64) -> Result<(), Halt>
     ensures { OnOk result (here.new ≡ remakes_by here.old serial (task_of (own_object here.old serial))) }
 {
-    let Some(found) = item_at_number(&here.worker.objects, serial) else {
+    let Some(found) = item_at_number(here.worker.objects.rows(), serial) else {
         return Ok(());
     };
     let Maker::ByTask(task) = &found.maker else {

@@ -7,7 +7,7 @@ ghost use Rattle.protocol_core.specs.Opening.{new_nodes};
 
 use held::Origin;
 use numbers::{NodeId, ObjectId, WorkerId};
-use protocol_data::{Node, Phase, Run, Whole, Worker};
+use protocol_data::{Node, Objects, Phase, Run, Whole, Worker};
 use sequence::Seq;
 use std::alloc::{AllocError, Global};
 use task_spec::Birth;
@@ -82,7 +82,7 @@ fn driver(alloc: Global) -> Result<Worker, AllocError>
     Ok(Worker {
         node: NodeId(1),
         is_live: true,
-        objects: Seq::new(alloc),
+        objects: Objects::new(alloc),
         run: Some(run),
         began,
         dead_workers: Seq::new(alloc),

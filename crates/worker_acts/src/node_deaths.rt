@@ -8,7 +8,7 @@ ghost use Rattle.protocol.specs.Notices.{loses_fetch, loses_places, moves_ask, m
 use number_lists::{item_at_number, remove_node};
 use numbers::{NodeId, ObjectId};
 use owner_steps::{ask_next, missing_reached};
-use protocol_data::{Halt, Here, Maker, Object, Party, Phase, Progress};
+use protocol_data::{Halt, Here, Maker, Object, Objects, Party, Phase, Progress};
 use sequence::Seq;
 use std::alloc::Global;
 use std::mem;
@@ -45,8 +45,9 @@ fn without_places_at(alloc: Global, objects: Seq<Object>, node: NodeId) -> Resul
 pub fn lose_places(alloc: Global, here: &mut Here, node: NodeId) -> Result<(), Halt>
     ensures { OnOk result (here.new ≡ loses_places here.old node) }
 {
-    let objects = mem::replace(&mut here.worker.objects, Seq::new(alloc));
-    here.worker.objects = without_places_at(alloc, objects, node)?;
+    let objects = mem::replace(&mut here.worker.objects, Objects::new(alloc));
+    let rows = without_places_at(alloc, objects.into_rows(), node)?;
+    here.worker.objects = Objects::of(rows);
     Ok(())
 }
 
@@ -54,7 +55,7 @@ pub fn lose_places(alloc: Global, here: &mut Here, node: NodeId) -> Result<(), H
 fn move_ask(here: &mut Here, node: NodeId, serial: u64) -> Result<(), Halt>
     ensures { OnOk result (here.new ≡ moves_ask here.old node serial (task_of (own_object here.old serial))) }
 {
-    let Some(found) = item_at_number(&here.worker.objects, serial) else {
+    let Some(found) = item_at_number(here.worker.objects.rows(), serial) else {
         return Ok(());
     };
     let Maker::ByTask(task) = &found.maker else {

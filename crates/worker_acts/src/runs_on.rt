@@ -48,7 +48,7 @@ fn runs_on(dead: &Party, progress: &Progress) -> bool
 fn break_if(alloc: Global, here: &mut Here, dead: &Party, serial: u64) -> Result<(), Halt>
     ensures { OnOk result (here.new ≡ breaks_if (runs_on dead.now) here.old serial (task_of (own_object here.old serial))) }
 {
-    let Some(found) = item_at_number(&here.worker.objects, serial) else {
+    let Some(found) = item_at_number(here.worker.objects.rows(), serial) else {
         return Ok(());
     };
     let Maker::ByTask(task) = &found.maker else {

@@ -18,7 +18,7 @@ use worker_steps::{is_own, say, say_to_node, tell_stop};
 fn send_task(alloc: Global, here: &mut Here, serial: u64) -> Result<(), Halt>
     ensures { OnOk result (here.new ≡ sends_task here.old serial (task_of (own_object here.old serial))) }
 {
-    let Some(found) = item_at_number(&here.worker.objects, serial) else {
+    let Some(found) = item_at_number(here.worker.objects.rows(), serial) else {
         return Ok(());
     };
     let Maker::ByTask(task) = &found.maker else {

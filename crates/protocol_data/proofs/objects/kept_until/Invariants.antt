@@ -1,0 +1,5 @@
+use Rattle.protocol_data.specs.Unneeded.{AreKept}
+use Rattle.protocol_data.proofs.objects.kept_until.Given as goal
+
+abbrev pub invariant-loop-place : goal.invariant-loop-place
+invariant-loop-place l = AreKept l.rows l.from l.place l.bearer l.own

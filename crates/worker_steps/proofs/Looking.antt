@@ -1,0 +1,108 @@
+-- A search for what can be released may pass over what the index says.
+use Rattle.std.proofs.Common.{◌≡◌, ℕ, ◌+◌, ◌-◌, ◌<◌, ◌≤◌, ◌⊎◌, inl, inr, Bool, true, false, List, Option, Some, None, zero, suc, refl, sym, ap, ◌∙◌, arith}
+use Rattle.std.specs.Prelude.{not, ◌&&◌, ◌||◌, if◌then◌else◌, slice_get, is_some}
+use Rattle.event_log.specs.Words.{same_attempt}
+use Rattle.protocol_data.specs.Unneeded.{AllStay, has_holder, is_awaited, is_borne_by, stays}
+use Rattle.protocol.specs.Numbered.{item_at}
+use Rattle.protocol.specs.Releases.{may_release, releases, releases_by}
+use Rattle.protocol.specs.Steps.{Here, each_from, own_id, own_object}
+use Rattle.protocol.specs.Tables.{AskedAt, AtRest, ByTask, Maker, Object, Run, RunsOn, WasPut, Worker, is_bearer_over, is_going_on, is_held, is_pending_by, is_under_way, OwnTask, Progress}
+use Rattle.protocol_data.specs.Unneeded.{is_under_way as is_on_its_way}
+use Rattle.worker_steps.proofs.EachLaws.{each_step}
+use Rattle.worker_steps.specs.Looking.{NoneGoes, attempt_going_on}
+
+on_its_way : (p : Progress) → is_on_its_way p ≡ is_under_way p
+on_its_way AtRest = refl
+on_its_way (AskedAt t n) = refl
+on_its_way (RunsOn w n) = refl
+
+awaited : (m : Maker) → is_awaited m ≡ is_pending_by m
+awaited WasPut = refl
+awaited (ByTask task) = on_its_way task.progress
+
+borne_goes_on : (run : Option Run) (x : Object) → is_borne_by (attempt_going_on run) x ≡ true → not (is_going_on run x.bearer) ≡ false
+borne_goes_on None x h = absurd cc
+borne_goes_on (Some run) x h = either run.is_over h
+  where
+    either : (over : Bool) → is_borne_by (if over then None else Some run.attempt) x ≡ true → not (same_attempt run.attempt x.bearer && not over) ≡ false
+    either true h = absurd cc
+    either false h = ap (λ b. not (b && true)) h
+
+none_of : (free full idle over unheld borne : Bool) → (not (free && full && idle && unheld) || borne) ≡ true → (borne ≡ true → over ≡ false) →
+    (free && full && idle && over && unheld) ≡ false
+none_of false full idle over unheld borne h g = refl
+none_of true false idle over unheld borne h g = refl
+none_of true true false over unheld borne h g = refl
+none_of true true true false unheld borne h g = refl
+none_of true true true true false borne h g = refl
+none_of true true true true true borne h g = g h
+
+pub staying : (w : Worker) (x : Object) → stays (attempt_going_on w.run) x ≡ true → may_release w x ≡ false
+staying w x h =
+    none_of (not x.is_released) (is_some x.settled || is_some x.fault) (not (is_pending_by x.maker)) (is_bearer_over w x) (not (is_held x)) (is_borne_by (attempt_going_on w.run) x)
+    (ap (λ b. not (not x.is_released && (is_some x.settled || is_some x.fault) && not b && not (is_held x)) || is_borne_by (attempt_going_on w.run) x) (sym (awaited x.maker)) ∙ h)
+    (borne_goes_on w.run x)
+
+pub none_goes : (w : Worker) (from to : ℕ) → AllStay w.objects from to (attempt_going_on w.run) → NoneGoes w from to
+none_goes w from to p i x low less e = staying w x (p i x low less e)
+
+-- ---- a way through the objects
+
+abbrev release_at : Here → ℕ → Here
+release_at g k = releases_by g k (own_object g k)
+
+by_row : (h : Here) (k : ℕ) (o : Option Object) → ((x : Object) → o ≡ Some x → may_release h.worker x ≡ false) → releases_by h k o ≡ h
+by_row h k None g = refl
+by_row h k (Some x) g = ap (λ b. if b then releases h (own_id h k) x else h) (g x refl)
+
+none_here : (h : Here) (p : ℕ) → ((x : Object) → slice_get h.worker.objects p ≡ Some x → may_release h.worker x ≡ false) → release_at h (p + 1) ≡ h
+none_here h p g =
+    let s : p + 1 ≡ suc p = omega arith in
+    ap (λ n. releases_by h (p + 1) (item_at h.worker.objects n)) s ∙ by_row h (p + 1) (slice_get h.worker.objects p) g
+
+nothing_left : (h : Here) (k n : ℕ) → n ≡ 0 → each_from (λ g k. releases_by g k (own_object g k)) h k n ≡ h
+nothing_left h k n e = ap (λ m. each_from release_at h k m) e
+
+split : (i k : ℕ) → (i < k) ⊎ (k ≤ i)
+split i zero = inr (omega arith)
+split zero (suc k) = inl (omega arith)
+split (suc i) (suc k) = elim (split i k) [ inl m ↦ inl (omega (arith, m)) | inr m ↦ inr (omega (arith, m)) ]
+
+skipped : (h : Here) (n p d : ℕ) → NoneGoes h.worker p (p + d) → each_from release_at h (p + 1) (n - p) ≡ each_from release_at h (p + d + 1) (n - (p + d))
+skipped h n p zero quiet = let e : p + 0 ≡ p = omega arith in ap (λ q. each_from release_at h (q + 1) (n - q)) (sym e)
+skipped h n p (suc d) quiet =
+    elim (split p n) [
+      | inl less ↦
+          each_step release_at h (p + 1) n p less
+          ∙ ap (λ g. each_from release_at g (p + 1 + 1) (n - (p + 1))) (none_here h p (λ x e. quiet p x (omega arith) (omega arith) e))
+          ∙ skipped h n (p + 1) d (λ i x low under e. quiet i x (omega (arith, low)) (omega (arith, under)) e)
+          ∙ ap (λ q. each_from release_at h (q + 1) (n - q)) moved
+      | inr past ↦ nothing_left h (p + 1) (n - p) (omega (arith, past)) ∙ sym (nothing_left h (p + suc d + 1) (n - (p + suc d)) (omega (arith, past)))
+    ]
+  where
+    moved : p + 1 + d ≡ p + suc d
+    moved = omega arith
+
+-- what is passed over isn't released
+pub passed_over : (h : Here) (n p q : ℕ) → p ≤ q → NoneGoes h.worker p q →
+    each_from (λ g k. releases_by g k (own_object g k)) h (p + 1) (n - p) ≡ each_from (λ g k. releases_by g k (own_object g k)) h (q + 1) (n - q)
+passed_over h n p q le quiet =
+    let e : p + (q - p) ≡ q = omega (arith, le) in
+    skipped h n p (q - p) (λ i x low under s. quiet i x low (omega (arith, under, le)) s) ∙ ap (λ r. each_from release_at h (r + 1) (n - r)) e
+
+-- so behind the last one
+pub passed_all : (h : Here) (n p q : ℕ) → p ≤ q → n ≤ q → NoneGoes h.worker p q → each_from (λ g k. releases_by g k (own_object g k)) h (p + 1) (n - p) ≡ h
+passed_all h n p q le past quiet = passed_over h n p q le quiet ∙ nothing_left h (q + 1) (n - q) (omega (arith, past))
+
+pub all_passed : (h : Here) (n p : ℕ) → n ≤ p → each_from (λ g k. releases_by g k (own_object g k)) h (p + 1) (n - p) ≡ h
+all_passed h n p past = nothing_left h (p + 1) (n - p) (omega (arith, past))
+
+-- one turn: what is passed over, and the object behind it
+pub one_released : (h g : Here) (n p q : ℕ) (last : Here) → p ≤ q → NoneGoes h.worker p q → q < n → g ≡ releases_by h (q + 1) (own_object h (q + 1)) →
+    each_from (λ g k. releases_by g k (own_object g k)) h (p + 1) (n - p) ≡ last →
+    each_from (λ g k. releases_by g k (own_object g k)) g (q + 1 + 1) (n - (q + 1)) ≡ last
+one_released h g n p q last le quiet less new so_far =
+    ap (λ a. each_from release_at a (q + 1 + 1) (n - (q + 1))) new
+    ∙ sym (each_step release_at h (q + 1) n q less)
+    ∙ sym (passed_over h n p q le quiet)
+    ∙ so_far

@@ -11,8 +11,7 @@ use crate::unfinished::Unfinished;
 use event_log::{Event, Refusal};
 use protocol_board::Board;
 use protocol_core::Reply;
-use script_check::Checked;
-use segment::{Job, ScriptName};
+use segment::{Compiled, Job, ScriptName};
 use sequence::Seq;
 use std::alloc::Global;
 
@@ -35,7 +34,7 @@ fn taken<S: ScriptName>(told: Reply<S>) -> Result<(), Refusal>
 fn commit<S: ScriptName>(
     alloc: Global,
     board: &mut Board<S>,
-    script: &Checked,
+    script: &Compiled,
     job: Job<S>,
 ) -> Result<(), Refusal>
     requires { script_of script.now ≡ S.script }
@@ -57,7 +56,7 @@ fn commit<S: ScriptName>(
 fn take_turn<S: ScriptName>(
     alloc: Global,
     board: &mut Board<S>,
-    script: &Checked,
+    script: &Compiled,
     event: Event,
 ) -> Result<(), Refusal>
     requires { script_of script.now ≡ S.script }
@@ -82,7 +81,7 @@ fn take_turn<S: ScriptName>(
 pub fn drive<S: ScriptName>(
     alloc: Global,
     board: &mut Board<S>,
-    script: &Checked,
+    script: &Compiled,
 ) -> Result<(), Unfinished>
     requires { script_of script.now ≡ S.script }
     ensures ends { OnOk result (EndsSo S.script (state_of board.old) (state_of board.new)) }

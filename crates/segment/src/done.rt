@@ -99,6 +99,7 @@ impl<S: ScriptName> Done<S> {
             births,
             prints,
             stop,
+            frame: _,
         } = piece;
         DoneParts {
             job: job.into_parts(),

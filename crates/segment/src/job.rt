@@ -8,10 +8,9 @@ ghost use Rattle.segment.specs.Parts.{data_of};
 use crate::done::Done;
 use crate::parts::JobParts;
 use crate::script_name::ScriptName;
-use evaluation::{Piece, PieceError};
+use evaluation::{Compiled, Piece, PieceError};
 use ids::{AttemptId, ObjectId};
 use meaning::law::checked_scripts_are_safe;
-use script_check::Checked;
 use std::alloc::Global;
 use std::marker::{Model, PhantomData};
 use task_spec::Birth;
@@ -124,13 +123,13 @@ impl<S: ScriptName> Job<S> {
 
     /// Runs the job: the task is run again from its start on the answers, up to the next answer that it needs or to its
     /// end. Takes no lock. On `NoMemory` the job is given up.
-    pub fn run(self, alloc: Global, script: &Checked) -> Result<Done<S>, NoMemory>
+    pub fn run(self, alloc: Global, script: &Compiled) -> Result<Done<S>, NoMemory>
         requires { script_of script.now ≡ S.script }
         ensures own { IfOk result (λ d. d.job ≡ self) }
         ensures is_true { IfOk result (λ d. IsTrueOf S.script d) }
     {
         checked_scripts_are_safe();
-        let _ = script.functions();
+        let _ = script.script().functions();
         let piece = match self.parts.run_on(alloc, script) {
             Ok(piece) => piece,
             Err(PieceError::Broken) => unreachable!(),

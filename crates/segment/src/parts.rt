@@ -8,9 +8,8 @@ ghost use Rattle.evaluation.specs.Pieces.{piece_of};
 ghost use Rattle.segment.specs.Jobs.{replay_of, beyond, IsSameJob, HasSameHistory};
 ghost use Rattle.segment.specs.Parts.{data_of};
 
-use evaluation::{Piece, PieceError, run_piece};
+use evaluation::{Compiled, Piece, PieceError, run_piece};
 use ids::{AttemptId, ObjectId};
-use script_check::Checked;
 use std::alloc::{AllocError, Global};
 use task_spec::{Birth, are_same_births};
 use values::{Content, RunValue, are_same_contents, are_same_values};
@@ -68,7 +67,7 @@ impl JobParts {
 
     /// Runs the task on the answers, and gives what it bears and prints beyond what it bore and printed before. What the
     /// run makes again is dropped.
-    pub(crate) fn run_on(&self, alloc: Global, script: &Checked) -> Result<Piece, PieceError>
+    pub(crate) fn run_on(&self, alloc: Global, script: &Compiled) -> Result<Piece, PieceError>
         ensures beyond { IfOk result (λ p. piece_of p ≡ beyond (data_of self.now) (replay_of (script_of script.now) (data_of self.now))) }
         ensures broken { IfErr result (λ e. e ≡ PieceError.Broken → (replay_of (script_of script.now) (data_of self.now)).stop ≡ Over (Trapped Broken)) }
     {
@@ -79,6 +78,7 @@ impl JobParts {
             births,
             prints,
             stop: piece.stop,
+            frame: None,
         })
     }
 }

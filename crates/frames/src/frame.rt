@@ -29,7 +29,12 @@ pub struct Frame {
 impl Frame {
     /// Goes on with the answer that it waits for, up to the next one that it needs or to its end. What is given is what the attempt does
     /// beyond what it did before: see docs/architecture.md, "Why a frame is as good as a replay".
-    pub fn go_on(self, alloc: Global, script: &Compiled, answer: Outcome) -> Result<Attempt, AllocError>
+    pub fn go_on(
+        self,
+        alloc: Global,
+        script: &Compiled,
+        answer: Outcome,
+    ) -> Result<Attempt, AllocError>
         ensures halts { IfOk result (λ a. (spec : Birth) (base : Id) (past : Past) → IsWaiting (script_of script.now) spec base past self →
             HaltsBehind (script_of script.now) spec base past (outcome_of answer ∷ []) a) }
         ensures keeps { IfOk result (λ a. (spec : Birth) (base : Id) (past : Past) → IsWaiting (script_of script.now) spec base past self →

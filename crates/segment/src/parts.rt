@@ -87,7 +87,12 @@ impl JobParts {
     }
 
     /// Goes on from where the task waits for the last of the answers; with no frame it is run again from its start.
-    pub(crate) fn run_on(&self, alloc: Global, script: &Compiled, frame: Option<Frame>) -> Result<Piece, PieceError>
+    pub(crate) fn run_on(
+        &self,
+        alloc: Global,
+        script: &Compiled,
+        frame: Option<Frame>,
+    ) -> Result<Piece, PieceError>
         requires begun { IsBegun (script_of script.now) (data_of self.now) }
         requires fits { IfSome frame (Fits (script_of script.now) (data_of self.now)) }
         ensures whole { IfOk result (λ p. IsTrueOf (script_of script.now) (done_of (data_of self.now) p)) }

@@ -2,7 +2,7 @@
 #![tactic(auto)]
 
 mod copies;
-mod frames;
+mod keeping;
 mod waiting;
 
-pub use frames::Frames;
+pub use keeping::Frames;

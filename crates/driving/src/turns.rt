@@ -9,10 +9,10 @@ ghost use Rattle.driving.specs.Drives.{BreaksAfter, BreaksOff, Commits, EndsSo, 
 
 use crate::unfinished::Unfinished;
 use event_log::{Event, Refusal};
+use kept_frames::Frames;
 use protocol_board::Board;
 use protocol_core::Reply;
-use script_check::Checked;
-use segment::{Job, ScriptName};
+use segment::{Compiled, Job, ScriptName};
 use sequence::Seq;
 use std::alloc::Global;
 
@@ -35,7 +35,8 @@ fn taken<S: ScriptName>(told: Reply<S>) -> Result<(), Refusal>
 fn commit<S: ScriptName>(
     alloc: Global,
     board: &mut Board<S>,
-    script: &Checked,
+    script: &Compiled,
+    frames: &mut Frames<S>,
     job: Job<S>,
 ) -> Result<(), Refusal>
     requires { script_of script.now ≡ S.script }
@@ -43,7 +44,7 @@ fn commit<S: ScriptName>(
     ensures broken { IfErr result (λ refusal. BreaksAfter S.script (state_of board.old) job (state_of board.new) refusal) }
 {
     let number = job.number();
-    let Ok(done) = job.run(alloc, script) else {
+    let Ok(done) = frames.run(alloc, script, job) else {
         return Err(Refusal::NoMemory);
     };
     let told = board.apply(alloc, Event::Commit(number), 0, Some(done));
@@ -57,7 +58,8 @@ fn commit<S: ScriptName>(
 fn take_turn<S: ScriptName>(
     alloc: Global,
     board: &mut Board<S>,
-    script: &Checked,
+    script: &Compiled,
+    frames: &mut Frames<S>,
     event: Event,
 ) -> Result<(), Refusal>
     requires { script_of script.now ≡ S.script }
@@ -65,7 +67,7 @@ fn take_turn<S: ScriptName>(
     ensures broken { IfErr result (λ refusal. BreaksOff S.script (state_of board.old) (event_of event) (state_of board.new) refusal) }
 {
     match board.apply(alloc, event, 0, None) {
-        Reply::Job(job) => match commit(alloc, board, script, job) {
+        Reply::Job(job) => match commit(alloc, board, script, frames, job) {
             Ok(()) => Ok(()),
             Err(refusal) => Err(refusal),
         },
@@ -75,26 +77,27 @@ fn take_turn<S: ScriptName>(
 }
 
 /// Drives the run until the settle rule names no event: turn by turn the event that it names is applied, and where that gives out a job,
-/// the job is run, and what was done on it is committed in the same turn.
+/// the job is run, and what was done on it is committed in the same turn. An attempt that waits goes on from its frame.
 ///
 /// It stops where an event is refused, where memory runs out while a job runs (`NoMemory`), and with `TooLong` after 100,000 turns. The
 /// log then has what was applied.
 pub fn drive<S: ScriptName>(
     alloc: Global,
     board: &mut Board<S>,
-    script: &Checked,
+    script: &Compiled,
 ) -> Result<(), Unfinished>
     requires { script_of script.now ≡ S.script }
     ensures ends { OnOk result (EndsSo S.script (state_of board.old) (state_of board.new)) }
     ensures stops { IfErr result (λ unfinished. StopsSo S.script (state_of board.old) (state_of board.new) unfinished) }
 {
     let nobody = Seq::new(alloc);
+    let mut frames = Frames::new(alloc);
     for turn in 0..MOST_TURNS {
         let _ = turn;
         let Some(event) = board.next(&nobody) else {
             return Ok(());
         };
-        take_turn(alloc, board, script, event)?;
+        take_turn(alloc, board, script, &mut frames, event)?;
     }
     match board.next(&nobody) {
         Some(_) => Err(Unfinished::TooLong),

@@ -1,36 +1,85 @@
 -- Where an attempt stands.
-use Rattle.std.proofs.Common.{◌≡◌, ℕ, List, Result, Ok, Err, IfErr, Option, Some, None, refl, sym, ap, ◌∙◌, subst}
+use Rattle.std.proofs.Common.{◌≡◌, ℕ, List, [], ◌∷◌, ◌++◌, map, Result, Ok, Err, IfOk, IfErr, IfSome, Option, Some, None, refl, sym, ap, ◌∙◌, subst}
 use Rattle.std.specs.Prelude.{IsErrAnd}
+use Rattle.meaning.specs.Values as meant
 use Rattle.meaning.specs.Values.{Name, Id, Argument, Outcome, Task}
 use Rattle.meaning.specs.Syntax.{Script}
 use Rattle.meaning.specs.Meaning.{replay}
 use Rattle.task_spec.specs.Births.{birth_of}
 use Rattle.task_spec.specs.declared.birth.Birth.{Birth as TBirth}
-use Rattle.meaning.specs.Runs.{Piece, Stop}
-use Rattle.frames.specs.Tasks.{stopped_by, Halts}
+use Rattle.meaning.specs.Runs.{Stop}
+use Rattle.meaning.specs.Runs as runs
+use Rattle.values.specs.Values.{value_of}
+use Rattle.frames.specs.Values.{value_of as run_value_of}
+use Rattle.frames.specs.Machines.{made_of}
+use Rattle.frames.specs.Courses.{Past, no_past}
+use Rattle.frames.specs.Frames.{IsWaiting, KeepsFrame, past_behind}
+use Rattle.frames.specs.Tasks.{stopped_by, piece_at, Halts}
 use Rattle.frames.specs.declared.attempt.Attempt.{Attempt}
-use Rattle.evaluation.specs.TaskValues.{IsTaskStop, IsTaskPiece}
-use Rattle.evaluation.specs.Pieces.{IsNoTaskStop, Stands}
+use Rattle.frames.specs.declared.frame.Frame.{Frame}
+use Rattle.evaluation.specs.TaskValues.{IsTaskStop, IsTaskPiece, AreTaskBirths, EachTaskValue}
+use Rattle.evaluation.specs.declared.piece.Piece.{Piece}
+use Rattle.evaluation.specs.Pieces.{IsNoTaskStop, IsPieceOf, Keeps, Stands, past_with, piece_of, stop_of}
 
 -- an error that a `?` hands on
 pub handed_on : {A E : Type 0} (P : E → Type 0) (r : Result A E) (h : E) → IsErrAnd r (λ e. e ≡ h) → P h → IfErr r P
 handed_on P (Ok v) h is p = tt
 handed_on P (Err e) h is p = subst P (sym is) p
 
+-- what comes of a call that ends well, by two of its clauses
+pub both_ok : {A B : Type 0} (P Q R : A → Type 0) (r : Result A B) → ((a : A) → P a → Q a → R a) → IfOk r P → IfOk r Q → IfOk r R
+both_ok P Q R (Ok a) f p q = f a p q
+both_ok P Q R (Err b) f p q = p
+
 -- where it stopped
-pub stop_stands : (a : Attempt) (q : Piece) (s : Stop) → Stands a q → stopped_by a.halt ≡ Some s → q.stop ≡ s
-stop_stands a q s stands e = ap (λ (p : Piece). p.stop) (stands s e)
+pub stop_stands : (past : Past) (a : Attempt) (q : runs.Piece) (s : Stop) → Stands past a q → stopped_by a.halt ≡ Some s → q.stop ≡ s
+stop_stands past a q s stands e = ap (λ (p : runs.Piece). p.stop) (stands s e)
 
-not_task_at : (a : Attempt) (q : Piece) (o : Option Stop) → stopped_by a.halt ≡ o → IsNoTaskStop o → Stands a q → IsTaskPiece q → ⊥
-not_task_at a q None e bars stands plain = absurd bars
-not_task_at a q (Some s) e bars stands plain = bars (subst IsTaskStop (stop_stands a q s stands e) plain.stop)
+not_task_at : (past : Past) (a : Attempt) (q : runs.Piece) (o : Option Stop) → stopped_by a.halt ≡ o → IsNoTaskStop o → Stands past a q → IsTaskPiece q → ⊥
+not_task_at past a q None e bars stands plain = absurd bars
+not_task_at past a q (Some s) e bars stands plain = bars (subst IsTaskStop (stop_stands past a q s stands e) plain.stop)
 
-pub not_task : (a : Attempt) (q : Piece) → IsNoTaskStop (stopped_by a.halt) → Stands a q → IsTaskPiece q → ⊥
-not_task a q bars stands plain = not_task_at a q (stopped_by a.halt) refl bars stands plain
+pub not_task : (past : Past) (a : Attempt) (q : runs.Piece) → IsNoTaskStop (stopped_by a.halt) → Stands past a q → IsTaskPiece q → ⊥
+not_task past a q bars stands plain = not_task_at past a q (stopped_by a.halt) refl bars stands plain
+
+-- what comes behind
+pub births_behind : (xs ys : List meant.Birth) → AreTaskBirths (xs ++ ys) → AreTaskBirths ys
+births_behind [] ys h = h
+births_behind (x ∷ xs) ys h = births_behind xs ys h.1
+
+pub values_behind : (xs ys : List meant.Value) → EachTaskValue (xs ++ ys) → EachTaskValue ys
+values_behind [] ys h = h
+values_behind (x ∷ xs) ys h = values_behind xs ys h.1
 
 -- a task's replay, by what was made of its birth
 pub stands_so : (script : Script) (spec : TBirth) (g : Name) (args : List Argument) (depth retries : ℕ) (base : Id) (given answers : List Outcome)
     (a : Attempt) → Halts script (Task g args depth retries) base given a → birth_of spec ≡ Task g args depth retries → given ≡ answers →
-    Stands a (replay script (birth_of spec) base answers)
+    Stands no_past a (replay script (birth_of spec) base answers)
 stands_so script spec g args depth retries base given answers a halts is same =
     λ s e. ap (λ b. replay script b base answers) is ∙ ap (replay script (Task g args depth retries) base) (sym same) ∙ halts s e
+
+-- the piece of an attempt
+module _ (p : Piece) (a : Attempt) (of : IsPieceOf p a) where
+  pub piece_is : piece_of p ≡ piece_at a (stop_of p.stop)
+  piece_is =
+      ap (λ bs. record { births = bs; prints = map value_of p.prints.items; stop = stop_of p.stop }) of.births
+      ∙ ap (λ vs. record { births = map made_of a.births.items; prints = vs; stop = stop_of p.stop }) of.prints
+
+  pub kept_so : (script : Script) (b c : meant.Birth) (base : Id) (past : Past) (given answers : List Outcome) → c ≡ b → given ≡ answers →
+      p.frame ≡ a.frame → KeepsFrame script b base past given a → Keeps script c base past answers p
+  kept_so script b c base past given answers is same frame keeps =
+      let P : meant.Birth → Past → Option Frame → Type 0 = λ x y f. IfSome f (IsWaiting script x base y) in
+      subst (P c (past_with past answers p)) (sym frame)
+      (subst (λ y. P c y a.frame) past_is (subst (λ x. P x (past_behind past given a) a.frame) (sym is) keeps))
+    where
+      past_is : past_behind past given a ≡ past_with past answers p
+      past_is =
+          ap (λ os. record {
+            answers = past.answers ++ os;
+            births = past.births ++ map made_of a.births.items;
+            prints = past.prints ++ map run_value_of a.prints.items;
+          }) same
+          ∙ ap (λ bs. record { answers = past.answers ++ answers; births = past.births ++ bs; prints = past.prints ++ map run_value_of a.prints.items })
+          (sym of.births)
+          ∙ ap (λ vs. record { answers = past.answers ++ answers; births = past.births ++ map birth_of p.births.items; prints = past.prints ++ vs })
+          (sym of.prints)

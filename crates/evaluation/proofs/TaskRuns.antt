@@ -1,5 +1,5 @@
 -- A run in pieces that is given no outcome in a value gives none.
-use Rattle.std.proofs.Common.{ℕ, zero, suc, ◌-◌, Bool, true, false, List, [], ◌∷◌, length, take, Option, Some, None}
+use Rattle.std.proofs.Common.{ℕ, zero, suc, ◌-◌, Bool, true, false, List, [], ◌∷◌, ◌++◌, length, take, Option, Some, None}
 use Rattle.std.specs.Prelude.{ℤ, pos, negsuc, nat_lt, if◌then◌else◌, ◌+ℤ◌, ◌-ℤ◌, ◌*ℤ◌, neg_ℤ, int_div, int_rem}
 use Rattle.meaning.specs.Values.{Name, Overflow, TooLong, Loop, Broken, Value, Int, Items, Named, Known, Values, none, more, Outcome, Val, Trapped, Argument, Birth, Put, Task, Id, values_of, count, item_at, push_onto}
 use Rattle.meaning.specs.Syntax.{Kind, Operator, Add, Sub, Mul, Div, Rem, Equal, Unequal, Less, LessEqual, ItemAt, Push, Prefix, Negate, Len, Expr, Num, Var, Unary, Binary, ListOf, Empty, Call, Remote, PutOf, GetOf, Exprs, end, also, Stmt, Let, Set, Print, Return, If, For, Block, done, step, Parameter, Function, Script}
@@ -290,3 +290,7 @@ plain_content (contents.Trap t) = tt
 pub plain_contents : (cs : List Content) → AreTaskOutcomes (map tasks.content_of cs)
 plain_contents [] = tt
 plain_contents (c ∷ cs) = (plain_content c, plain_contents cs)
+
+pub plain_answers : (cs : List Content) (c : Content) → AreTaskOutcomes (map tasks.content_of cs ++ tasks.content_of c ∷ [])
+plain_answers [] c = plain_contents (c ∷ [])
+plain_answers (x ∷ cs) c = (plain_content x, plain_answers cs c)

@@ -63,7 +63,7 @@ pub(crate) fn from_value(alloc: Global, value: &RunValue) -> Result<Value, Alloc
 }
 
 /// A content, as a run has it.
-fn from_content(alloc: Global, content: &Content) -> Result<Outcome, AllocError>
+pub(crate) fn from_content(alloc: Global, content: &Content) -> Result<Outcome, AllocError>
     ensures { IfOk result (λ c. outcome_of c ≡ content_of content.now) }
 {
     match content {

@@ -5,5 +5,6 @@ mod convert;
 mod piece;
 mod serial;
 
-pub use piece::{Piece, PieceError, Stop, run_piece};
+pub use frames::{Compiled, Frame};
+pub use piece::{Piece, PieceError, Stop, go_on, run_piece};
 pub use serial::{SerialError, SerialRun, run_serially};

@@ -1,23 +1,26 @@
 // A piece of a task's run.
 
-ghost use Rattle.std.specs.Prelude.{◌≡◌, IfOk, IfErr, Some, map};
-ghost use Rattle.meaning.specs.Values.{Val, Trapped, Broken};
+ghost use Rattle.std.specs.Prelude.{◌≡◌, ◌∷◌, [], IfOk, IfErr, None, Some, map};
+ghost use Rattle.meaning.specs.Values.{Id, Val, Trapped, Broken};
 ghost use Rattle.meaning.specs.Runs.{Over, stopped};
 ghost use Rattle.meaning.specs.Runs as runs;
 ghost use Rattle.meaning.specs.Meaning.{replay};
 ghost use Rattle.script_check.specs.Trees.{script_of};
 ghost use Rattle.values.specs.Values.{value_of, content_of, id_of};
 ghost use Rattle.task_spec.specs.Births.{birth_of};
+ghost use Rattle.frame_laws.specs.Resuming.{after};
+ghost use Rattle.frames.specs.Courses.{Past, no_past};
+ghost use Rattle.frames.specs.Frames.{IsWaiting};
 ghost use Rattle.frames.specs.Tasks.{stopped_by};
 ghost use Rattle.evaluation.specs.TaskValues.{IsTaskPiece};
-ghost use Rattle.evaluation.specs.Pieces.{piece_of, stop_of, IsNoTaskStop, Stands};
+ghost use Rattle.evaluation.specs.Pieces.{Before, IsNoTaskStop, IsPieceOf, Keeps, Stands, answered_so, past_of, piece_of, stop_of};
 
 use crate::convert::{
-    ConversionError, from_arguments, from_contents, named, to_births, to_value, to_values,
+    ConversionError, from_arguments, from_content, from_contents, named, to_births, to_value,
+    to_values,
 };
-use frames::{Attempt, Halt, run_task};
+use frames::{Attempt, Compiled, Frame, Halt, run_task};
 use ids::ObjectId;
-use script_check::Checked;
 use std::alloc::{AllocError, AllocFailed, Global};
 use task_spec::Birth;
 use values::{Content, RunValue};
@@ -38,6 +41,8 @@ pub struct Piece {
     pub births: Vec<Birth>,
     pub prints: Vec<RunValue>,
     pub stop: Stop,
+    /// Where it stops at a get, the frame from which it goes on with an answer.
+    pub frame: Option<Frame>,
 }
 
 /// Why there is no piece.
@@ -93,11 +98,12 @@ fn to_stop(alloc: Global, halt: &Halt) -> Result<Stop, ConversionError>
     }
 }
 
-/// What an attempt did up to where it stopped, as tasks have it.
+/// What an attempt did up to where it stopped, as tasks have it, without its frame.
 fn to_piece(alloc: Global, attempt: &Attempt) -> Result<Piece, ConversionError>
-    ensures value { IfOk result (λ p. (q : runs.Piece) → Stands attempt.now q → piece_of p ≡ q) }
-    ensures broken { IfErr result (λ e. e ≡ ConversionError.Broken → (q : runs.Piece) → Stands attempt.now q → q.stop ≡ Over (Trapped Broken)) }
-    ensures plain { IfErr result (λ e. e ≡ ConversionError.HasOutcome → (q : runs.Piece) → Stands attempt.now q → IsTaskPiece q → ⊥) }
+    ensures value { IfOk result (λ p. IsPieceOf p attempt.now) }
+    ensures broken { IfErr result (λ e. e ≡ ConversionError.Broken → (past : Past) (q : runs.Piece) → Stands past attempt.now q →
+        q.stop ≡ Over (Trapped Broken)) }
+    ensures plain { IfErr result (λ e. e ≡ ConversionError.HasOutcome → (past : Past) (q : runs.Piece) → Stands past attempt.now q → IsTaskPiece q → ⊥) }
 {
     let stop = to_stop(alloc, &attempt.halt)?;
     let births = to_births(alloc, &attempt.births)?;
@@ -106,25 +112,71 @@ fn to_piece(alloc: Global, attempt: &Attempt) -> Result<Piece, ConversionError>
         births,
         prints,
         stop,
+        frame: None,
     })
+}
+
+/// What an attempt did up to where it stopped, as tasks have it, and its frame.
+fn finish(alloc: Global, attempt: Attempt) -> Result<Piece, PieceError>
+    ensures value { IfOk result (λ p. IsPieceOf p attempt) }
+    ensures frame { IfOk result (λ p. p.frame ≡ attempt.frame) }
+    ensures broken { IfErr result (λ e. e ≡ PieceError.Broken → (past : Past) (q : runs.Piece) → Stands past attempt q → IsTaskPiece q →
+        q.stop ≡ Over (Trapped Broken)) }
+{
+    match to_piece(alloc, &attempt) {
+        Ok(piece) => Ok(with_frame(piece, attempt)),
+        Err(ConversionError::Broken) => Err(PieceError::Broken),
+        // No task has such a value.
+        Err(ConversionError::HasOutcome) => Err(PieceError::Broken),
+        Err(ConversionError::NoMemory) => Err(PieceError::NoMemory),
+    }
+}
+
+/// The piece, with the frame of its attempt.
+fn with_frame(piece: Piece, attempt: Attempt) -> Piece
+    ensures births { result.births.items ≡ piece.births.items }
+    ensures prints { result.prints.items ≡ piece.prints.items }
+    ensures stop { result.stop ≡ piece.stop }
+    ensures frame { result.frame ≡ attempt.frame }
+{
+    let Attempt {
+        births: _,
+        prints: _,
+        halt: _,
+        frame,
+    } = attempt;
+    let Piece {
+        births,
+        prints,
+        stop,
+        frame: _,
+    } = piece;
+    Piece {
+        births,
+        prints,
+        stop,
+        frame,
+    }
 }
 
 /// A put's piece: it ends with its value at once.
 fn put_piece(alloc: Global, value: &RunValue) -> Result<Piece, AllocError>
-    ensures { IfOk result (λ p. piece_of p ≡ stopped (Over (Val (value_of value.now)))) }
+    ensures value { IfOk result (λ p. piece_of p ≡ stopped (Over (Val (value_of value.now)))) }
+    ensures frame { IfOk result (λ p. p.frame ≡ None) }
 {
     let value = value.copy(alloc)?;
     Ok(Piece {
         births: Vec::new(alloc),
         prints: Vec::new(alloc),
         stop: Stop::Ends(Content::Value(value)),
+        frame: None,
     })
 }
 
 /// Runs a task from its start on the answers that it has so far, its births taking ids from `base` on.
 pub fn run_piece(
     alloc: Global,
-    script: &Checked,
+    script: &Compiled,
     spec: &Birth,
     base: ObjectId,
     answers: &[Content],
@@ -134,6 +186,8 @@ pub fn run_piece(
     // It is broken only where the replay is.
     ensures broken { IfErr result (λ e. e ≡ PieceError.Broken →
         (replay (script_of script.now) (birth_of spec.now) (id_of base) (map content_of answers.now)).stop ≡ Over (Trapped Broken)) }
+    // Its frame, if it has one, is where the task waits that was so answered.
+    ensures keeps { IfOk result (λ p. Keeps (script_of script.now) (birth_of spec.now) (id_of base) no_past (map content_of answers.now) p) }
 {
     match spec {
         Birth::Put(value) => Ok(put_piece(alloc, value)?),
@@ -154,12 +208,33 @@ pub fn run_piece(
                 base,
                 answers,
             )?;
-            match to_piece(alloc, &attempt) {
-                Ok(piece) => Ok(piece),
-                Err(ConversionError::Broken) => Err(PieceError::Broken),
-                Err(ConversionError::HasOutcome) => unreachable!(),
-                Err(ConversionError::NoMemory) => Err(PieceError::NoMemory),
-            }
+            finish(alloc, attempt)
         }
     }
+}
+
+/// Goes on from where a task waits, with the answer that it waits for. What is given is what the task does from there on.
+pub fn go_on(
+    alloc: Global,
+    script: &Compiled,
+    frame: Frame,
+    answer: &Content,
+) -> Result<Piece, PieceError>
+    // Behind what was done before, what is given is the task's replay.
+    ensures replayed { IfOk result (λ p. (spec : Birth) (base : Id) (before : Before) →
+        IsWaiting (script_of script.now) (birth_of spec) base (past_of before) frame →
+        after (map birth_of before.births) (map value_of before.prints) (piece_of p) ≡
+        replay (script_of script.now) (birth_of spec) base (answered_so before answer.now)) }
+    // It is broken only where the replay is.
+    ensures broken { IfErr result (λ e. e ≡ PieceError.Broken → (spec : Birth) (base : Id) (before : Before) →
+        IsWaiting (script_of script.now) (birth_of spec) base (past_of before) frame →
+        (replay (script_of script.now) (birth_of spec) base (answered_so before answer.now)).stop ≡ Over (Trapped Broken)) }
+    // Its frame, if it has one, is where the task waits that was so answered.
+    ensures keeps { IfOk result (λ p. (spec : Birth) (base : Id) (before : Before) →
+        IsWaiting (script_of script.now) (birth_of spec) base (past_of before) frame →
+        Keeps (script_of script.now) (birth_of spec) base (past_of before) (content_of answer.now ∷ []) p) }
+{
+    let answer = from_content(alloc, answer)?;
+    let attempt = frame.go_on(alloc, script, answer)?;
+    finish(alloc, attempt)
 }

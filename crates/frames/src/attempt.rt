@@ -1,30 +1,36 @@
 // An attempt of a task, in pieces.
 
-ghost use Rattle.std.specs.Prelude.{◌≡◌, ℕ, [], IfOk, map};
-ghost use Rattle.meaning.specs.Values.{Task};
+ghost use Rattle.std.specs.Prelude.{◌≡◌, ℕ, [], IfOk, None, map};
+ghost use Rattle.meaning.specs.Syntax.{Script};
+ghost use Rattle.meaning.specs.Values.{Birth, Id, Task};
 ghost use Rattle.script_check.specs.Trees.{script_of};
 ghost use Rattle.values.specs.Values.{id_of};
 ghost use Rattle.frames.specs.Values.{outcome_of};
 ghost use Rattle.frames.specs.Machines.{argument_of};
+ghost use Rattle.frames.specs.Courses.{Past, Stops, answers_of, no_past};
 ghost use Rattle.frames.specs.Tasks.{Halts};
+ghost use Rattle.frames.specs.Frames.{HaltsBehind, KeepsFrame};
 
+use crate::compiled::Compiled;
 use crate::course::Course;
+use crate::frame::Frame;
 use crate::halt::{Argument, Halt, Made};
 use crate::mismatch::stop_mismatch;
 use crate::serially::DEEPEST;
 use crate::value::{Outcome, Value};
-use frame_code::{compile, number_of};
+use frame_code::number_of;
 use ids::ObjectId;
-use script_check::Checked;
 use std::alloc::{AllocError, Global};
 use values::Trap;
 
-/// What an attempt did, and why it stopped: it is over, or it asks for an answer that it wasn't handed.
+/// What an attempt did, and why it stopped: it is over, or it asks for an answer that it wasn't handed. Where it waits for an answer it has
+/// a frame, from which it goes on.
 #[derive(Drop)]
 pub struct Attempt {
     pub births: Vec<Made>,
     pub prints: Vec<Value>,
     pub halt: Halt,
+    pub frame: Option<Frame>,
 }
 
 /// An attempt that stopped before it did anything.
@@ -32,50 +38,82 @@ fn nothing_done(alloc: Global, halt: Halt) -> Attempt
     ensures births { result.births.items ≡ [] }
     ensures prints { result.prints.items ≡ [] }
     ensures halt { result.halt ≡ halt }
+    ensures frame { result.frame ≡ None }
 {
     Attempt {
         births: Vec::new(alloc),
         prints: Vec::new(alloc),
         halt,
+        frame: None,
     }
+}
+
+/// What was done up to where it stopped, where as many calls may wait.
+pub(crate) fn stop(course: Course, halt: Halt, limit: usize) -> Result<Attempt, AllocError>
+    ensures halts { IfOk result (λ a. (script : Script) (spec : Birth) (base : Id) (past : Past) →
+        Stops script limit spec base past course halt → HaltsBehind script spec base past (answers_of course) a) }
+    ensures keeps { IfOk result (λ a. (script : Script) (spec : Birth) (base : Id) (past : Past) →
+        Stops script limit spec base past course halt → KeepsFrame script spec base past (answers_of course) a) }
+{
+    let Course {
+        state,
+        births,
+        prints,
+        next,
+        answers: _,
+        used: _,
+    } = course;
+    if let Halt::Asks(reference, to) = &halt {
+        let frame = Frame {
+            state,
+            next,
+            reference: reference.share()?,
+            to: *to,
+            limit,
+        };
+        return Ok(Attempt {
+            births,
+            prints,
+            halt,
+            frame: Some(frame),
+        });
+    }
+    Ok(Attempt {
+        births,
+        prints,
+        halt,
+        frame: None,
+    })
 }
 
 /// Runs a task on the answers that it is handed, its births taking ids from `base` on.
 pub fn run_task(
     alloc: Global,
-    script: &Checked,
+    script: &Compiled,
     function: &str,
     arguments: &[Argument],
     depth: u32,
     base: ObjectId,
     answers: Vec<Outcome>,
 ) -> Result<Attempt, AllocError>
-    ensures { IfOk result (λ a. (retries : ℕ) →
+    ensures halts { IfOk result (λ a. (retries : ℕ) →
         Halts (script_of script.now) (Task function.now (map argument_of arguments.now) depth retries) (id_of base) (map outcome_of answers.items) a) }
+    // Where it waits for an answer, its frame is where it waits.
+    ensures keeps { IfOk result (λ a. (retries : ℕ) → KeepsFrame (script_of script.now) (Task function.now (map argument_of arguments.now) depth retries)
+        (id_of base) no_past (map outcome_of answers.items) a) }
 {
     if depth > DEEPEST {
         return Ok(nothing_done(alloc, Halt::Trap(Trap::TooDeep)));
     }
-    let functions = script.functions();
+    let functions = script.script().functions();
     let number = number_of(functions, function, arguments.len());
     if number >= functions.len() {
         let halt = stop_mismatch(functions, function, arguments, &answers);
         return Ok(nothing_done(alloc, halt));
     }
-    let code = compile(alloc, script)?;
-    let mut course = Course::for_task(alloc, &code, number, arguments, base, answers)?;
-    let halt = course.run(&code, (DEEPEST - depth) as usize);
-    let Course {
-        state: _,
-        births,
-        prints,
-        next: _,
-        answers: _,
-        used: _,
-    } = course;
-    Ok(Attempt {
-        births,
-        prints,
-        halt,
-    })
+    let limit = (DEEPEST - depth) as usize;
+    let code = script.code();
+    let mut course = Course::for_task(alloc, code, number, arguments, base, answers)?;
+    let halt = course.run(code, limit);
+    stop(course, halt, limit)
 }

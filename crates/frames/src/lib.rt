@@ -3,7 +3,9 @@
 
 mod asking;
 mod attempt;
+mod compiled;
 mod course;
+mod frame;
 mod halt;
 mod jumping;
 mod mismatch;
@@ -16,6 +18,8 @@ mod value;
 mod working;
 
 pub use attempt::{Attempt, run_task};
+pub use compiled::Compiled;
+pub use frame::Frame;
 pub use halt::{Argument, Halt, Made};
 pub use operators::list;
 pub use serially::{SerialEnd, run_main};

@@ -11,7 +11,7 @@ ghost use Rattle.frame_laws.specs.Law.{entry_or, values_in, marks_in};
 ghost use Rattle.frame_code.specs.Views.{code_of};
 ghost use Rattle.frames.specs.Values.{value_of};
 ghost use Rattle.frames.specs.Machines.{argument_of, state_of};
-ghost use Rattle.frames.specs.Courses.{Standing, answers_of};
+ghost use Rattle.frames.specs.Courses.{Standing, answers_of, no_past};
 ghost use Rattle.frames.specs.Values.{outcome_of};
 
 use crate::course::Course;
@@ -80,7 +80,7 @@ impl Course {
     ) -> Result<Course, AllocError>
         ensures stands { IfOk result (λ k. (script : Script) (g : Name) (f : Function) (depth retries : ℕ) → code_of code.now ≡ laws.code_of script →
             function ≡ number_of script g (length arguments.now) → find script g ≡ Some f → length arguments.now ≡ length f.parameters → depth ≤ 32 →
-            Standing script (32 - depth) (Task g (map argument_of arguments.now) depth retries) (id_of base) [] k) }
+            Standing script (32 - depth) (Task g (map argument_of arguments.now) depth retries) (id_of base) no_past k) }
         ensures answers { IfOk result (λ k. answers_of k ≡ map outcome_of answers.items) }
     {
         let state = first_state(alloc, code, function, arguments)?;

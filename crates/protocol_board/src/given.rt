@@ -11,8 +11,7 @@ use crate::stopped::Stopped;
 use event_log::{Event, Refusal};
 use number_lists::place_of;
 use protocol_core::Reply;
-use script_check::Checked;
-use segment::{Done, Job, ScriptName};
+use segment::{Compiled, Done, Job, ScriptName};
 use sequence::Seq;
 use std::alloc::Global;
 
@@ -43,7 +42,7 @@ pub fn hand_in<S: ScriptName>(jobs: &mut Seq<Option<Job<S>>>, event: Event) -> O
 /// Runs the job, if there is one.
 pub fn run_job<S: ScriptName>(
     alloc: Global,
-    script: &Checked,
+    script: &Compiled,
     job: Option<Job<S>>,
 ) -> Result<Option<Done<S>>, Stopped>
     requires { script_of script.now ≡ S.script }

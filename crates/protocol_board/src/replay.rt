@@ -15,8 +15,7 @@ use event_files::{Line, MOST_EVENTS};
 use event_log::Event;
 use numbers::WorkerId;
 use protocol_core::Core;
-use script_check::Checked;
-use segment::{Job, ScriptName};
+use segment::{Compiled, Job, ScriptName};
 use sequence::Seq;
 use std::alloc::{AllocError, Global};
 use std::marker::Model;
@@ -77,7 +76,7 @@ impl<S: ScriptName> Replay<S> {
     }
 
     /// Applies one event.
-    fn apply(&mut self, alloc: Global, script: &Checked, event: Event) -> Result<(), Stopped>
+    fn apply(&mut self, alloc: Global, script: &Compiled, event: Event) -> Result<(), Stopped>
         requires { script_of script.now ≡ S.script }
         ensures step { OnOk result (Step S.script (play_of self.old) (event_of event) (play_of self.new)) }
         ensures stops { IfErr result (λ stopped. StopsAt S.script (play_of self.old) (event_of event) (play_of self.new) stopped) }
@@ -103,7 +102,7 @@ impl<S: ScriptName> Replay<S> {
     fn settle(
         &mut self,
         alloc: Global,
-        script: &Checked,
+        script: &Compiled,
         but: &Seq<WorkerId>,
     ) -> Result<(), Stopped>
         requires { script_of script.now ≡ S.script }
@@ -117,7 +116,7 @@ impl<S: ScriptName> Replay<S> {
     }
 
     /// Applies what a line says.
-    fn play_line(&mut self, alloc: Global, script: &Checked, line: &Line) -> Result<(), Stopped>
+    fn play_line(&mut self, alloc: Global, script: &Compiled, line: &Line) -> Result<(), Stopped>
         requires { script_of script.now ≡ S.script }
         ensures plays { OnOk result (LinePlays S.script line.now (play_of self.old) (play_of self.new)) }
         ensures stops { IfErr result (λ stopped. LineStops S.script line.now (play_of self.old) (play_of self.new) stopped) }
@@ -139,7 +138,7 @@ impl<S: ScriptName> Replay<S> {
     pub fn play(
         &mut self,
         alloc: Global,
-        script: &Checked,
+        script: &Compiled,
         lines: &Seq<Line>,
     ) -> Result<(), Stopped>
         requires { script_of script.now ≡ S.script }

@@ -6,13 +6,12 @@ ghost use Rattle.raysim_commands.specs.Scripts.{IsUnwritten};
 ghost use Rattle.raysim_commands.specs.RunReports.{ExplainsRun, IsReportOf, IsRunBegun, IsRunReported, IsRunStop};
 
 use crate::form::{Form, report};
-use crate::script::{checked_script, read_script};
+use crate::script::{compiled_script, read_script};
 use driving::drive;
 use protocol_board::Board;
 use protocol_core::{Cluster, Core};
 use raysim_streams::{Refusal, Sink, Source, put_all};
-use script_check::Checked;
-use segment::ScriptName;
+use segment::{Compiled, ScriptName};
 use std::alloc::Global;
 use std::marker::Brand;
 
@@ -26,7 +25,7 @@ struct RunReport {
 /// The report of a script's run.
 fn run_script<S: ScriptName>(
     alloc: Global,
-    script: &Checked,
+    script: &Compiled,
     cluster: Cluster,
     form: Form,
 ) -> Result<RunReport, Refusal>
@@ -34,7 +33,7 @@ fn run_script<S: ScriptName>(
     ensures reported { IfOk result (λ report. IsReportOf (script_of script.now) cluster form (string_bytes report.text) report.status) }
     ensures stopped { IfErr result (IsRunStop (script_of script.now) cluster) }
 {
-    let core = Core::<S>::new(alloc, script, cluster)?;
+    let core = Core::<S>::new(alloc, script.script(), cluster)?;
     let mut board = Board::new(core);
     if let Err(unfinished) = drive(alloc, &mut board, script) {
         return Err(Refusal::Stopped {
@@ -68,7 +67,7 @@ pub fn run<R: Source, W: Sink>(
         IsRunBegun cluster form text (W.held writer.old) (W.held writer.new))) }
 {
     let text = read_script(alloc, reader)?;
-    let script = match checked_script(alloc, text.as_slice()) {
+    let script = match compiled_script(alloc, text.as_slice()) {
         Ok(script) => script,
         Err(refusal) => return Err(refusal),
     };

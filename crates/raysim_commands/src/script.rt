@@ -7,6 +7,7 @@ ghost use Rattle.raysim_commands.specs.Scripts.{IsScript, IsRefusalOf, IsUnwritt
 use raysim_streams::{Refusal, Source, read_at_most};
 use script_check::{CheckError, Checked, check};
 use script_syntax::{Span, SyntaxError, parse};
+use segment::Compiled;
 use std::alloc::Global;
 
 /// How many bytes the text of a script may have.
@@ -64,5 +65,20 @@ pub fn checked_script(alloc: Global, text: &[u8]) -> Result<Checked, Refusal>
     match check(alloc, program) {
         Ok(script) => Ok(script),
         Err(error) => Err(check_refusal(error)),
+    }
+}
+
+/// The checked script of a text, with its code.
+pub fn compiled_script(alloc: Global, text: &[u8]) -> Result<Compiled, Refusal>
+    ensures found { IfOk result (λ script. IsScript text.now (script_of script)) }
+    ensures refused { IfErr result (λ refusal. IsRefusalOf text.now refusal) }
+{
+    let script = match checked_script(alloc, text) {
+        Ok(script) => script,
+        Err(refusal) => return Err(refusal),
+    };
+    match Compiled::new(alloc, script) {
+        Ok(script) => Ok(script),
+        Err(_) => Err(Refusal::NoMemory),
     }
 }

@@ -7,13 +7,12 @@ ghost use Rattle.raysim_commands.specs.SimReports.{ExplainsEvents, ExplainsSim, 
 ghost use Rattle.raysim_commands.specs.SimReports.{IsSimReportOf, IsStopOf, stop_refusal};
 
 use crate::form::{Form, report};
-use crate::script::{checked_script, read_script};
+use crate::script::{compiled_script, read_script};
 use event_files::{EventError, Line, parse_events};
 use protocol_board::{Replay, Stopped};
 use protocol_core::{Cluster, Core};
 use raysim_streams::{Refusal, Sink, Source, put_all, read_at_most};
-use script_check::Checked;
-use segment::ScriptName;
+use segment::{Compiled, ScriptName};
 use sequence::Seq;
 use std::alloc::Global;
 use std::marker::Brand;
@@ -38,7 +37,7 @@ fn stop_refusal(stopped: Stopped) -> Refusal
 /// The report of the run of a script by these lines.
 fn sim_script<S: ScriptName>(
     alloc: Global,
-    script: &Checked,
+    script: &Compiled,
     lines: &Seq<Line>,
     cluster: Cluster,
     form: Form,
@@ -47,7 +46,7 @@ fn sim_script<S: ScriptName>(
     ensures reported { IfOk result (λ report. IsSimReportOf (script_of script.now) cluster form lines.now (string_bytes report.text) report.status) }
     ensures stopped { IfErr result (IsStopOf (script_of script.now) cluster lines.now) }
 {
-    let core = Core::<S>::new(alloc, script, cluster)?;
+    let core = Core::<S>::new(alloc, script.script(), cluster)?;
     let mut replay = Replay::new(alloc, core);
     if let Err(stopped) = replay.play(alloc, script, lines) {
         return Err(stop_refusal(stopped));
@@ -97,7 +96,7 @@ pub fn sim<R: Source, E: Source, W: Sink>(
         (W.held writer.new ≡ W.held writer.old) ⊎ IsSimBegun cluster form text file (W.held writer.old) (W.held writer.new))) }
 {
     let text = read_script(alloc, reader)?;
-    let script = match checked_script(alloc, text.as_slice()) {
+    let script = match compiled_script(alloc, text.as_slice()) {
         Ok(script) => script,
         Err(refusal) => return Err(refusal),
     };

@@ -12,8 +12,7 @@ use crate::working::{Gate, work};
 use event_files::RunPlan;
 use event_log::Refusal;
 use protocol_board::Board;
-use script_check::Checked;
-use segment::ScriptName;
+use segment::{Compiled, ScriptName};
 use std::alloc::{AllocError, Global};
 use std::marker::Brand;
 use std::rt::Clock;
@@ -47,7 +46,7 @@ fn run_shared<
     board: Board<S>,
     plan: RunPlan,
     n: u8,
-    script: &Checked,
+    script: &Compiled,
     gate: &K,
 ) -> Result<Ended<S>, AllocError>
     requires some { (1 ≤ n) × (n ≤ 8) }
@@ -90,7 +89,7 @@ pub fn run_on_threads<
     board: Board<S>,
     plan: RunPlan,
     n: u8,
-    script: &Checked,
+    script: &Compiled,
     gate: &K,
 ) -> Result<Ended<S>, AllocError>
     requires some { (1 ≤ n) × (n ≤ 8) }

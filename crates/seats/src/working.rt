@@ -7,8 +7,7 @@ use crate::seat::Seat;
 use crate::shared::Shared;
 use event_log::Refusal;
 use protocol_core::Reply;
-use script_check::Checked;
-use segment::{Job, ScriptName};
+use segment::{Compiled, Job, ScriptName};
 use std::alloc::Global;
 use std::rt::Clock;
 use std::sync::Wait;
@@ -46,7 +45,7 @@ fn run_job<S: ScriptName, E: Ledger, G: Ledger, C: Ledger, J: Ledger, K: Gate, R
     alloc: Global,
     shared: &Shared<S, E, G, C, J>,
     seat: &mut Seat<E, G, C, J>,
-    script: &Checked,
+    script: &Compiled,
     gate: &K,
     job: Job<S>,
 )
@@ -72,7 +71,7 @@ pub fn work<S: ScriptName, E: Ledger, G: Ledger, C: Ledger, J: Ledger, K: Gate, 
     alloc: Global,
     shared: &Shared<S, E, G, C, J>,
     seat: Seat<E, G, C, J>,
-    script: &Checked,
+    script: &Compiled,
     gate: &K,
 ) -> Seat<E, G, C, J>
     requires { script_of script.now ≡ S.script }

@@ -1,3 +1,4 @@
 mod Beyond
 mod Growing
 mod Safe
+mod Lasts

@@ -1,4 +1,5 @@
 pub mod Growth
+pub mod Frames
 pub mod Jobs
 pub mod Parts
 pub mod Pieces

@@ -1,15 +1,16 @@
 // Jobs that were run.
 
-ghost use Rattle.std.specs.Prelude.{◌≡◌};
+ghost use Rattle.std.specs.Prelude.{◌≡◌, IfSome};
 ghost use Rattle.evaluation.specs.Pieces.{piece_of};
 ghost use Rattle.segment.specs.Jobs.{IsTrueOf};
+ghost use Rattle.segment.specs.Frames.{WaitsAfter};
 ghost use Rattle.segment.specs.Parts.{data_of};
 ghost use Rattle.segment.specs.Pieces.{done_of};
 
 use crate::job::Job;
 use crate::parts::JobParts;
 use crate::script_name::ScriptName;
-use evaluation::{Piece, Stop};
+use evaluation::{Frame, Piece, Stop};
 use std::marker::Model;
 use task_spec::Birth;
 use values::RunValue;
@@ -26,7 +27,8 @@ pub struct DoneParts {
 }
 
 /// A job of the script `S` that was run, and what was done on it. It is true of its job: the job's births and prints
-/// with these after them, and the stop, are what the job's task does on the job's answers.
+/// with these after them, and the stop, are what the job's task does on the job's answers. Its frame, if it has one, is where the task
+/// waits for its next answer.
 #[derive(Drop)]
 pub struct Done<S: ScriptName> {
     job: Job<S>,
@@ -36,7 +38,9 @@ pub struct Done<S: ScriptName> {
 impl<S: ScriptName> Model for Done<S> {
     ghost use Rattle.std.specs.Coded.{codes};
     ghost use Rattle.values.specs.contracts.value.RunValue as run_values;
+    ghost use Rattle.std.specs.Prelude.{IfSome};
     ghost use Rattle.segment.specs.Jobs.{Done, IsTrueOf};
+    ghost use Rattle.segment.specs.Frames.{WaitsAfter};
     ghost use Rattle.segment.specs.Pieces.{done_of};
 
     ghost Value = { Done };
@@ -45,13 +49,14 @@ impl<S: ScriptName> Model for Done<S> {
 
     ghost view = { λ d. done_of d.job d.piece };
 
-    ghost invariant = { λ d. IsTrueOf S.script (done_of d.job d.piece) };
+    ghost invariant = { λ d. IsTrueOf S.script (done_of d.job d.piece) × IfSome d.piece.frame (WaitsAfter S.script (done_of d.job d.piece)) };
 }
 
 impl<S: ScriptName> Done<S> {
     /// The job with what was done on it.
     pub(crate) fn new(job: Job<S>, piece: Piece) -> Done<S>
-        requires { IsTrueOf S.script (done_of job piece) }
+        requires is_true { IsTrueOf S.script (done_of job piece) }
+        requires waits { IfSome piece.frame (WaitsAfter S.script (done_of job piece)) }
         ensures { result ≡ done_of job piece }
     {
         Done { job, piece }
@@ -86,6 +91,14 @@ impl<S: ScriptName> Done<S> {
         &self.piece.stop
     }
 
+    /// Takes the frame from which the task goes on, if there is one, and leaves the rest as it is.
+    pub fn take_frame(&mut self) -> Option<Frame>
+        ensures waits { IfSome result (WaitsAfter S.script self.old) }
+        ensures same { self.new ≡ self.old }
+    {
+        self.piece.frame.take()
+    }
+
     /// The job's parts, and what was done on it.
     pub fn into_parts(self) -> DoneParts
         ensures job { data_of result.job ≡ self.job }
@@ -99,6 +112,7 @@ impl<S: ScriptName> Done<S> {
             births,
             prints,
             stop,
+            frame: _,
         } = piece;
         DoneParts {
             job: job.into_parts(),

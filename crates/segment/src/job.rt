@@ -3,15 +3,15 @@
 ghost use Rattle.std.specs.Prelude.{◌≡◌, IfOk, true};
 ghost use Rattle.script_check.specs.Trees.{script_of};
 ghost use Rattle.segment.specs.Jobs.{IsBegun, IsSameJob, IsTrueOf};
+ghost use Rattle.segment.specs.Frames.{Fits};
 ghost use Rattle.segment.specs.Parts.{data_of};
 
 use crate::done::Done;
 use crate::parts::JobParts;
 use crate::script_name::ScriptName;
-use evaluation::{Piece, PieceError};
+use evaluation::{Compiled, Frame, PieceError};
 use ids::{AttemptId, ObjectId};
 use meaning::law::checked_scripts_are_safe;
-use script_check::Checked;
 use std::alloc::Global;
 use std::marker::{Model, PhantomData};
 use task_spec::Birth;
@@ -22,17 +22,21 @@ use values::{Content, RunValue};
 pub struct NoMemory;
 
 /// An attempt of a task of the script `S`, to be run up to the next answer that it needs. Its births and prints so far
-/// begin what its task does on its answers so far, and arguments and answers are of the kinds that the script asks for.
+/// begin what its task does on its answers so far, and arguments and answers are of the kinds that the script asks for. Its frame, if it
+/// has one, is where its own task waits for the last of its answers.
 #[derive(Drop)]
 pub struct Job<S: ScriptName> {
     parts: JobParts,
+    frame: Option<Frame>,
     script: PhantomData<S>,
 }
 
 impl<S: ScriptName> Model for Job<S> {
     ghost use Rattle.std.specs.Coded.{codes};
     ghost use Rattle.values.specs.contracts.value.RunValue as run_values;
+    ghost use Rattle.std.specs.Prelude.{IfSome};
     ghost use Rattle.segment.specs.Jobs.{JobData, IsBegun};
+    ghost use Rattle.segment.specs.Frames.{Fits};
     ghost use Rattle.segment.specs.Parts.{data_of};
 
     ghost Value = { JobData };
@@ -41,7 +45,7 @@ impl<S: ScriptName> Model for Job<S> {
 
     ghost view = { λ j. data_of j.parts };
 
-    ghost invariant = { λ j. IsBegun S.script (data_of j.parts) };
+    ghost invariant = { λ j. IsBegun S.script (data_of j.parts) × IfSome j.frame (Fits S.script (data_of j.parts)) };
 }
 
 impl<S: ScriptName> Job<S> {
@@ -52,6 +56,24 @@ impl<S: ScriptName> Job<S> {
     {
         Job {
             parts,
+            frame: None,
+            script: PhantomData,
+        }
+    }
+
+    /// The job, with the frame from which it is run.
+    pub fn with_frame(self, frame: Frame) -> Job<S>
+        requires { Fits S.script self frame }
+        ensures { result ≡ self }
+    {
+        let Job {
+            parts,
+            frame: _,
+            script: _,
+        } = self;
+        Job {
+            parts,
+            frame: Some(frame),
             script: PhantomData,
         }
     }
@@ -118,24 +140,38 @@ impl<S: ScriptName> Job<S> {
         ensures value { data_of result ≡ self }
         ensures begun { IsBegun S.script self }
     {
-        let Job { parts, script: _ } = self;
+        let Job {
+            parts,
+            frame: _,
+            script: _,
+        } = self;
         parts
     }
 
-    /// Runs the job: the task is run again from its start on the answers, up to the next answer that it needs or to its
-    /// end. Takes no lock. On `NoMemory` the job is given up.
-    pub fn run(self, alloc: Global, script: &Checked) -> Result<Done<S>, NoMemory>
+    /// Runs the job: the task goes on from the job's frame, or is run again from its start on the answers, up to the next answer that it
+    /// needs or to its end. Takes no lock. On `NoMemory` the job is given up.
+    pub fn run(self, alloc: Global, script: &Compiled) -> Result<Done<S>, NoMemory>
         requires { script_of script.now ≡ S.script }
         ensures own { IfOk result (λ d. d.job ≡ self) }
         ensures is_true { IfOk result (λ d. IsTrueOf S.script d) }
     {
         checked_scripts_are_safe();
-        let _ = script.functions();
-        let piece = match self.parts.run_on(alloc, script) {
+        let _ = script.script().functions();
+        let Job {
+            parts,
+            frame,
+            script: name,
+        } = self;
+        let piece = match parts.run_on(alloc, script, frame) {
             Ok(piece) => piece,
             Err(PieceError::Broken) => unreachable!(),
             Err(PieceError::NoMemory) => return Err(NoMemory),
         };
-        Ok(Done::new(self, piece))
+        let job = Job {
+            parts,
+            frame: None,
+            script: name,
+        };
+        Ok(Done::new(job, piece))
     }
 }

@@ -1,16 +1,17 @@
 // What a job has.
 
-ghost use Rattle.std.specs.Prelude.{◌≡◌, IfOk, IfErr, drop, true};
+ghost use Rattle.std.specs.Prelude.{◌≡◌, IfOk, IfErr, IfSome, drop, true};
 ghost use Rattle.meaning.specs.Values.{Trapped, Broken};
 ghost use Rattle.meaning.specs.Runs.{Over};
 ghost use Rattle.script_check.specs.Trees.{script_of};
 ghost use Rattle.evaluation.specs.Pieces.{piece_of};
-ghost use Rattle.segment.specs.Jobs.{replay_of, beyond, IsSameJob, HasSameHistory};
+ghost use Rattle.segment.specs.Jobs.{replay_of, beyond, HasSameHistory, IsBegun, IsSameJob, IsTrueOf};
+ghost use Rattle.segment.specs.Frames.{Fits, WaitsAfter};
 ghost use Rattle.segment.specs.Parts.{data_of};
+ghost use Rattle.segment.specs.Pieces.{done_of};
 
-use evaluation::{Piece, PieceError, run_piece};
+use evaluation::{Compiled, Frame, Piece, PieceError, go_on, run_piece};
 use ids::{AttemptId, ObjectId};
-use script_check::Checked;
 use std::alloc::{AllocError, Global};
 use task_spec::{Birth, are_same_births};
 use values::{Content, RunValue, are_same_contents, are_same_values};
@@ -66,11 +67,13 @@ impl JobParts {
             && are_same_contents(&self.answers, &other.answers)
     }
 
-    /// Runs the task on the answers, and gives what it bears and prints beyond what it bore and printed before. What the
+    /// Runs the task from its start on the answers, and gives what it bears and prints beyond what it bore and printed before. What the
     /// run makes again is dropped.
-    pub(crate) fn run_on(&self, alloc: Global, script: &Checked) -> Result<Piece, PieceError>
+    fn run_again(&self, alloc: Global, script: &Compiled) -> Result<Piece, PieceError>
         ensures beyond { IfOk result (λ p. piece_of p ≡ beyond (data_of self.now) (replay_of (script_of script.now) (data_of self.now))) }
         ensures broken { IfErr result (λ e. e ≡ PieceError.Broken → (replay_of (script_of script.now) (data_of self.now)).stop ≡ Over (Trapped Broken)) }
+        ensures waits { IfOk result (λ p. IsTrueOf (script_of script.now) (done_of (data_of self.now) p) →
+            IfSome p.frame (WaitsAfter (script_of script.now) (done_of (data_of self.now) p))) }
     {
         let piece = run_piece(alloc, script, &self.spec, self.base, &self.answers)?;
         let births = items_after(piece.births, self.births.len())?;
@@ -79,6 +82,29 @@ impl JobParts {
             births,
             prints,
             stop: piece.stop,
+            frame: piece.frame,
         })
+    }
+
+    /// Goes on from where the task waits for the last of the answers; with no frame it is run again from its start.
+    pub(crate) fn run_on(
+        &self,
+        alloc: Global,
+        script: &Compiled,
+        frame: Option<Frame>,
+    ) -> Result<Piece, PieceError>
+        requires begun { IsBegun (script_of script.now) (data_of self.now) }
+        requires fits { IfSome frame (Fits (script_of script.now) (data_of self.now)) }
+        ensures whole { IfOk result (λ p. IsTrueOf (script_of script.now) (done_of (data_of self.now) p)) }
+        ensures broken { IfErr result (λ e. e ≡ PieceError.Broken → (replay_of (script_of script.now) (data_of self.now)).stop ≡ Over (Trapped Broken)) }
+        ensures waits { IfOk result (λ p. IfSome p.frame (WaitsAfter (script_of script.now) (done_of (data_of self.now) p))) }
+    {
+        let Some(frame) = frame else {
+            return self.run_again(alloc, script);
+        };
+        let Some((answer, _)) = self.answers.split_last() else {
+            return self.run_again(alloc, script);
+        };
+        go_on(alloc, script, frame, answer)
     }
 }

@@ -7,12 +7,15 @@ use Rattle.values.specs.Values.{content_of, id_of}
 use Rattle.task_spec.specs.Births.{argument_of as task_argument, birth_of}
 use Rattle.frames.specs.Values.{outcome_of}
 use Rattle.frames.specs.Machines.{argument_of}
-use Rattle.evaluation.proofs.Standing.{stands_so}
+use Rattle.frames.specs.Courses.{no_past}
+use Rattle.frames.proofs.Doing.{if_ok, on_err}
+use Rattle.evaluation.specs.Pieces.{stop_of}
+use Rattle.evaluation.proofs.Standing.{both_ok, kept_so, piece_is, stands_so}
 use Rattle.evaluation.proofs.TaskRuns.{plain_replay, plain_birth, plain_contents}
 use Rattle.evaluation.proofs.piece.run_piece.Goals as goal
 
-pub returns-in-Ok-clause-replayed : goal.returns-in-Ok-clause-replayed
-returns-in-Ok-clause-replayed c =
+pub returns-in_ok-attempt-in-Task-clause-replayed : goal.returns-in_ok-attempt-in-Task-clause-replayed
+returns-in_ok-attempt-in-Task-clause-replayed c =
     let task = λ (g : Name) (args : List meant.Argument). Task g args c.in-Task.depth c.in-Task.retries in
     let script = script_of c.args.script.now in
     let answers = map content_of c.args.answers.now in
@@ -20,13 +23,16 @@ returns-in-Ok-clause-replayed c =
     ap birth_of c.in-Task.is ∙ ap (λ g. task g (map task_argument c.in-Task.arguments.items)) (sym c.as_str.ensures.value)
     ∙ ap (λ xs. task c.as_str.result.now (map task_argument xs)) (sym c.deref.ensures.value)
     ∙ ap (task c.as_str.result.now) (sym c.in_ok-arguments-in-Task.ensures ∙ ap (map argument_of) (sym c.deref-in-Task.ensures.value)) in
-    c.in-Ok.ensures.value (replay script (birth_of c.args.spec.now) (id_of c.args.base) answers)
-    (stands_so script c.args.spec.now c.as_str.result.now (map argument_of c.deref-in-Task.result.now) c.in-Task.depth c.in-Task.retries (id_of c.args.base)
-    (map outcome_of c.in_ok-answers-in-Task.answers.items) answers c.in_ok-attempt-in-Task.attempt (c.in_ok-attempt-in-Task.ensures c.in-Task.retries) is
-    c.in_ok-answers-in-Task.ensures)
+    let stands =
+    stands_so script c.args.spec.now c.as_str.result.now (map argument_of c.deref-in-Task.result.now) c.in-Task.depth c.in-Task.retries (id_of c.args.base)
+    (map outcome_of c.in_ok-answers-in-Task.answers.items) answers c.in_ok-attempt-in-Task.attempt (c.in_ok-attempt-in-Task.ensures.halts c.in-Task.retries) is
+    c.in_ok-answers-in-Task.ensures in
+    if_ok _ _ c.finish.result
+    (λ p of. piece_is p c.in_ok-attempt-in-Task.attempt of ∙ sym (stands (stop_of p.stop) of.stop))
+    c.finish.ensures.value
 
-pub returns-in-Err-Broken-clause-broken : goal.returns-in-Err-Broken-clause-broken
-returns-in-Err-Broken-clause-broken c e =
+pub returns-in_ok-attempt-in-Task-clause-broken : goal.returns-in_ok-attempt-in-Task-clause-broken
+returns-in_ok-attempt-in-Task-clause-broken c =
     let task = λ (g : Name) (args : List meant.Argument). Task g args c.in-Task.depth c.in-Task.retries in
     let script = script_of c.args.script.now in
     let answers = map content_of c.args.answers.now in
@@ -34,13 +40,17 @@ returns-in-Err-Broken-clause-broken c e =
     ap birth_of c.in-Task.is ∙ ap (λ g. task g (map task_argument c.in-Task.arguments.items)) (sym c.as_str.ensures.value)
     ∙ ap (λ xs. task c.as_str.result.now (map task_argument xs)) (sym c.deref.ensures.value)
     ∙ ap (task c.as_str.result.now) (sym c.in_ok-arguments-in-Task.ensures ∙ ap (map argument_of) (sym c.deref-in-Task.ensures.value)) in
-    c.in-Err-Broken.ensures.broken c.in-Err-Broken.field-0-is (replay script (birth_of c.args.spec.now) (id_of c.args.base) answers)
-    (stands_so script c.args.spec.now c.as_str.result.now (map argument_of c.deref-in-Task.result.now) c.in-Task.depth c.in-Task.retries (id_of c.args.base)
-    (map outcome_of c.in_ok-answers-in-Task.answers.items) answers c.in_ok-attempt-in-Task.attempt (c.in_ok-attempt-in-Task.ensures c.in-Task.retries) is
-    c.in_ok-answers-in-Task.ensures)
+    let stands =
+    stands_so script c.args.spec.now c.as_str.result.now (map argument_of c.deref-in-Task.result.now) c.in-Task.depth c.in-Task.retries (id_of c.args.base)
+    (map outcome_of c.in_ok-answers-in-Task.answers.items) answers c.in_ok-attempt-in-Task.attempt (c.in_ok-attempt-in-Task.ensures.halts c.in-Task.retries) is
+    c.in_ok-answers-in-Task.ensures in
+    on_err _ _ c.finish.result
+    (λ e broken is_broken. broken is_broken no_past (replay script (birth_of c.args.spec.now) (id_of c.args.base) answers) stands
+    (plain_replay script (birth_of c.args.spec.now) (id_of c.args.base) answers (plain_birth c.args.spec.now) (plain_contents c.args.answers.now)))
+    c.finish.ensures.broken
 
-pub unreachable-requires : goal.unreachable-requires
-unreachable-requires c =
+pub returns-in_ok-attempt-in-Task-clause-keeps : goal.returns-in_ok-attempt-in-Task-clause-keeps
+returns-in_ok-attempt-in-Task-clause-keeps c =
     let task = λ (g : Name) (args : List meant.Argument). Task g args c.in-Task.depth c.in-Task.retries in
     let script = script_of c.args.script.now in
     let answers = map content_of c.args.answers.now in
@@ -48,8 +58,8 @@ unreachable-requires c =
     ap birth_of c.in-Task.is ∙ ap (λ g. task g (map task_argument c.in-Task.arguments.items)) (sym c.as_str.ensures.value)
     ∙ ap (λ xs. task c.as_str.result.now (map task_argument xs)) (sym c.deref.ensures.value)
     ∙ ap (task c.as_str.result.now) (sym c.in_ok-arguments-in-Task.ensures ∙ ap (map argument_of) (sym c.deref-in-Task.ensures.value)) in
-    c.in-Err-HasOutcome.ensures.plain c.in-Err-HasOutcome.field-0-is (replay script (birth_of c.args.spec.now) (id_of c.args.base) answers)
-    (stands_so script c.args.spec.now c.as_str.result.now (map argument_of c.deref-in-Task.result.now) c.in-Task.depth c.in-Task.retries (id_of c.args.base)
-    (map outcome_of c.in_ok-answers-in-Task.answers.items) answers c.in_ok-attempt-in-Task.attempt (c.in_ok-attempt-in-Task.ensures c.in-Task.retries) is
-    c.in_ok-answers-in-Task.ensures)
-    (plain_replay script (birth_of c.args.spec.now) (id_of c.args.base) answers (plain_birth c.args.spec.now) (plain_contents c.args.answers.now))
+    both_ok _ _ _ c.finish.result
+    (λ p of frame. kept_so p c.in_ok-attempt-in-Task.attempt of script (task c.as_str.result.now (map argument_of c.deref-in-Task.result.now))
+    (birth_of c.args.spec.now) (id_of c.args.base) no_past (map outcome_of c.in_ok-answers-in-Task.answers.items) answers is c.in_ok-answers-in-Task.ensures
+    frame (c.in_ok-attempt-in-Task.ensures.keeps c.in-Task.retries))
+    c.finish.ensures.value c.finish.ensures.frame

@@ -1,9 +1,9 @@
 use Rattle.std.proofs.Common.{sym, subst}
 use Rattle.meaning.specs.Syntax.{Script}
 use Rattle.script_check.specs.Trees.{script_of}
+use Rattle.script_check.specs.Scripts.{IsWellTyped}
 use Rattle.segment.specs.Jobs.{IsBegun}
 use Rattle.segment.specs.Parts.{data_of}
-use Rattle.segment.proofs.Beyond.{true_made}
 use Rattle.segment.proofs.Safe.{never_broken}
 use Rattle.segment.proofs.job.Job.run.Goals as goal
 
@@ -12,9 +12,6 @@ unreachable-requires g c =
     let j = data_of c.self.inside.parts in
     let script = script_of c.args.script.now in
     let Begun : Script → Type 0 = λ s. IsBegun s j in
-    let begun = subst Begun (sym c.requires) c.self.invariant in
-    never_broken c.checked_scripts_are_safe.ensures script c.functions.ensures.well_typed.checks j begun (c.in-Err-Broken.ensures.broken c.in-Err-Broken.field-0-is)
-
-pub new-requires : goal.new-requires
-new-requires g c =
-    true_made (script_of c.args.script.now) g.S.ScriptName.script (data_of c.self.inside.parts) c.args.self c.in-Ok.piece c.requires c.self.view_is c.self.invariant c.in-Ok.ensures.beyond
+    let begun = subst Begun (sym c.requires) c.self.invariant.0 in
+    let typed = subst (λ fs. IsWellTyped (script_of fs)) c.script.ensures c.functions.ensures.well_typed in
+    never_broken c.checked_scripts_are_safe.ensures script typed.checks j begun (c.in-Err-Broken.ensures.broken c.in-Err-Broken.field-0-is)

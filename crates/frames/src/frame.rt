@@ -1,0 +1,63 @@
+// Where an attempt waits for an answer.
+
+ghost use Rattle.std.specs.Prelude.{◌≡◌, ◌∷◌, [], IfOk, List};
+ghost use Rattle.meaning.specs.Values.{Birth, Id};
+ghost use Rattle.script_check.specs.Trees.{script_of};
+ghost use Rattle.frames.specs.Values.{outcome_of};
+ghost use Rattle.frames.specs.Courses.{Past};
+ghost use Rattle.frames.specs.Frames.{IsWaiting, HaltsBehind, KeepsFrame};
+
+use crate::attempt::{Attempt, stop};
+use crate::compiled::Compiled;
+use crate::course::Course;
+use crate::registers::State;
+use crate::value::{Outcome, Value};
+use ids::ObjectId;
+use std::alloc::{AllocError, Global};
+
+/// Where an attempt waits for an answer, which may be kept: the machine's state behind the get, the id of the attempt's next birth, the
+/// reference that is got, the register that takes its value, and how many calls may wait.
+#[derive(Drop)]
+pub struct Frame {
+    pub(crate) state: State,
+    pub(crate) next: ObjectId,
+    pub(crate) reference: Value,
+    pub(crate) to: usize,
+    pub(crate) limit: usize,
+}
+
+impl Frame {
+    /// Goes on with the answer that it waits for, up to the next one that it needs or to its end. What is given is what the attempt does
+    /// beyond what it did before: see docs/architecture.md, "Why a frame is as good as a replay".
+    pub fn go_on(
+        self,
+        alloc: Global,
+        script: &Compiled,
+        answer: Outcome,
+    ) -> Result<Attempt, AllocError>
+        ensures halts { IfOk result (λ a. (spec : Birth) (base : Id) (past : Past) → IsWaiting (script_of script.now) spec base past self →
+            HaltsBehind (script_of script.now) spec base past (outcome_of answer ∷ []) a) }
+        ensures keeps { IfOk result (λ a. (spec : Birth) (base : Id) (past : Past) → IsWaiting (script_of script.now) spec base past self →
+            KeepsFrame (script_of script.now) spec base past (outcome_of answer ∷ []) a) }
+    {
+        let Frame {
+            state,
+            next,
+            reference,
+            to,
+            limit,
+        } = self;
+        let mut answers = Vec::new(alloc);
+        answers.push(answer)?;
+        let mut course = Course {
+            state,
+            births: Vec::new(alloc),
+            prints: Vec::new(alloc),
+            next,
+            answers,
+            used: 0,
+        };
+        let halt = course.pass(script.code(), limit, reference, to);
+        stop(course, halt, limit)
+    }
+}

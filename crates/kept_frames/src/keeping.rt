@@ -1,0 +1,99 @@
+// The frames that are kept.
+
+ghost use Rattle.std.specs.Prelude.{◌≡◌, IfOk, IfSome};
+ghost use Rattle.script_check.specs.Trees.{script_of};
+ghost use Rattle.segment.specs.Jobs.{IsTrueOf};
+ghost use Rattle.segment.specs.Parts.{data_of};
+ghost use Rattle.kept_frames.specs.Known.{IsNext};
+
+use crate::copies::parts_after;
+use crate::waiting::{Ready, Waiting};
+use ids::AttemptId;
+use segment::{Compiled, Done, Job, JobParts, NoMemory, ScriptName};
+use std::alloc::Global;
+
+/// How many frames are kept at most.
+const PLACES: u64 = 64;
+
+/// Frames of attempts of the script `S` that wait for an answer, at most 64. An attempt's place is its task's number by 64; the last frame
+/// of a place stays.
+#[derive(Drop)]
+pub struct Frames<S: ScriptName> {
+    waiting: Vec<Option<Waiting<S>>>,
+}
+
+fn place_of(attempt: AttemptId) -> usize {
+    (attempt.object.serial % PLACES) as usize
+}
+
+impl<S: ScriptName> Frames<S> {
+    /// None yet.
+    pub fn new(alloc: Global) -> Frames<S> {
+        Frames {
+            waiting: Vec::new(alloc),
+        }
+    }
+
+    /// Hands the job the frame of its attempt, if that is kept.
+    fn hand(&mut self, job: Job<S>) -> Ready<S>
+        ensures job { result.job ≡ job }
+        ensures known { IfSome result.known (λ parts. IsNext (data_of parts) job) }
+    {
+        let place = place_of(job.attempt());
+        if place >= self.waiting.len() {
+            return Ready { job, known: None };
+        }
+        match self.waiting[place].take() {
+            Some(waiting) => waiting.hand(job),
+            None => Ready { job, known: None },
+        }
+    }
+
+    /// Keeps the attempt at its place. Where there is no memory for it, it isn't kept.
+    fn put(&mut self, place: usize, waiting: Waiting<S>) {
+        for _ in 0..PLACES {
+            if self.waiting.len() > place {
+                break;
+            }
+            if self.waiting.push(None).is_err() {
+                return;
+            }
+        }
+        if place < self.waiting.len() {
+            self.waiting[place] = Some(waiting);
+        }
+    }
+
+    #[tactic(auto, using(crate::proofs::Fitting::waits_after))]
+    /// Keeps the frame of what was done, if it has one.
+    fn keep(&mut self, alloc: Global, known: Option<JobParts>, done: &mut Done<S>)
+        requires { IfSome known (λ parts. IsNext (data_of parts) done.old.job) }
+        ensures { done.new ≡ done.old }
+    {
+        let Some(frame) = done.take_frame() else {
+            return;
+        };
+        let place = place_of(done.job().attempt());
+        if let Ok(parts) = parts_after(alloc, known, done) {
+            self.put(place, Waiting::new(parts, frame));
+        }
+    }
+
+    /// Runs the job, from where its attempt waits if that is known, and keeps where it waits next. Takes no lock. On `NoMemory` the job is
+    /// given up.
+    pub fn run(
+        &mut self,
+        alloc: Global,
+        script: &Compiled,
+        job: Job<S>,
+    ) -> Result<Done<S>, NoMemory>
+        requires { script_of script.now ≡ S.script }
+        ensures own { IfOk result (λ d. d.job ≡ job) }
+        ensures is_true { IfOk result (λ d. IsTrueOf S.script d) }
+    {
+        let Ready { job, known } = self.hand(job);
+        let mut done = job.run(alloc, script)?;
+        self.keep(alloc, known, &mut done);
+        Ok(done)
+    }
+}

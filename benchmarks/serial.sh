@@ -1,6 +1,6 @@
 #!/usr/bin/env bash
-# Times `raysim serial` beside Lua 5.4 and Python 3 (Debian's packages lua5.4 and python3) on the same two computations, and
-# prints seconds and ratios; RAYSIM and PYTHON name other programs. First build the proved program: (cd crates/raysim && rt run)
+# Times `raysim serial` beside Lua 5.4 and Python 3 (Debian's packages lua5.4 and python3) on the same three computations,
+# and prints seconds and ratios; RAYSIM and PYTHON name other programs. First build the proved program: (cd crates/raysim && rt run)
 set -euo pipefail
 cd "$(dirname "$0")"
 raysim=${RAYSIM:-../crates/raysim/out/raysim}
@@ -14,7 +14,7 @@ seconds() {
     end=$(date +%s.%N)
     echo "$end - $start" | bc
 }
-for name in loops lists; do
+for name in loops lists calls; do
     ours=$(seconds "$raysim" serial $name.ray)
     wanted=$(cat "$output")
     lua=$(seconds lua5.4 $name.lua)

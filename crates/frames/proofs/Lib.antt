@@ -12,3 +12,4 @@ pub mod Mismatching
 pub mod Deeper
 pub mod Making
 pub mod Stopping
+pub mod Pushing

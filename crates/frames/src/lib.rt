@@ -10,6 +10,7 @@ mod halt;
 mod jumping;
 mod mismatch;
 mod operators;
+mod quick;
 mod registers;
 mod serially;
 mod start;

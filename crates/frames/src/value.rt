@@ -2,7 +2,7 @@
 
 ghost use Rattle.std.specs.Prelude.{◌≡◌, IfOk};
 ghost use Rattle.meaning.specs.Meaning.{is_reference};
-ghost use Rattle.frames.specs.Values.{value_of};
+ghost use Rattle.frames.specs.Values.{value_of, is_number};
 
 use ids::ObjectId;
 use std::alloc::AllocError;
@@ -48,6 +48,19 @@ impl Value {
             Value::List(items) => Ok(Value::List(Rc::clone(items)?)),
             Value::Id(object) => Ok(Value::Id(Rc::clone(object)?)),
             Value::Known(outcome) => Ok(Value::Known(Rc::clone(outcome)?)),
+        }
+    }
+
+    /// Whether it is a number.
+    #[inline(always)]
+    pub(crate) fn is_number(&self) -> bool
+        ensures { result ≡ is_number (value_of self.now) }
+    {
+        match self {
+            Value::Int(_) => true,
+            Value::List(_) => false,
+            Value::Id(_) => false,
+            Value::Known(_) => false,
         }
     }
 

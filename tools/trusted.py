@@ -19,7 +19,7 @@ ROOTS = [
     ("What the commands promise", ["raysim_commands", "thread_commands", "raysim_streams", "raysim_options"]),
     ("What a run and its parts promise in addition",
      ["protocol_board", "protocol_core", "driving", "history", "segment", "serial", "script_check", "script_syntax", "script_tokens", "event_files", "report_json",
-      "log_text", "story_text", "why_text", "lineage_text", "timeline"]),
+      "log_text", "message_text", "story_text", "why_text", "lineage_text", "timeline"]),
     ("What the laws say in addition", ["meaning", "event_log", "meaning_laws", "kind_laws", "protocol_laws", "owed_laws"]),
 ]
 

@@ -1,2 +1,3 @@
 pub mod Stops
 pub mod Drives
+pub mod Views

@@ -4,3 +4,4 @@ pub mod Plans
 pub mod Files
 pub mod Reading
 pub mod Printing
+pub mod Numbering

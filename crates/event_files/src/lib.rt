@@ -6,6 +6,7 @@ mod event;
 mod events;
 pub mod laws;
 mod line;
+mod numbering;
 mod numbers;
 mod parts;
 mod passing;
@@ -14,6 +15,7 @@ mod plan;
 pub use error::EventError;
 pub use events::{MOST_EVENTS, parse_events, print_events};
 pub use line::Line;
+pub use numbering::line_numbers;
 pub use plan::{PlanLine, RunPlan, parse_plan};
 
 #[cfg(test)]

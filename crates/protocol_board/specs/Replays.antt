@@ -1,5 +1,5 @@
 -- The replay of an event file: the run that comes of the events that its lines stand for, one after the other.
-use Rattle.std.specs.Prelude.{◌≡◌, ◌<◌, ◌≤◌, ◌⊎◌, ◌+◌, ℕ, zero, suc, Bool, true, false, List, [], ◌∷◌, ◌++◌, map, take, slice_get, Option, Some, None}
+use Rattle.std.specs.Prelude.{◌≡◌, ◌<◌, ◌≤◌, ◌⊎◌, ◌+◌, ℕ, zero, suc, Bool, true, false, List, [], ◌∷◌, ◌++◌, map, take, slice_get, length, Option, Some, None}
 use Rattle.std.specs.Option.{option_flatten}
 use Rattle.meaning.specs.Syntax.{Script}
 use Rattle.ids.specs.declared.worker.WorkerId.{WorkerId}
@@ -17,11 +17,23 @@ use Rattle.protocol_core.specs.Steps.{Answers, Reply, GivesJob, Accepts, Refuses
 use Rattle.protocol_board.specs.declared.stopped.Stopped.{Stopped}
 use Rattle.protocol_board.specs.declared.stopped.Stopped.TheVariants as stops
 
--- the run; the jobs that were given out, one after the other, where None stands for one that was handed in; and how many events were applied
+-- the run; the jobs that were given out, one after the other, where None stands for one that was handed in; how many events were applied; behind
+-- each event how many messages had been sent; how many lines were begun; and of each event the number of its line
 pub record Play : Type 0 where
   pub run : RunState
   pub jobs : List (Option JobData)
   pub applied : ℕ
+  pub sent : List ℕ
+  pub begun : ℕ
+  pub lines : List ℕ
+
+-- no line is begun yet
+abbrev pub from_first : Play → Play
+from_first p = record p { begun = 0 }
+
+-- one more line is begun
+abbrev pub next_line : Play → Play
+next_line p = record p { begun = p.begun + 1 }
 
 -- the job of that number, counted from 1, unless it was handed in
 abbrev pub job_at : List (Option JobData) → ℕ → Option JobData
@@ -73,6 +85,9 @@ pub record Step (script : Script) (before : Play) (e : Event) (after : Play) : T
   pub goes_on : found_no_memory told ≡ false
   pub jobs : after.jobs ≡ with_given told (left_by e before.jobs)
   pub counted : after.applied ≡ before.applied + 1
+  pub sent : after.sent ≡ before.sent ++ length after.run.whole.network ∷ []
+  pub same_line : after.begun ≡ before.begun
+  pub lines : after.lines ≡ before.lines ++ before.begun ∷ []
 
 -- an event at which a replay stops: there is no memory for what is done on its job or for its answer, or 100,000 events were applied
 abbrev pub StopsAt : Script → Play → Event → Play → Stopped → Type 0
@@ -98,15 +113,15 @@ SettleStops script but before after stopped =
 abbrev pub numbers_of : List WorkerId → List ℕ
 numbers_of workers = map (λ w. w.0) workers
 
--- a line is its event, or a settle
+-- the line is begun, and is its event or a settle
 abbrev pub LinePlays : Script → Line → Play → Play → Type 0
-LinePlays script (lines.Event e) before after = Step script before (event_of e) after
-LinePlays script (lines.Settle workers) before after = ComesToRest script (numbers_of workers) before after
+LinePlays script (lines.Event e) before after = Step script (next_line before) (event_of e) after
+LinePlays script (lines.Settle workers) before after = ComesToRest script (numbers_of workers) (next_line before) after
 
 abbrev pub LineStops : Script → Line → Play → Play → Stopped → Type 0
-LineStops script (lines.Event e) before after stopped = StopsAt script before (event_of e) after stopped
+LineStops script (lines.Event e) before after stopped = StopsAt script (next_line before) (event_of e) after stopped
 LineStops script (lines.Settle workers) before after stopped =
-    ((after ≡ before) × (stopped ≡ stops.NoMemory)) ⊎ SettleStops script (numbers_of workers) before after stopped
+    ((after ≡ next_line before) × (stopped ≡ stops.NoMemory)) ⊎ SettleStops script (numbers_of workers) (next_line before) after stopped
 
 -- all lines, one after the other
 unfoldable pub Plays : Script → List Line → Play → Play → Type 0

@@ -16,6 +16,7 @@ use history::{report_text, status_of};
 use meaning_laws::law::{legal_logs_read_as_serial, main_begins_the_serial_run};
 use numbers::WorkerId;
 use protocol_core::{Core, Reply};
+use protocol_data::Letter;
 use report_json::report_json;
 use segment::{Done, ScriptName};
 use sequence::Seq;
@@ -88,6 +89,13 @@ impl<S: ScriptName> Board<S> {
         ensures meant { IsSoundLog S.script self.now.first_nodes (log_of self.now.log) }
     {
         self.core.log()
+    }
+
+    /// Every message that was sent so far, in the order of their numbers, which begin with 1.
+    pub fn messages(&self) -> &Seq<Letter>
+        ensures { result.now ≡ self.now.whole.network }
+    {
+        self.core.messages()
     }
 
     /// The report of the log: see docs/runs.md for its lines. Where memory runs out there is none.

@@ -1,12 +1,12 @@
 // The replay of an event file.
 
-ghost use Rattle.std.specs.Prelude.{◌≡◌, [], IfOk, OnOk, IfErr};
+ghost use Rattle.std.specs.Prelude.{◌≡◌, ◌+◌, ◌<◌, ◌^◌, [], IfOk, OnOk, IfErr};
 ghost use Rattle.std.specs.Option.{option_map};
 ghost use Rattle.script_check.specs.Trees.{script_of};
 ghost use Rattle.event_log.specs.Views.{event_of};
 ghost use Rattle.protocol.specs.Settling.{next};
-ghost use Rattle.protocol_board.specs.Replays.{ComesToRest, LinePlays, LineStops, PlayStops, Plays, SettleStops, Step, StopsAt, numbers_of};
-ghost use Rattle.protocol_board.specs.Views.{play_of};
+ghost use Rattle.protocol_board.specs.Replays.{ComesToRest, LinePlays, LineStops, PlayStops, Plays, SettleStops, Step, StopsAt, from_first, numbers_of};
+ghost use Rattle.protocol_board.specs.Views.{noted, play_of};
 
 use crate::board::Board;
 use crate::given::{hand_in, keep, run_job};
@@ -29,6 +29,12 @@ pub struct Replay<S: ScriptName> {
     jobs: Seq<Option<Job<S>>>,
     /// How many events were applied, refused ones too.
     applied: usize,
+    /// Behind each event, how many messages had been sent.
+    sent: Seq<usize>,
+    /// How many lines were begun.
+    begun: usize,
+    /// Of each event, the number of its line.
+    lines: Seq<usize>,
 }
 
 impl<S: ScriptName> Model for Replay<S> {
@@ -42,7 +48,7 @@ impl<S: ScriptName> Model for Replay<S> {
 
     ghost coded = { Prim.hlevel (codes, run_values.the_row.coded, value_code, outcome_code, birth_code, id_code, attempt_code, fault_code) };
 
-    ghost view = { λ r. record { run = r.board; jobs = r.jobs; applied = r.applied } };
+    ghost view = { λ r. record { run = r.board; jobs = r.jobs; applied = r.applied; sent = r.sent; begun = r.begun; lines = r.lines } };
 }
 
 /// The workers of a settle, as a run takes them.
@@ -59,12 +65,15 @@ fn numbers_of(alloc: Global, workers: &Seq<ids::WorkerId>) -> Result<Seq<WorkerI
 impl<S: ScriptName> Replay<S> {
     /// A replay that begins.
     pub fn new(alloc: Global, core: Core<S>) -> Replay<S>
-        ensures { result ≡ record { run = core; jobs = []; applied = 0 } }
+        ensures { result ≡ record { run = core; jobs = []; applied = 0; sent = []; begun = 0; lines = [] } }
     {
         Replay {
             board: Board::new(core),
             jobs: Seq::new(alloc),
             applied: 0,
+            sent: Seq::new(alloc),
+            begun: 0,
+            lines: Seq::new(alloc),
         }
     }
 
@@ -75,10 +84,36 @@ impl<S: ScriptName> Replay<S> {
         &self.board
     }
 
+    /// Behind each event that was applied, how many messages had been sent.
+    pub fn sent(&self) -> &Seq<usize>
+        ensures { result.now ≡ self.now.sent }
+    {
+        &self.sent
+    }
+
+    /// Of each event that was applied, the number of its line among those that were played, counted from 1.
+    pub fn lines(&self) -> &Seq<usize>
+        ensures { result.now ≡ self.now.lines }
+    {
+        &self.lines
+    }
+
+    /// Notes behind an event how many messages were sent, and its line.
+    fn note(&mut self) -> Result<(), AllocError>
+        ensures noted { OnOk result (self.new ≡ noted self.old) }
+        ensures run { self.new.run ≡ self.old.run }
+    {
+        let count = self.board.messages().len();
+        self.sent.push(count)?;
+        self.lines.push(self.begun)?;
+        Ok(())
+    }
+
     /// Applies one event.
     fn apply(&mut self, alloc: Global, script: &Compiled, event: Event) -> Result<(), Stopped>
         requires { script_of script.now ≡ S.script }
         ensures step { OnOk result (Step S.script (play_of self.old) (event_of event) (play_of self.new)) }
+        ensures same { OnOk result (self.new.begun ≡ self.old.begun) }
         ensures stops { IfErr result (λ stopped. StopsAt S.script (play_of self.old) (event_of event) (play_of self.new) stopped) }
     {
         if self.applied >= MOST_EVENTS {
@@ -88,7 +123,9 @@ impl<S: ScriptName> Replay<S> {
         let done = run_job(alloc, script, job)?;
         self.applied += 1;
         let told = self.board.apply(alloc, event, 0, done);
-        keep(&mut self.jobs, told)
+        keep(&mut self.jobs, told)?;
+        self.note()?;
+        Ok(())
     }
 
     /// The next event where nothing else is asked for.
@@ -107,6 +144,7 @@ impl<S: ScriptName> Replay<S> {
     ) -> Result<(), Stopped>
         requires { script_of script.now ≡ S.script }
         ensures rests { OnOk result (ComesToRest S.script but.now (play_of self.old) (play_of self.new)) }
+        ensures same { OnOk result (self.new.begun ≡ self.old.begun) }
         ensures stops { IfErr result (λ stopped. SettleStops S.script but.now (play_of self.old) (play_of self.new) stopped) }
     {
         while let Some(event) = self.next(but) {
@@ -115,12 +153,23 @@ impl<S: ScriptName> Replay<S> {
         Ok(())
     }
 
+    /// No line is begun yet.
+    fn restart(&mut self)
+        ensures first { play_of self.new ≡ from_first (play_of self.old) }
+        ensures begun { self.new.begun ≡ 0 }
+    {
+        self.begun = 0;
+    }
+
     /// Applies what a line says.
     fn play_line(&mut self, alloc: Global, script: &Compiled, line: &Line) -> Result<(), Stopped>
-        requires { script_of script.now ≡ S.script }
+        requires script { script_of script.now ≡ S.script }
+        requires counts { self.old.begun + 1 < 2 ^ 64 }
+        ensures counted { OnOk result (self.new.begun ≡ self.old.begun + 1) }
         ensures plays { OnOk result (LinePlays S.script line.now (play_of self.old) (play_of self.new)) }
         ensures stops { IfErr result (λ stopped. LineStops S.script line.now (play_of self.old) (play_of self.new) stopped) }
     {
+        self.begun += 1;
         match line {
             Line::Event(event) => self.apply(alloc, script, *event),
             Line::Settle(workers) => {
@@ -132,7 +181,7 @@ impl<S: ScriptName> Replay<S> {
 
     /// Applies what the lines say, one after the other: an event line its event, and a settle line the events that the settle rule names,
     /// until it names none; see docs/protocol.md, "The settle rule". Each event comes from seat 0, and with the first commit of a job
-    /// comes what was done on it.
+    /// comes what was done on it. The lines are counted from 1.
     ///
     /// It stops with `NoMemory` where an event finds no memory, and with `TooLong` before event 100,001.
     pub fn play(
@@ -142,9 +191,10 @@ impl<S: ScriptName> Replay<S> {
         lines: &Seq<Line>,
     ) -> Result<(), Stopped>
         requires { script_of script.now ≡ S.script }
-        ensures plays { OnOk result (Plays S.script lines.now (play_of self.old) (play_of self.new)) }
-        ensures stops { IfErr result (λ stopped. PlayStops S.script lines.now (play_of self.old) (play_of self.new) stopped) }
+        ensures plays { OnOk result (Plays S.script lines.now (from_first (play_of self.old)) (play_of self.new)) }
+        ensures stops { IfErr result (λ stopped. PlayStops S.script lines.now (from_first (play_of self.old)) (play_of self.new) stopped) }
     {
+        self.restart();
         for line in &lines.items {
             self.play_line(alloc, script, line)?;
         }

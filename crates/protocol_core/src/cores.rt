@@ -17,6 +17,7 @@ use crate::steps::step;
 use event_log::{Entry, Event, Refusal};
 use exchange::event_out;
 use numbers::WorkerId;
+use protocol_data::Letter;
 use protocol_laws::law::{opening_is_sound, sound_is_legal};
 use script_check::Checked;
 use segment::{Done, ScriptName};
@@ -77,6 +78,13 @@ impl<S: ScriptName> Core<S> {
         ensures legal { IsLegal S.script self.now.first_nodes (log_of self.now.log) }
     {
         self.state.log.as_slice()
+    }
+
+    /// Every message that was sent so far, in the order of their numbers, which begin with 1.
+    pub fn messages(&self) -> &Seq<Letter>
+        ensures { result.now ≡ self.now.whole.network }
+    {
+        &self.state.whole.network
     }
 
     /// The next event where nothing else is asked for; see docs/protocol.md, "The settle rule". These workers neither claim nor commit.

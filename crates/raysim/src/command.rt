@@ -56,6 +56,15 @@ fn report_form(json: bool) -> Form {
     if json { Form::Json } else { Form::Text }
 }
 
+/// How a log is told.
+fn log_form(messages: bool) -> Form {
+    if messages {
+        Form::LogWithMessages
+    } else {
+        Form::Log
+    }
+}
+
 fn over_run<R: Files + Print + Eprint + AllocGlobal + Threads + Wait + Clock + Sync>(
     rt: &R,
     options: &RunOptions<'_>,
@@ -104,24 +113,20 @@ fn over_log<R: Files + Print + Eprint + AllocGlobal>(
     requires { IsCluster options.now.nodes options.now.slots }
 {
     let cluster = cluster_of(options.nodes, options.slots);
+    let form = log_form(options.messages);
     if let Some(events) = options.events {
         let replayed = Replayed {
             script: options.script,
             events,
             cluster,
         };
-        return over_events(rt, &replayed, Form::Log, &Views::none());
+        return over_events(rt, &replayed, form, &Views::none());
     }
     let script = ScriptOptions {
         script: options.script,
         explain: false,
     };
-    over_script(
-        rt,
-        &Command::Run(cluster, Form::Log),
-        &script,
-        &Views::none(),
-    )
+    over_script(rt, &Command::Run(cluster, form), &script, &Views::none())
 }
 
 fn over_why<R: Files + Print + Eprint + AllocGlobal>(

@@ -1,29 +1,35 @@
 -- A run of a script that is driven from its beginning.
-use Rattle.std.proofs.Common.{◌≡◌, ℕ, List, sym, subst}
+use Rattle.std.proofs.Common.{◌≡◌, ◌∙◌, ℕ, List, [], sym, ap, subst}
 use Rattle.meaning.specs.Syntax.{Script}
 use Rattle.history.specs.Main.{status_of}
 use Rattle.protocol_core.specs.Clusters.{Size}
-use Rattle.protocol_core.specs.States.{RunState}
+use Rattle.protocol_core.specs.States.{RunState, first_state}
 use Rattle.protocol_board.specs.Meant.{IsSoundLog}
 use Rattle.driving.specs.declared.unfinished.Unfinished.{Unfinished}
 use Rattle.driving.specs.Stops.{unfinished_code}
-use Rattle.driving.specs.Drives.{EndsSo, StopsSo}
+use Rattle.driving.specs.Drives.{Course, EndsSo, StopsSo}
 use Rattle.raysim_streams.specs.declared.Refusal.TheVariants.{Stopped}
 use Rattle.raysim_commands.specs.declared.form.Form.{Form}
-use Rattle.raysim_commands.specs.Reports.{IsReportIn}
+use Rattle.raysim_commands.specs.Reports.{IsReportIn, account_of}
 use Rattle.raysim_commands.specs.RunReports.{IsReportOf, IsRunStop, first_run}
 
+-- it begins, and no event came
+pub begins_so : (run : RunState) (sent : List ℕ) (size : Size) → run ≡ first_state size.nodes size.slots → sent ≡ [] →
+    ◌≡◌ {A = Course} (record { run = run; sent = sent }) (first_run size)
+begins_so run sent size e f =
+    ap {B = Course} (λ r. record { run = r; sent = sent }) e ∙ ap {B = Course} (λ s. record { run = first_state size.nodes size.slots; sent = s }) f
+
 -- it ends, and its report is written
-pub run_ends : (script named : Script) (size : Size) (form : Form) (before after : RunState) (report : List ℕ) (status : ℕ) →
-    script ≡ named → before ≡ first_run size → EndsSo named before after → IsSoundLog named after.first_nodes after.log →
-    IsReportIn form after.log report → status ≡ status_of after.log → IsReportOf script size form report status
+pub run_ends : (script named : Script) (size : Size) (form : Form) (before after : Course) (report : List ℕ) (status : ℕ) →
+    script ≡ named → before ≡ first_run size → EndsSo named before after → IsSoundLog named after.run.first_nodes after.run.log →
+    IsReportIn form (account_of after.run after.sent []) report → status ≡ status_of after.run.log → IsReportOf script size form report status
 run_ends script named size form before after report status own first ends meant written told =
     let driven = subst (λ s. EndsSo s (first_run size) after) (sym own) (subst (λ b. EndsSo named b after) first ends) in
-    let sound = subst (λ s. IsSoundLog s after.first_nodes after.log) (sym own) meant in
+    let sound = subst (λ s. IsSoundLog s after.run.first_nodes after.run.log) (sym own) meant in
     (after, record { ends = driven; meant = sound }, written, told)
 
 -- it stops before its end
-pub run_stops : (script named : Script) (size : Size) (before after : RunState) (unfinished : Unfinished) (code : ℕ) →
+pub run_stops : (script named : Script) (size : Size) (before after : Course) (unfinished : Unfinished) (code : ℕ) →
     script ≡ named → before ≡ first_run size → StopsSo named before after unfinished → code ≡ unfinished_code unfinished → IsRunStop script size (Stopped code)
 run_stops script named size before after unfinished code own first stops same =
     let driven = subst (λ s. StopsSo s (first_run size) after unfinished) (sym own) (subst (λ b. StopsSo named b after unfinished) first stops) in

@@ -10,7 +10,7 @@ use Rattle.raysim_streams.specs.declared.Refusal.{Refusal}
 use Rattle.raysim_streams.specs.declared.Refusal.TheVariants.{At, NoMemory, Stopped, BadLine, Failed}
 use Rattle.raysim_commands.specs.declared.form.Form.{Form}
 use Rattle.raysim_commands.specs.Scripts.{Explains, IsScript}
-use Rattle.raysim_commands.specs.SimReports.{ExplainsSim, IfBoth, IsEvents, IsSimBegun, IsSimReportOf}
+use Rattle.raysim_commands.specs.SimReports.{AreEvents, ExplainsSim, IfBoth, IsSimBegun, IsSimReportOf, IsSimReported}
 use Rattle.raysim_commands.proofs.Reading.{known_whole}
 
 of_known : (P : List ℕ → Type 0) (known : Option (List ℕ)) (text : List ℕ) → IfSome known (λ b. text ≡ b) → P text → IfSome known P
@@ -37,15 +37,16 @@ explains_script size known events a b w (Failed Write) h = h
 explains_script size known events a b w (Failed Closed) h = h
 
 -- what was written is a beginning of the report of what was read, where that is known
-pub sim_begun_so : (size : Size) (form : Form) (known events : Option (List ℕ)) (text : List ℕ) (script : Script) (lines : List Line)
+pub sim_begun_so : (size : Size) (form : Form) (known events : Option (List ℕ)) (text : List ℕ) (script : Script) (lines : List Line) (numbers : List ℕ)
     (report bytes : List ℕ) (status : ℕ) (before after : Option (List ℕ)) → IfSome known (λ b. text ≡ b) → IsScript text script →
-    IfSome events (λ e. IsEvents e lines) → IsSimReportOf script size form lines report status → bytes ≡ report →
+    IfSome events (λ e. AreEvents e lines numbers) → IsSimReportOf script size form lines numbers report status → bytes ≡ report →
     (k : ℕ) × Appends before after (take k bytes) → IfBoth known events (λ t e. (after ≡ before) ⊎ IsSimBegun size form t e before after)
-sim_begun_so size form None events text script lines report bytes status before after same is ls r written a = tt
-sim_begun_so size form (Some b) None text script lines report bytes status before after same is ls r written a = tt
-sim_begun_so size form (Some b) (Some e) text script lines report bytes status before after same is ls r written (k, a) = inr (record {
+sim_begun_so size form None events text script lines numbers report bytes status before after same is ls r written a = tt
+sim_begun_so size form (Some b) None text script lines numbers report bytes status before after same is ls r written a = tt
+sim_begun_so size form (Some b) (Some e) text script lines numbers report bytes status before after same is ls r written (k, a) = inr (record {
   script = script;
   lines = lines;
+  numbers = numbers;
   report = report;
   status = status;
   is_script = subst (λ t. IsScript t script) same is;
@@ -54,3 +55,21 @@ sim_begun_so size form (Some b) (Some e) text script lines report bytes status b
   count = k;
   written = subst (λ l. Appends before after (take k l)) written a;
 })
+
+-- and where all was written, it is the report of what was read
+pub sim_reported_so : (size : Size) (form : Form) (known events : Option (List ℕ)) (text : List ℕ) (script : Script) (lines : List Line) (numbers : List ℕ)
+    (report bytes : List ℕ) (status : ℕ) (before after : Option (List ℕ)) → IfSome known (λ b. text ≡ b) → IsScript text script →
+    IfSome events (λ e. AreEvents e lines numbers) → IsSimReportOf script size form lines numbers report status → bytes ≡ report →
+    Appends before after bytes → IfBoth known events (λ t e. IsSimReported size form t e status before after)
+sim_reported_so size form None events text script lines numbers report bytes status before after same is ls r written a = tt
+sim_reported_so size form (Some b) None text script lines numbers report bytes status before after same is ls r written a = tt
+sim_reported_so size form (Some b) (Some e) text script lines numbers report bytes status before after same is ls r written a = record {
+  script = script;
+  lines = lines;
+  numbers = numbers;
+  report = report;
+  is_script = subst (λ t. IsScript t script) same is;
+  are_events = ls;
+  reported = r;
+  written = subst (λ l. Appends before after l) written a;
+}

@@ -1,4 +1,4 @@
--- What is written of a log, in each form.
+-- What is written of a run, in each form.
 use Rattle.std.specs.Prelude.{◌≡◌, ℕ, List, ◌++◌, codes}
 use Rattle.serde_json.specs.Written.{compact_text}
 use Rattle.values.specs.Values.{id_of}
@@ -9,10 +9,24 @@ use Rattle.history.specs.Report.{report_text}
 use Rattle.log_text.specs.Text.{log_text}
 use Rattle.why_text.specs.Text.{why_main_text, why_text}
 use Rattle.lineage_text.specs.Text.{lineage_text}
+use Rattle.message_text.specs.Text.{log_with_messages}
 use Rattle.timeline.specs.Text.{timeline_data}
+use Rattle.protocol.specs.Messages.{Letter}
+use Rattle.protocol_core.specs.States.{RunState}
 use Rattle.protocol_board.specs.Reports.{json_text}
 use Rattle.raysim_commands.specs.declared.form.Form.{Form}
 use Rattle.raysim_commands.specs.declared.form.Form.TheVariants as forms
+
+-- what is told of a run: its log, the messages that were sent, behind each event how many had been, and the lines of the event file from which the
+-- events came, as far as they came from one
+pub record Account : Type 0 where
+  pub log : List Entry
+  pub messages : List Letter
+  pub sent : List ℕ
+  pub lines : List ℕ
+
+abbrev pub account_of : RunState → List ℕ → List ℕ → Account
+account_of c sent lines = record { log = c.log; messages = c.whole.network; sent = sent; lines = lines }
 
 -- the timeline of a log, on one line
 abbrev pub timeline_text : List CodeEntry → List ℕ
@@ -22,11 +36,12 @@ timeline_text log = compact_text (timeline_data log) ++ codes "\n"
 abbrev pub IsTimelineOf : List Entry → List ℕ → Type 0
 IsTimelineOf log text = (entries : List CodeEntry) × (log_of entries ≡ log) × (text ≡ timeline_text entries)
 
-abbrev pub IsReportIn : Form → List Entry → List ℕ → Type 0
-IsReportIn forms.Text log text = text ≡ report_text log
-IsReportIn forms.Json log text = text ≡ json_text log
-IsReportIn forms.Log log text = text ≡ log_text log
-IsReportIn (forms.Why o) log text = text ≡ why_text log (id_of o)
-IsReportIn forms.WhyMain log text = text ≡ why_main_text log
-IsReportIn forms.Timeline log text = IsTimelineOf log text
-IsReportIn forms.Lineage log text = text ≡ lineage_text log
+abbrev pub IsReportIn : Form → Account → List ℕ → Type 0
+IsReportIn forms.Text a text = text ≡ report_text a.log
+IsReportIn forms.Json a text = text ≡ json_text a.log
+IsReportIn forms.Log a text = text ≡ log_text a.log
+IsReportIn forms.LogWithMessages a text = text ≡ log_with_messages a.log a.messages a.sent
+IsReportIn (forms.Why o) a text = text ≡ why_text a.log a.lines (id_of o)
+IsReportIn forms.WhyMain a text = text ≡ why_main_text a.log a.lines
+IsReportIn forms.Timeline a text = IsTimelineOf a.log text
+IsReportIn forms.Lineage a text = text ≡ lineage_text a.log

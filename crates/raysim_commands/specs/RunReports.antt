@@ -1,40 +1,40 @@
 -- What `run` writes, and its status.
-use Rattle.std.specs.Prelude.{◌≡◌, ◌⊎◌, ℕ, Bool, List, Option, take, IfSome}
+use Rattle.std.specs.Prelude.{◌≡◌, ◌⊎◌, ℕ, Bool, List, [], Option, take, IfSome}
 use Rattle.std.specs.Io.KnownBytes.{Appends}
 use Rattle.meaning.specs.Syntax.{Script}
 use Rattle.history.specs.Main.{status_of}
 use Rattle.protocol_core.specs.Clusters.{Size}
-use Rattle.protocol_core.specs.States.{RunState, first_state}
+use Rattle.protocol_core.specs.States.{first_state}
 use Rattle.protocol_board.specs.Meant.{IsSoundLog}
 use Rattle.driving.specs.declared.unfinished.Unfinished.{Unfinished}
 use Rattle.driving.specs.Stops.{unfinished_code}
-use Rattle.driving.specs.Drives.{EndsSo, StopsSo}
+use Rattle.driving.specs.Drives.{Course, EndsSo, StopsSo}
 use Rattle.raysim_streams.specs.declared.Refusal.{Refusal}
 use Rattle.raysim_streams.specs.declared.Refusal.TheVariants.{At, NoMemory, Stopped as Stops, BadLine, Failed}
 use Rattle.raysim_commands.specs.declared.form.Form.{Form}
 use Rattle.raysim_commands.specs.Scripts.{IsScript, Explains}
-use Rattle.raysim_commands.specs.Reports.{IsReportIn}
+use Rattle.raysim_commands.specs.Reports.{IsReportIn, account_of}
 
 -- a run on such a cluster, as it begins
-abbrev pub first_run : Size → RunState
-first_run size = first_state size.nodes size.slots
+abbrev pub first_run : Size → Course
+first_run size = record { run = first_state size.nodes size.slots; sent = [] }
 
 -- a run of the script ends so: it was driven until nothing was left to do, and what its log then means
-pub record IsEndOf (script : Script) (size : Size) (c : RunState) : Type 0 where
+pub record IsEndOf (script : Script) (size : Size) (c : Course) : Type 0 where
   pub ends : EndsSo script (first_run size) c
-  pub meant : IsSoundLog script c.first_nodes c.log
+  pub meant : IsSoundLog script c.run.first_nodes c.run.log
 
 -- the report of the run of the script, and its status
 abbrev pub IsReportOf : Script → Size → Form → List ℕ → ℕ → Type 0
 IsReportOf script size form report status =
-    (c : RunState) × IsEndOf script size c × IsReportIn form c.log report × (status ≡ status_of c.log)
+    (c : Course) × IsEndOf script size c × IsReportIn form (account_of c.run c.sent []) report × (status ≡ status_of c.run.log)
 
 -- why a run of the script gives no report
 abbrev pub IsRunStop : Script → Size → Refusal → Type 0
 IsRunStop script size (At code span) = ⊥
 IsRunStop script size NoMemory = Unit {0}
 IsRunStop script size (Stops code) =
-    (c : RunState) × (unfinished : Unfinished) × StopsSo script (first_run size) c unfinished × (code ≡ unfinished_code unfinished)
+    (c : Course) × (unfinished : Unfinished) × StopsSo script (first_run size) c unfinished × (code ≡ unfinished_code unfinished)
 IsRunStop script size (BadLine line) = ⊥
 IsRunStop script size (Failed failure) = ⊥
 

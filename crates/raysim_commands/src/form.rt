@@ -3,18 +3,21 @@
 ghost use Rattle.std.specs.Prelude.{◌≡◌, IfOk, string_bytes};
 ghost use Rattle.event_log.specs.Views.{log_of};
 ghost use Rattle.protocol_board.specs.Meant.{IsSoundLog};
-ghost use Rattle.raysim_commands.specs.Reports.{IsReportIn};
+ghost use Rattle.protocol_core.specs.Views.{state_of};
+ghost use Rattle.raysim_commands.specs.Reports.{IsReportIn, account_of};
 
 use ids::ObjectId;
 use lineage_text::lineage_text;
 use log_text::log_text;
+use message_text::log_with_messages;
 use protocol_board::Board;
 use segment::ScriptName;
+use sequence::Seq;
 use std::alloc::{AllocError, Global};
 use timeline::timeline_json;
 use why_text::{why_main_text, why_text};
 
-/// What is written of a run. The last five are those of docs/reading-a-log.md.
+/// What is written of a run. Those behind the second are of docs/reading-a-log.md.
 #[derive(Clone, Copy, PartialEq, Eq, Debug)]
 pub enum Form {
     /// Its report, in lines.
@@ -23,6 +26,8 @@ pub enum Form {
     Json,
     /// What happened: a line for each entry of its log.
     Log,
+    /// The same, and below each event the messages that it sent.
+    LogWithMessages,
     /// Why the object is as it is, in sentences.
     Why(ObjectId),
     /// Why main ended with a fault, in sentences.
@@ -33,21 +38,32 @@ pub enum Form {
     Lineage,
 }
 
-/// What is written of a run, in a form.
+/// What is written of a run, in a form, where `sent` is how many messages had been sent behind each event, and `lines` are the lines of the
+/// event file from which the events came, as far as they came from one.
 pub fn report<S: ScriptName>(
     alloc: Global,
     board: &Board<S>,
+    sent: &Seq<usize>,
+    lines: &Seq<usize>,
     form: Form,
 ) -> Result<String, AllocError>
-    ensures text { IfOk result (λ text. IsReportIn form (log_of board.now.log) (string_bytes text)) }
+    ensures text { IfOk result (λ text. IsReportIn form (account_of (state_of board.now) sent.now lines.now) (string_bytes text)) }
     ensures meant { IsSoundLog S.script board.now.first_nodes (log_of board.now.log) }
 {
     match form {
         Form::Text => board.report(alloc),
         Form::Json => board.report_json(alloc),
         Form::Log => log_text(alloc, board.log()),
-        Form::Why(object) => why_text(alloc, board.log(), object),
-        Form::WhyMain => why_main_text(alloc, board.log()),
+        Form::LogWithMessages => {
+            log_with_messages(
+                alloc,
+                board.log(),
+                board.messages().as_slice(),
+                sent.as_slice(),
+            )
+        }
+        Form::Why(object) => why_text(alloc, board.log(), lines.as_slice(), object),
+        Form::WhyMain => why_main_text(alloc, board.log(), lines.as_slice()),
         Form::Timeline => timeline_json(alloc, board.log()),
         Form::Lineage => lineage_text(alloc, board.log()),
     }

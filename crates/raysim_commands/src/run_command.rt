@@ -12,6 +12,7 @@ use protocol_board::Board;
 use protocol_core::{Cluster, Core};
 use raysim_streams::{Refusal, Sink, Source, put_all};
 use segment::{Compiled, ScriptName};
+use sequence::Seq;
 use std::alloc::Global;
 use std::marker::Brand;
 
@@ -35,12 +36,14 @@ fn run_script<S: ScriptName>(
 {
     let core = Core::<S>::new(alloc, script.script(), cluster)?;
     let mut board = Board::new(core);
-    if let Err(unfinished) = drive(alloc, &mut board, script) {
+    let mut sent = Seq::new(alloc);
+    if let Err(unfinished) = drive(alloc, &mut board, &mut sent, script) {
         return Err(Refusal::Stopped {
             code: unfinished.number(),
         });
     }
-    let text = report(alloc, &board, form)?;
+    let nowhere = Seq::new(alloc);
+    let text = report(alloc, &board, &sent, &nowhere, form)?;
     let status = board.status();
     Ok(RunReport { text, status })
 }

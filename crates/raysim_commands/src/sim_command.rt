@@ -3,18 +3,18 @@
 ghost use Rattle.std.specs.Prelude.{◌≡◌, ◌⊎◌, IfOk, IfErr, IfSome, string_bytes};
 ghost use Rattle.script_check.specs.Trees.{script_of};
 ghost use Rattle.raysim_commands.specs.Scripts.{IsUnwritten};
-ghost use Rattle.raysim_commands.specs.SimReports.{ExplainsEvents, ExplainsSim, IfBoth, IsEvents, IsSimBegun, IsSimReported};
-ghost use Rattle.raysim_commands.specs.SimReports.{IsSimReportOf, IsStopOf, stop_refusal};
+ghost use Rattle.raysim_commands.specs.SimReports.{AreEvents, ExplainsEvents, ExplainsSim, IfBoth, IsSimBegun, IsSimReported};
+ghost use Rattle.raysim_commands.specs.SimReports.{IsSimReportOf, IsStopOf, lines_in_file, number_of, stop_refusal};
 
 use crate::form::{Form, report};
 use crate::script::{compiled_script, read_script};
-use event_files::{EventError, Line, parse_events};
+use event_files::{EventError, Line, line_numbers, parse_events};
 use protocol_board::{Replay, Stopped};
 use protocol_core::{Cluster, Core};
 use raysim_streams::{Refusal, Sink, Source, put_all, read_at_most};
 use segment::{Compiled, ScriptName};
 use sequence::Seq;
-use std::alloc::Global;
+use std::alloc::{AllocError, Global};
 use std::marker::Brand;
 
 /// What `sim` writes, and the status that it ends with.
@@ -22,6 +22,37 @@ use std::marker::Brand;
 struct SimReport {
     text: String,
     status: u8,
+}
+
+/// The lines of an event file that say something, and their numbers in it.
+#[derive(Drop)]
+struct EventLines {
+    lines: Seq<Line>,
+    numbers: Seq<usize>,
+}
+
+fn number_of(numbers: &Seq<usize>, line: usize) -> usize
+    ensures { result ≡ number_of numbers.now line }
+{
+    if line == 0 || line > numbers.len() {
+        return 0;
+    }
+    *numbers.get(line - 1)
+}
+
+/// The numbers in the file of lines that are counted without those that are passed over.
+fn lines_in_file(
+    alloc: Global,
+    numbers: &Seq<usize>,
+    lines: &Seq<usize>,
+) -> Result<Seq<usize>, AllocError>
+    ensures { IfOk result (λ all. all ≡ lines_in_file numbers.now lines.now) }
+{
+    let mut all = Seq::new(alloc);
+    for line in &lines.items {
+        all.push(number_of(numbers, *line))?;
+    }
+    Ok(all)
 }
 
 /// Why a replay that stopped gives no report.
@@ -38,33 +69,37 @@ fn stop_refusal(stopped: Stopped) -> Refusal
 fn sim_script<S: ScriptName>(
     alloc: Global,
     script: &Compiled,
-    lines: &Seq<Line>,
+    events: &EventLines,
     cluster: Cluster,
     form: Form,
 ) -> Result<SimReport, Refusal>
     requires { script_of script.now ≡ S.script }
-    ensures reported { IfOk result (λ report. IsSimReportOf (script_of script.now) cluster form lines.now (string_bytes report.text) report.status) }
-    ensures stopped { IfErr result (IsStopOf (script_of script.now) cluster lines.now) }
+    ensures reported { IfOk result (λ report. IsSimReportOf (script_of script.now) cluster form events.now.lines events.now.numbers (string_bytes report.text) report.status) }
+    ensures stopped { IfErr result (IsStopOf (script_of script.now) cluster events.now.lines) }
 {
     let core = Core::<S>::new(alloc, script.script(), cluster)?;
     let mut replay = Replay::new(alloc, core);
-    if let Err(stopped) = replay.play(alloc, script, lines) {
+    if let Err(stopped) = replay.play(alloc, script, &events.lines) {
         return Err(stop_refusal(stopped));
     }
     let board = replay.board();
-    let text = report(alloc, board, form)?;
+    let lines = lines_in_file(alloc, &events.numbers, replay.lines())?;
+    let text = report(alloc, board, replay.sent(), &lines, form)?;
     let status = board.status();
     Ok(SimReport { text, status })
 }
 
 /// The lines of an event file.
-fn read_events<E: Source>(alloc: Global, reader: &mut E) -> Result<Seq<Line>, Refusal>
-    ensures read { IfOk result (λ lines. IfSome (E.left reader.old) (λ bytes. IsEvents bytes lines)) }
+fn read_events<E: Source>(alloc: Global, reader: &mut E) -> Result<EventLines, Refusal>
+    ensures read { IfOk result (λ events. IfSome (E.left reader.old) (λ bytes. AreEvents bytes events.lines events.numbers)) }
     ensures refused { IfErr result (λ refusal. ExplainsEvents (E.left reader.old) (E.has_failed reader.new) refusal) }
 {
     let text = read_at_most(alloc, reader, usize::MAX)?;
     match parse_events(alloc, text.as_slice()) {
-        Ok(lines) => Ok(lines),
+        Ok(lines) => {
+            let numbers = line_numbers(alloc, text.as_slice())?;
+            Ok(EventLines { lines, numbers })
+        }
         Err(EventError::BadLine(line)) => Err(Refusal::BadLine { line }),
         Err(EventError::TooLong) => unreachable!(),
         Err(EventError::NoMemory) => Err(Refusal::NoMemory),
@@ -100,11 +135,11 @@ pub fn sim<R: Source, E: Source, W: Sink>(
         Ok(script) => script,
         Err(refusal) => return Err(refusal),
     };
-    let lines = match read_events(alloc, events) {
-        Ok(lines) => lines,
+    let found = match read_events(alloc, events) {
+        Ok(found) => found,
         Err(refusal) => return Err(refusal),
     };
-    let report = match sim_script::<Brand>(alloc, &script, &lines, cluster, form) {
+    let report = match sim_script::<Brand>(alloc, &script, &found, cluster, form) {
         Ok(report) => report,
         Err(refusal) => return Err(refusal),
     };

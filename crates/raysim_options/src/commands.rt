@@ -187,7 +187,9 @@ fn log<'a>(alloc: Global) -> Result<Command<'a>, AllocError>
     let events =
         "The file of events, one in each line (if left out, the run goes on to its end by itself)";
     let command = add(command, optional(alloc, "events", events))?;
-    add_cluster(alloc, command)
+    let command = add_cluster(alloc, command)?;
+    let messages = "Tells below each event the messages that it sent, too";
+    add(command, flag(alloc, "messages", messages))
 }
 
 fn why<'a>(alloc: Global) -> Result<Command<'a>, AllocError>

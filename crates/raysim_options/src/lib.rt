@@ -70,13 +70,15 @@ pub struct RunOptions<'a> {
     pub explain: bool,
 }
 
-/// The options of `log`: the script, the list of events if the run isn't to be driven, and nodes and slots as for `sim`.
+/// The options of `log`: the script, the list of events if the run isn't to be driven, nodes and slots as for `sim`, and whether the
+/// messages are told too.
 #[derive(Debug, Drop)]
 pub struct LogOptions<'a> {
     pub script: &'a str,
     pub events: Option<&'a str>,
     pub nodes: u8,
     pub slots: u8,
+    pub messages: bool,
 }
 
 /// The options of `why`: the script, the list of events, the object if it isn't main's fault that is asked for, and nodes and slots as for

@@ -115,6 +115,7 @@ fn log<'a>(matches: &ArgMatches<'a>) -> Option<LogOptions<'a>>
         events: text(matches, "events"),
         nodes: number(matches, "nodes", MOST_NODES, 1)?,
         slots: number(matches, "slots", MOST_SLOTS, 4)?,
+        messages: flag(matches, "messages"),
     })
 }
 

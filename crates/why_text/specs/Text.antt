@@ -16,10 +16,11 @@ use Rattle.why_text.specs.Moments.{Moment, first_moment, moment_after}
 use Rattle.why_text.specs.Runs.{Subject, subject_of}
 use Rattle.why_text.specs.Entries.{sentence}
 
--- the sentences of the entries, where `m` is the moment before them
-abbrev pub sentences : Subject → List Bearing → Moment → List Entry → List ℕ
-sentences s births m [] = []
-sentences s births m (x ∷ rest) = sentence s births (moment_after m x) x (refused_next rest) ++ sentences s births (moment_after m x) rest
+-- the sentences of the entries, where `m` is the moment before them, and `lines` are the lines of the events
+abbrev pub sentences : Subject → List Bearing → List ℕ → Moment → List Entry → List ℕ
+sentences s births lines m [] = []
+sentences s births lines m (x ∷ rest) =
+    sentence s births (moment_after lines m x) x (refused_next rest) ++ sentences s births lines (moment_after lines m x) rest
 
 -- there is no such object
 unfoldable pub unborn_note : Id → Option Birth → List ℕ
@@ -27,8 +28,8 @@ unborn_note o (Some b) = []
 unborn_note o None = codes "There is no " ++ (id_text o ++ codes ".\n")
 
 -- what the log says of an object, entry by entry
-unfoldable pub account : List Entry → Id → List ℕ
-account log o = unborn_note o (birth_at (births log) o) ++ sentences (subject_of log o) (births log) first_moment log
+unfoldable pub account : List Entry → List ℕ → Id → List ℕ
+account log lines o = unborn_note o (birth_at (births log) o) ++ sentences (subject_of log o) (births log) lines first_moment log
 
 -- the object in which the fault of another began, where the entry says that the other has a fault
 unfoldable pub cause_in : Id → Entry → List Id
@@ -40,24 +41,24 @@ abbrev pub cause : List Entry → Id → Option Id
 cause log o = first (flat_map (cause_in o) log)
 
 -- where a fault began in another object, that one's account follows
-abbrev pub cause_text : List Entry → Id → Option Id → List ℕ
-cause_text log o None = []
-cause_text log o (Some z) = if same_id z o then [] else codes "\n" ++ account log z
+abbrev pub cause_text : List Entry → List ℕ → Id → Option Id → List ℕ
+cause_text log lines o None = []
+cause_text log lines o (Some z) = if same_id z o then [] else codes "\n" ++ account log lines z
 
--- an object's account, and that of the object in which its fault began
-unfoldable pub why_text : List Entry → Id → List ℕ
-why_text log o = account log o ++ cause_text log o (cause log o)
+-- an object's account, and that of the object in which its fault began; `lines` are the lines of the event file from which the events came
+unfoldable pub why_text : List Entry → List ℕ → Id → List ℕ
+why_text log lines o = account log lines o ++ cause_text log lines o (cause log o)
 
 abbrev pub lack_of : CodeLack → Lack
 lack_of x = record { object = id_of x.object; fault = fault_of x.fault }
 
-unfoldable pub main_lack_text : List Entry → Lack → List ℕ
-main_lack_text log x = codes "Main ended with a fault: " ++ (fault_words x.fault ++ (codes ".\n\n" ++ why_text log x.object))
+unfoldable pub main_lack_text : List Entry → List ℕ → Lack → List ℕ
+main_lack_text log lines x = codes "Main ended with a fault: " ++ (fault_words x.fault ++ (codes ".\n\n" ++ why_text log lines x.object))
 
 -- why a get of main was answered with a fault
-abbrev pub lack_text : List Entry → Option Lack → List ℕ
-lack_text log None = codes "Main did not end with a fault.\n"
-lack_text log (Some x) = main_lack_text log x
+abbrev pub lack_text : List Entry → List ℕ → Option Lack → List ℕ
+lack_text log lines None = codes "Main did not end with a fault.\n"
+lack_text log lines (Some x) = main_lack_text log lines x
 
-abbrev pub why_main_text : List Entry → List ℕ
-why_main_text log = lack_text log (first (faults_of main_attempt log))
+abbrev pub why_main_text : List Entry → List ℕ → List ℕ
+why_main_text log lines = lack_text log lines (first (faults_of main_attempt log))

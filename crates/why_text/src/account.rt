@@ -41,15 +41,16 @@ fn write_sentences(
     subject: &Subject,
     index: &BirthIndex,
     log: &[Entry],
+    lines: &[usize],
 ) -> Result<(), AllocError>
     requires { IsIndexOf index.now log.now }
     ensures { OnOk result (string_bytes text.new
-        ≡ string_bytes text.old ++ sentences (seen_of subject.now) (births (log_of log.now)) first_moment (log_of log.now)) }
+        ≡ string_bytes text.old ++ sentences (seen_of subject.now) (births (log_of log.now)) lines.now first_moment (log_of log.now)) }
 {
     let mut moment = Moment::first();
     for (place, entry) in log.iter().enumerate() {
         let is_refused = is_refusal_at(log, place + 1);
-        moment = moment.after(entry);
+        moment = moment.after(lines, entry);
         write_sentence(alloc, text, subject, index, log, &moment, entry, is_refused)?;
     }
     Ok(())
@@ -61,12 +62,13 @@ pub fn write_account(
     alloc: Global,
     text: &mut String,
     log: &[Entry],
+    lines: &[usize],
     object: ObjectId,
 ) -> Result<(), AllocError>
-    ensures { OnOk result (string_bytes text.new ≡ string_bytes text.old ++ account (log_of log.now) (id_of object)) }
+    ensures { OnOk result (string_bytes text.new ≡ string_bytes text.old ++ account (log_of log.now) lines.now (id_of object)) }
 {
     let index = BirthIndex::of(alloc, log)?;
     let subject = Subject::of(alloc, log, object)?;
     write_unborn(text, object, index.birth(log, object))?;
-    write_sentences(alloc, text, &subject, &index, log)
+    write_sentences(alloc, text, &subject, &index, log, lines)
 }

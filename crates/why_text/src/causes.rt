@@ -66,11 +66,12 @@ fn write_cause(
     alloc: Global,
     text: &mut String,
     log: &[Entry],
+    lines: &[usize],
     object: ObjectId,
     cause: Option<ObjectId>,
 ) -> Result<(), AllocError>
     ensures { OnOk result (string_bytes text.new
-        ≡ string_bytes text.old ++ cause_text (log_of log.now) (id_of object) (option_map id_of cause)) }
+        ≡ string_bytes text.old ++ cause_text (log_of log.now) lines.now (id_of object) (option_map id_of cause)) }
 {
     let Some(cause) = cause else {
         return Ok(());
@@ -79,7 +80,7 @@ fn write_cause(
         return Ok(());
     }
     text.push_str("\n")?;
-    write_account(alloc, text, log, cause)
+    write_account(alloc, text, log, lines, cause)
 }
 
 #[tactic(auto, unfolding(crate::specs::Text::why_text))]
@@ -87,24 +88,31 @@ fn write_why(
     alloc: Global,
     text: &mut String,
     log: &[Entry],
+    lines: &[usize],
     object: ObjectId,
 ) -> Result<(), AllocError>
-    ensures { OnOk result (string_bytes text.new ≡ string_bytes text.old ++ why_text (log_of log.now) (id_of object)) }
+    ensures { OnOk result (string_bytes text.new ≡ string_bytes text.old ++ why_text (log_of log.now) lines.now (id_of object)) }
 {
-    write_account(alloc, text, log, object)?;
-    write_cause(alloc, text, log, object, cause(log, object))
+    write_account(alloc, text, log, lines, object)?;
+    write_cause(alloc, text, log, lines, object, cause(log, object))
 }
 
 /// Why an object is as it is, in sentences, in the order of the log: what made it and what was made with it, the attempts of its task and
 /// what they got, the deaths that broke them, the losses of its copies, who got it, and how it was given up or released, each with its
-/// event. Where it has a fault that began in another object, the same of that one follows, behind an empty line.
+/// event and the event's line. Where it has a fault that began in another object, the same of that one follows, behind an empty line.
+/// `lines` are the lines of the event file from which the events came, in their order; an event behind the last has no line.
 ///
 /// It is made of any log, a legal one or not. An object that was never born has one sentence, that there is none.
-pub fn why_text(alloc: Global, log: &[Entry], object: ObjectId) -> Result<String, AllocError>
-    ensures { IfOk result (λ text. string_bytes text ≡ why_text (log_of log.now) (id_of object)) }
+pub fn why_text(
+    alloc: Global,
+    log: &[Entry],
+    lines: &[usize],
+    object: ObjectId,
+) -> Result<String, AllocError>
+    ensures { IfOk result (λ text. string_bytes text ≡ why_text (log_of log.now) lines.now (id_of object)) }
 {
     let mut text = String::new(alloc);
-    write_why(alloc, &mut text, log, object)?;
+    write_why(alloc, &mut text, log, lines, object)?;
     Ok(text)
 }
 
@@ -152,14 +160,15 @@ fn write_main_lack(
     alloc: Global,
     text: &mut String,
     log: &[Entry],
+    lines: &[usize],
     lack: Lack,
 ) -> Result<(), AllocError>
-    ensures { OnOk result (string_bytes text.new ≡ string_bytes text.old ++ main_lack_text (log_of log.now) (lack_of lack)) }
+    ensures { OnOk result (string_bytes text.new ≡ string_bytes text.old ++ main_lack_text (log_of log.now) lines.now (lack_of lack)) }
 {
     text.push_str("Main ended with a fault: ")?;
     write_fault(text, lack.fault)?;
     text.push_str(".\n\n")?;
-    write_why(alloc, text, log, lack.object)?;
+    write_why(alloc, text, log, lines, lack.object)?;
     Ok(())
 }
 
@@ -167,22 +176,23 @@ fn write_lack(
     alloc: Global,
     text: &mut String,
     log: &[Entry],
+    lines: &[usize],
     lack: Option<Lack>,
 ) -> Result<(), AllocError>
     ensures { OnOk result
-        (string_bytes text.new ≡ string_bytes text.old ++ lack_text (log_of log.now) (option_map lack_of lack)) }
+        (string_bytes text.new ≡ string_bytes text.old ++ lack_text (log_of log.now) lines.now (option_map lack_of lack)) }
 {
     let Some(lack) = lack else {
         return text.push_str("Main did not end with a fault.\n");
     };
-    write_main_lack(alloc, text, log, lack)
+    write_main_lack(alloc, text, log, lines, lack)
 }
 
-/// Why main ended with a fault: why the object that it was to get is as it is, or that it did not end with one.
-pub fn why_main_text(alloc: Global, log: &[Entry]) -> Result<String, AllocError>
-    ensures { IfOk result (λ text. string_bytes text ≡ why_main_text (log_of log.now)) }
+/// Why main ended with a fault: why the object that it was to get is as it is, or that it did not end with one. `lines` are as for `why_text`.
+pub fn why_main_text(alloc: Global, log: &[Entry], lines: &[usize]) -> Result<String, AllocError>
+    ensures { IfOk result (λ text. string_bytes text ≡ why_main_text (log_of log.now) lines.now) }
 {
     let mut text = String::new(alloc);
-    write_lack(alloc, &mut text, log, main_lack(log))?;
+    write_lack(alloc, &mut text, log, lines, main_lack(log))?;
     Ok(text)
 }

@@ -3,16 +3,17 @@
 ghost use Rattle.std.specs.Prelude.{◌≡◌, ◌+◌, ◌++◌, ◌<◌, ◌≤◌, ◌^◌, OnOk, string_bytes};
 ghost use Rattle.std.specs.Option.{option_map};
 ghost use Rattle.event_log.specs.Views.{entry_of, event_of};
-ghost use Rattle.why_text.specs.Moments.{first_moment, moment_after, moment_of, when_event, when_text};
+ghost use Rattle.why_text.specs.Moments.{event_note, first_moment, line_note, moment_after, moment_of, when_event, when_text};
 
 use event_log::{Entry, Event};
 use std::alloc::AllocError;
 
-/// How many events came, and the last of them.
+/// How many events came, the last of them, and the line of the event file from which it came, if there is one.
 #[derive(Clone, Copy, PartialEq, Eq, Debug)]
 pub struct Moment {
     pub number: usize,
     pub event: Option<Event>,
+    pub line: Option<usize>,
 }
 
 impl Moment {
@@ -23,38 +24,64 @@ impl Moment {
         Moment {
             number: 0,
             event: None,
+            line: None,
         }
     }
 
-    /// The moment with this entry.
-    pub fn after(self, entry: &Entry) -> Moment
+    /// The moment with this entry, where `lines` are those of the events, in their order.
+    pub fn after(self, lines: &[usize], entry: &Entry) -> Moment
         requires { self.number + 1 < 2 ^ 64 }
-        ensures moment { moment_of result ≡ moment_after (moment_of self) (entry_of entry.now) }
+        ensures moment { moment_of result ≡ moment_after lines.now (moment_of self) (entry_of entry.now) }
         ensures counted { result.number ≤ self.number + 1 }
     {
         match entry {
             Entry::In { event, .. } => Moment {
                 number: self.number + 1,
                 event: Some(*event),
+                line: lines.get(self.number).copied(),
             },
             _ => self,
         }
     }
 }
 
-#[tactic(auto, unfolding(crate::specs::Moments::when_event))]
-fn write_event(text: &mut String, number: usize, event: Option<Event>) -> Result<(), AllocError>
-    ensures { OnOk result (string_bytes text.new ≡ string_bytes text.old ++ when_event number (option_map event_of event)) }
+#[tactic(auto, unfolding(crate::specs::Moments::line_note))]
+fn write_line(text: &mut String, line: Option<usize>) -> Result<(), AllocError>
+    ensures { OnOk result (string_bytes text.new ≡ string_bytes text.old ++ line_note line) }
 {
-    match event {
-        None => text.push_str(" at the start"),
-        Some(event) => write!(text, " in event {number} ({event})"),
+    match line {
+        None => Ok(()),
+        Some(line) => write!(text, ", line {line}"),
     }
 }
 
-/// Writes when something happened, such as ` in event 6 (kill 2)`.
+#[tactic(auto, unfolding(crate::specs::Moments::event_note))]
+fn write_event_note(text: &mut String, number: usize, event: Event) -> Result<(), AllocError>
+    ensures { OnOk result (string_bytes text.new ≡ string_bytes text.old ++ event_note number (event_of event)) }
+{
+    write!(text, " in event {number} ({event}")
+}
+
+#[tactic(auto, unfolding(crate::specs::Moments::when_event))]
+fn write_event(
+    text: &mut String,
+    number: usize,
+    line: Option<usize>,
+    event: Option<Event>,
+) -> Result<(), AllocError>
+    ensures { OnOk result (string_bytes text.new ≡ string_bytes text.old ++ when_event number line (option_map event_of event)) }
+{
+    let Some(event) = event else {
+        return text.push_str(" at the start");
+    };
+    write_event_note(text, number, event)?;
+    write_line(text, line)?;
+    text.push_str(")")
+}
+
+/// Writes when something happened, such as ` in event 6 (kill 2, line 2)`.
 pub fn write_when(text: &mut String, moment: &Moment) -> Result<(), AllocError>
     ensures { OnOk result (string_bytes text.new ≡ string_bytes text.old ++ when_text (moment_of moment.now)) }
 {
-    write_event(text, moment.number, moment.event)
+    write_event(text, moment.number, moment.line, moment.event)
 }

@@ -63,6 +63,7 @@ fn form_of(command: &str) -> Option<Form> {
         "sim --timeline" => Some(Form::Timeline),
         "sim --lineage" => Some(Form::Lineage),
         "log" => Some(Form::Log),
+        "log --messages" => Some(Form::LogWithMessages),
         "why" => Some(Form::WhyMain),
         _ => {
             let object = ObjectId::read(command.strip_prefix("why ")?.as_bytes())?;
@@ -79,6 +80,7 @@ fn form_of_run(command: &str) -> Option<Form> {
         "run --timeline" => Some(Form::Timeline),
         "run --lineage" => Some(Form::Lineage),
         "log of a run" => Some(Form::Log),
+        "log --messages of a run" => Some(Form::LogWithMessages),
         _ => None,
     }
 }

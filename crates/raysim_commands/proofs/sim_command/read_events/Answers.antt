@@ -1,7 +1,8 @@
-use Rattle.std.proofs.Common.{subst}
+use Rattle.std.proofs.Common.{rules, ap, subst, sym, ◌∙◌}
 use Rattle.event_files.specs.Files.{IsBadAt, IsRefusal}
 use Rattle.event_files.specs.Lines.{IsLine, line_text}
-use Rattle.raysim_commands.specs.SimReports.{IsEvents}
+use Rattle.event_files.specs.Numbering.{line_numbers}
+use Rattle.raysim_commands.specs.SimReports.{AreEvents}
 use Rattle.raysim_commands.proofs.Simulated.{of_read}
 use Rattle.raysim_commands.proofs.sim_command.read_events.Goals as goal
 
@@ -10,7 +11,10 @@ returns-in-Ok-clause-read g c =
     let text = c.in_ok-text.text.items in
     let shown = c.as_slice.result.now in
     let ok = c.in_ok-text.ensures.ok in
-    of_read (λ b. IsEvents b c.in-Ok.lines) _ text shown ok c.as_slice.ensures.value c.as_slice.type_inv.1 c.in-Ok.ensures.read
+    let again = c.as_slice-in-Ok.ensures.value ∙ sym c.as_slice.ensures.value in
+    let numbered = c.in_ok-numbers-in-Ok.ensures ∙ ap line_numbers again in
+    of_read (λ b. AreEvents b c.in-Ok.lines c.in_ok-numbers-in-Ok.numbers) _ text shown ok c.as_slice.ensures.value c.as_slice.type_inv.1
+    (c.in-Ok.ensures.read, numbered)
 
 pub returns-in-Err-BadLine-clause-refused : goal.returns-in-Err-BadLine-clause-refused
 returns-in-Err-BadLine-clause-refused g c =
@@ -19,4 +23,5 @@ returns-in-Err-BadLine-clause-refused g c =
     let ok = c.in_ok-text.ensures.ok in
     let n = c.in-Err-BadLine.line in
     let bad = subst (λ e. IsRefusal IsLine line_text shown e) c.in-Err-BadLine.field-0-is c.in-Err-BadLine.ensures.refused in
-    of_read (λ b. IsBadAt IsLine line_text b n) _ text shown ok c.as_slice.ensures.value c.as_slice.type_inv.1 bad
+    let why = of_read (λ b. IsBadAt IsLine line_text b n) _ text shown ok c.as_slice.ensures.value c.as_slice.type_inv.1 bad in
+    search (rules, why)

@@ -3,7 +3,7 @@ use Rattle.script_check.specs.Trees.{script_of}
 use Rattle.raysim_commands.specs.Scripts.{IsRefusalOf, IsScript}
 use Rattle.raysim_commands.proofs.Begun.{always_err}
 use Rattle.raysim_commands.proofs.Refused.{explains_read}
-use Rattle.raysim_commands.proofs.Simulated.{explains_script, sim_begun_so}
+use Rattle.raysim_commands.proofs.Simulated.{explains_script, sim_begun_so, sim_reported_so}
 use Rattle.raysim_commands.proofs.sim_command.sim.Goals as goal
 
 pub returns-in_err-text-clause-refused : goal.returns-in_err-text-clause-refused
@@ -25,6 +25,15 @@ returns-in_err-put_all-clause-beginning g c =
     let said = c.in-Ok-read_events.ensures.read in
     let told = c.in-Ok-sim_script.ensures.reported in
     let begun =
-    sim_begun_so c.args.cluster c.args.form _ _ c.in_ok-text.text.items script c.in-Ok-read_events.lines _ _ c.in-Ok-sim_script.report.status _ _
+    sim_begun_so c.args.cluster c.args.form _ _ c.in_ok-text.text.items script c.in-Ok-read_events.found.lines c.in-Ok-read_events.found.numbers _ _ c.in-Ok-sim_script.report.status _ _
     c.in_ok-text.ensures.ok is said told c.as_bytes.ensures.value c.in_err-put_all.ensures.beginning in
     always_err c.from_residual-in_err-put_all.result _ begun
+
+pub returns-clause-reported : goal.returns-clause-reported
+returns-clause-reported g c =
+    let script = script_of c.in-Ok.script in
+    let is = subst (λ t. IsScript t script) c.as_slice.ensures.value c.in-Ok.ensures.found in
+    let said = c.in-Ok-read_events.ensures.read in
+    let told = c.in-Ok-sim_script.ensures.reported in
+    sim_reported_so c.args.cluster c.args.form _ _ c.in_ok-text.text.items script c.in-Ok-read_events.found.lines c.in-Ok-read_events.found.numbers _ _
+    c.in-Ok-sim_script.report.status _ _ c.in_ok-text.ensures.ok is said told c.as_bytes.ensures.value c.in_ok-put_all.ensures.ok

@@ -8,7 +8,7 @@ use Rattle.why_text.proofs.account.write_sentences.Given as goal
 
 abbrev pub invariant-loop-place : goal.invariant-loop-place
 invariant-loop-place l = record {
-  written : string_bytes l.text ++ sentences (seen_of l.subject) (births (log_of l.log)) (moment_of l.moment) (log_of (drop l.place l.log))
-      ≡ string_bytes l.fn.text ++ sentences (seen_of l.subject) (births (log_of l.log)) first_moment (log_of l.log);
+  written : string_bytes l.text ++ sentences (seen_of l.subject) (births (log_of l.log)) l.lines (moment_of l.moment) (log_of (drop l.place l.log))
+      ≡ string_bytes l.fn.text ++ sentences (seen_of l.subject) (births (log_of l.log)) l.lines first_moment (log_of l.log);
   counted : l.moment.number ≤ l.place;
 }

@@ -11,5 +11,5 @@ unfolding main_lack_text
 returns c =
     four_written (string_bytes c.args.text.now) (string_bytes c.push_str.new.self) (string_bytes c.write_fault.new.text) (string_bytes c.push_str-2.new.self)
     (string_bytes c.write_why.new.text) (codes "Main ended with a fault: ") (fault_words (fault_of c.args.lack.fault)) (codes ".\n\n")
-    (why_text (log_of c.args.log.now) (id_of c.args.lack.object))
+    (why_text (log_of c.args.log.now) c.args.lines.now (id_of c.args.lack.object))
     c.in_ok-push_str.ensures.bytes c.in_ok-write_fault.ensures c.in_ok-push_str-2.ensures.bytes c.in_ok-write_why.ensures

@@ -1,18 +1,21 @@
-use Rattle.std.proofs.Common.{suc, sym}
+use Rattle.std.proofs.Common.{suc, refl, sym, ◌∙◌}
 use Rattle.event_log.specs.Views.{event_of}
 use Rattle.protocol_board.specs.Views.{play_of}
 use Rattle.protocol_board.proofs.Playing.{no_event, one_more}
 use Rattle.protocol_board.proofs.replay.Replay.settle.Goals as goal
 
 pub loop-event-init : goal.loop-event-init
-loop-event-init g c = (0, no_event g.S.ScriptName.script c.args.but.now (play_of c.args.self.now))
+loop-event-init g c = record { settles = (0, no_event g.S.ScriptName.script c.args.but.now (play_of c.args.self.now)); same = refl }
 
 pub loop-event-preserved : goal.loop-event-preserved
 loop-event-preserved g c =
     let before = play_of c.args.self.now in
     let between = play_of c.loop-event.self in
     let after = play_of c.apply.new.self in
-    let n = c.loop-event.invariant.0 in
+    let h = c.loop-event.invariant.settles in
     let named = sym c.in-Some.ensures in
     let step = c.in_ok-apply.ensures.step in
-    (suc n, one_more g.S.ScriptName.script c.args.but.now n before between after (event_of c.in-Some.event) c.loop-event.invariant.1 named step)
+    record {
+      settles = (suc h.0, one_more g.S.ScriptName.script c.args.but.now h.0 before between after (event_of c.in-Some.event) h.1 named step);
+      same = c.in_ok-apply.ensures.same ∙ c.loop-event.invariant.same;
+    }

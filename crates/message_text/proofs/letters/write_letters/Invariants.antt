@@ -1,0 +1,7 @@
+use Rattle.std.proofs.Common.{◌≡◌, ◌+◌, ◌++◌, string_bytes, drop}
+use Rattle.message_text.specs.Letters.{letters_text}
+use Rattle.message_text.proofs.letters.write_letters.Given as goal
+
+abbrev pub invariant-loop-place : goal.invariant-loop-place
+invariant-loop-place l =
+    string_bytes l.text ++ letters_text (l.before + l.place) (drop l.place l.letters) ≡ string_bytes l.fn.text ++ letters_text l.before l.letters

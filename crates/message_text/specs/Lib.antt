@@ -1,0 +1,4 @@
+pub mod Messages
+pub mod Letters
+pub mod Sent
+pub mod Text

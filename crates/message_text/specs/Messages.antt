@@ -1,0 +1,105 @@
+-- The texts of messages: the kind, and in brackets what it says.
+use Rattle.std.specs.Prelude.{ℕ, List, [], ◌∷◌, ◌++◌, codes}
+use Rattle.std.specs.List.{flat_map}
+use Rattle.std.specs.Fmt.{decimal}
+use Rattle.report.specs.Values.{id_text}
+use Rattle.meaning.specs.Values.{Id, Birth, Outcome}
+use Rattle.event_log.specs.Entries.{Attempt, Fault}
+use Rattle.history.specs.Texts.{attempt_text, fault_text}
+use Rattle.log_words.specs.Calls.{birth_text}
+use Rattle.log_words.specs.Contents.{content_text}
+use Rattle.protocol_data.specs.declared.message.Party.{Party}
+use Rattle.protocol_data.specs.declared.message.Party.TheVariants.{TheWorker, TheNode}
+use Rattle.protocol_data.specs.declared.message.Message.{Message}
+use Rattle.protocol_data.specs.declared.message.Message.TheVariants.{Ask, Give, Elsewhere, Wait, Back, Push, Finished, FinishedAck, Failed}
+use Rattle.protocol_data.specs.declared.message.Message.TheVariants.{Where, At, Gone, Fetch, CopyOf, Missing, Hold, HoldAck, Unhold}
+
+-- w2, or n1
+abbrev pub party_text : Party → List ℕ
+party_text (TheWorker w) = codes "w" ++ decimal w
+party_text (TheNode n) = codes "n" ++ decimal n
+
+-- a node behind the first
+abbrev pub other_node : ℕ → List ℕ
+other_node n = codes ", n" ++ decimal n
+
+abbrev pub inner_nodes : List ℕ → List ℕ
+inner_nodes [] = []
+inner_nodes (n ∷ ns) = codes "n" ++ (decimal n ++ flat_map other_node ns)
+
+-- [n1, n2]
+abbrev pub nodes_text : List ℕ → List ℕ
+nodes_text ns = codes "[" ++ (inner_nodes ns ++ codes "]")
+
+-- an object behind the first
+abbrev pub other_object : Id → List ℕ
+other_object o = codes ", " ++ id_text o
+
+abbrev pub inner_objects : List Id → List ℕ
+inner_objects [] = []
+inner_objects (o ∷ os) = id_text o ++ flat_map other_object os
+
+-- [o1.1, o2.3]
+abbrev pub objects_text : List Id → List ℕ
+objects_text os = codes "[" ++ (inner_objects os ++ codes "]")
+
+-- Push(a1.1#0, remote(3) sq(7))
+abbrev pub push_text : Attempt → Birth → List ℕ
+push_text a b = codes "Push(" ++ (attempt_text a ++ (codes ", " ++ (birth_text b ++ codes ")")))
+
+-- Finished(a1.1#0, n1, [])
+abbrev pub finished_text : Attempt → ℕ → List Id → List ℕ
+finished_text a n ids =
+    codes "Finished(" ++ (attempt_text a ++ (codes ", n" ++ (decimal n ++ (codes ", " ++ (objects_text ids ++ codes ")")))))
+
+-- At(o1.1, 0, [n1, n2])
+abbrev pub at_text : Id → ℕ → List ℕ → List ℕ
+at_text o k ns = codes "At(" ++ (id_text o ++ (codes ", " ++ (decimal k ++ (codes ", " ++ (nodes_text ns ++ codes ")")))))
+
+-- Copy(o1.1, 0, 49)
+abbrev pub copy_text : Id → ℕ → Outcome → List ℕ
+copy_text o k c = codes "Copy(" ++ (id_text o ++ (codes ", " ++ (decimal k ++ (codes ", " ++ (content_text c ++ codes ")")))))
+
+-- what carries a task, objects, nodes or a content
+abbrev pub carrying_text : Message → List ℕ
+carrying_text (Push a b) = push_text a b
+carrying_text (Finished a n ids) = finished_text a n ids
+carrying_text (At o k ns) = at_text o k ns
+carrying_text (CopyOf o k c) = copy_text o k c
+carrying_text _ = []
+
+-- who holds an object, and the others
+abbrev pub hold_text : Message → List ℕ
+hold_text (Hold e o) = codes "Hold(" ++ (id_text e ++ (codes ", " ++ (id_text o ++ codes ")")))
+hold_text (HoldAck e o) = codes "HoldAck(" ++ (id_text e ++ (codes ", " ++ (id_text o ++ codes ")")))
+hold_text (Unhold e o) = codes "Unhold(" ++ (id_text e ++ (codes ", " ++ (id_text o ++ codes ")")))
+hold_text m = carrying_text m
+
+-- where an object is, and the others
+abbrev pub place_text : Message → List ℕ
+place_text (Where o) = codes "Where(" ++ (id_text o ++ codes ")")
+place_text (Fetch o k) = codes "Fetch(" ++ (id_text o ++ (codes ", " ++ (decimal k ++ codes ")")))
+place_text (Missing o k n) = codes "Missing(" ++ (id_text o ++ (codes ", " ++ (decimal k ++ (codes ", n" ++ (decimal n ++ codes ")")))))
+place_text m = hold_text m
+
+abbrev pub closed_text : Attempt → List ℕ
+closed_text a = attempt_text a ++ codes ")"
+
+abbrev pub finished_ack_text : Attempt → List ℕ
+finished_ack_text a = codes "FinishedAck(" ++ closed_text a
+
+-- how an attempt stopped, and the others
+abbrev pub stop_text : Message → List ℕ
+stop_text (FinishedAck a) = finished_ack_text a
+stop_text (Back a) = codes "Back(" ++ (attempt_text a ++ codes ")")
+stop_text (Failed a f) = codes "Failed(" ++ (attempt_text a ++ (codes ", " ++ (fault_text f ++ codes ")")))
+stop_text (Gone o f) = codes "Gone(" ++ (id_text o ++ (codes ", " ++ (fault_text f ++ codes ")")))
+stop_text m = place_text m
+
+-- asks, and the others
+abbrev pub message_text : Message → List ℕ
+message_text (Ask a t) = codes "Ask(" ++ (attempt_text a ++ (codes ", " ++ (decimal t ++ codes ")")))
+message_text (Give a t w) = codes "Give(" ++ (attempt_text a ++ (codes ", " ++ (decimal t ++ (codes ", w" ++ (decimal w ++ codes ")")))))
+message_text (Elsewhere a t n) = codes "Elsewhere(" ++ (attempt_text a ++ (codes ", " ++ (decimal t ++ (codes ", n" ++ (decimal n ++ codes ")")))))
+message_text (Wait a t) = codes "Wait(" ++ (attempt_text a ++ (codes ", " ++ (decimal t ++ codes ")")))
+message_text m = stop_text m

@@ -1,0 +1,195 @@
+// Messages.
+
+ghost use Rattle.std.specs.Prelude.{◌≡◌, ◌++◌, OnOk, string_bytes};
+ghost use Rattle.message_text.specs.Messages.{at_text, carrying_text, closed_text, copy_text, finished_ack_text, finished_text, hold_text, message_text};
+ghost use Rattle.message_text.specs.Messages.{place_text, push_text, stop_text};
+
+use crate::lists::{write_nodes, write_objects};
+use crate::parties::{attempt_out, fault_out, object_out};
+use held::{Content, Origin};
+use history::kind_name;
+use log_words::{write_birth, write_content};
+use numbers::{AttemptId, NodeId, ObjectId};
+use protocol_data::Message;
+use sequence::Seq;
+use std::alloc::AllocError;
+
+fn write_push(text: &mut String, attempt: AttemptId, birth: &Origin) -> Result<(), AllocError>
+    ensures { OnOk result (string_bytes text.new ≡ string_bytes text.old ++ push_text attempt birth.now) }
+{
+    let attempt = attempt_out(attempt);
+    write!(text, "Push({attempt}, ")?;
+    write_birth(text, &birth.inner)?;
+    text.push_str(")")
+}
+
+fn write_finished(
+    text: &mut String,
+    attempt: AttemptId,
+    node: NodeId,
+    ids: &Seq<ObjectId>,
+) -> Result<(), AllocError>
+    ensures { OnOk result (string_bytes text.new ≡ string_bytes text.old ++ finished_text attempt node ids.now) }
+{
+    let attempt = attempt_out(attempt);
+    let node = node.0;
+    write!(text, "Finished({attempt}, n{node}, ")?;
+    write_objects(text, ids.as_slice())?;
+    text.push_str(")")
+}
+
+fn write_at(
+    text: &mut String,
+    object: ObjectId,
+    number: u32,
+    nodes: &Seq<NodeId>,
+) -> Result<(), AllocError>
+    ensures { OnOk result (string_bytes text.new ≡ string_bytes text.old ++ at_text object number nodes.now) }
+{
+    let object = object_out(object);
+    write!(text, "At({object}, {number}, ")?;
+    write_nodes(text, nodes.as_slice())?;
+    text.push_str(")")
+}
+
+fn write_copy(
+    text: &mut String,
+    object: ObjectId,
+    number: u32,
+    content: &Content,
+) -> Result<(), AllocError>
+    ensures { OnOk result (string_bytes text.new ≡ string_bytes text.old ++ copy_text object number content.now) }
+{
+    let object = object_out(object);
+    write!(text, "Copy({object}, {number}, ")?;
+    write_content(text, &content.inner)?;
+    text.push_str(")")
+}
+
+/// Writes a message that carries a task, objects, nodes or a content.
+fn write_carrying(text: &mut String, message: &Message) -> Result<(), AllocError>
+    ensures { OnOk result (string_bytes text.new ≡ string_bytes text.old ++ carrying_text message.now) }
+{
+    match message {
+        Message::Push(attempt, birth) => write_push(text, *attempt, birth),
+        Message::Finished(attempt, node, ids) => write_finished(text, *attempt, *node, ids),
+        Message::At(object, number, nodes) => write_at(text, *object, *number, nodes),
+        Message::CopyOf(object, number, content) => write_copy(text, *object, *number, content),
+        _ => Ok(()),
+    }
+}
+
+/// Writes what is said of who holds an object, and the others.
+fn write_hold(text: &mut String, message: &Message) -> Result<(), AllocError>
+    ensures { OnOk result (string_bytes text.new ≡ string_bytes text.old ++ hold_text message.now) }
+{
+    match message {
+        Message::Hold(holder, object) => {
+            let holder = object_out(*holder);
+            let object = object_out(*object);
+            write!(text, "Hold({holder}, {object})")
+        }
+        Message::HoldAck(holder, object) => {
+            let holder = object_out(*holder);
+            let object = object_out(*object);
+            write!(text, "HoldAck({holder}, {object})")
+        }
+        Message::Unhold(holder, object) => {
+            let holder = object_out(*holder);
+            let object = object_out(*object);
+            write!(text, "Unhold({holder}, {object})")
+        }
+        _ => write_carrying(text, message),
+    }
+}
+
+/// Writes what is said of where an object is, and the others.
+fn write_place(text: &mut String, message: &Message) -> Result<(), AllocError>
+    ensures { OnOk result (string_bytes text.new ≡ string_bytes text.old ++ place_text message.now) }
+{
+    match message {
+        Message::Where(object) => {
+            let object = object_out(*object);
+            write!(text, "Where({object})")
+        }
+        Message::Fetch(object, number) => {
+            let object = object_out(*object);
+            write!(text, "Fetch({object}, {number})")
+        }
+        Message::Missing(object, number, node) => {
+            let object = object_out(*object);
+            let node = node.0;
+            write!(text, "Missing({object}, {number}, n{node})")
+        }
+        _ => write_hold(text, message),
+    }
+}
+
+fn write_closed(text: &mut String, attempt: AttemptId) -> Result<(), AllocError>
+    ensures { OnOk result (string_bytes text.new ≡ string_bytes text.old ++ closed_text attempt) }
+{
+    let attempt = attempt_out(attempt);
+    write!(text, "{attempt})")
+}
+
+fn write_finished_ack(text: &mut String, attempt: AttemptId) -> Result<(), AllocError>
+    ensures { OnOk result (string_bytes text.new ≡ string_bytes text.old ++ finished_ack_text attempt) }
+{
+    text.push_str("FinishedAck(")?;
+    write_closed(text, attempt)
+}
+
+/// Writes what is said of how an attempt stopped, and the others.
+fn write_stop(text: &mut String, message: &Message) -> Result<(), AllocError>
+    ensures { OnOk result (string_bytes text.new ≡ string_bytes text.old ++ stop_text message.now) }
+{
+    match message {
+        Message::FinishedAck(attempt) => write_finished_ack(text, *attempt),
+        Message::Back(attempt) => {
+            let attempt = attempt_out(*attempt);
+            write!(text, "Back({attempt})")
+        }
+        Message::Failed(attempt, fault) => {
+            let attempt = attempt_out(*attempt);
+            let fault = fault_out(*fault);
+            let kind = kind_name(fault.kind);
+            let object = fault.object;
+            write!(text, "Failed({attempt}, {kind} {object})")
+        }
+        Message::Gone(lost, fault) => {
+            let lost = object_out(*lost);
+            let fault = fault_out(*fault);
+            let kind = kind_name(fault.kind);
+            let object = fault.object;
+            write!(text, "Gone({lost}, {kind} {object})")
+        }
+        _ => write_place(text, message),
+    }
+}
+
+/// Writes a message, such as `Push(a1.1#0, remote(3) sq(7))`: its kind and what it says, as docs/protocol.md has them.
+pub fn write_message(text: &mut String, message: &Message) -> Result<(), AllocError>
+    ensures { OnOk result (string_bytes text.new ≡ string_bytes text.old ++ message_text message.now) }
+{
+    match message {
+        Message::Ask(attempt, ask) => {
+            let attempt = attempt_out(*attempt);
+            write!(text, "Ask({attempt}, {ask})")
+        }
+        Message::Give(attempt, ask, worker) => {
+            let attempt = attempt_out(*attempt);
+            let worker = worker.0;
+            write!(text, "Give({attempt}, {ask}, w{worker})")
+        }
+        Message::Elsewhere(attempt, ask, node) => {
+            let attempt = attempt_out(*attempt);
+            let node = node.0;
+            write!(text, "Elsewhere({attempt}, {ask}, n{node})")
+        }
+        Message::Wait(attempt, ask) => {
+            let attempt = attempt_out(*attempt);
+            write!(text, "Wait({attempt}, {ask})")
+        }
+        _ => write_stop(text, message),
+    }
+}

@@ -1,0 +1,11 @@
+//! Messages in words, and a log in words with the messages that each event sent.
+#![tactic(auto)]
+
+mod kinds;
+mod letters;
+mod lists;
+mod parties;
+mod sent;
+mod text;
+
+pub use text::log_with_messages;

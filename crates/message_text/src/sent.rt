@@ -1,0 +1,81 @@
+// The messages that each event sent.
+
+ghost use Rattle.std.specs.Prelude.{◌≡◌, ◌++◌, OnOk, drop, string_bytes};
+ghost use Rattle.event_log.specs.Views.{log_of};
+ghost use Rattle.message_text.specs.Sent.{is_over, letters_between, sent_behind, sent_note, sent_text};
+
+use crate::letters::write_letters;
+use event_log::Entry;
+use protocol_data::Letter;
+use std::alloc::AllocError;
+
+/// How many messages had been sent behind that event, counted from 1; none before the first.
+fn sent_behind(sent: &[usize], event: usize) -> usize
+    ensures { result ≡ sent_behind sent.now event }
+{
+    if event == 0 {
+        return 0;
+    }
+    match sent.get(event - 1) {
+        Some(count) => *count,
+        None => 0,
+    }
+}
+
+/// The messages with the numbers behind `from`, up to `until`.
+fn letters_between(letters: &[Letter], from: usize, until: usize) -> &[Letter]
+    ensures { result.now ≡ letters_between letters.now from until }
+{
+    if from >= letters.len() || until <= from {
+        return &letters[..0];
+    }
+    let rest = &letters[from..];
+    let count = until - from;
+    if count >= rest.len() {
+        return rest;
+    }
+    &rest[..count]
+}
+
+/// Writes the messages that the event sent.
+fn write_sent(
+    text: &mut String,
+    letters: &[Letter],
+    sent: &[usize],
+    event: usize,
+) -> Result<(), AllocError>
+    ensures { OnOk result (string_bytes text.new ≡ string_bytes text.old ++ sent_text letters.now sent.now event) }
+{
+    if event == 0 {
+        return Ok(());
+    }
+    let from = sent_behind(sent, event - 1);
+    let until = sent_behind(sent, event);
+    write_letters(text, from, letters_between(letters, from, until))
+}
+
+/// Whether no entry of an event is still to come at the place.
+pub fn is_over_at(log: &[Entry], place: usize) -> bool
+    ensures { result ≡ is_over (log_of (drop place log.now)) }
+{
+    match log.get(place) {
+        None | Some(Entry::In { .. }) => true,
+        Some(_) => false,
+    }
+}
+
+/// Writes the messages that the event sent, where it is over.
+pub fn write_sent_where_over(
+    text: &mut String,
+    letters: &[Letter],
+    sent: &[usize],
+    event: usize,
+    is_over: bool,
+) -> Result<(), AllocError>
+    ensures { OnOk result (string_bytes text.new ≡ string_bytes text.old ++ sent_note letters.now sent.now event is_over) }
+{
+    if is_over {
+        return write_sent(text, letters, sent, event);
+    }
+    Ok(())
+}

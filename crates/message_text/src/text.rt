@@ -1,0 +1,36 @@
+// A log in words, with the messages that each event sent.
+
+ghost use Rattle.std.specs.Prelude.{◌≡◌, IfOk, string_bytes};
+ghost use Rattle.event_log.specs.Views.{log_of};
+ghost use Rattle.message_text.specs.Text.{log_with_messages};
+
+use crate::sent::{is_over_at, write_sent_where_over};
+use event_log::Entry;
+use log_text::write_line;
+use log_words::{BirthIndex, Told, is_refusal_at};
+use protocol_data::Letter;
+use std::alloc::{AllocError, Global};
+
+/// The log in words, as `log_text` has it, and below what came of each event a line for each message that the event sent: who sent it to
+/// whom, its number, and what it says, as docs/protocol.md has it. `letters` are all messages in the order of their numbers, and `sent` is
+/// how many had been sent behind each event. An event without a count sent nothing, and so one behind it.
+pub fn log_with_messages(
+    alloc: Global,
+    log: &[Entry],
+    letters: &[Letter],
+    sent: &[usize],
+) -> Result<String, AllocError>
+    ensures { IfOk result (λ text. string_bytes text ≡ log_with_messages (log_of log.now) letters.now sent.now) }
+{
+    let mut text = String::new(alloc);
+    let index = BirthIndex::of(alloc, log)?;
+    let mut told = Told::new(alloc);
+    for (place, entry) in log.iter().enumerate() {
+        let is_refused = is_refusal_at(log, place + 1);
+        write_line(&mut text, &index, log, &told, entry, is_refused)?;
+        told.note(entry, is_refused)?;
+        let is_over = is_over_at(log, place + 1);
+        write_sent_where_over(&mut text, letters, sent, told.events, is_over)?;
+    }
+    Ok(text)
+}

@@ -1,11 +1,13 @@
 // Scripts for the tests.
 
-use script_check::{Checked, check};
+use script_check::check;
 use script_syntax::parse;
+use segment::Compiled;
 use std::alloc::Global;
 use std::test::Fail;
 
-pub fn script(alloc: Global, text: &str) -> Result<Checked, Fail> {
+pub fn script(alloc: Global, text: &str) -> Result<Compiled, Fail> {
     let program = parse(alloc, text.as_bytes()).ok().ok_or("a program")?;
-    Ok(check(alloc, program).ok().ok_or("a script")?)
+    let checked = check(alloc, program).ok().ok_or("a script")?;
+    Ok(Compiled::new(alloc, checked).ok().ok_or("its code")?)
 }

@@ -11,9 +11,8 @@ use event_log::Event;
 use ids::WorkerId;
 use protocol_board::Board;
 use protocol_core::{Cluster, Core, Reply};
-use script_check::Checked;
 use seats::{Blanks, Seat, Shared};
-use segment::ScriptName;
+use segment::{Compiled, ScriptName};
 use sequence::Seq;
 use std::alloc::Global;
 use std::marker::Brand;
@@ -25,7 +24,7 @@ use std::test::Fail;
 fn begin<S: ScriptName, E: Ledger, G: Ledger, C: Ledger, J: Ledger, R: Wait>(
     rt: &R,
     alloc: Global,
-    script: &Checked,
+    script: &Compiled,
     shared: &Shared<S, E, G, C, J>,
     seat: &mut Seat<E, G, C, J>,
 ) -> bool
@@ -70,7 +69,7 @@ fn go_on<S: ScriptName, E: Ledger, G: Ledger, C: Ledger, J: Ledger, R: Wait>(
 fn report_of<S: ScriptName, E: Ledger, G: Ledger, C: Ledger, J: Ledger, R: Wait>(
     rt: &R,
     alloc: Global,
-    script: &Checked,
+    script: &Compiled,
     blanks: Blanks,
 ) -> Result<String, Fail>
     requires script { script_of script.now ≡ S.script }
@@ -80,7 +79,7 @@ fn report_of<S: ScriptName, E: Ledger, G: Ledger, C: Ledger, J: Ledger, R: Wait>
     requires committed { (blanks.committed.name ≡ J.name) × (blanks.committed.parts ≡ J.parts) × (J.parts ≡ 2) }
 {
     let cluster = Cluster::new(1, 4).ok_or("a cluster")?;
-    let board = Board::new(Core::<S>::new(alloc, script, cluster)?);
+    let board = Board::new(Core::<S>::new(alloc, script.script(), cluster)?);
     let plan = RunPlan {
         lines: Seq::new(alloc),
     };

@@ -1,5 +1,5 @@
 -- What a run on threads writes, and its status.
-use Rattle.std.specs.Prelude.{◌≡◌, ◌⊎◌, ℕ, Bool, true, List, Option, take, IfSome}
+use Rattle.std.specs.Prelude.{◌≡◌, ◌⊎◌, ℕ, Bool, true, List, [], Option, take, IfSome}
 use Rattle.std.specs.Io.KnownBytes.{Appends}
 use Rattle.meaning.specs.Syntax.{Script}
 use Rattle.event_log.specs.Views.{code_of, log_of}
@@ -10,6 +10,7 @@ use Rattle.event_files.specs.Files.{IsBadAt, IsFile}
 use Rattle.event_files.specs.Plans.{IsPlanLine, plan_line_text}
 use Rattle.event_files.specs.Printing.{events_text}
 use Rattle.history.specs.Main.{status_of}
+use Rattle.protocol.specs.Messages.{Letter}
 use Rattle.protocol_board.specs.Meant.{IsSoundLog}
 use Rattle.seats.specs.Ends.{AddsUp}
 use Rattle.raysim_streams.specs.declared.Failure.TheVariants.{Read, Write, Closed}
@@ -32,7 +33,8 @@ pub record IsRunOn (script : Script) (threads : ℕ) (form : Form) (report histo
   pub log : List Entry
   pub meant : IsSoundLog script nodes (log_of log)
   pub books : AddsUp threads (log_of log)
-  pub reported : IsReportIn form (log_of log) report
+  pub messages : List Letter
+  pub reported : IsReportIn form (record { log = log_of log; messages = messages; sent = []; lines = [] }) report
   pub recorded : history ≡ events_text (events_in log)
   pub ends : status ≡ status_of (log_of log)
 

@@ -6,14 +6,14 @@ ghost use Rattle.raysim_commands.specs.Scripts.{IsScript, IsUnwritten};
 ghost use Rattle.thread_commands.specs.ThreadReports.{ExplainsInputs, ExplainsPlan, IsPlan};
 
 use event_files::{EventError, RunPlan, parse_plan};
-use raysim_commands::{Refusal, Source, checked_script, read_at_most, read_script};
-use script_check::Checked;
+use raysim_commands::{Refusal, Source, compiled_script, read_at_most, read_script};
+use segment::Compiled;
 use std::alloc::Global;
 
-/// A checked script, and the plan beside which it is run.
+/// A checked script with its code, and the plan beside which it is run.
 #[derive(Drop)]
 pub struct Inputs {
-    pub script: Checked,
+    pub script: Compiled,
     pub plan: RunPlan,
 }
 
@@ -43,7 +43,7 @@ pub fn read_inputs<A: Source, P: Source>(
         (A.has_failed reader.new) (P.has_failed plan.new) refusal) }
 {
     let text = read_script(alloc, reader)?;
-    let script = match checked_script(alloc, text.as_slice()) {
+    let script = match compiled_script(alloc, text.as_slice()) {
         Ok(script) => script,
         Err(refusal) => return Err(refusal),
     };

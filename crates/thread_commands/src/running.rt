@@ -12,9 +12,9 @@ use histories::history;
 use protocol_board::Board;
 use protocol_core::Core;
 use raysim_commands::{Cluster, Form, Refusal, report};
-use script_check::Checked;
 use seats::{Ended, Gate, run_on_threads};
-use segment::ScriptName;
+use segment::{Compiled, ScriptName};
+use sequence::Seq;
 use std::alloc::{AllocError, Global};
 use std::rt::Clock;
 use std::sync::Wait;
@@ -28,7 +28,7 @@ pub struct Outputs {
     pub status: u8,
 }
 
-/// What is written of a run that is over.
+/// What is written of a run that is over, where messages aren't told by their events, nor events by lines of a file.
 fn outputs_of<S: ScriptName>(
     alloc: Global,
     board: &Board<S>,
@@ -39,7 +39,8 @@ fn outputs_of<S: ScriptName>(
     ensures { IfOk result (λ out. IsRunOn S.script threads form (string_bytes out.report) (string_bytes out.history) out.status) }
 {
     let history = history(alloc, board.log())?;
-    let report = report(alloc, board, form)?;
+    let unknown = Seq::new(alloc);
+    let report = report(alloc, board, &unknown, &unknown, form)?;
     let status = board.status();
     Ok(Outputs {
         history,
@@ -52,7 +53,7 @@ fn outputs_of<S: ScriptName>(
 pub fn run_script<S: ScriptName + Send + Sync, K: Gate + Sync, R: Threads + Wait + Clock + Sync>(
     rt: &R,
     alloc: Global,
-    script: &Checked,
+    script: &Compiled,
     plan: RunPlan,
     cluster: Cluster,
     form: Form,
@@ -64,7 +65,7 @@ pub fn run_script<S: ScriptName + Send + Sync, K: Gate + Sync, R: Threads + Wait
     ensures run { IfOk result (λ out. IsRunOn S.script threads form (string_bytes out.report) (string_bytes out.history) out.status) }
     ensures stopped { IfErr result IsStop }
 {
-    let core = Core::<S>::new(alloc, script, cluster)?;
+    let core = Core::<S>::new(alloc, script.script(), cluster)?;
     let board = Board::new(core);
     match run_on_threads(rt, alloc, board, plan, threads, script, gate)? {
         Ended::Over(board) => Ok(outputs_of(alloc, &board, form, threads)?),

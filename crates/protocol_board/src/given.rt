@@ -9,6 +9,7 @@ ghost use Rattle.protocol_board.specs.declared.stopped.Stopped.TheVariants.{NoMe
 
 use crate::stopped::Stopped;
 use event_log::{Event, Refusal};
+use kept_frames::Frames;
 use number_lists::place_of;
 use protocol_core::Reply;
 use segment::{Compiled, Done, Job, ScriptName};
@@ -39,10 +40,11 @@ pub fn hand_in<S: ScriptName>(jobs: &mut Seq<Option<Job<S>>>, event: Event) -> O
     }
 }
 
-/// Runs the job, if there is one.
+/// Runs the job, if there is one, from its frame where that is kept.
 pub fn run_job<S: ScriptName>(
     alloc: Global,
     script: &Compiled,
+    frames: &mut Frames<S>,
     job: Option<Job<S>>,
 ) -> Result<Option<Done<S>>, Stopped>
     requires { script_of script.now ≡ S.script }
@@ -52,7 +54,7 @@ pub fn run_job<S: ScriptName>(
     let Some(job) = job else {
         return Ok(None);
     };
-    match job.run(alloc, script) {
+    match frames.run(alloc, script, job) {
         Ok(done) => Ok(Some(done)),
         Err(_) => Err(Stopped::NoMemory),
     }

@@ -13,6 +13,7 @@ use crate::given::{hand_in, keep, run_job};
 use crate::stopped::Stopped;
 use event_files::{Line, MOST_EVENTS};
 use event_log::Event;
+use kept_frames::Frames;
 use numbers::WorkerId;
 use protocol_core::Core;
 use segment::{Compiled, Job, ScriptName};
@@ -27,6 +28,8 @@ pub struct Replay<S: ScriptName> {
     board: Board<S>,
     /// The jobs that were given out, by number, and not handed in yet.
     jobs: Seq<Option<Job<S>>>,
+    /// Where attempts wait.
+    frames: Frames<S>,
     /// How many events were applied, refused ones too.
     applied: usize,
     /// Behind each event, how many messages had been sent.
@@ -70,6 +73,7 @@ impl<S: ScriptName> Replay<S> {
         Replay {
             board: Board::new(core),
             jobs: Seq::new(alloc),
+            frames: Frames::new(alloc),
             applied: 0,
             sent: Seq::new(alloc),
             begun: 0,
@@ -120,7 +124,7 @@ impl<S: ScriptName> Replay<S> {
             return Err(Stopped::TooLong);
         }
         let job = hand_in(&mut self.jobs, event);
-        let done = run_job(alloc, script, job)?;
+        let done = run_job(alloc, script, &mut self.frames, job)?;
         self.applied += 1;
         let told = self.board.apply(alloc, event, 0, done);
         keep(&mut self.jobs, told)?;

@@ -4,7 +4,7 @@ use Rattle.meaning.specs.Meaning.{find, replay}
 use Rattle.script_check.specs.Trees.{script_of}
 use Rattle.values.specs.Values.{id_of}
 use Rattle.frame_laws.specs.Compile.{number_of}
-use Rattle.std.proofs.Common.{length, []}
+use Rattle.std.proofs.Common.{length}
 use Rattle.frames.specs.Values.{outcome_of}
 use Rattle.frames.specs.Machines.{argument_of}
 use Rattle.frames.specs.Courses.{no_past}

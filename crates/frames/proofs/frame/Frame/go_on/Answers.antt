@@ -1,5 +1,4 @@
-use Rattle.std.proofs.Common.{[], ◌∷◌, ◌++◌, map, refl, sym, ap, ◌∙◌, subst}
-use Rattle.meaning.specs.Meaning.{replay}
+use Rattle.std.proofs.Common.{[], ◌∷◌, ◌++◌, map, refl, ap, ◌∙◌, subst}
 use Rattle.script_check.specs.Trees.{script_of}
 use Rattle.frames.specs.Values.{outcome_of}
 use Rattle.frames.specs.Frames.{HaltsBehind, KeepsFrame}

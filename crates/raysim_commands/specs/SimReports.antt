@@ -52,7 +52,8 @@ pub record IsReplayed (script : Script) (size : Size) (lines : List Line) (p : P
 -- the report of the replay of these lines, which have these numbers in their file, and its status
 abbrev pub IsSimReportOf : Script → Size → Form → List Line → List ℕ → List ℕ → ℕ → Type 0
 IsSimReportOf script size form lines numbers report status =
-    (p : Play) × IsReplayed script size lines p × IsReportIn form (account_of p.run p.sent (lines_in_file numbers p.lines)) report × (status ≡ status_of p.run.log)
+    (p : Play) × IsReplayed script size lines p × IsReportIn form (account_of p.run p.sent (lines_in_file numbers p.lines)) report ×
+    (status ≡ status_of p.run.log)
 
 -- the replay of these lines stops before an event more than it may apply
 abbrev pub IsTooLong : Script → Size → List Line → Type 0
@@ -89,7 +90,8 @@ IfBoth text events P = IfSome text (λ t. IfSome events (λ e. P t e))
 -- the texts are a script and an event file of more events than a replay may apply
 abbrev pub IsStopped : Size → ℕ → List ℕ → List ℕ → Type 0
 IsStopped size code text events =
-    (code ≡ 41) × (script : Script) × (lines : List Line) × (numbers : List ℕ) × IsScript text script × AreEvents events lines numbers × IsTooLong script size lines
+    (code ≡ 41) × (script : Script) × (lines : List Line) × (numbers : List ℕ) × IsScript text script × AreEvents events lines numbers ×
+    IsTooLong script size lines
 
 -- the text is a script, and the line of that number is the first of the other that is none of an event file
 abbrev pub IsBadLine : ℕ → List ℕ → List ℕ → Type 0

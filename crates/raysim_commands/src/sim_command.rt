@@ -74,7 +74,8 @@ fn sim_script<S: ScriptName>(
     form: Form,
 ) -> Result<SimReport, Refusal>
     requires { script_of script.now ≡ S.script }
-    ensures reported { IfOk result (λ report. IsSimReportOf (script_of script.now) cluster form events.now.lines events.now.numbers (string_bytes report.text) report.status) }
+    ensures reported { IfOk result (λ report. IsSimReportOf (script_of script.now) cluster form events.now.lines events.now.numbers
+        (string_bytes report.text) report.status) }
     ensures stopped { IfErr result (IsStopOf (script_of script.now) cluster events.now.lines) }
 {
     let core = Core::<S>::new(alloc, script.script(), cluster)?;

@@ -4,9 +4,10 @@
     raysim sim S E --timeline T --lineage L && tools/check_views.py T L
 
 Of the timeline: it is JSON in Chrome's trace event format; every span has its beginning and its end, in the row of a named worker of a
-named node; the spans of a row lie in one another or apart, and a get lies in its attempt; nothing begins in a row after its worker died;
-each flow that begins ends, once and not earlier. Of the lineage: each line is a statement of the language DOT, and every end of an edge is
-a node with a label; where Graphviz is installed, it draws the graph.
+named node or in the node's own; the spans of a row lie in one another or apart, and a get lies in its attempt; what is run in a row ends where
+its worker dies; each flow that begins ends, once and later, by the same name, and at both ends an event's span of the row begins in that moment.
+Of the lineage: each line is a statement of the language DOT, and every end of an edge is a node with a label; where Graphviz is installed, it
+draws the graph.
 """
 import shutil
 import subprocess
@@ -16,21 +17,24 @@ import views
 from views import want
 
 
+def row_of(event):
+    return event["pid"], event["tid"]
+
+
 def check_rows(events):
     """Each row has its names, and what is in it nests."""
-    nodes, workers = views.names_of(events)
+    nodes, names = views.names_of(events)
     rows = {}
     for event in events:
         if event["ph"] == "M":
             continue
         want(event["pid"] in nodes, f"process {event['pid']} has no name")
-        row = (event["pid"], event["tid"])
-        want(event["tid"] == 0 or row in workers, f"thread {row} has no name")
+        want(row_of(event) in names, f"thread {row_of(event)} has no name")
         if event["ph"] == "X":
-            rows.setdefault(row, []).append(event)
+            rows.setdefault(row_of(event), []).append(event)
     for row, spans in rows.items():
         check_nested(row, spans)
-    return len(nodes), len(workers), sum(len(spans) for spans in rows.values())
+    return len(nodes), sum(1 for row in names if row[1]), sum(len(spans) for spans in rows.values())
 
 
 def check_nested(row, spans):
@@ -48,27 +52,28 @@ def check_nested(row, spans):
 
 
 def check_deaths(events):
-    """Nothing begins in a row after its death."""
+    """What is run in a row ends with its death. One that dies may still be given an attempt by an owner that doesn't know, and sent messages."""
     for mark in events:
         if mark["ph"] == "i" and mark["name"] == "dies" and mark["s"] == "t":
-            row = (mark["pid"], mark["tid"])
             for event in events:
-                late = event["ph"] == "X" and (event["pid"], event["tid"]) == row and event["ts"] + event["dur"] > mark["ts"]
-                want(not late, f"thread {row}: {event['name']} goes on after the death")
+                is_run = event["ph"] == "X" and event["cat"] != "event" and row_of(event) == row_of(mark) and event["ts"] < mark["ts"]
+                want(not is_run or event["ts"] + event["dur"] <= mark["ts"], f"thread {row_of(mark)}: {event['name']} goes on after the death")
 
 
 def check_flows(events):
-    """Each flow begins once and ends once, not before it began."""
+    """Each flow begins once and ends once, later, by the same name, at both ends where a span of an event begins in the row."""
+    spans = {(row_of(it), it["ts"]) for it in events if it["ph"] == "X" and it["cat"] == "event"}
     begins, ends = {}, {}
     for event in events:
         if event["ph"] in ("s", "f"):
             side = begins if event["ph"] == "s" else ends
-            key = (event.get("cat"), event["id"])
+            key = (event["cat"], event["name"], event["id"])
             want(key not in side, f"flow {key} is there twice")
+            want((row_of(event), event["ts"]) in spans, f"flow {key} is in no span of an event")
             side[key] = event["ts"]
     want(begins.keys() == ends.keys(), f"flows without the other end: {sorted(begins.keys() ^ ends.keys())}")
     for key, begin in begins.items():
-        want(begin <= ends[key], f"flow {key} ends before it begins")
+        want(begin < ends[key], f"flow {key} ends before it begins")
     return len(begins)
 
 

@@ -3,11 +3,11 @@
 
     raysim sim S E --timeline T --lineage L && tools/draw_views.py T L OUT
 
-writes OUT/timeline.svg and OUT/lineage.svg. In the timeline each node is a band with a line for each of its workers; a bar is an attempt,
-from the event in which its owner learned that it runs to its end, the pale part of it a get that waits, its red end that it broke or
-ended with a fault; a red cross is a death. In the lineage a box is a task and a rounded one a put; an arrow goes from an argument to what
-was computed from it, a dashed one to an object that a value names; below each object stand the attempts of its task, each with its worker
-and node (from the timeline) and what came of it.
+writes OUT/timeline.svg and OUT/lineage.svg, and makes the folder OUT where there is none. In the timeline each node is a band with a line for
+the node itself and one for each of its workers; a bar is an attempt, from the event in which its owner learned that it runs to its end, the pale
+part of it a get that waits, its red end that it broke or ended with a fault; a dot below is an event, an arrow a message, and a red cross a
+death. In the lineage a box is a task and a rounded one a put; an arrow goes from an argument to what was computed from it, a dashed one to an
+object that a value names; below each object stand the attempts of its task, each with its worker and node (from the timeline) and what came of it.
 """
 import os
 import sys
@@ -17,6 +17,11 @@ import views
 
 INK, FAINT, PAPER, PALE, RED = "#222222", "#777777", "#ffffff", "#f7f3d7", "#c0392b"
 FONT = 'font-family="DejaVu Sans, Helvetica, Arial, sans-serif"'
+ASKS, RUNS, PLACES, HOLDERS = "#8a6d3b", "#1f5fa8", "#2e7d32", "#8e44ad"
+KINDS = {**dict.fromkeys(("Ask", "Give", "Elsewhere", "Wait", "Back"), ASKS),
+         **dict.fromkeys(("Push", "Finished", "FinishedAck", "Failed"), RUNS),
+         **dict.fromkeys(("Where", "At", "Gone", "Fetch", "Copy", "Missing"), PLACES),
+         **dict.fromkeys(("Hold", "HoldAck", "Unhold"), HOLDERS)}
 COLORS = ["#4e79a7", "#59a14f", "#b07aa1", "#f28e2b", "#76b7b2", "#9c755f", "#edc948", "#7f8fa9"]
 
 
@@ -47,6 +52,20 @@ class Picture:
         more = (f' stroke-dasharray="{dash}"' if dash else "") + (' marker-end="url(#arrow)"' if arrow else "")
         self.shapes.append(f'<line x1="{x:g}" y1="{y:g}" x2="{to_x:g}" y2="{to_y:g}" stroke="{stroke}" stroke-width="{width}"{more}/>')
         self.reach(max(x, to_x), max(y, to_y))
+
+    def arrow(self, x, y, to_x, to_y, stroke, title):
+        """An arrow whose head has its own color, with room left at both ends."""
+        long = ((to_x - x) ** 2 + (to_y - y) ** 2) ** 0.5
+        right, down = (to_x - x) / long, (to_y - y) / long
+        x, y, to_x, to_y = x + right * DOT, y + down * DOT, to_x - right * DOT, to_y - down * DOT
+        back_x, back_y = to_x - right * 7, to_y - down * 7
+        points = f"{to_x:.1f},{to_y:.1f} {back_x - down * 2.5:.1f},{back_y + right * 2.5:.1f} {back_x + down * 2.5:.1f},{back_y - right * 2.5:.1f}"
+        self.shapes.append(f'<g stroke="{stroke}" fill="{stroke}"><title>{escape(title)}</title><line x1="{x:.1f}" y1="{y:.1f}" '
+                           f'x2="{back_x:.1f}" y2="{back_y:.1f}" stroke-width="1"/><polygon points="{points}" stroke="none"/></g>')
+
+    def dot(self, x, y, title):
+        self.shapes.append(f'<circle cx="{x:g}" cy="{y:g}" r="{DOT}" fill="{INK}"><title>{escape(title)}</title></circle>')
+        self.reach(x + DOT, y + DOT)
 
     def cross(self, x, y, size):
         self.line(x - size, y - size, x + size, y + size, RED, 2.5)
@@ -84,35 +103,64 @@ def fitting(all_words, room, size):
 
 # ---- the timeline
 
-LEFT, TOP, LINE, BAR, GAP = 56, 58, 38, 31, 26
+LEFT, TOP, LINE, BAR, OWN, GAP, DOT = 72, 58, 52, 31, 30, 20, 2.5
 
 
 def draw_timeline(events):
-    nodes, workers = views.names_of(events)
+    nodes, rows = views.names_of(events)
     last = max([it["ts"] + it.get("dur", 0) for it in events if it["ph"] != "M"], default=1)
     step = max(9, min(24, 1100 / max(last, 1)))
     picture = Picture()
-    picture.text(10, 22, "What each worker runs, event by event", 15, weight="bold")
-    colors = colors_of(events)
+    picture.text(10, 22, "What each worker runs, and who sends what to whom, event by event", 15, weight="bold")
     places, y = {}, TOP
     for pid in sorted(nodes):
-        rows = sorted(row for row in workers if row[0] == pid)
-        picture.box(LEFT - 46, y - 4, 46 + last * step + 24, len(rows) * LINE + 26, "#f4f4f2")
-        picture.text(LEFT - 40, y + 13, nodes[pid], 13, weight="bold")
-        places[(pid, 0)] = y + 8
-        for place, row in enumerate(rows):
-            places[row] = y + 22 + place * LINE
-            picture.text(LEFT - 34, places[row] + 20, workers[row], 12)
-        y += len(rows) * LINE + 22 + GAP
-    draw_axis(picture, last, step, y - GAP + 14)
-    for event in sorted(events, key=lambda it: it.get("cat") == "get"):
-        if event["ph"] == "X":
-            draw_span(picture, event, places[(event["pid"], event["tid"])], step, colors)
+        own = sorted(row for row in rows if row[0] == pid)
+        tall = OWN + (len(own) - 1) * LINE
+        picture.box(LEFT - 62, y, 62 + last * step + 24, tall, "#f4f4f2")
+        picture.text(LEFT - 56, y + 20, nodes[pid], 13, weight="bold")
+        for place, row in enumerate(own):
+            places[row] = y if place == 0 else y + OWN + (place - 1) * LINE
+            if place:
+                picture.text(LEFT - 42, places[row] + 20, rows[row], 12)
+            picture.line(LEFT, dots_at(places, row), LEFT + last * step, dots_at(places, row), "#dcdcd8")
+        y += tall + GAP
+    draw_axis(picture, last, step, y - GAP + 18)
+    draw_events(picture, events, places, step)
+    draw_key(picture, y + 36)
+    return picture.svg("A run's timeline")
+
+
+def draw_events(picture, events, places, step):
+    """Attempts, gets in them, messages, events and deaths, each above the ones before."""
+    colors = colors_of(events)
+    spans = [it for it in events if it["ph"] == "X"]
+    for kind in ("attempt", "get"):
+        for event in spans:
+            if event["cat"] == kind:
+                draw_span(picture, event, places[(event["pid"], event["tid"])], step, colors)
+    draw_messages(picture, events, places, step)
+    for event in spans:
+        if event["cat"] == "event":
+            row = (event["pid"], event["tid"])
+            picture.dot(LEFT + event["ts"] * step, dots_at(places, row), f"{event['ts']}. {event['name']}")
     for event in events:
         if event["ph"] == "i":
             draw_mark(picture, event, places[(event["pid"], event["tid"])], step)
-    draw_key(picture, y + 32)
-    return picture.svg("A run's timeline")
+
+
+def dots_at(places, row):
+    """Where the events of a row stand: below the bars of a worker."""
+    return places[row] + (BAR + 8 if row[1] else 16)
+
+
+def draw_messages(picture, events, places, step):
+    ends = {it["id"]: it for it in events if it["ph"] == "f"}
+    for begin in events:
+        if begin["ph"] == "s":
+            end = ends[begin["id"]]
+            x, y = LEFT + begin["ts"] * step, dots_at(places, (begin["pid"], begin["tid"]))
+            to_x, to_y = LEFT + end["ts"] * step, dots_at(places, (end["pid"], end["tid"]))
+            picture.arrow(x, y, to_x, to_y, KINDS[begin["name"]], f"message {begin['id']}: {begin['name']}")
 
 
 def colors_of(events):
@@ -155,20 +203,45 @@ def draw_mark(picture, event, y, step):
     if event["tid"]:
         picture.cross(x, y + BAR / 2, 6)
         return
-    picture.line(x, y - 10, x, y + 8, RED, 2)
+    picture.line(x, y - 6, x, y + 24, RED, 2)
     picture.text(x + 5, y + 5, event["name"], 11, RED, weight="bold")
 
 
 def draw_key(picture, y):
-    picture.box(LEFT - 46, y - 11, 22, 14, COLORS[0], rounded=3)
-    picture.text(LEFT - 18, y, "an attempt; the attempts of a task have its color")
-    picture.box(LEFT + 320, y - 11, 22, 14, COLORS[0], rounded=3)
-    picture.box(LEFT + 323, y - 4, 16, 5, PALE)
-    picture.text(LEFT + 348, y, "it waits in a get")
-    picture.cross(LEFT + 486, y - 4, 6)
-    picture.text(LEFT + 500, y, "its worker or its node dies")
-    picture.box(LEFT + 714, y - 11, 4, 14, RED)
-    picture.text(LEFT + 726, y, "it breaks, or ends with a fault")
+    x = 10
+    for draw, words in ((key_attempt, "an attempt; those of a task have its color"), (key_get, "it waits in a get"),
+                        (key_break, "it breaks, or ends with a fault"), (key_death, "its worker or its node dies"),
+                        (key_event, "an event with a message")):
+        draw(picture, x, y)
+        picture.text(x + 28, y, words)
+        x += 46 + wide(words, 9.8)
+    x = 10
+    for color, words in ((ASKS, "asks for workers: Ask, Give, Elsewhere, Wait, Back"), (RUNS, "attempts: Push, Finished, FinishedAck, Failed"),
+                         (PLACES, "copies: Where, At, Gone, Fetch, Copy, Missing"), (HOLDERS, "holders: Hold, HoldAck, Unhold")):
+        picture.arrow(x - 3, y + 18, x + 25, y + 18, color, words)
+        picture.text(x + 28, y + 22, words)
+        x += 46 + wide(words, 9.8)
+
+
+def key_attempt(picture, x, y):
+    picture.box(x, y - 11, 22, 14, COLORS[0], rounded=3)
+
+
+def key_get(picture, x, y):
+    picture.box(x, y - 11, 22, 14, COLORS[0], rounded=3)
+    picture.box(x + 3, y - 4, 16, 5, PALE)
+
+
+def key_break(picture, x, y):
+    picture.box(x + 9, y - 11, 4, 14, RED)
+
+
+def key_death(picture, x, y):
+    picture.cross(x + 11, y - 4, 6)
+
+
+def key_event(picture, x, y):
+    picture.dot(x + 11, y - 4, "an event")
 
 
 # ---- the lineage
@@ -204,10 +277,10 @@ def draw_lineage(nodes, edges, events):
 
 def ends_of_workers(events):
     """Of each worker its node, and what died with it: nothing, the worker, or the node."""
-    nodes, workers = views.names_of(events)
+    nodes, rows = views.names_of(events)
     dead = {(it["pid"], it["tid"]) for it in events if it["ph"] == "i" and it["name"] == "dies"}
     ends = {}
-    for row, worker in workers.items():
+    for row, worker in rows.items():
         node = nodes[row[0]]
         lost = f", and {node} died" if (row[0], 0) in dead else f", and {worker} died" if row in dead else ""
         ends[worker] = f"on {worker} of {node}", lost
@@ -271,6 +344,7 @@ def main():
     with open(sys.argv[2], encoding="ascii") as file:
         nodes, edges = views.read_lineage(file.read())
     timeline, lineage = draw_timeline(events), draw_lineage(nodes, edges, events)
+    os.makedirs(sys.argv[3], exist_ok=True)
     for name, text in (("timeline.svg", timeline), ("lineage.svg", lineage)):
         with open(os.path.join(sys.argv[3], name), "w", encoding="ascii") as file:
             file.write(text)

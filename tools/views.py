@@ -35,22 +35,26 @@ def read_timeline(text):
         if kind == "i":
             want(event.get("s") in ("g", "p", "t"), f"{where}: the mark has no scope")
         if kind in ("s", "f"):
-            want("id" in event, f"{where}: the flow has no id")
+            want(is_count(event.get("id")), f"{where}: the flow has no id")
+            want(isinstance(event.get("cat"), str), f"{where}: the flow has no category")
+            want(kind == "s" or event.get("bp") == "e", f"{where}: the flow does not end in the span around it")
     return whole["traceEvents"]
 
 
 def names_of(events):
-    """The names of the nodes by pid, and of the workers by pid and tid."""
-    nodes, workers = {}, {}
+    """The names of the nodes by pid, and of the rows by pid and tid: 0 is the node's own, the others are those of its workers."""
+    nodes, rows = {}, {}
     for event in events:
         if event["ph"] == "M":
             name = event["args"]["name"]
             if event["name"] == "process_name":
-                want(nodes.setdefault(event["pid"], name) == name, f"process {event['pid']} has two names")
+                want(event["pid"] not in nodes, f"process {event['pid']} is named twice")
+                nodes[event["pid"]] = name
             elif event["name"] == "thread_name":
                 row = (event["pid"], event["tid"])
-                want(workers.setdefault(row, name) == name, f"thread {row} has two names")
-    return nodes, workers
+                want(row not in rows, f"thread {row} is named twice")
+                rows[row] = name
+    return nodes, rows
 
 
 def read_lineage(text):

@@ -9,6 +9,7 @@ ghost use Rattle.script_check.specs.Trees.{script_of};
 ghost use Rattle.values.specs.Values.{value_of, content_of, id_of};
 ghost use Rattle.task_spec.specs.Births.{birth_of};
 ghost use Rattle.frame_laws.specs.Resuming.{after};
+ghost use Rattle.frame_laws.specs.Steps.{HasSteps};
 ghost use Rattle.frames.specs.Courses.{Past, no_past};
 ghost use Rattle.frames.specs.Frames.{IsWaiting};
 ghost use Rattle.frames.specs.Tasks.{stopped_by};
@@ -43,6 +44,9 @@ pub struct Piece {
     pub stop: Stop,
     /// Where it stops at a get, the frame from which it goes on with an answer.
     pub frame: Option<Frame>,
+    /// How many steps it began since the last of its answers, or since its start where it had none: statements, and expressions but for
+    /// parentheses. At 2^64 - 1 the count stays.
+    pub steps: u64,
 }
 
 /// Why there is no piece.
@@ -113,6 +117,7 @@ fn to_piece(alloc: Global, attempt: &Attempt) -> Result<Piece, ConversionError>
         prints,
         stop,
         frame: None,
+        steps: attempt.steps,
     })
 }
 
@@ -120,6 +125,7 @@ fn to_piece(alloc: Global, attempt: &Attempt) -> Result<Piece, ConversionError>
 fn finish(alloc: Global, attempt: Attempt) -> Result<Piece, PieceError>
     ensures value { IfOk result (λ p. IsPieceOf p attempt) }
     ensures frame { IfOk result (λ p. p.frame ≡ attempt.frame) }
+    ensures steps { IfOk result (λ p. p.steps ≡ attempt.steps) }
     ensures broken { IfErr result (λ e. e ≡ PieceError.Broken → (past : Past) (q : runs.Piece) → Stands past attempt q → IsTaskPiece q →
         q.stop ≡ Over (Trapped Broken)) }
 {
@@ -138,24 +144,28 @@ fn with_frame(piece: Piece, attempt: Attempt) -> Piece
     ensures prints { result.prints.items ≡ piece.prints.items }
     ensures stop { result.stop ≡ piece.stop }
     ensures frame { result.frame ≡ attempt.frame }
+    ensures steps { result.steps ≡ attempt.steps }
 {
     let Attempt {
         births: _,
         prints: _,
         halt: _,
         frame,
+        steps,
     } = attempt;
     let Piece {
         births,
         prints,
         stop,
         frame: _,
+        steps: _,
     } = piece;
     Piece {
         births,
         prints,
         stop,
         frame,
+        steps,
     }
 }
 
@@ -163,6 +173,7 @@ fn with_frame(piece: Piece, attempt: Attempt) -> Piece
 fn put_piece(alloc: Global, value: &RunValue) -> Result<Piece, AllocError>
     ensures value { IfOk result (λ p. piece_of p ≡ stopped (Over (Val (value_of value.now)))) }
     ensures frame { IfOk result (λ p. p.frame ≡ None) }
+    ensures steps { IfOk result (λ p. p.steps ≡ 0) }
 {
     let value = value.copy(alloc)?;
     Ok(Piece {
@@ -170,6 +181,7 @@ fn put_piece(alloc: Global, value: &RunValue) -> Result<Piece, AllocError>
         prints: Vec::new(alloc),
         stop: Stop::Ends(Content::Value(value)),
         frame: None,
+        steps: 0,
     })
 }
 
@@ -188,6 +200,8 @@ pub fn run_piece(
         (replay (script_of script.now) (birth_of spec.now) (id_of base) (map content_of answers.now)).stop ≡ Over (Trapped Broken)) }
     // Its frame, if it has one, is where the task waits that was so answered.
     ensures keeps { IfOk result (λ p. Keeps (script_of script.now) (birth_of spec.now) (id_of base) no_past (map content_of answers.now) p) }
+    // Its steps are those that the task began since the last of the answers.
+    ensures counts { IfOk result (λ p. HasSteps (script_of script.now) (birth_of spec.now) (id_of base) (map content_of answers.now) p.steps) }
 {
     match spec {
         Birth::Put(value) => Ok(put_piece(alloc, value)?),
@@ -233,6 +247,10 @@ pub fn go_on(
     ensures keeps { IfOk result (λ p. (spec : Birth) (base : Id) (before : Before) →
         IsWaiting (script_of script.now) (birth_of spec) base (past_of before) frame →
         Keeps (script_of script.now) (birth_of spec) base (past_of before) (content_of answer.now ∷ []) p) }
+    // Its steps are those that the task began since this answer.
+    ensures counts { IfOk result (λ p. (spec : Birth) (base : Id) (before : Before) →
+        IsWaiting (script_of script.now) (birth_of spec) base (past_of before) frame →
+        HasSteps (script_of script.now) (birth_of spec) base (answered_so before answer.now) p.steps) }
 {
     let answer = from_content(alloc, answer)?;
     let attempt = frame.go_on(alloc, script, answer)?;

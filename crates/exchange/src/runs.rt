@@ -1,66 +1,74 @@
-// The job that an attempt would be given out as, beside the attempt.
+// Whether a job is the one that an attempt is given out as.
 
-ghost use Rattle.std.specs.Prelude.{◌≡◌, IfOk, map};
+ghost use Rattle.std.specs.Prelude.{◌≡◌, map, true};
 ghost use Rattle.values.specs.Values.{content_of, value_of};
 ghost use Rattle.task_spec.specs.Births.{birth_of};
 ghost use Rattle.protocol.specs.Answers.{job_of};
-ghost use Rattle.segment.specs.Parts.{data_of};
 ghost use Rattle.exchange.specs.Jobs.{job_in};
 
 use crate::across::{attempt, object};
 use held::{Content as HeldContent, Origin, Printed};
 use protocol_data::Run;
-use segment::JobParts;
+use segment::{Job, ScriptName};
 use sequence::Seq;
-use std::alloc::{AllocError, Global};
 use task_spec::Birth;
 use values::{Content, RunValue};
 
-fn copy_births(alloc: Global, births: &Seq<Origin>) -> Result<Vec<Birth>, AllocError>
-    ensures { IfOk result (λ bs. map birth_of bs.items ≡ births.now) }
+fn are_births(births: &[Birth], held: &Seq<Origin>) -> bool
+    ensures same { result ≡ true → map birth_of births.now ≡ held.now }
+    ensures only { map birth_of births.now ≡ held.now → result ≡ true }
 {
-    let mut copies = Vec::new(alloc);
-    for birth in &births.items {
-        copies.push(birth.inner.copy(alloc)?)?;
+    if births.len() != held.len() {
+        return false;
     }
-    Ok(copies)
+    for i in 0..births.len() {
+        if !births[i].is_same(&held.items[i].inner) {
+            return false;
+        }
+    }
+    true
 }
 
-fn copy_prints(alloc: Global, prints: &Seq<Printed>) -> Result<Vec<RunValue>, AllocError>
-    ensures { IfOk result (λ vs. map value_of vs.items ≡ prints.now) }
+fn are_prints(prints: &[RunValue], held: &Seq<Printed>) -> bool
+    ensures same { result ≡ true → map value_of prints.now ≡ held.now }
+    ensures only { map value_of prints.now ≡ held.now → result ≡ true }
 {
-    let mut copies = Vec::new(alloc);
-    for value in &prints.items {
-        copies.push(value.inner.copy(alloc)?)?;
+    if prints.len() != held.len() {
+        return false;
     }
-    Ok(copies)
+    for i in 0..prints.len() {
+        if !prints[i].is_same(&held.items[i].inner) {
+            return false;
+        }
+    }
+    true
 }
 
-fn copy_answers(alloc: Global, answers: &Seq<HeldContent>) -> Result<Vec<Content>, AllocError>
-    ensures { IfOk result (λ cs. map content_of cs.items ≡ answers.now) }
+fn are_answers(answers: &[Content], held: &Seq<HeldContent>) -> bool
+    ensures same { result ≡ true → map content_of answers.now ≡ held.now }
+    ensures only { map content_of answers.now ≡ held.now → result ≡ true }
 {
-    let mut copies = Vec::new(alloc);
-    for content in &answers.items {
-        copies.push(content.inner.copy(alloc)?)?;
+    if answers.len() != held.len() {
+        return false;
     }
-    Ok(copies)
+    for i in 0..answers.len() {
+        if !answers[i].is_same(&held.items[i].inner) {
+            return false;
+        }
+    }
+    true
 }
 
-/// The parts of the job of that number, as the attempt is given out.
-pub fn parts_of_run(alloc: Global, number: u64, run: &Run) -> Result<JobParts, AllocError>
-    ensures { IfOk result (λ parts. job_in (data_of parts) ≡ job_of number run.now) }
+/// Whether the job is the one of that number, as the attempt is given out.
+pub fn is_job_of<S: ScriptName>(job: &Job<S>, number: u64, run: &Run) -> bool
+    ensures same { result ≡ true → job_in job.now ≡ job_of number run.now }
+    ensures only { job_in job.now ≡ job_of number run.now → result ≡ true }
 {
-    let spec = run.spec.inner.copy(alloc)?;
-    let births = copy_births(alloc, &run.births)?;
-    let printed = copy_prints(alloc, &run.prints)?;
-    let answers = copy_answers(alloc, &run.answers)?;
-    Ok(JobParts {
-        number,
-        attempt: attempt(run.attempt),
-        spec,
-        base: object(run.base),
-        births,
-        printed,
-        answers,
-    })
+    job.number() == number
+        && job.attempt() == attempt(run.attempt)
+        && job.base() == object(run.base)
+        && job.spec().is_same(&run.spec.inner)
+        && are_births(job.births(), &run.births)
+        && are_prints(job.printed(), &run.prints)
+        && are_answers(job.answers(), &run.answers)
 }

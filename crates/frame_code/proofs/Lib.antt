@@ -4,3 +4,4 @@ pub mod Rows
 pub mod Patches
 pub mod Blocks
 pub mod Marks
+pub mod Weighing

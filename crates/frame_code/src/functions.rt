@@ -10,6 +10,7 @@ use crate::instruction::{Code, Instruction, Operand};
 use crate::names::{Register, following, slot};
 use crate::operands::put;
 use crate::statements::emit_block;
+use crate::weights::weigh;
 use script_check::{Checked, CheckedFunction, CheckedParameter};
 use std::alloc::{AllocError, Global};
 
@@ -70,8 +71,10 @@ pub fn compile(alloc: Global, script: &Checked) -> Result<Code, AllocError>
         entries.push(instructions.len())?;
         emit_body(&mut instructions, script, function)?;
     }
+    let weights = weigh(alloc, script)?;
     Ok(Code {
         instructions,
         entries,
+        weights,
     })
 }

@@ -2,11 +2,13 @@
 #![tactic(auto)]
 
 mod expressions;
+mod forms;
 mod functions;
 mod instruction;
 mod names;
 mod operands;
 mod statements;
+mod weights;
 
 pub use functions::compile;
 pub use instruction::{Code, Instruction, Operand, Spawn};

@@ -1,12 +1,13 @@
 -- Worked examples of code, and of what the machine does on it.
 use Rattle.std.specs.Prelude.{ℕ, zero, suc, ◌+◌, true, false, List, [], ◌∷◌, pos, codes, slice_get}
-use Rattle.meaning.specs.Values.{Value, Int, Named, Argument, Birth, Task, main_name}
-use Rattle.meaning.specs.Syntax.{Mul, Script}
-use Rattle.meaning.specs.Examples.{square, sq, object}
+use Rattle.meaning.specs.Values.{Value, Int, Named, Outcome, Argument, Birth, Task, main_name, main_birth}
+use Rattle.meaning.specs.Syntax.{Add, Mul, Div, Binary, Script}
+use Rattle.meaning.specs.Examples.{square, sq, object, number, just}
 use Rattle.frame_laws.specs.Instructions.{Instruction, Slot, Const, Load, Two, Spawn, Fetch, Show, Back, SkipZero, Wrong}
 use Rattle.frame_laws.specs.Compile.{number_of}
 use Rattle.frame_laws.specs.Machine.{State, Code, Act, Silent, Over, Asks, Bore, Shows, resume, goes_to, act}
 use Rattle.frame_laws.specs.Law.{code_of, entry_or, first_state}
+use Rattle.frame_laws.specs.Steps.{HasSteps}
 
 -- with the next of the given values in a register; with none left nothing more is seen
 abbrev pub takes : (State → List Value → List Act) → State → ℕ → List Value → List Act
@@ -65,3 +66,21 @@ squaring_state args = first_state square (codes "sq") sq args
 -- fn f(n: int) calls itself with n - 1, by turns plainly and remotely: the task of f(0) that f(1) bears, where f(2) called it plainly
 abbrev pub third : Birth
 third = Task (codes "f") (plain (Int (pos 0))) 3 3
+
+-- Steps
+
+-- on these answers main stops after so many steps since the last one
+abbrev pub MainHas : Script → List Outcome → ℕ → Type 0
+MainHas script answers steps = HasSteps script main_birth (object 1 1) answers steps
+
+-- a task of sq does
+abbrev pub SquaringHas : List Argument → List Outcome → ℕ → Type 0
+SquaringHas args answers steps = HasSteps square (Task (codes "sq") args 1 3) (object 2 1) answers steps
+
+-- return (1 / 0) + (2 + 3);
+abbrev pub trap_before_sum : Script
+trap_before_sum = just (Binary Add (Binary Div (number 1) (number 0)) (Binary Add (number 2) (number 3)))
+
+-- return (2 + 3) + (1 / 0);
+abbrev pub trap_behind_sum : Script
+trap_behind_sum = just (Binary Add (Binary Add (number 2) (number 3)) (Binary Div (number 1) (number 0)))

@@ -1,7 +1,9 @@
 pub mod Instructions
 pub mod Compile
+pub mod Weights
 pub mod Machine
 pub mod Law
+pub mod Steps
 pub mod Resuming
 pub mod Serially
 pub mod Examples

@@ -1,7 +1,7 @@
 // Worked examples, computed from the definitions.
 
-ghost use Rattle.std.specs.Prelude.{◌≡◌, ◌++◌, [], ◌∷◌, pos};
-ghost use Rattle.meaning.specs.Values.{Int, Trapped, Loop};
+ghost use Rattle.std.specs.Prelude.{◌≡◌, ◌+◌, ◌++◌, [], ◌∷◌, pos};
+ghost use Rattle.meaning.specs.Values.{Int, Trapped, DivZero, Loop};
 ghost use Rattle.meaning.specs.Examples.{square, squaring, loop, deep, value};
 ghost use Rattle.frame_laws.specs.Machine.{Over, Asks, Bore, Shows, act, resume};
 ghost use Rattle.frame_laws.specs.Law.{code_of};
@@ -16,6 +16,10 @@ ghost use Rattle.frame_laws.specs.Examples.{
   reference,
   at_the_get,
   third,
+  MainHas,
+  SquaringHas,
+  trap_before_sum,
+  trap_behind_sum,
 };
 
 /// The code of a script of two functions, and where a plain call of each begins.
@@ -42,4 +46,31 @@ pub fn frame_examples()
     ensures goes_on { seen (code_of square) 32 9 (resume at_the_get 1 (Int (pos 49))) [] ≡ Shows (Int (pos 49)) ∷ Over (value 0) ∷ [] }
     ensures without_a_stop { seen (code_of square) 32 9 (main_state square) (reference ∷ Int (pos 49) ∷ []) ≡
         Bore squaring 0 ∷ Asks reference 1 ∷ Shows (Int (pos 49)) ∷ Over (value 0) ∷ [] }
+{}
+
+/// How many steps an attempt began since its last answer, where it stops. Each sum is that of the statements, as they begin.
+pub fn step_examples()
+    // let r = remote sq(7): 3, and print get r, up to the get: 3
+    ensures up_to_the_get { MainHas square [] (3 + 3) }
+    // return 0
+    ensures behind_the_get { MainHas square (value 49 ∷ []) 2 }
+    // none behind the get of a trap
+    ensures trap_got { MainHas square (Trapped DivZero ∷ []) 0 }
+    // return x * x
+    ensures square_of_seven { SquaringHas (plain (Int (pos 7))) [] 4 }
+    // to dereference the argument is none
+    ensures argument_needed { SquaringHas (dereferenced reference) [] 0 }
+    ensures argument_got { SquaringHas (dereferenced reference) (value 7 ∷ []) 4 }
+    // return (1 / 0) + (2 + 3), up to the trap, and return (2 + 3) + (1 / 0)
+    ensures trap_on_the_left { MainHas trap_before_sum [] 5 }
+    ensures trap_on_the_right { MainHas trap_behind_sum [] 8 }
+    // let s = 0, for i in 0 .. 3, three times set s = s + 1, return s
+    ensures loop_of_three { MainHas (loop 3) [] (2 + 3 + 4 + 4 + 4 + 2) }
+    ensures loop_too_long { MainHas (loop 10001) [] (2 + 3) }
+    // return f(0); if n == 0, return 0
+    ensures call { MainHas (deep 0) [] (3 + 4 + 2) }
+    // return f(1); if n == 0, if n % 2 == 0, return 1 + get remote f(n - 1), up to the get
+    ensures call_that_waits { MainHas (deep 1) [] (3 + 4 + 6 + 8) }
+    // the sum is begun already
+    ensures call_goes_on { MainHas (deep 1) (value 0 ∷ []) 0 }
 {}

@@ -1,7 +1,7 @@
 // The laws of compiled code.
 
 ghost use Rattle.frame_laws.specs.Law.{CompiledTasksDo, StepsFollow};
-ghost use Rattle.frame_laws.specs.Resuming.{TasksBegin, FramesGoOn};
+ghost use Rattle.frame_laws.specs.Resuming.{TasksBegin, FramesGoOn, FramesCount};
 ghost use Rattle.frame_laws.specs.Serially.{SerialRunsGoOn};
 
 /// On the code of a script the machine does what a task of one of its functions does, from the task's first state on.
@@ -25,7 +25,12 @@ pub fn frames_go_on()
     ensures { FramesGoOn }
 {}
 
-/// The same of a serial run, in which a birth takes the outcome of its own serial run, and a get the outcome itself.
+/// Where a run stops at a frame, it began the steps that the frame has counted and those of the instruction there.
+pub fn frames_count()
+    ensures { FramesCount }
+{}
+
+/// Each instruction goes on with a serial run, too, in which a birth takes the outcome of its own serial run, and a get the outcome itself.
 pub fn serial_runs_go_on()
     ensures { SerialRunsGoOn }
 {}

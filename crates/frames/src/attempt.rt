@@ -1,6 +1,6 @@
 // An attempt of a task, in pieces.
 
-ghost use Rattle.std.specs.Prelude.{◌≡◌, ℕ, [], IfOk, None, map};
+ghost use Rattle.std.specs.Prelude.{◌≡◌, ℕ, [], ◌++◌, IfOk, None, map};
 ghost use Rattle.meaning.specs.Syntax.{Script};
 ghost use Rattle.meaning.specs.Values.{Birth, Id, Task};
 ghost use Rattle.script_check.specs.Trees.{script_of};
@@ -9,7 +9,7 @@ ghost use Rattle.frames.specs.Values.{outcome_of};
 ghost use Rattle.frames.specs.Machines.{argument_of};
 ghost use Rattle.frames.specs.Courses.{Past, Stops, answers_of, no_past};
 ghost use Rattle.frames.specs.Tasks.{Halts};
-ghost use Rattle.frames.specs.Frames.{HaltsBehind, KeepsFrame};
+ghost use Rattle.frames.specs.Frames.{HaltsBehind, KeepsFrame, CountsSteps};
 
 use crate::compiled::Compiled;
 use crate::course::Course;
@@ -24,13 +24,14 @@ use std::alloc::{AllocError, Global};
 use values::Trap;
 
 /// What an attempt did, and why it stopped: it is over, or it asks for an answer that it wasn't handed. Where it waits for an answer it has
-/// a frame, from which it goes on.
+/// a frame, from which it goes on. Its steps are those that it began since the last of its answers.
 #[derive(Drop)]
 pub struct Attempt {
     pub births: Vec<Made>,
     pub prints: Vec<Value>,
     pub halt: Halt,
     pub frame: Option<Frame>,
+    pub steps: u64,
 }
 
 /// An attempt that stopped before it did anything.
@@ -39,12 +40,14 @@ fn nothing_done(alloc: Global, halt: Halt) -> Attempt
     ensures prints { result.prints.items ≡ [] }
     ensures halt { result.halt ≡ halt }
     ensures frame { result.frame ≡ None }
+    ensures steps { result.steps ≡ 0 }
 {
     Attempt {
         births: Vec::new(alloc),
         prints: Vec::new(alloc),
         halt,
         frame: None,
+        steps: 0,
     }
 }
 
@@ -54,6 +57,8 @@ pub(crate) fn stop(course: Course, halt: Halt, limit: usize) -> Result<Attempt, 
         Stops script limit spec base past course halt → HaltsBehind script spec base past (answers_of course) a) }
     ensures keeps { IfOk result (λ a. (script : Script) (spec : Birth) (base : Id) (past : Past) →
         Stops script limit spec base past course halt → KeepsFrame script spec base past (answers_of course) a) }
+    ensures counts { IfOk result (λ a. (script : Script) (spec : Birth) (base : Id) (past : Past) →
+        Stops script limit spec base past course halt → CountsSteps script spec base (past.answers ++ answers_of course) a) }
 {
     let Course {
         state,
@@ -62,6 +67,7 @@ pub(crate) fn stop(course: Course, halt: Halt, limit: usize) -> Result<Attempt, 
         next,
         answers: _,
         used: _,
+        steps,
     } = course;
     if let Halt::Asks(reference, to) = &halt {
         let frame = Frame {
@@ -70,12 +76,14 @@ pub(crate) fn stop(course: Course, halt: Halt, limit: usize) -> Result<Attempt, 
             reference: reference.share()?,
             to: *to,
             limit,
+            steps,
         };
         return Ok(Attempt {
             births,
             prints,
             halt,
             frame: Some(frame),
+            steps,
         });
     }
     Ok(Attempt {
@@ -83,6 +91,7 @@ pub(crate) fn stop(course: Course, halt: Halt, limit: usize) -> Result<Attempt, 
         prints,
         halt,
         frame: None,
+        steps,
     })
 }
 
@@ -101,6 +110,9 @@ pub fn run_task(
     // Where it waits for an answer, its frame is where it waits.
     ensures keeps { IfOk result (λ a. (retries : ℕ) → KeepsFrame (script_of script.now) (Task function.now (map argument_of arguments.now) depth retries)
         (id_of base) no_past (map outcome_of answers.items) a) }
+    // Its steps are those that it began since the last of the answers.
+    ensures counts { IfOk result (λ a. (retries : ℕ) → CountsSteps (script_of script.now)
+        (Task function.now (map argument_of arguments.now) depth retries) (id_of base) (map outcome_of answers.items) a) }
 {
     if depth > DEEPEST {
         return Ok(nothing_done(alloc, Halt::Trap(Trap::TooDeep)));

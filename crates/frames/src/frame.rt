@@ -1,11 +1,11 @@
 // Where an attempt waits for an answer.
 
-ghost use Rattle.std.specs.Prelude.{◌≡◌, ◌∷◌, [], IfOk, List};
+ghost use Rattle.std.specs.Prelude.{◌≡◌, ◌∷◌, ◌++◌, [], IfOk, List};
 ghost use Rattle.meaning.specs.Values.{Birth, Id};
 ghost use Rattle.script_check.specs.Trees.{script_of};
 ghost use Rattle.frames.specs.Values.{outcome_of};
 ghost use Rattle.frames.specs.Courses.{Past};
-ghost use Rattle.frames.specs.Frames.{IsWaiting, HaltsBehind, KeepsFrame};
+ghost use Rattle.frames.specs.Frames.{IsWaiting, HaltsBehind, KeepsFrame, CountsSteps};
 
 use crate::attempt::{Attempt, stop};
 use crate::compiled::Compiled;
@@ -16,7 +16,7 @@ use ids::ObjectId;
 use std::alloc::{AllocError, Global};
 
 /// Where an attempt waits for an answer, which may be kept: the machine's state behind the get, the id of the attempt's next birth, the
-/// reference that is got, the register that takes its value, and how many calls may wait.
+/// reference that is got, the register that takes its value, how many calls may wait, and how many steps were begun since the answer before.
 #[derive(Drop)]
 pub struct Frame {
     pub(crate) state: State,
@@ -24,6 +24,7 @@ pub struct Frame {
     pub(crate) reference: Value,
     pub(crate) to: usize,
     pub(crate) limit: usize,
+    pub(crate) steps: u64,
 }
 
 impl Frame {
@@ -39,6 +40,8 @@ impl Frame {
             HaltsBehind (script_of script.now) spec base past (outcome_of answer ∷ []) a) }
         ensures keeps { IfOk result (λ a. (spec : Birth) (base : Id) (past : Past) → IsWaiting (script_of script.now) spec base past self →
             KeepsFrame (script_of script.now) spec base past (outcome_of answer ∷ []) a) }
+        ensures counts { IfOk result (λ a. (spec : Birth) (base : Id) (past : Past) → IsWaiting (script_of script.now) spec base past self →
+            CountsSteps (script_of script.now) spec base (past.answers ++ outcome_of answer ∷ []) a) }
     {
         let Frame {
             state,
@@ -46,6 +49,7 @@ impl Frame {
             reference,
             to,
             limit,
+            steps,
         } = self;
         let mut answers = Vec::new(alloc);
         answers.push(answer)?;
@@ -56,6 +60,7 @@ impl Frame {
             next,
             answers,
             used: 0,
+            steps,
         };
         let halt = course.pass(script.code(), limit, reference, to);
         stop(course, halt, limit)

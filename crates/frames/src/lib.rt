@@ -9,6 +9,7 @@ mod frame;
 mod halt;
 mod jumping;
 mod mismatch;
+mod numbers;
 mod operators;
 mod quick;
 mod registers;

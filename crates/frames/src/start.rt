@@ -91,6 +91,7 @@ impl Course {
             next: base,
             answers,
             used: 0,
+            steps: 0,
         })
     }
 }

@@ -1,16 +1,41 @@
--- Which frame fits which job.
-use Rattle.std.proofs.Common.{◌≡◌, List, map, sym, ap, ◌∙◌, subst}
+-- A frame that is kept fits the job of its attempt.
+use Rattle.std.proofs.Common.{◌≡◌, ℕ, ◌+◌, List, [], ◌∷◌, ◌++◌, length, map, refl, sym, ap, ◌∙◌, subst, arith}
+use Rattle.std.proofs.lemmas.List.{length-append, length-map}
+use Rattle.meaning.specs.Lists.{IsFirst}
 use Rattle.meaning.specs.Values as meant
+use Rattle.meaning.specs.Runs.{Piece, piece}
+use Rattle.meaning.specs.Meaning.{replay}
 use Rattle.meaning.specs.Syntax.{Script}
 use Rattle.values.specs.Values.{content_of, id_of, value_of}
+use Rattle.values.specs.declared.content.Content.{Content}
 use Rattle.task_spec.specs.Births.{birth_of}
 use Rattle.frames.specs.Courses.{Past}
 use Rattle.frames.specs.Frames.{IsWaiting}
 use Rattle.frames.specs.declared.frame.Frame.{Frame}
-use Rattle.evaluation.specs.Pieces.{past_of}
-use Rattle.segment.specs.Frames.{Fits, WaitsAfter, before_of}
-use Rattle.segment.specs.Jobs.{Done, JobData, whole_of}
-use Rattle.kept_frames.specs.Known.{IsAfter, IsNext, WaitsFor}
+use Rattle.segment.specs.Frames.{Fits, WaitsAfter}
+use Rattle.segment.specs.Jobs.{Done, IsBegun, JobData, replay_of, whole_of}
+use Rattle.kept_frames.specs.Known.{IsAfter, IsNext, KnownData, WaitsFor}
+
+head_same : {X : Type 0} (x y : X) (xs ys : List X) → x ∷ xs ≡ y ∷ ys → x ≡ y
+head_same x y xs ys e = cc
+
+tail_same : {X : Type 0} (x y : X) (xs ys : List X) → x ∷ xs ≡ y ∷ ys → xs ≡ ys
+tail_same x y xs ys e = cc
+
+-- two beginnings of one list that are as long are the same
+beginnings_same : {X : Type 0} (xs ys zs rest : List X) → IsFirst xs zs → zs ≡ ys ++ rest → length xs ≡ length ys → xs ≡ ys
+beginnings_same [] [] zs rest first e n = refl
+beginnings_same [] (y ∷ ys) zs rest first e n = absurd (omega (arith, n))
+beginnings_same (x ∷ xs) [] zs rest first e n = absurd (omega (arith, n))
+beginnings_same (x ∷ xs) (y ∷ ys) [] rest first e n = absurd first
+beginnings_same (x ∷ xs) (y ∷ ys) (z ∷ zs) rest first e n =
+    let heads : x ≡ y = sym first.0 ∙ head_same z y zs (ys ++ rest) e in
+    let tails : xs ≡ ys = beginnings_same xs ys zs rest first.1 (tail_same z y zs (ys ++ rest) e) (omega (arith, n)) in
+    ap (λ v. v ∷ xs) heads ∙ ap (λ vs. y ∷ vs) tails
+
+map_last : {A B : Type 0} (f : A → B) (xs : List A) (x : A) → map f (xs ++ x ∷ []) ≡ map f xs ++ f x ∷ []
+map_last f [] x = refl
+map_last f (y ∷ xs) x = ap (λ zs. f y ∷ zs) (map_last f xs x)
 
 abbrev past : List meant.Outcome → List meant.Birth → List meant.Value → Past
 past cs bs vs = record { answers = cs; births = bs; prints = vs }
@@ -18,28 +43,58 @@ past cs bs vs = record { answers = cs; births = bs; prints = vs }
 same_past : (cs ds : List meant.Outcome) (xs ys : List meant.Birth) (vs ws : List meant.Value) → cs ≡ ds → xs ≡ ys → vs ≡ ws → past cs xs vs ≡ past ds ys ws
 same_past cs ds xs ys vs ws ec eb ev = ap (λ x. past x xs vs) ec ∙ ap (λ x. past ds x vs) eb ∙ ap (λ x. past ds ys x) ev
 
-module _ (script : Script) (p : JobData) (f : Frame) where
-  moved : (b : meant.Birth) (o : meant.Id) (y : Past) → birth_of p.spec ≡ b → id_of p.base ≡ o → past_of (before_of p p.answers) ≡ y → WaitsFor script p f →
+module _ (script : Script) (k : KnownData) (f : Frame) where
+  moved : (b : meant.Birth) (o : meant.Id) (x y : Past) → birth_of k.spec ≡ b → id_of k.base ≡ o → x ≡ y → IsWaiting script (birth_of k.spec) (id_of k.base) x f →
       IsWaiting script b o y f
-  moved b o y eb eo ey waits =
-      subst (λ x. IsWaiting script x o y f) eb
-      (subst (λ x. IsWaiting script (birth_of p.spec) x y f) eo (subst (λ x. IsWaiting script (birth_of p.spec) (id_of p.base) x f) ey waits))
+  moved b o x y eb eo ey waits =
+      subst (λ c. IsWaiting script c o y f) eb
+      (subst (λ c. IsWaiting script (birth_of k.spec) c y f) eo (subst (λ c. IsWaiting script (birth_of k.spec) (id_of k.base) c f) ey waits))
 
-  pub fits_next : (j : JobData) → WaitsFor script p f → IsNext p j → Fits script j f
-  fits_next j waits is = record {
-    earlier = is.earlier;
-    answer = is.answer;
-    answers = is.ends;
-    waits = moved (birth_of j.spec) (id_of j.base) (past_of (before_of j is.earlier)) is.spec (ap id_of is.base)
-        (same_past (map content_of p.answers) (map content_of is.earlier) (map birth_of p.births) (map birth_of j.births) (map value_of p.printed)
-        (map value_of j.printed) is.answers is.births is.printed)
-        waits;
+  -- what a job's task does on the job's answers goes on from what it did before the frame
+  goes_on : (j : JobData) → (waits : WaitsFor script k f) → (is : IsNext k j) →
+      (p : Piece) × ((replay_of script j).births ≡ waits.births ++ p.births) × ((replay_of script j).prints ≡ waits.prints ++ p.prints)
+  goes_on j waits is =
+      let c = content_of is.answer in
+      let left = waits.waits.stood.left (c ∷ []) in
+      let answers : map content_of j.answers ≡ map content_of k.answers ++ c ∷ [] =
+      ap (map content_of) is.ends ∙ map_last content_of is.earlier is.answer ∙ ap (λ cs. cs ++ c ∷ []) (sym is.answers) in
+      let same : replay_of script j ≡ replay script (birth_of k.spec) (id_of k.base) (map content_of k.answers ++ c ∷ []) =
+      ap (λ b. replay script b (id_of j.base) (map content_of j.answers)) (sym is.spec)
+      ∙ ap (λ o. replay script (birth_of k.spec) o (map content_of j.answers)) (sym (ap id_of is.base))
+      ∙ ap (replay script (birth_of k.spec) (id_of k.base)) answers in
+      (piece waits.waits.stood.run (id_of f.next) (c ∷ []), ap (λ (p : Piece). p.births) (same ∙ left), ap (λ (p : Piece). p.prints) (same ∙ left))
+
+  pub fits_next : (j : JobData) → WaitsFor script k f → IsNext k j → IsBegun script j → Fits script j f
+  fits_next j waits is begun =
+      let on = goes_on j waits is in
+      let bs : map birth_of j.births ≡ waits.births =
+      beginnings_same (map birth_of j.births) waits.births (replay_of script j).births on.0.births begun.births on.1
+      (length-map j.births birth_of ∙ sym is.births ∙ sym waits.borne) in
+      let vs : map value_of j.printed ≡ waits.prints =
+      beginnings_same (map value_of j.printed) waits.prints (replay_of script j).prints on.0.prints begun.printed on.2
+      (length-map j.printed value_of ∙ sym is.prints ∙ sym waits.printed) in
+      record {
+        earlier = is.earlier;
+        answer = is.answer;
+        answers = is.ends;
+        waits = moved (birth_of j.spec) (id_of j.base) _ _ is.spec (ap id_of is.base)
+            (same_past (map content_of k.answers) (map content_of is.earlier) waits.births (map birth_of j.births) waits.prints (map value_of j.printed)
+            is.answers (sym bs) (sym vs))
+            waits.waits;
+      }
+
+  pub waits_after : (d : Done) → WaitsAfter script d f → IsAfter k d → WaitsFor script k f
+  waits_after d waits is = record {
+    births = (whole_of d).births;
+    prints = (whole_of d).prints;
+    borne = length-append (map birth_of d.job.births) (map birth_of d.births)
+        ∙ ap (λ n. n + length (map birth_of d.births)) (length-map d.job.births birth_of) ∙ ap (λ n. length d.job.births + n) (length-map d.births birth_of)
+        ∙ sym is.births;
+    printed = length-append (map value_of d.job.printed) (map value_of d.prints)
+        ∙ ap (λ n. n + length (map value_of d.prints)) (length-map d.job.printed value_of) ∙ ap (λ n. length d.job.printed + n) (length-map d.prints value_of)
+        ∙ sym is.prints;
+    waits =
+        subst (λ x. IsWaiting script x (id_of k.base) (past (map content_of k.answers) (whole_of d).births (whole_of d).prints) f) (sym is.spec)
+        (subst (λ x. IsWaiting script (birth_of d.job.spec) x (past (map content_of k.answers) (whole_of d).births (whole_of d).prints) f) (sym (ap id_of is.base))
+        (subst (λ x. IsWaiting script (birth_of d.job.spec) (id_of d.job.base) (past x (whole_of d).births (whole_of d).prints) f) (sym is.answers) waits));
   }
-
-  pub waits_after : (d : Done) → WaitsAfter script d f → IsAfter p d → WaitsFor script p f
-  waits_after d waits is =
-      subst (λ x. IsWaiting script x (id_of p.base) (past_of (before_of p p.answers)) f) (sym is.spec)
-      (subst (λ x. IsWaiting script (birth_of d.job.spec) x (past_of (before_of p p.answers)) f) (sym (ap id_of is.base))
-      (subst (λ x. IsWaiting script (birth_of d.job.spec) (id_of d.job.base) x f)
-      (sym (same_past (map content_of p.answers) (map content_of d.job.answers) (map birth_of p.births) (whole_of d).births (map value_of p.printed)
-      (whole_of d).prints is.answers is.births is.printed)) waits))

@@ -3,13 +3,13 @@
 ghost use Rattle.std.specs.Prelude.{◌≡◌, IfOk, IfSome};
 ghost use Rattle.script_check.specs.Trees.{script_of};
 ghost use Rattle.segment.specs.Jobs.{IsTrueOf};
-ghost use Rattle.segment.specs.Parts.{data_of};
 ghost use Rattle.kept_frames.specs.Known.{IsNext};
+ghost use Rattle.kept_frames.specs.Views.{data_of};
 
-use crate::copies::parts_after;
+use crate::known::{Known, known_after};
 use crate::waiting::{Ready, Waiting};
 use ids::AttemptId;
-use segment::{Compiled, Done, Job, JobParts, NoMemory, ScriptName};
+use segment::{Compiled, Done, Job, NoMemory, ScriptName};
 use std::alloc::Global;
 
 /// How many frames are kept at most.
@@ -37,7 +37,7 @@ impl<S: ScriptName> Frames<S> {
     /// Hands the job the frame of its attempt, if that is kept.
     fn hand(&mut self, job: Job<S>) -> Ready<S>
         ensures job { result.job ≡ job }
-        ensures known { IfSome result.known (λ parts. IsNext (data_of parts) job) }
+        ensures known { IfSome result.known (λ known. IsNext (data_of known) job) }
     {
         let place = place_of(job.attempt());
         if place >= self.waiting.len() {
@@ -66,16 +66,16 @@ impl<S: ScriptName> Frames<S> {
 
     #[tactic(auto, using(crate::proofs::Fitting::waits_after))]
     /// Keeps the frame of what was done, if it has one.
-    fn keep(&mut self, alloc: Global, known: Option<JobParts>, done: &mut Done<S>)
-        requires { IfSome known (λ parts. IsNext (data_of parts) done.old.job) }
+    fn keep(&mut self, alloc: Global, known: Option<Known>, done: &mut Done<S>)
+        requires { IfSome known (λ known. IsNext (data_of known) done.old.job) }
         ensures { done.new ≡ done.old }
     {
         let Some(frame) = done.take_frame() else {
             return;
         };
         let place = place_of(done.job().attempt());
-        if let Ok(parts) = parts_after(alloc, known, done) {
-            self.put(place, Waiting::new(parts, frame));
+        if let Ok(known) = known_after(alloc, known, done) {
+            self.put(place, Waiting::new(known, frame));
         }
     }
 

@@ -1,8 +1,8 @@
 //! Frames of attempts that wait for an answer, kept where jobs are run.
 #![tactic(auto)]
 
-mod copies;
 mod keeping;
+mod known;
 mod waiting;
 
 pub use keeping::Frames;

@@ -53,6 +53,7 @@ use Rattle.lease_discipline.proofs.Moves.{IsHeardFrom, IsKept, bears_all-kept, h
 use Rattle.lease_discipline.proofs.Asking.{Asks, AsksOf, GivenOf, OverBy, PassedBy, ToldOf, asks_kept, frees_asks, own_task, same_asks}
 use Rattle.lease_discipline.specs.Asks.{IsDeadNode, IsLast, IsPassed, KeepsAsks, OwnsAsks}
 use Rattle.lease_discipline.specs.Discipline.{IsDone, KeepsLeases, Pushed}
+use Rattle.lease_discipline.proofs.Turns.{sch}
 
 -- ---- what a node was asked
 
@@ -62,9 +63,6 @@ Keys s t = (j : AskKey) (x : Reply) → reply_to t j ≡ Some x → (y : Reply) 
 -- but for one more
 abbrev pub KeysAnd : AskKey → Scheduler → Scheduler → Type 0
 KeysAnd k s t = (j : AskKey) (x : Reply) → reply_to t j ≡ Some x → ((y : Reply) × (reply_to s j ≡ Some y)) ⊎ (k ≡ j)
-
-abbrev pub sch : There → Scheduler
-sch t = t.node.scheduler
 
 pub same_keys : (s : Scheduler) → Keys s s
 same_keys s j x e = (x, e)

@@ -42,11 +42,12 @@ use Rattle.lease_discipline.proofs.Moves.{notice_step-kept, notice_node_step-kep
 use Rattle.lease_discipline.proofs.Asking.{Asks, GivenOf, OverBy, PassedBy, ToldOf, TouchesOnly, Nobody, asks_kept, closed_more, owns_more, owns_same}
 use Rattle.lease_discipline.proofs.Asking.{touched_before}
 use Rattle.lease_discipline.proofs.AskEvents.{asked_keys, asks_end, claim_asks, commit_asks, forgets_keys, last_dead, owns_dead, reached_asks}
-use Rattle.lease_discipline.proofs.AskEvents.{sch, worker_event}
+use Rattle.lease_discipline.proofs.AskEvents.{worker_event}
 use Rattle.numbered.proofs.Places.{counted}
 use Rattle.protocol_owed.proofs.CourseEvents.{one_of}
 use Rattle.lease_discipline.proofs.Events.{among_at, events_keep, item_map}
 use Rattle.lease_discipline.proofs.Opening.{only_driver, opens}
+use Rattle.lease_discipline.proofs.Turns.{sch}
 
 -- ---- an event of a node
 

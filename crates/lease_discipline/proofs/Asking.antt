@@ -1,6 +1,7 @@
 -- A worker in its event keeps asks in order.
 use Rattle.std.proofs.Common.{◌≡◌, ◌≢◌, ℕ, ◌+◌, ◌<◌, ◌≤◌, List, [], ◌∷◌, ◌++◌, Some, None, Option, refl, ap, sym, subst, ◌∙◌, ◌⊎◌, inl, inr, arith}
 use Rattle.std.specs.Prelude.{Bool, true, false, if◌then◌else◌}
+use Rattle.std.proofs.lemmas.Bool.{both_ways}
 use Rattle.meaning.proofs.BirthLaws.{at_test}
 use Rattle.meaning.specs.Values.{Birth, Id}
 use Rattle.event_log.specs.Entries.{Attempt, Faulted, Got, main_attempt}
@@ -27,7 +28,7 @@ use Rattle.protocol_owed.proofs.Letters.{among-append_cases, among-behind, among
 use Rattle.lease_discipline.specs.Asks.{Asked, IsClosed, IsLast, IsPassed, OwnsAsks, Touched}
 use Rattle.lease_discipline.specs.Discipline.{Pushed}
 use Rattle.lease_discipline.proofs.Tame.{IsNextOf, changed_here, own_at}
-use Rattle.lease_discipline.proofs.Follows.{More, not_both}
+use Rattle.lease_discipline.proofs.Follows.{More}
 use Rattle.lease_discipline.proofs.Moves.{IsKept, is_plain}
 use Rattle.lease_discipline.proofs.Theres.{letter_cases, letter_last, letter_more, with_letter}
 use Rattle.lease_discipline.proofs.Heres.{by_number}
@@ -128,7 +129,7 @@ IsBornOf x y spec =
     (k : ℕ) → (task_of (item_at y.objects k) ≡ task_of (item_at x.objects k)) ⊎
     ((task_of (item_at x.objects k) ≡ None) × (task_of (item_at y.objects k) ≡ Some (new_task spec)))
 
-same_task : (a b : OwnTask) → ◌≡◌ {A = Option OwnTask} (Some a) (Some b) → a ≡ b
+pub same_task : (a b : OwnTask) → ◌≡◌ {A = Option OwnTask} (Some a) (Some b) → a ≡ b
 same_task a b e = cc
 
 rests_not_asked : (task : OwnTask) (spec : Birth) (t n : ℕ) → new_task spec ≡ task → task.progress ≡ AskedAt t n → ⊥
@@ -255,14 +256,14 @@ owns_put dead s t v k0 x y old task put le o newborn stands unpushed runs begun 
 
 -- ---- an event of worker me
 
-item_apart : (xs : List Object) (n m : ℕ) (f : Object → Object) → m ≢ n → item_at (changed_at xs n f) m ≡ item_at xs m
+pub item_apart : (xs : List Object) (n m : ℕ) (f : Object → Object) → m ≢ n → item_at (changed_at xs n f) m ≡ item_at xs m
 item_apart xs n m f apart = by_item (item_at (changed_at xs n f) m) refl
   where
     by_item : (o : Option Object) → item_at (changed_at xs n f) m ≡ o → item_at (changed_at xs n f) m ≡ item_at xs m
     by_item None e = e ∙ sym (changed_none xs n m f e)
     by_item (Some y) e = elim (changed_cases xs n m f y e) [ inl (same, _, _, _) ↦ absurd (apart same) | inr (_, at) ↦ e ∙ sym at ]
 
-put_task : (x : Worker) (k0 : ℕ) (old task : OwnTask) → task_of (item_at x.objects k0) ≡ Some old →
+pub put_task : (x : Worker) (k0 : ℕ) (old task : OwnTask) → task_of (item_at x.objects k0) ≡ Some old →
     IsPut x (record x { objects = changed_at x.objects k0 (with_task task) }) k0 old task
 put_task x k0 old task at = record {
   before = at;
@@ -314,11 +315,11 @@ module _ (c : Whole) (me : ℕ) (old : Worker) (there : item_at c.workers me ≡
     more = letter_more c.network h.there.out.letters (letter from to m);
     asked = λ a i n e. elim (letter_cases c.network h.there.out.letters (letter from to m) _ e.1) [
       | inl f ↦ inl (e.0, f)
-      | inr f ↦ absurd (not_both (is_touch m) (ap is_touch (sym (ap (λ (l : Letter). l.message) f))) quiet)
+      | inr f ↦ absurd (both_ways (is_touch m) quiet (ap is_touch (sym (ap (λ (l : Letter). l.message) f))))
     ];
     pushed = λ a w e. elim (letter_cases c.network h.there.out.letters (letter from to m) _ e.2) [
       | inl f ↦ inl (e.0, e.1, f)
-      | inr f ↦ absurd (not_both (is_touch m) (ap is_touch (sym (ap (λ (l : Letter). l.message) f))) quiet)
+      | inr f ↦ absurd (both_ways (is_touch m) quiet (ap is_touch (sym (ap (λ (l : Letter). l.message) f))))
     ];
   }
 

@@ -2,6 +2,7 @@
 use Rattle.std.proofs.Common.{◌≡◌, ◌≢◌, ℕ, zero, suc, ◌+◌, List, [], ◌∷◌, ◌++◌, length, map, Some, None, Option, refl, ap, sym, subst, ◌∙◌, ◌⊎◌, inl, inr}
 use Rattle.std.proofs.Common.{arith, append-nil}
 use Rattle.std.specs.Prelude.{Bool, true, false, if◌then◌else◌, slice_get, slice_set, not, ◌&&◌, ◌==◌}
+use Rattle.std.proofs.lemmas.Bool.{both_ways, eqb-true, false_from_ne_true}
 use Rattle.sequence.proofs.Places.{and_left, and_right, slice_get-last}
 use Rattle.meaning.proofs.BirthLaws.{at_test}
 use Rattle.event_log.specs.Entries.{Attempt, Event, Claim, Commit, Deliver, Tick, Notice, NoticeNode, Evict, Lose, Kill, KillNode, Join}
@@ -12,7 +13,7 @@ use Rattle.protocol.specs.Messages.{Letter, letter, Message, Party, TheWorker, T
 use Rattle.protocol.specs.Messages.{Where, At, Gone, Fetch, CopyOf, Missing, Hold, HoldAck, Unhold}
 use Rattle.protocol.specs.Jobs.{Given, Handed, Job, Nothing, OfAnother, OfJob}
 use Rattle.protocol.specs.Nodes.{Node, Scheduler, There, new_node, new_scheduler}
-use Rattle.protocol.specs.Tables.{HasEnded, HasFaulted, Out, Phase, Ready, Run, Waits, Worker, has_stopped, new_worker}
+use Rattle.protocol.specs.Tables.{Out, Worker, has_stopped, new_worker}
 use Rattle.protocol.specs.Steps.{Here}
 use Rattle.protocol.specs.Slots.{forgets, node_reached}
 use Rattle.protocol.specs.Releases.{release_step}
@@ -25,15 +26,16 @@ use Rattle.protocol.specs.Deliveries.{reached}
 use Rattle.protocol.specs.Events.{as_committed, claimed, committed_by, with_committed, delivered_by, delivered_to, with_delivered, is_live_worker}
 use Rattle.protocol.specs.Events.{is_live_node, killed_by, dead, dies_with, happens}
 use Rattle.protocol.specs.Answers.{Refuses, answer, decided, takes, given_out, whole_after}
-use Rattle.protocol.specs.Refusals.{commit_refusal, has_slot, is_job, is_of_job, is_out_by, is_ready, is_ready_on, is_ready_run, is_within_limits}
-use Rattle.protocol.specs.Refusals.{job_in_phase, job_in_run, no_worker, or_code, refusal, unless}
+use Rattle.protocol.specs.Refusals.{commit_refusal, has_slot, is_of_job, is_out_by, is_ready, is_ready_on, is_ready_run, is_within_limits}
+use Rattle.protocol.specs.Refusals.{no_worker, or_code, refusal, unless}
 use Rattle.protocol_owed.proofs.Nodes.{changed_cases, push_cases, nothing_past, there_still, there_more}
 use Rattle.protocol_owed.proofs.Letters.{among-append_cases, among-more}
 use Rattle.protocol_owed.proofs.CourseEvents.{append_split, one_of}
 use Rattle.protocol_owed.proofs.CourseAll.{both_passed, passed}
+use Rattle.protocol_owed.proofs.CourseRuns.{OutOf, out_of}
 use Rattle.lease_discipline.specs.Discipline.{Look, Gave, IsOfNode, KeepsLeases, NodeKeeps, WorkerKeeps, WorkersKeep}
-use Rattle.lease_discipline.proofs.Tame.{item_mapped, same_number}
-use Rattle.lease_discipline.proofs.Follows.{AllFollow, Follows, JobsStay, More, follow_grows, gave_more, is_false, jobs_more, node_follows, not_both, stays}
+use Rattle.lease_discipline.proofs.Tame.{item_mapped}
+use Rattle.lease_discipline.proofs.Follows.{AllFollow, Follows, JobsStay, More, follow_grows, gave_more, jobs_more, node_follows, stays}
 use Rattle.lease_discipline.proofs.Follows.{true_more}
 use Rattle.lease_discipline.proofs.Moves.{Anyhow, notice_step-kept, notice_node_step-kept, reached-kept, release_step-kept, tick_step-kept, IsHeardFrom}
 use Rattle.lease_discipline.proofs.Theres.{Goes, forgets_goes, reached_goes}
@@ -253,23 +255,6 @@ claim_event c w e k =
     (ready_run c w x at ready) (g, item_last c.jobs g, refl) d)
     (with_jobs c jobs c.made (λ j h i. (h, there_more c.jobs (g ∷ []) j h i, refl)) k)
 
--- the attempt that is out isn't over
-pub record OutAs (r : Option Run) (j : ℕ) : Type 0 where
-  pub run : Run
-  pub at : r ≡ Some run
-  pub out : run.phase ≡ Out j
-
-pub out_as : (r : Option Run) (j : ℕ) → is_job (job_in_run r) j ≡ true → OutAs r j
-out_as None j e = absurd (cc)
-out_as (Some run) j e = by_phase run.phase refl e
-  where
-    by_phase : (p : Phase) → run.phase ≡ p → is_job (job_in_phase p) j ≡ true → OutAs (Some run) j
-    by_phase (Out i) f g = record { run = run; at = refl; out = f ∙ ap (λ m. Out m) (same_number i j g) }
-    by_phase Ready f g = absurd (cc)
-    by_phase (Waits y h) f g = absurd (cc)
-    by_phase (HasEnded d) f g = absurd (cc)
-    by_phase (HasFaulted h) f g = absurd (cc)
-
 committed_stay : (jobs : List Given) (j : ℕ) → JobsStay jobs (changed_at jobs j as_committed)
 committed_stay jobs j i g e =
     let f = there_still jobs j i as_committed g e in
@@ -293,8 +278,8 @@ commit_event c j (OfJob o) (Some g) e k =
     let d : Whole = with_committed c j (length o.births) in
     worker_event d g.worker (λ h. commit_step h o)
     (λ x at node does.
-    let run : OutAs x.run j = out_as x.run j (ap (λ y. is_out_by y j) (sym at) ∙ out) in
-    let over : run.run.is_over ≡ false = is_false _ (λ i. let s = (mine d g.worker x.node x at (here d g.worker x node) does).stopped run.run run.at i in
+    let run : OutOf x.run j = out_of x.run j (ap (λ y. is_out_by y j) (sym at) ∙ out) in
+    let over : run.run.is_over ≡ false = false_from_ne_true _ (λ i. let s = (mine d g.worker x.node x at (here d g.worker x node) does).stopped run.run run.at i in
     let f : has_stopped (Out j) ≡ true = ap has_stopped (sym run.out) ∙ s in absurd (cc)) in
     commit_does d g.worker x.node x at (here d g.worker x node) o run.run run.at over does)
     (with_jobs c (changed_at c.jobs j as_committed) (c.made + length o.births) (committed_stay c.jobs j) k)
@@ -452,7 +437,7 @@ kill_event c w (Some x) at k =
         let f = there_more (changed_at c.workers w dead) (repeated opened (new_worker x.node)) w (dead x) (dead_now (there_still c.workers w w dead x at)) in
         let g : ◌≡◌ {A = Option Worker} (Some (dead x)) (Some y) = sym f ∙ e in
         let same : dead x ≡ y = cc in
-        not_both y.is_live live (ap (λ (z : Worker). z.is_live) (sym same))
+        both_ways y.is_live (ap (λ (z : Worker). z.is_live) (sym same)) live
       where
         dead_now : (y : Worker) × (item_at (changed_at c.workers w dead) w ≡ Some y) → item_at (changed_at c.workers w dead) w ≡ Some (dead x)
         dead_now (y, i) = elim (changed_cases c.workers w w dead y i) [

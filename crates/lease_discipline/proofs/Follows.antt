@@ -1,6 +1,7 @@
 -- What was true of leases stays so as workers go on, letters are sent and workers are opened.
 use Rattle.std.proofs.Common.{◌≡◌, ℕ, zero, suc, List, Some, None, Option, refl, ap, sym, ◌∙◌, ◌⊎◌, inl, inr}
-use Rattle.std.specs.Prelude.{Bool, true, false}
+use Rattle.std.specs.Prelude.{true, false}
+use Rattle.std.proofs.lemmas.Bool.{both_ways, true_from_ne_false}
 use Rattle.event_log.specs.Entries.{Attempt}
 use Rattle.event_log.specs.Breaks.{Among}
 use Rattle.protocol.specs.Messages.{Letter, Message, Party, TheWorker, TheNode, Ask, Give, Elsewhere, Wait, Back, Push, Finished, FinishedAck, Failed}
@@ -16,24 +17,13 @@ use Rattle.lease_discipline.specs.Discipline.{SaysBack, SaysDone, SaysGiven, Say
 
 -- ---- runs
 
-pub is_true : (b : Bool) → (b ≡ false → ⊥) → b ≡ true
-is_true true f = refl
-is_true false f = absurd (f refl)
-
-pub is_false : (b : Bool) → (b ≡ true → ⊥) → b ≡ false
-is_false true f = absurd (f refl)
-is_false false f = refl
-
-pub not_both : (b : Bool) → b ≡ true → b ≡ false → ⊥
-not_both b e f = cc
-
 -- a free worker has no attempt that isn't over
 pub never_busy : (x : Worker) (run : Run) → is_free x.run ≡ true → x.run ≡ Some run → run.is_over ≡ false → ⊥
-never_busy x run free e over = not_both run.is_over (sym (ap is_free e) ∙ free) over
+never_busy x run free e over = both_ways run.is_over over (sym (ap is_free e) ∙ free)
 
 free_by : (r : Option Run) → ((run : Run) → r ≡ Some run → run.is_over ≡ false → ⊥) → is_free r ≡ true
 free_by None f = refl
-free_by (Some run) f = is_true run.is_over (f run refl)
+free_by (Some run) f = true_from_ne_false run.is_over (f run refl)
 
 pub free_unless_busy : (x : Worker) → ((run : Run) → x.run ≡ Some run → run.is_over ≡ false → ⊥) → is_free x.run ≡ true
 free_unless_busy x f = free_by x.run f
@@ -56,8 +46,8 @@ freed x y f free = free_unless_busy y (λ next e over. let g = f.going next e ov
 pub still_done : (x y : Worker) (a : Attempt) → Follows x y → IsDoneAt a x → IsDoneAt a y
 still_done x y a f d = record {
   listed = ap (has_begun a) f.began ∙ d.listed;
-  over = λ next e is. is_true next.is_over (λ over.
-      let g = f.going next e over in not_both g.0.is_over (d.over g.0 g.1 (g.2 ∙ is)) g.3);
+  over = λ next e is. true_from_ne_false next.is_over (λ over.
+      let g = f.going next e over in both_ways g.0.is_over g.3 (d.over g.0 g.1 (g.2 ∙ is)));
 }
 
 pub record AllFollow (look next : Look) : Type 0 where

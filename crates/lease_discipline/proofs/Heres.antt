@@ -1,7 +1,7 @@
 -- A worker in its event keeps the leases of its node in order.
-use Rattle.std.proofs.Common.{◌≡◌, ◌≢◌, ℕ, ◌+◌, List, [], ◌∷◌, ◌++◌, Some, None, Option, refl, ap, sym, subst, ◌∙◌, ◌⊎◌, inl, inr, arith}
+use Rattle.std.proofs.Common.{◌≡◌, ◌≢◌, ℕ, ◌+◌, List, [], ◌∷◌, ◌++◌, Some, None, Option, refl, ap, sym, subst, ◌∙◌, ◌⊎◌, inl, inr}
 use Rattle.std.specs.Prelude.{true, false, if◌then◌else◌, ◌==◌}
-use Rattle.std.proofs.lemmas.Bool.Decides.{nat_tests}
+use Rattle.std.proofs.lemmas.Bool.{both_ways, eqb-false, eqb-true, false_from_ne_true}
 use Rattle.meaning.proofs.BirthLaws.{at_test}
 use Rattle.meaning.specs.Values.{Birth, Id}
 use Rattle.event_log.specs.Entries.{Attempt, Begun, Entry, Faulted, Got}
@@ -10,6 +10,7 @@ use Rattle.event_log.specs.Breaks.{Among}
 use Rattle.protocol.specs.Numbered.{item_at, changed_at}
 use Rattle.numbered.specs.Counting.{item_of, changed}
 use Rattle.numbered.proofs.Places.{changed_is, item_is}
+use Rattle.numbered.proofs.Lists.{changed-length}
 use Rattle.protocol.specs.Sets.{object_id, repeated}
 use Rattle.protocol.specs.Messages.{Letter, letter, Message, Party, TheWorker, TheNode, Ask, Give, Elsewhere, Wait, Back, Push, Finished, FinishedAck, Failed}
 use Rattle.protocol.specs.Messages.{Where, At, Gone, Fetch, CopyOf, Missing, Hold, HoldAck, Unhold}
@@ -22,12 +23,12 @@ use Rattle.protocol.specs.Nodes.{posts}
 use Rattle.protocol.specs.Whole.{Whole}
 use Rattle.protocol_owed.specs.Courses.{HasStopped, has_begun}
 use Rattle.protocol_owed.proofs.Nodes.{changed_cases, there_still, there_more}
-use Rattle.protocol_owed.proofs.FullNodes.{changed-length}
 use Rattle.protocol_owed.proofs.Letters.{among-more}
-use Rattle.protocol_owed.proofs.RunMoves.{pace_in_phase}
+use Rattle.protocol_owed.specs.Told.{pace_in}
+use Rattle.protocol_owed.proofs.TellingMore.{stopped_pace}
 use Rattle.lease_discipline.specs.Discipline.{Look, Gave, IsBack, IsDone, IsJobOf, IsTrue, IsTrueBetween, WorkerKeeps}
-use Rattle.lease_discipline.proofs.Tame.{IsTame, same_number}
-use Rattle.lease_discipline.proofs.Follows.{AllFollow, Follows, More, follow_grows, gave_more, never_busy, node_follows, not_both, is_false, stays, true_more}
+use Rattle.lease_discipline.proofs.Tame.{IsTame}
+use Rattle.lease_discipline.proofs.Follows.{AllFollow, Follows, More, follow_grows, gave_more, never_busy, node_follows, stays, true_more}
 use Rattle.lease_discipline.proofs.Moves.{Anyhow, IsKept, is_plain}
 use Rattle.protocol.specs.Asking.{asks_at, rests}
 use Rattle.protocol.specs.Tables.{AskedAt}
@@ -44,7 +45,7 @@ module _ {X : Type 0} where
       at_test (λ b. (k == m) ≡ b → (if b then Some (if k == n then f x else x) else item_of (k + 1) (changed (k + 1) xs n f ++ ys) m) ≡
       (if b then Some (if k == n then g x else x) else item_of (k + 1) (changed (k + 1) xs n g ++ ys) m)) (k == m)
       (λ _ e. at_test (λ b. (k == n) ≡ b → Some (if b then f x else x) ≡ Some (if b then g x else x)) (k == n)
-      (λ _ i. absurd (apart (sym (same_number k m e) ∙ same_number k n i))) (λ _ i. refl) refl)
+      (λ _ i. absurd (apart (sym (eqb-true k m e) ∙ eqb-true k n i))) (λ _ i. refl) refl)
       (λ _ e. counted_other (k + 1) xs ys n m f g apart) refl
 
   pub other_item : (xs ys : List X) (n m : ℕ) (f g : X → X) → m ≢ n → item_at (changed_at xs n f ++ ys) m ≡ item_at (changed_at xs n g ++ ys) m
@@ -62,29 +63,19 @@ module _ {X : Type 0} where
       let g = there_still xs n m f x e in
       elim (changed_cases xs n m f g.0 g.1) [ inl (same, _, _, _) ↦ absurd (apart same) | inr (_, at) ↦ g.1 ∙ sym at ∙ e ]
 
-other_number : (m n : ℕ) → (m == n) ≡ false → m ≢ n
-other_number m n e f = grind (arith, nat_tests)
-
 pub by_number : (m n : ℕ) → (m ≡ n) ⊎ (m ≢ n)
-by_number m n = at_test (λ b. (m == n) ≡ b → (m ≡ n) ⊎ (m ≢ n)) (m == n) (λ _ e. inl (same_number m n e)) (λ _ e. inr (other_number m n e)) refl
+by_number m n = at_test (λ b. (m == n) ≡ b → (m ≡ n) ⊎ (m ≢ n)) (m == n) (λ _ e. inl (eqb-true m n e)) (λ _ e. inr (eqb-false m n e)) refl
 
 -- ---- phases
 
-pub stopped_pace : (p : Phase) → has_stopped p ≡ true → pace_in_phase p ≡ HasStopped
-stopped_pace (HasEnded c) e = refl
-stopped_pace (HasFaulted f) e = refl
-stopped_pace Ready e = absurd (cc)
-stopped_pace (Out j) e = absurd (cc)
-stopped_pace (Waits y f) e = absurd (cc)
-
-pace_stopped : (p : Phase) → pace_in_phase p ≡ HasStopped → has_stopped p ≡ true
+pace_stopped : (p : Phase) → pace_in p ≡ HasStopped → has_stopped p ≡ true
 pace_stopped (HasEnded c) e = refl
 pace_stopped (HasFaulted f) e = refl
 pace_stopped Ready e = absurd (cc)
 pace_stopped (Out j) e = absurd (cc)
 pace_stopped (Waits y f) e = absurd (cc)
 
-out_pace : (p : Phase) (j : ℕ) → pace_in_phase p ≡ pace_in_phase (Out j) → p ≡ Out j
+out_pace : (p : Phase) (j : ℕ) → pace_in p ≡ pace_in (Out j) → p ≡ Out j
 out_pace (Out i) j e = let f : i ≡ j = cc in ap (λ k. Out k) f
 out_pace Ready j e = absurd (cc)
 out_pace (Waits y f) j e = absurd (cc)
@@ -204,8 +195,8 @@ module _ (c : Whole) (me n : ℕ) (old : Worker) (there : item_at c.workers me �
               run,
               e,
               sym same ∙ ap (λ (q : Run). q.attempt) is,
-              is_false run.is_over
-                  (λ g. not_both r.is_over (ap (λ (q : Run). q.is_over) (sym is) ∙ later g) over),
+              false_from_ne_true run.is_over
+                  (λ g. both_ways r.is_over over (ap (λ (q : Run). q.is_over) (sym is) ∙ later g)),
             );
       })
       (record {
@@ -246,7 +237,7 @@ module _ (c : Whole) (me n : ℕ) (old : Worker) (there : item_at c.workers me �
 
   -- an attempt that waits isn't over
   pub waits_on : (h : Here) (run : Run) (y : Id) (f : Option Fetching) → h.worker.run ≡ Some run → run.phase ≡ Waits y f → Does h → run.is_over ≡ false
-  waits_on h run y f e q d = is_false run.is_over (λ o. let s = (mine h d).stopped run e o in
+  waits_on h run y f e q d = false_from_ne_true run.is_over (λ o. let s = (mine h d).stopped run e o in
       let g : has_stopped (Waits y f) ≡ true = ap has_stopped (sym q) ∙ s in absurd (cc))
 
   -- ---- what is known of messages that come
@@ -371,7 +362,7 @@ module _ (c : Whole) (me n : ℕ) (old : Worker) (there : item_at c.workers me �
     run = λ h run next e k d.
         run_does h run next e k.attempt (λ o. k.over ∙ o)
         (λ o. pace_stopped next.phase (k.pace ∙ stopped_pace run.phase ((mine h d).stopped run e (sym k.over ∙ o))))
-        (λ j o. (mine h d).out run j e (out_pace run.phase j (sym k.pace ∙ ap pace_in_phase o))) d;
+        (λ j o. (mine h d).out run j e (out_pace run.phase j (sym k.pace ∙ ap pace_in o))) d;
     leaves = λ h run next e s same phase over d.
         run_does h run next e same (λ _. over) (λ _. ap has_stopped phase ∙ s)
         (λ j o. (mine h d).out run j e (sym phase ∙ o)) d;
@@ -379,7 +370,7 @@ module _ (c : Whole) (me n : ℕ) (old : Worker) (there : item_at c.workers me �
         let next : Run = with_answer run content in
         let over : run.is_over ≡ false = waits_on h run y f e q d in
         asks_does (logs (with_run h next) (Got run.attempt y content)) (logs_does (with_run h next) (Got run.attempt y content ∷ [])
-        (run_does h run next e refl (λ o. o) (λ o. absurd (not_both run.is_over o over)) (λ j o. absurd (cc)) d));
+        (run_does h run next e refl (λ o. o) (λ o. absurd (both_ways run.is_over over o)) (λ j o. absurd (cc)) d));
     faults = λ h run fault y f e q d.
         let next : Run = record run { phase = HasFaulted fault } in
         let over : run.is_over ≡ false = waits_on h run y f e q d in

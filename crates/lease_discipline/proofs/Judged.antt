@@ -9,6 +9,7 @@ use Rattle.event_log.specs.Entries.{Attempt, Begun, Claim, Commit, Deliver, Ende
 use Rattle.event_log.specs.Events.{accepted_events, is_live}
 use Rattle.event_log.specs.Rules.{Setting}
 use Rattle.event_log.specs.Words.{births}
+use Rattle.event_log.specs.Legal.{opening}
 use Rattle.protocol.specs.Messages.{Ask, Give, Letter, Push, TheNode, TheWorker, Wait, letter}
 use Rattle.protocol.specs.Numbered.{item_at}
 use Rattle.protocol.specs.Sets.{has, object_id}
@@ -19,7 +20,7 @@ use Rattle.protocol_owed.specs.Turns.{AskStands, IsReady}
 use Rattle.protocol_owed.proofs.Letters.{among-nothing}
 use Rattle.lease_discipline.specs.Examples.{ClaimsAreJudged, GivesBegin, SlotsAreJudged, TicksOweNothing, first_one, give_comes, given_log, given_network}
 use Rattle.lease_discipline.specs.Examples.{nothing_comes}
-use Rattle.lease_discipline.specs.Examples.{one_once, opening_log, pushed, scene, waiting_network}
+use Rattle.lease_discipline.specs.Examples.{one_once, pushed, scene, waiting_network}
 
 -- ---- a Give
 
@@ -78,7 +79,7 @@ owed_by s es ls g = g 1 1 first_one 0 2 one_once (2, refl, refl) unbegun_yet bor
 
 -- ---- a tick
 
-no_end : (a : Attempt) (c : Outcome) → Among (Ended a c) opening_log → ⊥
+no_end : (a : Attempt) (c : Outcome) → Among (Ended a c) opening → ⊥
 no_end a c (zero, e) = absurd (cc)
 no_end a c (suc zero, e) = absurd (cc)
 no_end a c (suc (suc k), e) = absurd (cc)
@@ -110,25 +111,25 @@ tick_owes_nothing s = record {
 
 -- ---- a claim
 
-first_ready : (s : Setting) → IsReady (scene s opening_log [] (1 ∷ [])) 1
+first_ready : (s : Setting) → IsReady (scene s opening [] (1 ∷ [])) 1
 unfolding is_live course_from accepted_events
 first_ready s = record { node = 1; lives = record { place = refl; lives = refl }; slot = refl; goes_on = refl }
 
-slotless : (s : Setting) → IsReady (scene s opening_log [] []) 1 → ⊥
+slotless : (s : Setting) → IsReady (scene s opening [] []) 1 → ⊥
 slotless s r = none r.node r.slot
   where
-    none : (n : ℕ) → has ((scene s opening_log [] []).holders n) 1 ≡ true → ⊥
+    none : (n : ℕ) → has ((scene s opening [] []).holders n) 1 ≡ true → ⊥
     none n e = at_test (λ b. has (if b then [] else []) 1 ≡ true → ⊥) (n == 1) (λ _ f. absurd (cc)) (λ _ f. absurd (cc)) e
 
 pub claims_are_judged : ClaimsAreJudged
 claims_are_judged = record {
   given_out = λ s. record {
     ready = λ w e r f. absurd (empty_not f);
-    others = λ w e lives unready. absurd (unready (subst (λ v. IsReady (scene s opening_log [] (1 ∷ [])) v) (claimed w e) (first_ready s)));
+    others = λ w e lives unready. absurd (unready (subst (λ v. IsReady (scene s opening [] (1 ∷ [])) v) (claimed w e) (first_ready s)));
   };
   not_refused = λ s c. c.ready 1 refl (first_ready s) refl;
   refused = λ s. record {
-    ready = λ w e r f. slotless s (subst (λ v. IsReady (scene s opening_log [] []) v) (sym (claimed w e)) r);
+    ready = λ w e r f. slotless s (subst (λ v. IsReady (scene s opening [] []) v) (sym (claimed w e)) r);
     others = λ w e lives unready. refl;
   };
   not_given_out = λ s c. empty_not (c.others 1 refl (lives_one s) (slotless s));
@@ -140,7 +141,7 @@ claims_are_judged = record {
     empty_not : ◌≡◌ {A = List Entry} [] (Refused 31 ∷ []) → ⊥
     empty_not e = cc
 
-    lives_one : (s : Setting) → is_live 1 opening_log ≡ true
+    lives_one : (s : Setting) → is_live 1 opening ≡ true
     lives_one s = (first_ready s).lives.lives
 
 pub gives_begin : GivesBegin

@@ -44,11 +44,14 @@ use Rattle.event_log.specs.Words.{attempt}
 use Rattle.protocol.specs.Asking.{asks_next, if_asked, requests}
 use Rattle.protocol.specs.Commits.{with_object}
 use Rattle.std.proofs.Common.{inl, inr}
-use Rattle.protocol_owed.proofs.RunMoves.{Alike, pace_in_phase}
+use Rattle.protocol_owed.proofs.RunMoves.{Alike}
+use Rattle.protocol_owed.specs.Told.{pace_in}
+use Rattle.protocol_owed.proofs.Untouched.{tells_stop-worker, asks_again-worker, sends_holds-worker, sends_tasks-worker}
 use Rattle.protocol.specs.Ends.{accepts, hears_of_end, if_present}
 use Rattle.std.proofs.Common.{◌⊎◌}
+use Rattle.std.proofs.lemmas.Bool.{eqb-true}
 use Rattle.lease_discipline.proofs.Tame.{IsRunning, LeavesTasks, on_node, on_worker, present_was, put_left}
-use Rattle.lease_discipline.proofs.Tame.{IsNextOf, asked_where, held_task, new_there, own_there, same_number, task_now}
+use Rattle.lease_discipline.proofs.Tame.{IsNextOf, asked_where, held_task, new_there, own_there, task_now}
 use Rattle.lease_discipline.proofs.Tame.{same_left, untouched_left}
 use Rattle.lease_discipline.proofs.Tame.{places_left, own_at, present_is, waiting}
 use Rattle.protocol.specs.Tables.{ByTask, is_waiting_for, new_object, put_object, released, with_asker, with_content, with_fault, with_holder, with_place}
@@ -65,51 +68,11 @@ is_plain (FinishedAck a) = false
 is_plain (Back a) = false
 is_plain _ = true
 
-tells_stop-worker : (h : Here) (run : Run) (phase : Phase) → (tells_stop h run phase).worker ≡ h.worker
-tells_stop-worker h run (HasEnded c) = refl
-tells_stop-worker h run (HasFaulted f) = refl
-tells_stop-worker h run Ready = refl
-tells_stop-worker h run (Out j) = refl
-tells_stop-worker h run (Waits y f) = refl
-
-if_worker : (b : Bool) (x y : Here) (u : Worker) → x.worker ≡ u → y.worker ≡ u → (if b then x else y).worker ≡ u
-if_worker true x y u p q = p
-if_worker false x y u p q = q
-
 hears_by-node : (h : Here) (a : Attempt) (r : Option Run) → h.worker.node ≡ (hears_by h a r).worker.node
 hears_by-node h a None = refl
 hears_by-node h a (Some run) =
     at_test (λ b. h.worker.node ≡ (if b then with_run h (record run { is_acknowledged = true }) else h).worker.node)
     (same_attempt run.attempt a && run.is_over) (λ _. refl) (λ _. refl)
-
-asks_again-worker : (h : Here) (phase : Phase) → (asks_again h phase).worker ≡ h.worker
-asks_again-worker h (Waits y None) = if_worker _ _ _ h.worker refl refl
-asks_again-worker h (Waits y (Some f)) = refl
-asks_again-worker h Ready = refl
-asks_again-worker h (Out j) = refl
-asks_again-worker h (HasEnded d) = refl
-asks_again-worker h (HasFaulted g) = refl
-
-sends_holds-worker : (h : Here) (ks : List Holding) → (sends_holds h ks).worker ≡ h.worker
-sends_holds-worker h [] = refl
-sends_holds-worker h (k ∷ ks) = sends_holds-worker (says h k.object.owner (Hold k.holder k.object)) ks
-
-sends_task_at-worker : (h : Here) (o : Id) (task : OwnTask) (q : Progress) → (sends_task_at h o task q).worker ≡ h.worker
-sends_task_at-worker h o task AtRest = refl
-sends_task_at-worker h o task (AskedAt t n) = refl
-sends_task_at-worker h o task (RunsOn w n) = refl
-
-sends_task-worker : (h : Here) (k : ℕ) (task : Option OwnTask) → (sends_task h k task).worker ≡ h.worker
-sends_task-worker h k None = refl
-sends_task-worker h k (Some task) = sends_task_at-worker h (own_id h k) task task.progress
-
-each_from-worker : (f : Here → ℕ → Here) → ((g : Here) (k : ℕ) → (f g k).worker ≡ g.worker) → (h : Here) (k n : ℕ) → (each_from f h k n).worker ≡ h.worker
-each_from-worker f each h k zero = refl
-each_from-worker f each h k (suc n) = each_from-worker f each (f h k) (k + 1) n ∙ each h k
-
-sends_tasks-worker : (h : Here) → (sends_tasks h).worker ≡ h.worker
-sends_tasks-worker h = each_from-worker (λ g k. sends_task g k (task_of (own_object g k))) (λ g k. sends_task-worker g k (task_of (own_object g k))) h 1
-    (length h.worker.objects)
 
 -- nothing is known of asks that were passed
 abbrev pub Anyhow : Attempt → ℕ → ℕ → Type 0
@@ -237,7 +200,7 @@ module _ (IsToldBy : ℕ → Attempt → Type 0) (IsOverOf : Attempt → Type 0)
 
   pub with_fetching_at-kept : (h : Here) (run : Run) (f : Option Fetching) (phase : Phase) → h.worker.run ≡ Some run → run.phase ≡ phase → P h →
       P (with_fetching_at h run f phase)
-  with_fetching_at-kept h run f (Waits y g) e q p = kept.run h run _ e (record { attempt = refl; over = refl; pace = sym (ap pace_in_phase q) }) p
+  with_fetching_at-kept h run f (Waits y g) e q p = kept.run h run _ e (record { attempt = refl; over = refl; pace = sym (ap pace_in q) }) p
   with_fetching_at-kept h run f Ready e q p = p
   with_fetching_at-kept h run f (Out j) e q p = p
   with_fetching_at-kept h run f (HasEnded d) e q p = p
@@ -599,7 +562,7 @@ module _ (IsToldBy : ℕ → Attempt → Type 0) (IsOverOf : Attempt → Type 0)
   moves_ask_at-kept h m k task (AskedAt t n) e f dead p =
       either_by (n == m) (asks_next h (own_id h k) task t m) h
       (λ same. kept.asks_on h (own_id h k) task t n _ (own_there h k ∙ e) f
-      (subst (IsPassedBy (attempt (own_id h k) task.number) t) (sym (same_number n m same)) (dead _ t)) p) (λ _. p)
+      (subst (IsPassedBy (attempt (own_id h k) task.number) t) (sym (eqb-true n m same)) (dead _ t)) p) (λ _. p)
   moves_ask_at-kept h m k task AtRest e f dead p = p
   moves_ask_at-kept h m k task (RunsOn w n) e f dead p = p
 

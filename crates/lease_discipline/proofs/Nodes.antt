@@ -1,14 +1,14 @@
 -- What a node does keeps its leases in order.
-use Rattle.std.proofs.Common.{◌≡◌, ◌≢◌, ℕ, List, [], ◌∷◌, ◌++◌, Some, Option, refl, ap, sym, subst, ◌∙◌, ◌⊎◌, inl, inr, arith}
-use Rattle.std.specs.Prelude.{Bool, true, false, if◌then◌else◌, not, min, ◌==◌, ◌&&◌, ◌||◌, nat_lt}
+use Rattle.std.proofs.Common.{◌≡◌, ◌≢◌, ℕ, List, [], ◌∷◌, ◌++◌, Some, Option, refl, ap, sym, subst, ◌∙◌, ◌⊎◌, inl, inr}
+use Rattle.std.specs.Prelude.{Bool, true, false, if◌then◌else◌, not, ◌==◌, ◌&&◌}
 use Rattle.std.specs.List.{list_any}
-use Rattle.std.proofs.lemmas.Bool.Decides.{nat_tests}
+use Rattle.std.proofs.lemmas.Bool.{both_ways, eq-eqb, eqb-true, false_from_ne_true}
 use Rattle.sequence.proofs.Places.{list_any-push_cases, list_any-push_left, list_any-push_right, or_cases, or_left, or_right, and_left, and_right}
 use Rattle.meaning.proofs.BirthLaws.{at_test}
 use Rattle.event_log.specs.Entries.{Attempt}
 use Rattle.event_log.specs.Words.{same_attempt}
 use Rattle.event_log.proofs.WordLaws.{same_attempt-true, same_attempt-refl}
-use Rattle.protocol.specs.Sets.{first_item, has, least, least_from, rest_of, with_number, without_number}
+use Rattle.protocol.specs.Sets.{first_item, has, without_number}
 use Rattle.protocol.specs.Messages.{Letter}
 use Rattle.protocol.specs.Nodes.{AskKey, Lease, Leased, Reply, Scheduler}
 use Rattle.protocol.specs.Slots.{is_latest_lease, may_be_idle, reply_to, same_key, slot_taken, with_answered, with_idle, with_lease, with_reply}
@@ -17,87 +17,18 @@ use Rattle.protocol.specs.Runs.{is_free}
 use Rattle.protocol.specs.Tables.{Worker}
 use Rattle.protocol_owed.specs.Courses.{has_begun}
 use Rattle.protocol_owed.proofs.Asks.{reply-same, reply-other, same_key-true}
+use Rattle.protocol_owed.proofs.Sets.{has-left, has-gone, has-stays, has-push, has-last, has-first, has-rest, has-with}
 use Rattle.lease_discipline.specs.Discipline.{Look, Gave, IsDone, IsIdle, IsLeasedFor, IsPromised, NodeKeeps}
-use Rattle.lease_discipline.proofs.Tame.{same_number}
-use Rattle.lease_discipline.proofs.Follows.{is_false, not_both, never_busy, free_unless_busy, More, gave_more}
+use Rattle.lease_discipline.proofs.Follows.{never_busy, free_unless_busy, More, gave_more}
 
 -- ---- sets of numbers
 
-pub equal_number : (n : ℕ) → (n == n) ≡ true
-equal_number n = grind (arith, nat_tests)
-
-has-left : (xs : List ℕ) (w v : ℕ) → has (without_number xs w) v ≡ true → has xs v ≡ true
-has-left [] w v e = e
-has-left (x ∷ xs) w v e =
-    at_test (λ b. has (if not b then x ∷ without_number xs w else without_number xs w) v ≡ true → has (x ∷ xs) v ≡ true) (x == w)
-    (λ _ f. or_right (x == v) (has xs v) (has-left xs w v f))
-    (λ _ f. elim (or_cases (x == v) (has (without_number xs w) v) f) [
-      | inl g ↦ or_left (x == v) (has xs v) g
-      | inr g ↦ or_right (x == v) (has xs v)
-          (has-left xs w v g)
-    ]) e
-
-pub has-gone : (xs : List ℕ) (w : ℕ) → has (without_number xs w) w ≡ false
-has-gone [] w = refl
-has-gone (x ∷ xs) w =
-    at_test (λ b. (x == w) ≡ b → has (if not b then x ∷ without_number xs w else without_number xs w) w ≡ false) (x == w)
-    (λ _ _. has-gone xs w) (λ _ e. ap (λ b. b || has (without_number xs w) w) e ∙ has-gone xs w) refl
-
-pub has-stays : (xs : List ℕ) (w v : ℕ) → w ≢ v → has xs v ≡ true → has (without_number xs w) v ≡ true
-has-stays [] w v apart e = e
-has-stays (x ∷ xs) w v apart e =
-    at_test (λ b. (x == w) ≡ b → has (if not b then x ∷ without_number xs w else without_number xs w) v ≡ true) (x == w)
-    (λ _ f. elim (or_cases (x == v) (has xs v) e) [
-      | inl g ↦ absurd (apart (sym (same_number x w f) ∙ same_number x v g))
-      | inr g ↦ has-stays xs w v apart g
-    ])
-    (λ _ f. elim (or_cases (x == v) (has xs v) e) [ inl g ↦ or_left (x == v) _ g | inr g ↦ or_right (x == v) _ (has-stays xs w v apart g) ]) refl
-
-has-push : (xs : List ℕ) (w v : ℕ) → has (xs ++ w ∷ []) v ≡ true → (has xs v ≡ true) ⊎ (w ≡ v)
-has-push xs w v e = elim (list_any-push_cases (λ y. y == v) xs w e) [ inl f ↦ inl f | inr f ↦ inr (same_number w v f) ]
-
 has_not-push : (xs : List ℕ) (w v : ℕ) → has xs v ≡ false → w ≢ v → has (xs ++ w ∷ []) v ≡ false
-has_not-push xs w v e apart = is_false _ (λ f. elim (has-push xs w v f) [ inl g ↦ not_both _ g e | inr g ↦ apart g ])
-
-pub has-last : (xs : List ℕ) (w : ℕ) → has (xs ++ w ∷ []) w ≡ true
-has-last xs w = list_any-push_right (λ y. y == w) xs w (equal_number w)
-
-has-idle : (xs : List ℕ) (w v : ℕ) → has (with_number xs w) v ≡ true → (has xs v ≡ true) ⊎ (w ≡ v)
-has-idle xs w v e = at_test (λ b. has (if b then xs else xs ++ w ∷ []) v ≡ true → (has xs v ≡ true) ⊎ (w ≡ v)) (has xs w) (λ _ f. inl f)
-    (λ _ f. has-push xs w v f) e
-
-pub has-first : (xs : List ℕ) (w : ℕ) → first_item xs ≡ Some w → has xs w ≡ true
-has-first [] w e = absurd (cc)
-has-first (x ∷ xs) w e = let f : x ≡ w = cc in or_left (x == w) (has xs w) (ap (λ y. y == w) f ∙ equal_number w)
-
-has-rest : (xs : List ℕ) (v : ℕ) → has (rest_of xs) v ≡ true → has xs v ≡ true
-has-rest [] v e = e
-has-rest (x ∷ xs) v e = or_right (x == v) (has xs v) e
-
-least_from-in : (x : ℕ) (xs : List ℕ) → has (x ∷ xs) (least_from x xs) ≡ true
-least_from-in x [] = or_left (x == x) false (equal_number x)
-least_from-in x (y ∷ ys) =
-    let e = least_from-in (min x y) ys in
-    elim (or_cases (min x y == least_from (min x y) ys) (has ys (least_from (min x y) ys)) e) [
-      | inl f ↦ elim (smaller x y) [
-        | inl i ↦ or_left (x == least_from (min x y) ys) _ (ap (λ j. j == least_from (min x y) ys) (sym i) ∙ f)
-        | inr i ↦ or_right (x == least_from (min x y) ys) _ (or_left (y == least_from (min x y) ys) _ (ap (λ j. j == least_from (min x y) ys) (sym i) ∙ f))
-      ]
-      | inr f ↦ or_right (x == least_from (min x y) ys) _ (or_right (y == least_from (min x y) ys) _ f)
-    ]
-  where
-    smaller : (x y : ℕ) → (min x y ≡ x) ⊎ (min x y ≡ y)
-    smaller x y =
-        at_test (λ b. nat_lt x y ≡ b → (min x y ≡ x) ⊎ (min x y ≡ y)) (nat_lt x y)
-        (λ _ e. inl (grind (arith, nat_tests))) (λ _ e. inr (grind (arith, nat_tests))) refl
-
-pub least-in : (xs : List ℕ) (w : ℕ) → least xs ≡ Some w → has xs w ≡ true
-least-in [] w e = absurd (cc)
-least-in (x ∷ xs) w e = let f : least_from x xs ≡ w = cc in subst (λ v. has (x ∷ xs) v ≡ true) f (least_from-in x xs)
+has_not-push xs w v e apart = false_from_ne_true _ (λ f. elim (has-push xs w v f) [ inl g ↦ both_ways _ e g | inr g ↦ apart g ])
 
 -- ---- leases
 
-abbrev lease_in : List Lease → ℕ → Attempt → Bool
+abbrev pub lease_in : List Lease → ℕ → Attempt → Bool
 lease_in ls w a = list_any (λ l. (l.worker == w) && same_attempt l.attempt a) ls
 
 lease-left : (ls : List Lease) (w v : ℕ) (a : Attempt) → lease_in (without_lease w ls) v a ≡ true → lease_in ls v a ≡ true
@@ -115,7 +46,7 @@ lease-gone (l ∷ ls) w a e =
     at_test (λ b. (l.worker == w) ≡ b → lease_in (if not b then l ∷ without_lease w ls else without_lease w ls) w a ≡ true → ⊥) (l.worker == w)
     (λ _ _ f. lease-gone ls w a f)
     (λ _ g f. elim (or_cases this (lease_in (without_lease w ls) w a) f) [
-      | inl h ↦ not_both (l.worker == w) (and_left (l.worker == w) (same_attempt l.attempt a) h) g
+      | inl h ↦ both_ways (l.worker == w) g (and_left (l.worker == w) (same_attempt l.attempt a) h)
       | inr h ↦ lease-gone ls w a h
     ]) refl e
 
@@ -125,7 +56,7 @@ lease-stays (l ∷ ls) w v a apart e =
     let this : Bool = (l.worker == v) && same_attempt l.attempt a in
     at_test (λ b. (l.worker == w) ≡ b → lease_in (if not b then l ∷ without_lease w ls else without_lease w ls) v a ≡ true) (l.worker == w)
     (λ _ f. elim (or_cases this (lease_in ls v a) e) [
-      | inl g ↦ absurd (apart (sym (same_number l.worker w f) ∙ same_number l.worker v (and_left (l.worker == v) (same_attempt l.attempt a) g)))
+      | inl g ↦ absurd (apart (sym (eqb-true l.worker w f) ∙ eqb-true l.worker v (and_left (l.worker == v) (same_attempt l.attempt a) g)))
       | inr g ↦ lease-stays ls w v a apart g
     ])
     (λ _ f. elim (or_cases this (lease_in ls v a) e) [ inl g ↦ or_left this _ g | inr g ↦ or_right this _ (lease-stays ls w v a apart g) ]) refl
@@ -199,8 +130,8 @@ module _ (look : Look) (sent : List Letter) (n : ℕ) where
   taken_lessens s w first k = record {
     idle = λ v e. e;
     slotless = λ v e f g. (
-      has_not-push s.holders w v f (λ same. not_both (has s.answered v) (ap (has s.answered) (sym same) ∙ has-first s.answered w first) g),
-      is_false _ (λ h. not_both _ (has-rest s.answered v h) g),
+      has_not-push s.holders w v f (λ same. both_ways (has s.answered v) g (ap (has s.answered) (sym same) ∙ has-first s.answered w first)),
+      false_from_ne_true _ (λ h. both_ways _ g (has-rest s.answered v h)),
     );
     slots = λ v a _ e. list_any-push_left (λ y. y == v) s.holders w e;
     leases = λ v a e. e;
@@ -212,7 +143,7 @@ module _ (look : Look) (sent : List Letter) (n : ℕ) where
   pub slot_lessens : (s : Scheduler) (w : ℕ) → IsUnwanted look sent n w → Lessens look sent n s (without_slot s w)
   slot_lessens s w unwanted = record {
     idle = λ v e. e;
-    slotless = λ v e f g. (is_false _ (λ h. not_both _ (has-left s.holders w v h) f), g);
+    slotless = λ v e f g. (false_from_ne_true _ (λ h. both_ways _ f (has-left s.holders w v h)), g);
     slots = λ v a wanted e. has-stays s.holders w v (λ same. unwanted a (subst (λ u. IsWanted look sent n u a) (sym same) wanted)) e;
     leases = λ v a e. e;
     leased = λ v a _ e. e;
@@ -223,7 +154,7 @@ module _ (look : Look) (sent : List Letter) (n : ℕ) where
   pub answered_lessens : (s : Scheduler) (w : ℕ) → Lessens look sent n s (with_answered s w)
   answered_lessens s w = record {
     idle = λ v e. has-left s.idle w v e;
-    slotless = λ v e f g. (f, has_not-push s.answered w v g (λ same. not_both _ e (ap (has (without_number s.idle w)) (sym same) ∙ has-gone s.idle w)));
+    slotless = λ v e f g. (f, has_not-push s.answered w v g (λ same. both_ways _ (ap (has (without_number s.idle w)) (sym same) ∙ has-gone s.idle w) e));
     slots = λ v a _ e. e;
     leases = λ v a e. e;
     leased = λ v a _ e. e;
@@ -234,7 +165,7 @@ module _ (look : Look) (sent : List Letter) (n : ℕ) where
   pub worker_lessens : (s : Scheduler) (w : ℕ) → IsUnwanted look sent n w → Lessens look sent n s (without_worker s w)
   worker_lessens s w unwanted = record {
     idle = λ v e. has-left s.idle w v e;
-    slotless = λ v e f g. (f, is_false _ (λ h. not_both _ (has-left s.answered w v h) g));
+    slotless = λ v e f g. (f, false_from_ne_true _ (λ h. both_ways _ g (has-left s.answered w v h)));
     slots = λ v a _ e. e;
     leases = λ v a e. lease-left s.leases w v a e;
     leased = λ v a wanted e. lease-stays s.leases w v a (λ same. unwanted a (subst (λ u. IsWanted look sent n u a) (sym same) wanted)) e;
@@ -262,7 +193,7 @@ module _ (look : Look) (sent : List Letter) (n : ℕ) where
   back_keeps s w a d home e k =
       let now = slotless_now s w a e in
       record {
-        idle = λ v f. elim (has-idle s.idle w v f) [
+        idle = λ v f. elim (has-with s.idle w v f) [
           | inl g ↦ let i = k.idle v g in record {
             worker = i.worker;
             there = i.there;
@@ -277,7 +208,7 @@ module _ (look : Look) (sent : List Letter) (n : ℕ) where
             home = home;
             free = free_unless_busy d.worker (λ run at over.
                 let same : a ≡ run.attempt = k.busy w d.worker run d.there home at over a now.0 in
-                not_both run.is_over (d.done.over run at (sym same)) over);
+                both_ways run.is_over over (d.done.over run at (sym same)));
             slotless = now.1;
             unanswered = now.2;
           })
@@ -302,7 +233,7 @@ module _ (look : Look) (sent : List Letter) (n : ℕ) where
         (record { worker = w; attempt = k.attempt }) e) [
           | inl f ↦ inl (lease-left s.leases w v b f)
           | inr f ↦ inr (
-            sym (same_number w v (and_left (w == v) (same_attempt k.attempt b) f)),
+            sym (eqb-true w v (and_left (w == v) (same_attempt k.attempt b) f)),
             sym
                 (same_attempt-true k.attempt b (and_right (w == v) (same_attempt k.attempt b) f)),
           )
@@ -325,7 +256,7 @@ module _ (look : Look) (sent : List Letter) (n : ℕ) where
     leased =
         list_any-push_right (λ (l : Lease). (l.worker == w) && same_attempt l.attempt k.attempt) (without_lease w s.leases)
         (record { worker = w; attempt = k.attempt })
-        (both (w == w) (same_attempt k.attempt k.attempt) (equal_number w) (same_attempt-refl k.attempt))
+        (both (w == w) (same_attempt k.attempt k.attempt) (eq-eqb w w refl) (same_attempt-refl k.attempt))
 
     now : (y : Worker) (a : Attempt) → look w ≡ Some y → y.is_live ≡ true → Gave t n a w → has_begun a y.began ≡ false → IsPromised next w y a
     now y a there live gave unbegun = elim (which a w gave) [
@@ -365,14 +296,14 @@ module _ (look : Look) (sent : List Letter) (n : ℕ) where
             there = i.there;
             home = i.home;
             free = i.free;
-            slotless = has_not-push s.holders w v i.slotless (λ same. not_both _ e (ap (has (without_number s.idle w)) (sym same) ∙ has-gone s.idle w));
+            slotless = has_not-push s.holders w v i.slotless (λ same. both_ways _ (ap (has (without_number s.idle w)) (sym same) ∙ has-gone s.idle w) e);
             unanswered = i.unanswered;
           };
       promised = λ v y a there live gave unbegun.
           at_test (λ b. (w == v) ≡ b → IsPromised next v y a) (w == v)
-          (λ _ f. subst (λ u. IsPromised next u y a) (same_number w v f)
-          (now y a (subst (λ u. look u ≡ Some y) (sym (same_number w v f)) there) live (subst (λ u. Gave t n a u) (sym (same_number w v f)) gave) unbegun))
-          (λ _ f. before v y a (λ same. not_both (w == v) (ap (λ u. w == u) (sym same) ∙ equal_number w) f) there live gave unbegun) refl;
+          (λ _ f. subst (λ u. IsPromised next u y a) (eqb-true w v f)
+          (now y a (subst (λ u. look u ≡ Some y) (sym (eqb-true w v f)) there) live (subst (λ u. Gave t n a u) (sym (eqb-true w v f)) gave) unbegun))
+          (λ _ f. before v y a (λ same. both_ways (w == v) f (ap (λ u. w == u) (sym same) ∙ eq-eqb w w refl)) there live gave unbegun) refl;
       busy = λ v y run there home e over b f. elim (lease-cases v b f) [
         | inl g ↦ keeps.busy v y run there home e over b g
         | inr (g, same) ↦

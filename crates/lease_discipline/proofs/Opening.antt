@@ -1,6 +1,7 @@
 -- A run begins with its leases in order.
 use Rattle.std.proofs.Common.{◌≡◌, ℕ, zero, suc, ◌<◌, List, [], ◌∷◌, Some, refl, ap, sym, subst, ◌∙◌, inl, inr, arith}
 use Rattle.std.specs.Prelude.{true, false}
+use Rattle.std.proofs.lemmas.Bool.{both_ways}
 use Rattle.sequence.proofs.Places.{or_cases, or_left}
 use Rattle.event_log.specs.Entries.{main_attempt}
 use Rattle.event_log.specs.Words.{same_attempt}
@@ -16,7 +17,6 @@ use Rattle.protocol_owed.proofs.Nodes.{changed_cases, there_still}
 use Rattle.protocol_owed.proofs.CourseEvents.{one_of}
 use Rattle.protocol_owed.proofs.Letters.{among-nothing}
 use Rattle.lease_discipline.specs.Discipline.{KeepsLeases, NodeKeeps, WorkerKeeps}
-use Rattle.lease_discipline.proofs.Follows.{not_both}
 
 pub only_driver : (w : ℕ) (x : Worker) → item_at (driver ∷ []) w ≡ Some x → (w ≡ 1) × (driver ≡ x)
 only_driver zero x e = absurd (cc)
@@ -28,7 +28,7 @@ driver_keeps = record {
   began = λ a e. elim (or_cases (same_attempt main_attempt a) false e) [ inl f ↦ inl (sym (same_attempt-true main_attempt a f), refl) | inr f ↦ absurd (cc) ];
   present = λ run e. let is : main_run ≡ run = cc in subst (λ (r : Run). has_begun r.attempt driver.began ≡ true) is
       (or_left (same_attempt main_attempt main_attempt) false (same_attempt-refl main_attempt));
-  stopped = λ run e o. let is : main_run ≡ run = cc in absurd (not_both run.is_over o (ap (λ (r : Run). r.is_over) (sym is)));
+  stopped = λ run e o. let is : main_run ≡ run = cc in absurd (both_ways run.is_over (ap (λ (r : Run). r.is_over) (sym is)) o);
   out = λ run j e o. let is : main_run ≡ run = cc in absurd (ready_out j (ap (λ (r : Run). r.phase) is ∙ o));
   runs = λ k task v n e. absurd (none k task e);
 }

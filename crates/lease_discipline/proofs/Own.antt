@@ -1,6 +1,7 @@
 -- How an attempt begins at its worker, is given out and is committed: the leases of its node stay in order.
 use Rattle.std.proofs.Common.{◌≡◌, ◌≢◌, ℕ, ◌+◌, List, length, Some, None, Option, refl, ap, sym, subst, ◌∙◌, ◌⊎◌, inl, inr}
 use Rattle.std.specs.Prelude.{Bool, true, false, if◌then◌else◌, not, ◌&&◌}
+use Rattle.std.proofs.lemmas.Bool.{both_ways, false_from_ne_true}
 use Rattle.sequence.proofs.Places.{and_right, list_any-push_cases, list_any-push_left, list_any-push_right}
 use Rattle.meaning.proofs.BirthLaws.{at_test}
 use Rattle.meaning.specs.Values.{Birth, Id, Outcome}
@@ -24,23 +25,17 @@ use Rattle.protocol.specs.Commits.{bears_all, claim_by, claim_step, commit_by, c
 use Rattle.protocol.specs.Refusals.{is_ready_phase, is_ready_run}
 use Rattle.protocol.specs.Whole.{Whole}
 use Rattle.protocol_owed.specs.Courses.{GoesOn, HasStopped, Rests, has_begun}
-use Rattle.protocol_owed.proofs.FullNodes.{changed-length}
-use Rattle.protocol_owed.proofs.RunMoves.{pace_in_phase}
-use Rattle.protocol_owed.proofs.Telling.{pace_in_run}
+use Rattle.protocol_owed.specs.Told.{pace_in, pace_by}
+use Rattle.protocol_owed.proofs.TellingMore.{stopped_pace, stopped_not, rests_not}
 use Rattle.lease_discipline.specs.Discipline.{Look, Gave, IsBegunBy, IsDoneAt, IsJobOf, IsLeasedFor, IsOfNode, IsPromised, IsPushed, NodeKeeps, WorkerKeeps}
-use Rattle.lease_discipline.proofs.Follows.{Grows, is_false, not_both, true_more}
+use Rattle.lease_discipline.proofs.Follows.{Grows, true_more}
 use Rattle.lease_discipline.proofs.Moves.{Anyhow, IsKept, bears_all-kept, holds_ids-kept, leaves_if_free-kept, needs-kept}
 use Rattle.lease_discipline.proofs.Nodes.{IsUnwanted}
 use Rattle.lease_discipline.proofs.Theres.{letter_cases}
 use Rattle.lease_discipline.proofs.Heres.{Does, IsToldBy, IsOverOf, IsGivenBy, at_me, at_other, busy_unwanted, by_number, does_kept, frees_does, logs_does}
 use Rattle.lease_discipline.proofs.Heres.{look_here, look_with, mine, run_does, sent_here}
-use Rattle.lease_discipline.proofs.Heres.{stopped_pace, was_sent}
-
-stopped_not : HasStopped ≡ GoesOn → ⊥
-stopped_not e = absurd (cc)
-
-rests_not : Rests ≡ GoesOn → ⊥
-rests_not e = absurd (cc)
+use Rattle.lease_discipline.proofs.Heres.{was_sent}
+use Rattle.numbered.proofs.Lists.{changed-length}
 
 rests_not_stopped : Rests ≡ HasStopped → ⊥
 rests_not_stopped e = absurd (cc)
@@ -143,7 +138,7 @@ module _ (c : Whole) (me n : ℕ) (old : Worker) (there : item_at c.workers me �
           present = λ r e. let is : new_run a spec (own_id h (length x.objects + 1)) ≡ r = cc in
               subst (λ (q : Run). has_begun q.attempt next.began ≡ true) is begun_now;
           stopped = λ r e o. let is : new_run a spec (own_id h (length x.objects + 1)) ≡ r = cc in
-              absurd (not_both r.is_over o (ap (λ (q : Run). q.is_over) (sym is)));
+              absurd (both_ways r.is_over (ap (λ (q : Run). q.is_over) (sym is)) o);
           out = λ r j e o. let is : new_run a spec (own_id h (length x.objects + 1)) ≡ r = cc in absurd (ready_out j (ap (λ (q : Run). q.phase) is ∙ o));
           runs = k.runs;
         }
@@ -154,7 +149,7 @@ module _ (c : Whole) (me n : ℕ) (old : Worker) (there : item_at c.workers me �
       over = λ r e same.
           let is : new_run a spec (own_id h (length x.objects + 1)) ≡ r = cc in
           let this : a ≡ b = ap (λ (q : Run). q.attempt) is ∙ same in
-          absurd (not_both (has_begun a x.began) (ap (λ j. has_begun j x.began) this ∙ i.listed) new);
+          absurd (both_ways (has_begun a x.began) new (ap (λ j. has_begun j x.began) this ∙ i.listed));
     }
 
     grows : Grows look look_next
@@ -175,8 +170,7 @@ module _ (c : Whole) (me n : ℕ) (old : Worker) (there : item_at c.workers me �
         let k = d.goes.there in
         record {
           idle = λ w e. let i = k.idle w e in elim (by_number w me) [
-            | inl same ↦ absurd (not_both (has h.there.node.scheduler.holders me) promise.slot
-                (ap (has h.there.node.scheduler.holders) (sym same) ∙ i.slotless))
+            | inl same ↦ absurd (both_ways (has h.there.node.scheduler.holders me) (ap (has h.there.node.scheduler.holders) (sym same) ∙ i.slotless) promise.slot)
             | inr apart ↦ record {
               worker = i.worker;
               there = elsewhere w apart ∙ i.there;
@@ -202,10 +196,10 @@ module _ (c : Whole) (me n : ℕ) (old : Worker) (there : item_at c.workers me �
         no_other w z b same at given unbegun =
             let is : next ≡ z = is_next w z same at in
             let not_now : has_begun b next.began ≡ false = ap (λ (y : Worker). has_begun b y.began) is ∙ unbegun in
-            let not_then : has_begun b x.began ≡ false = is_false _ (λ f. not_both _ (begun_still b f) not_now) in
+            let not_then : has_begun b x.began ≡ false = false_from_ne_true _ (λ f. both_ways _ not_now (begun_still b f)) in
             let p : IsPromised h.there.node.scheduler me x b = d.goes.there.promised me x b x_there live (subst (λ v. Gave sent n b v) same given) not_then in
             let this : b ≡ a = promise.sole b p.leased in
-            not_both (has_begun b next.began) (ap (λ j. has_begun j next.began) this ∙ begun_now) not_now
+            both_ways (has_begun b next.began) not_now (ap (λ j. has_begun j next.began) this ∙ begun_now)
 
         leased_now : (w : ℕ) (z : Worker) (run : Run) → w ≡ me → next ≡ z → z.run ≡ Some run → IsLeasedFor h.there.node.scheduler w run.attempt
         leased_now w z run same is e =
@@ -265,17 +259,17 @@ module _ (c : Whole) (me n : ℕ) (old : Worker) (there : item_at c.workers me �
 
   -- an attempt that goes on does so, whatever is borne
   abbrev GoesOnHere : Here → Type 0
-  GoesOnHere h = pace_in_run h.worker.run ≡ GoesOn
+  GoesOnHere h = pace_by h.worker.run ≡ GoesOn
 
-  not_waiting : (run : Run) (r : Option Run) (y : Id) (f : Option Fetching) → r ≡ Some run → run.phase ≡ Waits y f → pace_in_run r ≡ GoesOn → ⊥
-  not_waiting run r y f e q p = rests_not (sym (ap pace_in_run e ∙ ap pace_in_phase q) ∙ p)
+  not_waiting : (run : Run) (r : Option Run) (y : Id) (f : Option Fetching) → r ≡ Some run → run.phase ≡ Waits y f → pace_by r ≡ GoesOn → ⊥
+  not_waiting run r y f e q p = rests_not (sym (ap pace_by e ∙ ap pace_in q) ∙ p)
 
   goes_on_kept : Kept GoesOnHere
   goes_on_kept = record {
     writes = λ h es p. p;
     says_plain = λ h w m _ p. p;
     says_plain_to_node = λ h k m _ p. p;
-    objects = λ h x t p. ap pace_in_run t.tame.run ∙ p;
+    objects = λ h x t p. ap pace_by t.tame.run ∙ p;
     bears_new = λ h x spec _ p. p;
     comes_to_rest = λ h o task _ _ p. p;
     store = λ h s p. p;
@@ -284,8 +278,8 @@ module _ (c : Whole) (me n : ℕ) (old : Worker) (there : item_at c.workers me �
     asks_anew = λ h o old task _ _ p. p;
     asks_on = λ h o task t m k _ _ _ p. p;
     asks_again = λ h k task t m _ _ p. p;
-    run = λ h run next e k p. k.pace ∙ sym (ap pace_in_run e) ∙ p;
-    leaves = λ h run next e s _ _ _ p. absurd (stopped_not (sym (ap pace_in_run e ∙ stopped_pace run.phase s) ∙ p));
+    run = λ h run next e k p. k.pace ∙ sym (ap pace_by e) ∙ p;
+    leaves = λ h run next e s _ _ _ p. absurd (stopped_not (sym (ap pace_by e ∙ stopped_pace run.phase s) ∙ p));
     gets = λ h run content y f e q p. absurd (not_waiting run h.worker.run y f e q p);
     faults = λ h run fault y f e q p. absurd (not_waiting run h.worker.run y f e q p);
     frees = λ h run y f e q p. absurd (not_waiting run h.worker.run y f e q p);
@@ -298,7 +292,7 @@ module _ (c : Whole) (me n : ℕ) (old : Worker) (there : item_at c.workers me �
 
   -- a worker that is wanted for no other attempt isn't, once its own has stopped
   pub record StopsHere (h : Here) : Type 0 where
-    pub pace : pace_in_run h.worker.run ≡ HasStopped
+    pub pace : pace_by h.worker.run ≡ HasStopped
     pub unwanted : (a : Attempt) → h.worker.is_live ≡ true → Gave (sent_here c me n old there h) n a me → has_begun a h.worker.began ≡ false → ⊥
 
   no_node : (v k : ℕ) → ◌≡◌ {A = Party} (TheNode k) (TheWorker v) → ⊥
@@ -314,8 +308,8 @@ module _ (c : Whole) (me n : ℕ) (old : Worker) (there : item_at c.workers me �
     ];
   }
 
-  stopped_not_waiting : (run : Run) (r : Option Run) (y : Id) (f : Option Fetching) → r ≡ Some run → run.phase ≡ Waits y f → pace_in_run r ≡ HasStopped → ⊥
-  stopped_not_waiting run r y f e q p = rests_not_stopped (sym (ap pace_in_run e ∙ ap pace_in_phase q) ∙ p)
+  stopped_not_waiting : (run : Run) (r : Option Run) (y : Id) (f : Option Fetching) → r ≡ Some run → run.phase ≡ Waits y f → pace_by r ≡ HasStopped → ⊥
+  stopped_not_waiting run r y f e q p = rests_not_stopped (sym (ap pace_by e ∙ ap pace_in q) ∙ p)
 
   stops_kept : Kept StopsHere
   stops_kept = record {
@@ -323,7 +317,7 @@ module _ (c : Whole) (me n : ℕ) (old : Worker) (there : item_at c.workers me �
     says_plain = λ h w m _ p. says_stops h (TheWorker w) m p;
     says_plain_to_node = λ h k m _ p. says_stops h (TheNode k) m p;
     objects = λ h x t p. record {
-      pace = ap pace_in_run t.tame.run ∙ p.pace;
+      pace = ap pace_by t.tame.run ∙ p.pace;
       unwanted = λ a live gave unbegun. p.unwanted a (sym t.tame.live ∙ live) gave (ap (has_begun a) (sym t.tame.began) ∙ unbegun);
     };
     bears_new = λ h x spec _ p. record { pace = p.pace; unwanted = p.unwanted };
@@ -334,8 +328,8 @@ module _ (c : Whole) (me n : ℕ) (old : Worker) (there : item_at c.workers me �
     asks_anew = λ h o old task _ _ p. says_stops _ (TheNode _) _ (record { pace = p.pace; unwanted = p.unwanted });
     asks_on = λ h o task t m k _ _ _ p. says_stops _ (TheNode _) _ (record { pace = p.pace; unwanted = p.unwanted });
     asks_again = λ h k task t m _ _ p. says_stops h (TheNode m) _ p;
-    run = λ h run next e k p. record { pace = k.pace ∙ sym (ap pace_in_run e) ∙ p.pace; unwanted = p.unwanted };
-    leaves = λ h run next e s _ phase _ p. record { pace = ap pace_in_phase phase ∙ sym (ap pace_in_run e) ∙ p.pace; unwanted = p.unwanted };
+    run = λ h run next e k p. record { pace = k.pace ∙ sym (ap pace_by e) ∙ p.pace; unwanted = p.unwanted };
+    leaves = λ h run next e s _ phase _ p. record { pace = ap pace_in phase ∙ sym (ap pace_by e) ∙ p.pace; unwanted = p.unwanted };
     gets = λ h run content y f e q p. absurd (stopped_not_waiting run h.worker.run y f e q p.pace);
     faults = λ h run fault y f e q p. absurd (stopped_not_waiting run h.worker.run y f e q p.pace);
     frees = λ h run y f e q p. absurd (stopped_not_waiting run h.worker.run y f e q p.pace);
@@ -348,8 +342,8 @@ module _ (c : Whole) (me n : ℕ) (old : Worker) (there : item_at c.workers me �
 
   -- an attempt that goes on isn't over
   going_on : (h : Here) (run : Run) → h.worker.run ≡ Some run → GoesOnHere h → Here_does h → run.is_over ≡ false
-  going_on h run e p d = is_false run.is_over (λ o. stopped_not
-      (sym (ap pace_in_run e ∙ stopped_pace run.phase ((mine c me n old there h d).stopped run e o)) ∙ p))
+  going_on h run e p d = false_from_ne_true run.is_over (λ o. stopped_not
+      (sym (ap pace_by e ∙ stopped_pace run.phase ((mine c me n old there h d).stopped run e o)) ∙ p))
 
   ends_does : (h : Here) (run : Run) (content : Outcome) → h.worker.run ≡ Some run → GoesOnHere h → Here_does h → Here_does (ends h run content)
   ends_does h run content e p d =
@@ -394,7 +388,7 @@ module _ (c : Whole) (me n : ℕ) (old : Worker) (there : item_at c.workers me �
   stops_does h (AtGet y) (Some run) e p d =
       needs-kept (IsToldBy c me n old there) (IsOverOf c me n old there) (IsGivenBy c me n old there) Anyhow Here_does kept h run y
       (run_does c me n old there h run (record run { phase = Waits y None }) e refl (λ o. o)
-      (λ o. absurd (not_both run.is_over o (going_on h run e p d))) (λ j o. absurd (waits_out y None j o)) d)
+      (λ o. absurd (both_ways run.is_over (going_on h run e p d) o)) (λ j o. absurd (waits_out y None j o)) d)
   stops_does h (AtEnd content) (Some run) e p d = ends_does h run content e p d
 
   pub commit_does : (h : Here) (o : Outcomes) (run : Run) → h.worker.run ≡ Some run → run.is_over ≡ false → Here_does h → Here_does (commit_step h o)
@@ -406,7 +400,7 @@ module _ (c : Whole) (me n : ℕ) (old : Worker) (there : item_at c.workers me �
           let next : Run = with_outcomes run o in
           let g : Here = logs_all (with_run h next) es in
           let started : Here_does g = logs_does c me n old there (with_run h next) es
-          (run_does c me n old there h run next e refl (λ i. i) (λ i. absurd (not_both run.is_over i over)) (λ j i. absurd (ready_out j i)) d) in
+          (run_does c me n old there h run next e refl (λ i. i) (λ i. absurd (both_ways run.is_over over i)) (λ j i. absurd (ready_out j i)) d) in
           let borne : Here = bears_all g run.attempt o.births in
           let borne_does : Here_does borne = bears_all-kept (IsToldBy c me n old there) (IsOverOf c me n old there)
           (IsGivenBy c me n old there) Anyhow Here_does kept g run.attempt o.births started in

@@ -2,6 +2,7 @@
 use Rattle.std.proofs.Common.{◌≡◌, ℕ, ◌<◌, ◌≤◌, List, [], ◌∷◌, length, Some, Option, refl, ap, sym, subst, ◌∙◌, ◌⊎◌, inl, inr, arith}
 use Rattle.std.specs.Prelude.{true, false, nat_lt}
 use Rattle.std.proofs.lemmas.Bool.Decides.{nat_tests}
+use Rattle.std.proofs.lemmas.Bool.{both_ways}
 use Rattle.meaning.proofs.BirthLaws.{at_test}
 use Rattle.meaning.specs.Mains.{KeepsMainApart}
 use Rattle.event_log.specs.Rules.{Setting}
@@ -15,10 +16,10 @@ use Rattle.protocol_owed.specs.Turns.{AskStands, IsBusy, RunnerStands}
 use Rattle.protocol_owed.proofs.FullNodes.{NodesAreFull, answered-full}
 use Rattle.protocol_owed.proofs.Nodes.{NodesAreRight, answered-right, changed_cases}
 use Rattle.protocol_owed.proofs.Opening.{law_of_slots, opens-full, opens-right}
+use Rattle.protocol_owed.specs.Told.{IsAsTold, pace_by}
 use Rattle.lease_discipline.specs.Discipline.{Gave, IsOfNode}
 use Rattle.lease_discipline.specs.Slots.{AreRight, KeepsSlots, LawOfKeptSlots, SlotsAreKept}
-use Rattle.lease_discipline.specs.Told.{IsAsTold, IsInStep, pace_by}
-use Rattle.lease_discipline.proofs.Follows.{not_both}
+use Rattle.lease_discipline.specs.Told.{IsInStep}
 use Rattle.lease_discipline.proofs.Opening.{only_driver}
 use Rattle.lease_discipline.proofs.Told.{events_stay_in_step, lives_there, logs_tell, opening_is_in_step, places}
 use Rattle.lease_discipline.proofs.TurnEvents.{events_keep_turns}
@@ -115,7 +116,7 @@ module _ (s : Setting) (r : Running) (k : RunKeeps s r) (n : ℕ) (node : Node) 
       let ready = (k.slots n node at).ready run.worker h.worker h.there h.home h.lives (sym h.told.pace ∙ run.goes_on) in
       let none : has sched.holders run.worker ≡ false = sym (ap (λ o. has (holders_in o) run.worker) at) ∙ run.slotless in
       elim ready [
-        | inl f ↦ absurd (not_both _ f none)
+        | inl f ↦ absurd (both_ways _ none f)
         | inr f ↦ full_by (some_answered sched.answered run.worker f)
       ]
     where

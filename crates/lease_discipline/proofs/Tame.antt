@@ -5,6 +5,7 @@ use Rattle.protocol.specs.Tables.{Progress}
 use Rattle.std.proofs.Common.{◌≡◌, ℕ, zero, suc, List, [], ◌∷◌, ◌++◌, map, Some, None, Option, refl, ap, sym, ◌∙◌, inl, inr, arith}
 use Rattle.std.specs.Prelude.{true, if◌then◌else◌, slice_get, ◌==◌}
 use Rattle.std.proofs.lemmas.Bool.Decides.{nat_tests}
+use Rattle.std.proofs.lemmas.Bool.{eqb-true}
 use Rattle.sequence.proofs.Places.{and_left}
 use Rattle.meaning.proofs.BirthLaws.{at_test}
 use Rattle.meaning.specs.Values.{Id, Birth}
@@ -27,9 +28,6 @@ use Rattle.protocol.specs.Ends.{if_present}
 use Rattle.protocol.specs.Tables.{is_pending_task}
 use Rattle.protocol_owed.proofs.CourseEvents.{append_none, changed_none}
 use Rattle.protocol_owed.proofs.Nodes.{changed_cases, push_cases, there_more, there_still}
-
-pub same_number : (m n : ℕ) → (m == n) ≡ true → m ≡ n
-same_number m n e = grind (arith, nat_tests)
 
 -- the present attempt of the object's task ran there before
 pub record RanAlready (x : Worker) (k number v n : ℕ) : Type 0 where
@@ -154,11 +152,11 @@ places_tame x m = record {
 pub own_at : (h : Here) (o : Id) (task : OwnTask) → task_of (object_at h o) ≡ Some task → o.owner ≡ h.me
 own_at h o task e =
     at_test (λ b. is_own h o ≡ b → task_of (if b then own_object h o.serial else None) ≡ Some task → o.owner ≡ h.me) (is_own h o)
-    (λ _ f _. same_number o.owner h.me f) (λ _ f g. absurd (cc)) refl e
+    (λ _ f _. eqb-true o.owner h.me f) (λ _ f g. absurd (cc)) refl e
 
 -- the ask that stands is one for the present attempt
 pub present_is : (t : ℕ) (a : Attempt) (task : OwnTask) → if_asked t a task ≡ true → a ≡ attempt a.object task.number
-present_is t a task e = ap (attempt a.object) (sym (same_number task.number a.number (and_left (task.number == a.number) (stands_at task.progress t) e)))
+present_is t a task e = ap (attempt a.object) (sym (eqb-true task.number a.number (and_left (task.number == a.number) (stands_at task.progress t) e)))
 
 -- a worker that waits has an attempt that does
 pub record IsWaiting (x : Worker) : Type 0 where
@@ -193,10 +191,10 @@ pub asked_where : (t : ℕ) (a : Attempt) (task : OwnTask) → if_asked t a task
 asked_where t a task e = by_progress task.progress refl (and_right (task.number == a.number) (stands_at task.progress t) e)
   where
     numbers : task.number ≡ a.number
-    numbers = same_number task.number a.number (and_left (task.number == a.number) (stands_at task.progress t) e)
+    numbers = eqb-true task.number a.number (and_left (task.number == a.number) (stands_at task.progress t) e)
 
     by_progress : (q : Progress) → task.progress ≡ q → stands_at q t ≡ true → (m : ℕ) × (task.progress ≡ AskedAt t m) × (task.number ≡ a.number)
-    by_progress (AskedAt u m) f g = (m, f ∙ ap (λ i. AskedAt i m) (same_number u t g), numbers)
+    by_progress (AskedAt u m) f g = (m, f ∙ ap (λ i. AskedAt i m) (eqb-true u t g), numbers)
     by_progress AtRest f g = absurd (cc)
     by_progress (RunsOn w n) f g = absurd (cc)
 
@@ -323,4 +321,4 @@ on_node m AtRest e = absurd (cc)
 on_node m (AskedAt t n) e = absurd (cc)
 
 pub present_was : (a : Attempt) (task : OwnTask) → if_present a task ≡ true → a ≡ attempt a.object task.number
-present_was a task e = ap (attempt a.object) (sym (same_number task.number a.number (and_right (is_pending_task task) (task.number == a.number) e)))
+present_was a task e = ap (attempt a.object) (sym (eqb-true task.number a.number (and_right (is_pending_task task) (task.number == a.number) e)))

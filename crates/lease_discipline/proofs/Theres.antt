@@ -1,7 +1,8 @@
 -- A node in an event keeps its leases in order, with the workers that are there and with those that it opens.
-use Rattle.std.proofs.Common.{◌≡◌, ℕ, zero, suc, ◌+◌, List, [], ◌∷◌, ◌++◌, length, Some, None, Option, refl, ap, sym, subst, ◌∙◌, ◌⊎◌, inl, inr, arith}
+use Rattle.std.proofs.Common.{◌≡◌, ℕ, suc, ◌+◌, List, [], ◌∷◌, ◌++◌, length, Some, None, Option, refl, ap, sym, subst, ◌∙◌, ◌⊎◌, inl, inr, arith}
 use Rattle.std.proofs.Common.{length-append, append_assoc}
 use Rattle.std.specs.Prelude.{Bool, true, false, if◌then◌else◌, ◌||◌, nat_lt}
+use Rattle.std.proofs.lemmas.Bool.{both_ways}
 use Rattle.meaning.proofs.BirthLaws.{at_test}
 use Rattle.sequence.proofs.Places.{slice_get-last}
 use Rattle.meaning.specs.Values.{Id, Outcome}
@@ -24,10 +25,11 @@ use Rattle.protocol.specs.Tables.{Worker, new_worker}
 use Rattle.protocol_owed.proofs.Nodes.{push_cases, nothing_past, there_more}
 use Rattle.protocol_owed.proofs.FullNodes.{repeated-length}
 use Rattle.protocol_owed.proofs.Letters.{among-append_cases, among-push_cases, among-more, among-last, among-behind}
+use Rattle.protocol_owed.proofs.Sets.{repeated_more, least-in}
 use Rattle.lease_discipline.specs.Discipline.{Look, Gave, IsBack, IsOfNode, NodeKeeps, IsTrue, WorkerKeeps, WorkersKeep}
-use Rattle.lease_discipline.proofs.Follows.{Adds, adds_grows, same_grows, true_more, worker_more, new_keeps, node_letters, node_adds, not_both, More}
+use Rattle.lease_discipline.proofs.Follows.{Adds, adds_grows, same_grows, true_more, worker_more, new_keeps, node_letters, node_adds, More}
 use Rattle.lease_discipline.proofs.Nodes.{IsUnwanted, Lessens, lessened, queue_lessens, reply_lessens, taken_lessens, slot_lessens, answered_lessens}
-use Rattle.lease_discipline.proofs.Nodes.{worker_lessens, back_keeps, gives_keeps, least-in}
+use Rattle.lease_discipline.proofs.Nodes.{worker_lessens, back_keeps, gives_keeps}
 
 -- ---- letters
 
@@ -54,19 +56,9 @@ is_give (Give a t w) = true
 is_give _ = false
 
 no_give : (m : Message) (a : Attempt) (t w : ℕ) → is_give m ≡ false → Give a t w ≡ m → ⊥
-no_give m a t w e f = let g : true ≡ is_give m = ap is_give f in not_both (is_give m) (sym g) e
+no_give m a t w e f = let g : true ≡ is_give m = ap is_give f in both_ways (is_give m) e (sym g)
 
 -- ---- workers that are opened
-
-repeated_more : {X : Type 0} (k : ℕ) (x : X) → repeated k x ++ x ∷ [] ≡ repeated (k + 1) x
-repeated_more {X} k x = more k ∙ ap (λ i. repeated i x) one
-  where
-    more : (k : ℕ) → repeated k x ++ x ∷ [] ≡ repeated (suc k) x
-    more zero = refl
-    more (suc k) = ap (λ xs. x ∷ xs) (more k)
-
-    one : ◌≡◌ {A = ℕ} (suc k) (k + 1)
-    one = omega arith
 
 item_last : {X : Type 0} (xs : List X) (x : X) (n : ℕ) → n ≡ 1 + length xs → item_at (xs ++ x ∷ []) n ≡ Some x
 item_last xs x n e =
@@ -271,8 +263,7 @@ module _ (jobs : List Given) (ws : List Worker) (net : List Letter) (n : ℕ) wh
       by_idle (Some w) e =
           let i = g.there.idle w (least-in t.node.scheduler.idle w e) in
           leases_goes t k w i.worker i.there i.home i.free
-          (λ a wanted. not_both (has t.node.scheduler.holders w)
-          (g.there.promised w wanted.worker a wanted.there wanted.lives wanted.given wanted.unbegun).slot i.slotless) g
+          (λ a wanted. both_ways (has t.node.scheduler.holders w) i.slotless (g.there.promised w wanted.worker a wanted.there wanted.lives wanted.given wanted.unbegun).slot) g
 
   pub asked_goes : (t : There) (k : AskKey) → Goes t → Goes (asked_by t k (reply_to t.node.scheduler k))
   asked_goes t k g = by_reply (reply_to t.node.scheduler k) refl

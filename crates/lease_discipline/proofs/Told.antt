@@ -5,6 +5,7 @@ use Rattle.std.specs.Prelude.{true, false, if◌then◌else◌, not, slice_get, 
 use Rattle.std.proofs.lemmas.Bool.Decides.{nat_tests}
 use Rattle.meaning.proofs.BirthLaws.{at_test}
 use Rattle.std.specs.List.{AllByRecursion, list_any}
+use Rattle.std.proofs.lemmas.Bool.{both_ways, false_from_ne_true}
 use Rattle.meaning.specs.Values.{Birth}
 use Rattle.event_log.specs.Entries.{Attempt, Claim, Entry, main_attempt}
 use Rattle.event_log.specs.Events.{accepted_events, from_one, is_live, kills, node_of, on_node}
@@ -32,55 +33,29 @@ use Rattle.protocol_owed.specs.Turns.{ClaimIsAnswered}
 use Rattle.protocol_owed.proofs.Claims as C
 use Rattle.protocol_owed.proofs.CourseEvents.{HoldsAt}
 use Rattle.protocol_owed.proofs.CourseRuns.{IsDisciplined}
-use Rattle.protocol_owed.proofs.RunMoves.{pace_in_phase}
-use Rattle.protocol_owed.proofs.Telling.{Agrees, pace_in_run, present}
 use Rattle.protocol_owed.proofs.Tellings.{AllTold, event_told}
+use Rattle.protocol_owed.specs.Told.{pace_in, IsAsTold, pace_by, attempt_by}
 use Rattle.lease_discipline.specs.Discipline as D
 use Rattle.lease_discipline.specs.Discipline.{IsOfNode, KeepsLeases}
-use Rattle.lease_discipline.specs.Told.{IsAsTold, IsInStep, IsToldOf, TellsCourses, attempt_by, entries_of, pace_by, pace_in}
+use Rattle.lease_discipline.specs.Told.{IsInStep, IsToldOf, TellsCourses, entries_of}
 use Rattle.lease_discipline.specs.Owing.{AttemptsRunOnce, ClaimsAreAnswered, EventsStayInStep, LogsTell, OpeningIsInStep, running}
-use Rattle.lease_discipline.proofs.Follows.{is_false, not_both}
 use Rattle.lease_discipline.proofs.Events.{among_at, events_keep}
 use Rattle.lease_discipline.proofs.Opening.{only_driver, opens}
 use Rattle.lease_discipline.proofs.Laws.{pushes_find_free}
 
 -- ---- the same in both words
 
-pub to_pace : (p : Phase) → pace_in_phase p ≡ pace_in p
-to_pace Ready = refl
-to_pace (Out j) = refl
-to_pace (Waits y f) = refl
-to_pace (HasEnded c) = refl
-to_pace (HasFaulted f) = refl
-
-pub run_pace : (r : Option Run) → pace_in_run r ≡ pace_by r
-run_pace None = refl
-run_pace (Some run) = to_pace run.phase
-
-run_attempt : (r : Option Run) → present r ≡ attempt_by r
-run_attempt None = refl
-run_attempt (Some run) = refl
-
-as_told : (k : Course) (x : Worker) → Agrees k x → IsAsTold k x
-as_told k x p = record { began = p.began; last = p.first ∙ run_attempt x.run; pace = p.pace ∙ run_pace x.run }
-
-pub agreeing : (k : Course) (x : Worker) → IsAsTold k x → Agrees k x
-agreeing k x p = record { began = p.began; first = p.last ∙ sym (run_attempt x.run); pace = p.pace ∙ sym (run_pace x.run) }
-
 to_courses : (c : Whole) (log : List Entry) → AllTold (running c log) → TellsCourses log c
 to_courses c log a = record {
   told = λ later w.
       let h : HoldsAt (course_from (c.network ++ later) w (opening_course w) log) c.workers w = a.held later w in
-      record { there = λ x at live. as_told _ x (h.there x at live); absent = λ none n. as_told _ _ (h.absent none n) };
+      record { there = h.there; absent = h.absent };
   given = a.given;
 }
 
 of_courses : (c : Whole) (log : List Entry) → TellsCourses log c → AllTold (running c log)
 of_courses c log t = record {
-  held = λ later w. let h = t.told later w in record {
-    there = λ x at live. agreeing _ x (h.there x at live);
-    absent = λ none n. agreeing _ _ (h.absent none n);
-  };
+  held = λ later w. let h = t.told later w in record { there = h.there; absent = h.absent };
   given = t.given;
 }
 
@@ -91,7 +66,7 @@ all_at P [] i l all e = absurd (cc)
 all_at P (x ∷ ls) zero l all e = let same : x ≡ l = cc in subst P same all.0
 all_at P (x ∷ ls) (suc i) l all e = all_at P ls i l all.1 e
 
-out_phase : (p : Phase) (j : ℕ) → pace_in_phase p ≡ IsOut j → p ≡ Out j
+out_phase : (p : Phase) (j : ℕ) → pace_in p ≡ IsOut j → p ≡ Out j
 out_phase (Out i) j e = let f : i ≡ j = cc in ap (λ k. Out k) f
 out_phase Ready j e = absurd (cc)
 out_phase (Waits y f) j e = absurd (cc)
@@ -117,12 +92,12 @@ module _ (s : Setting) (log : List Entry) (c : Whole) (sound : IsSound s log c) 
 
   -- the live worker w has none of whom the log says that another runs it
   not_present : (a : Attempt) (v w : ℕ) (y : Worker) → worker_of a log ≡ Some v → v ≢ w → worker_at c w ≡ Some y → y.is_live ≡ true →
-      is_attempt (present y.run) a ≡ false
+      is_attempt (attempt_by y.run) a ≡ false
   not_present a v w y runs apart at live = by_run y.run refl
     where
-      by_run : (r : Option Run) → y.run ≡ r → is_attempt (present r) a ≡ false
+      by_run : (r : Option Run) → y.run ≡ r → is_attempt (attempt_by r) a ≡ false
       by_run None e = refl
-      by_run (Some run) e = is_false _ (λ same. apart (same_worker a v w runs
+      by_run (Some run) e = false_from_ne_true _ (λ same. apart (same_worker a v w runs
           (ap (λ i. worker_of i log) (sym (same_attempt-true run.attempt a same)) ∙ run_runs w y run at live e)))
 
   pub disciplined : IsDisciplined c
@@ -149,14 +124,14 @@ module _ (s : Setting) (log : List Entry) (c : Whole) (sound : IsSound s log c) 
           (among_at c.network k (letter from (TheWorker w) (Push a spec)) sent)
 
       by_attempt : (v w : ℕ) (x : Worker) → worker_at c v ≡ Some x → x.is_live ≡ true → v ≢ w → (y : Worker) → worker_at c w ≡ Some y → y.is_live ≡ true →
-          (a : Attempt) (r : Option Run) → x.run ≡ r → present r ≡ Some a → is_attempt (present y.run) a ≡ false
+          (a : Attempt) (r : Option Run) → x.run ≡ r → attempt_by r ≡ Some a → is_attempt (attempt_by y.run) a ≡ false
       by_attempt v w x at live apart y there lives a None e f = absurd (cc)
       by_attempt v w x at live apart y there lives a (Some run) e f =
           let same : run.attempt ≡ a = cc in
           not_present a v w y (subst (λ i. worker_of i log ≡ Some v) same (run_runs v x run at live e)) apart there lives
 
       by_job : (w j : ℕ) (y : Worker) (g : Given) → worker_at c w ≡ Some y → item_at c.jobs j ≡ Some g → (r : Option Run) → y.run ≡ r →
-          pace_in_run r ≡ IsOut j → g.worker ≡ w
+          pace_by r ≡ IsOut j → g.worker ≡ w
       by_job w j y g at given None e out = absurd (cc)
       by_job w j y g at given (Some run) e out =
           let i = (leases.workers.each w y at).out run j e (out_phase run.phase j out) in
@@ -260,14 +235,14 @@ pub lives_there : (s : Setting) (log : List Entry) (c : Whole) → Between s log
 lives_there s log c b w live = by_worker (worker_at c w) refl
   where
     by_worker : (o : Option Worker) → worker_at c w ≡ o → (x : Worker) × (worker_at c w ≡ Some x) × (x.is_live ≡ true)
-    by_worker None e = absurd (not_both (is_live w log) live (dead_nowhere w log (ap (λ ns. from_one ns w) b.knows.opened ∙ nowhere c.workers w e)))
+    by_worker None e = absurd (both_ways (is_live w log) (dead_nowhere w log (ap (λ ns. from_one ns w) b.knows.opened ∙ nowhere c.workers w e)) live)
     by_worker (Some x) e = (x, e, sym (b.knows.lives w x e) ∙ live)
 
 pub log_tells : (s : Setting) (log : List Entry) (c : Whole) → IsInStep s log c → C.LogTells s (running c log)
 log_tells s log c step = record {
   there = λ w live. lives_there s log c step.sound.between w live;
   places = λ w x at. places s log c step.sound.between w x at;
-  agrees = λ w x at live. agreeing _ x (agrees_now s log c step w x at live);
+  agrees = λ w x at live. agrees_now s log c step w x at live;
 }
 
 -- ---- claims

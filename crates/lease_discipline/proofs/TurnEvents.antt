@@ -2,6 +2,7 @@
 use Rattle.std.proofs.Common.{◌≡◌, ℕ, ◌+◌, List, [], ◌∷◌, ◌++◌, length, map, Some, None, Option, refl, ap, sym, subst, ◌∙◌, ◌⊎◌, inl, inr, append-nil}
 use Rattle.std.proofs.Common.{arith}
 use Rattle.std.specs.Prelude.{Bool, true, false, if◌then◌else◌, not, ◌&&◌, ◌==◌}
+use Rattle.std.proofs.lemmas.Bool.{both_ways}
 use Rattle.sequence.proofs.Places.{and_right}
 use Rattle.meaning.proofs.BirthLaws.{at_test}
 use Rattle.meaning.specs.Values.{Birth}
@@ -32,23 +33,18 @@ use Rattle.protocol_owed.specs.Courses.{has_begun}
 use Rattle.protocol_owed.proofs.Nodes.{changed_cases, nothing_past, push_cases}
 use Rattle.protocol_owed.proofs.CourseEvents.{append_split, one_of}
 use Rattle.protocol_owed.proofs.CourseAll.{both_passed, passed}
+use Rattle.protocol_owed.proofs.CourseRuns.{OutOf, out_of}
+use Rattle.protocol_owed.proofs.Telling.{AnyTold, AnyOver}
 use Rattle.lease_discipline.specs.Discipline.{KeepsLeases, Look}
 use Rattle.lease_discipline.specs.Slots.{HasTurn, KeepsSlots}
 use Rattle.lease_discipline.proofs.Tame.{item_mapped}
-use Rattle.lease_discipline.proofs.Follows.{not_both}
 use Rattle.lease_discipline.proofs.Moves.{Anyhow, notice_step-kept, notice_node_step-kept, reached-kept, release_step-kept, tick_step-kept, IsHeardFrom, IsKept}
-use Rattle.lease_discipline.proofs.Events.{OutAs, changed_same, out_as}
+use Rattle.lease_discipline.proofs.Events.{changed_same}
 use Rattle.lease_discipline.proofs.Laws.{promise}
 use Rattle.lease_discipline.proofs.Turns.{Anyone, NoLossBut, NoTurn, Others, Turns, claim_turns, commit_turns, forgets_lose, push_turns, reached_lose}
 use Rattle.lease_discipline.proofs.Turns.{stopped_no_turn, turns_after, turns_kept}
 
-abbrev ToldBy : ℕ → Attempt → Type 0
-ToldBy w a = Unit {0}
-
-abbrev OverOf : Attempt → Type 0
-OverOf a = Unit {0}
-
-abbrev GivenBy : ℕ → ℕ → Attempt → ℕ → Type 0
+abbrev pub GivenBy : ℕ → ℕ → Attempt → ℕ → Type 0
 GivenBy n t a w = Unit {0}
 
 -- workers of other nodes are the same
@@ -108,8 +104,8 @@ module _ (c : Whole) (me : ℕ) (x : Worker) (node : Node) (at : worker_at c me 
   abbrev P : Here → Type 0
   P = Turns c me n x at
 
-  kept : IsKept ToldBy OverOf GivenBy Anyhow P
-  kept = turns_kept c me n x at ToldBy OverOf GivenBy
+  kept : IsKept AnyTold AnyOver GivenBy Anyhow P
+  kept = turns_kept c me n x at AnyTold AnyOver GivenBy
 
   turns_begin : P (here c me x node)
   turns_begin =
@@ -131,7 +127,7 @@ module _ (c : Whole) (me : ℕ) (x : Worker) (node : Node) (at : worker_at c me 
   worker_turns_at f step =
       let g : Here = f (here c me x node) in
       let h : Here = release_step g in
-      let p : P h = release_step-kept ToldBy OverOf GivenBy Anyhow P kept g (step turns_begin) in
+      let p : P h = release_step-kept AnyTold AnyOver GivenBy Anyhow P kept g (step turns_begin) in
       turns_end (record c { workers = changed_at c.workers me (λ _. h.worker) }) (worker_at c) n h.there p.turns k (λ w y e. worker_back h p.home w y e)
 
 abbrev Steps : Whole → ℕ → (Here → Here) → Type 0
@@ -176,7 +172,7 @@ commit_event c j (OfJob o) (Some g) e k =
     let d : Whole = with_committed c j (length o.births) in
     worker_turns d g.worker (λ h. commit_step h o)
     (λ x at node home t.
-    let run : OutAs x.run j = out_as x.run j (ap (λ y. is_out_by y j) (sym at) ∙ out) in
+    let run : OutOf x.run j = out_of x.run j (ap (λ y. is_out_by y j) (sym at) ∙ out) in
     commit_turns d g.worker x.node x at (here d g.worker x node) o run.run j run.at run.out (ap is_live_worker (sym at) ∙ live) t) k
 
 -- ---- deliveries
@@ -189,8 +185,8 @@ module _ (c : Whole) (i w : ℕ) (from : Party) (x : Worker) (at : worker_at c w
   abbrev Q : Here → Type 0
   Q = Turns c w x.node x at
 
-  abbrev q_kept : IsKept ToldBy OverOf GivenBy Anyhow Q
-  q_kept = turns_kept c w x.node x at ToldBy OverOf GivenBy
+  abbrev q_kept : IsKept AnyTold AnyOver GivenBy Anyhow Q
+  q_kept = turns_kept c w x.node x at AnyTold AnyOver GivenBy
 
   push_heard : (a : Attempt) (spec : Birth) → item_at c.network i ≡ Some (letter from (TheWorker w) (Push a spec)) → Q start → Q (push_reached start a spec)
   push_heard a spec sent t =
@@ -205,7 +201,7 @@ module _ (c : Whole) (i w : ℕ) (from : Party) (x : Worker) (at : worker_at c w
       negated false e = refl
 
   heard_worker : (u : ℕ) → from ≡ TheWorker u → (m : Message) → item_at c.network i ≡ Some (letter from (TheWorker w) m) → Q start →
-      IsHeardFrom ToldBy OverOf GivenBy Anyhow Q q_kept start (TheWorker u) m
+      IsHeardFrom AnyTold AnyOver GivenBy Anyhow Q q_kept start (TheWorker u) m
   heard_worker u e (Push a spec) sent t = push_heard a spec sent t
   heard_worker u e (Finished a n ids) sent t = tt
   heard_worker u e (Failed a f) sent t = tt
@@ -225,7 +221,7 @@ module _ (c : Whole) (i w : ℕ) (from : Party) (x : Worker) (at : worker_at c w
   heard_worker u e (HoldAck h o) sent t = tt
   heard_worker u e (Unhold h o) sent t = tt
 
-  heard_node : (n : ℕ) (m : Message) → IsHeardFrom ToldBy OverOf GivenBy Anyhow Q q_kept start (TheNode n) m
+  heard_node : (n : ℕ) (m : Message) → IsHeardFrom AnyTold AnyOver GivenBy Anyhow Q q_kept start (TheNode n) m
   heard_node n (Give a j v) = λ _. tt
   heard_node n (Push a spec) = tt
   heard_node n (Finished a m ids) = tt
@@ -249,8 +245,8 @@ module _ (c : Whole) (i w : ℕ) (from : Party) (x : Worker) (at : worker_at c w
   reached_turns m sent t = by_party from refl
     where
       by_party : (s : Party) → from ≡ s → Q (reached start s m)
-      by_party (TheWorker u) e = reached-kept ToldBy OverOf GivenBy Anyhow Q q_kept start (TheWorker u) m (heard_worker u e m sent t) t
-      by_party (TheNode n) e = reached-kept ToldBy OverOf GivenBy Anyhow Q q_kept start (TheNode n) m (heard_node n m) t
+      by_party (TheWorker u) e = reached-kept AnyTold AnyOver GivenBy Anyhow Q q_kept start (TheWorker u) m (heard_worker u e m sent t) t
+      by_party (TheNode n) e = reached-kept AnyTold AnyOver GivenBy Anyhow Q q_kept start (TheNode n) m (heard_node n m) t
 
 letter_event : (c : Whole) (i : ℕ) (s to : Party) (m : Message) → item_at c.network i ≡ Some (letter s to m) → KeepsLeases c → KeepsSlots c →
     KeepsSlots (delivered_to c (letter s to m) to).whole
@@ -271,7 +267,7 @@ deliver_event c i (Some x) at leases k =
 -- ---- deaths
 
 not_dead : (x y : Worker) → y ≡ dead x → y.is_live ≡ true → ⊥
-not_dead x y e live = not_both y.is_live live (ap (λ (z : Worker). z.is_live) e)
+not_dead x y e live = both_ways y.is_live (ap (λ (z : Worker). z.is_live) e) live
 
 kill_event : (c : Whole) (w : ℕ) (o : Option Worker) → worker_at c w ≡ o → KeepsSlots c → KeepsSlots (killed_by c w o).whole
 kill_event c w None at k = k
@@ -337,14 +333,14 @@ happens_turns c (Claim w) handed e leases k = claim_event c w e k
 happens_turns c (Commit j) handed e leases k = commit_event c j handed (item_at c.jobs j) e k
 happens_turns c (Deliver i) handed e leases k = deliver_event c i (item_at c.network i) refl leases k
 happens_turns c (Tick w) handed e leases k =
-    worker_turns c w tick_step (λ x at node home t. tick_step-kept ToldBy OverOf GivenBy Anyhow (Turns c w x.node x at)
-    (turns_kept c w x.node x at ToldBy OverOf GivenBy) (here c w x node) t) k
+    worker_turns c w tick_step (λ x at node home t. tick_step-kept AnyTold AnyOver GivenBy Anyhow (Turns c w x.node x at)
+    (turns_kept c w x.node x at AnyTold AnyOver GivenBy) (here c w x node) t) k
 happens_turns c (Notice w v) handed e leases k =
-    worker_turns c w (λ h. notice_step h v) (λ x at node home t. notice_step-kept ToldBy OverOf GivenBy Anyhow (Turns c w x.node x at)
-    (turns_kept c w x.node x at ToldBy OverOf GivenBy) (here c w x node) v t) k
+    worker_turns c w (λ h. notice_step h v) (λ x at node home t. notice_step-kept AnyTold AnyOver GivenBy Anyhow (Turns c w x.node x at)
+    (turns_kept c w x.node x at AnyTold AnyOver GivenBy) (here c w x node) v t) k
 happens_turns c (NoticeNode w n) handed e leases k =
-    worker_turns c w (λ h. notice_node_step h n) (λ x at node home t. notice_node_step-kept ToldBy OverOf GivenBy Anyhow (Turns c w x.node x at)
-    (turns_kept c w x.node x at ToldBy OverOf GivenBy) (here c w x node) n (λ a i. tt) t) k
+    worker_turns c w (λ h. notice_node_step h n) (λ x at node home t. notice_node_step-kept AnyTold AnyOver GivenBy Anyhow (Turns c w x.node x at)
+    (turns_kept c w x.node x at AnyTold AnyOver GivenBy) (here c w x node) n (λ a i. tt) t) k
 happens_turns c (Evict n o) handed e leases k = store_event c n _ (λ _. refl) k
 happens_turns c (Lose n o) handed e leases k = store_event c n _ (λ _. refl) k
 happens_turns c (Kill w) handed e leases k = kill_event c w (worker_at c w) refl k

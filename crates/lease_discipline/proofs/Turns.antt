@@ -1,6 +1,7 @@
 -- No step takes its slot from a worker whose turn it is.
 use Rattle.std.proofs.Common.{◌≡◌, ◌≢◌, ℕ, ◌+◌, List, [], ◌∷◌, ◌++◌, Some, None, Option, refl, ap, sym, subst, ◌∙◌, ◌⊎◌, inl, inr}
 use Rattle.std.specs.Prelude.{true, if◌then◌else◌, ◌||◌, ◌==◌, nat_lt}
+use Rattle.std.proofs.lemmas.Bool.{eqb-true}
 use Rattle.sequence.proofs.Places.{list_any-push_left, or_cases}
 use Rattle.meaning.proofs.BirthLaws.{at_test}
 use Rattle.meaning.specs.Values.{Birth, Id, Outcome}
@@ -29,16 +30,13 @@ use Rattle.protocol.specs.Whole.{Whole}
 use Rattle.protocol_owed.specs.Courses.{GoesOn, HasStopped, IsOut, Rests}
 use Rattle.protocol_owed.proofs.CourseEvents.{append_split, one_of}
 use Rattle.protocol_owed.proofs.Nodes.{there_more}
-use Rattle.protocol_owed.proofs.RunMoves.{pace_in_phase}
-use Rattle.protocol_owed.proofs.Telling.{pace_in_run}
+use Rattle.protocol_owed.specs.Told.{pace_in, pace_by}
+use Rattle.protocol_owed.proofs.Sets.{has-last, has-stays}
+use Rattle.protocol_owed.proofs.TellingMore.{stopped_not, rests_not}
 use Rattle.lease_discipline.specs.Discipline.{Look}
 use Rattle.lease_discipline.specs.Slots.{HasTurn}
-use Rattle.lease_discipline.specs.Told.{pace_by, pace_in}
-use Rattle.lease_discipline.proofs.Tame.{same_number}
 use Rattle.lease_discipline.proofs.Moves.{Anyhow, IsKept, bears_all-kept, holds_ids-kept, leaves_if_free-kept, needs-kept}
-use Rattle.lease_discipline.proofs.Nodes.{has-last, has-stays}
 use Rattle.lease_discipline.proofs.Heres.{at_me, at_other, by_number, look_here, look_with, workers_with}
-use Rattle.lease_discipline.proofs.Told.{run_pace, to_pace}
 
 -- ---- a node
 
@@ -65,7 +63,7 @@ then_lost b s t u p q = record {
 but : (b : ℕ → Type 0) (s t : Scheduler) → NoLoss s t → NoLossBut b s t
 but b s t p = record { holders = λ w _ e. p.holders w tt e; answered = λ w _ e. p.answered w tt e }
 
-abbrev sch : There → Scheduler
+abbrev pub sch : There → Scheduler
 sch t = t.node.scheduler
 
 leases_lose : (t : There) (k : AskKey) (o : Option ℕ) → NoLoss (sch t) (sch (leases_idle t k o))
@@ -91,7 +89,7 @@ first_or_rest : (xs : List ℕ) (w v : ℕ) → first_item xs ≡ Some w → has
 first_or_rest [] w v e f = absurd (cc)
 first_or_rest (x ∷ xs) w v e f =
     let same : x ≡ w = cc in
-    elim (or_cases (x == v) (has xs v) f) [ inl g ↦ inl (sym same ∙ same_number x v g) | inr g ↦ inr g ]
+    elim (or_cases (x == v) (has xs v) f) [ inl g ↦ inl (sym same ∙ eqb-true x v g) | inr g ↦ inr g ]
 
 grants_next_lose : (t : There) (o : Option ℕ) → first_item (sch t).answered ≡ o → NoLoss (sch t) (sch (grants_next t o))
 grants_next_lose t None e = grants_queued_lose t (first_item (sch t).queue)
@@ -180,14 +178,8 @@ reached_lose t (TheNode k) m = none_lost (sch t)
 pub new_stopped : (n : ℕ) (y : Worker) → new_worker n ≡ y → pace_by y.run ≡ HasStopped
 new_stopped n y same = ap (λ (x : Worker). pace_by x.run) (sym same)
 
-stopped_goes : HasStopped ≡ GoesOn → ⊥
-stopped_goes e = absurd (cc)
-
 stopped_out : (j : ℕ) → HasStopped ≡ IsOut j → ⊥
 stopped_out j e = absurd (cc)
-
-rests_goes : Rests ≡ GoesOn → ⊥
-rests_goes e = absurd (cc)
 
 rests_out : (j : ℕ) → Rests ≡ IsOut j → ⊥
 rests_out j e = absurd (cc)
@@ -198,10 +190,10 @@ pub record NoTurn (x : Worker) : Type 0 where
   pub out : (j : ℕ) → pace_by x.run ≡ IsOut j → ⊥
 
 rests_no_turn : (x : Worker) → pace_by x.run ≡ Rests → NoTurn x
-rests_no_turn x e = record { goes = λ f. rests_goes (sym e ∙ f); out = λ j f. rests_out j (sym e ∙ f) }
+rests_no_turn x e = record { goes = λ f. rests_not (sym e ∙ f); out = λ j f. rests_out j (sym e ∙ f) }
 
 pub stopped_no_turn : (x : Worker) → pace_by x.run ≡ HasStopped → NoTurn x
-stopped_no_turn x e = record { goes = λ f. stopped_goes (sym e ∙ f); out = λ j f. stopped_out j (sym e ∙ f) }
+stopped_no_turn x e = record { goes = λ f. stopped_not (sym e ∙ f); out = λ j f. stopped_out j (sym e ∙ f) }
 
 -- the turns of workers that are the same, but for those whose turn it isn't
 pub turns_after : (b : ℕ → Type 0) (look next : Look) (n : ℕ) (s t : Scheduler) →
@@ -362,7 +354,7 @@ module _ (c : Whole) (me n : ℕ) (old : Worker) (there : item_at c.workers me �
     asks_on = λ h o task i m k _ _ _ t. asked_turns h o task (i + 1) k t;
     asks_again = λ h k task i m _ _ t. record { who = t.who; home = t.home; turns = t.turns };
     run = λ h run next e k t. worker_turns h (record h.worker { run = Some next }) refl (λ i. i)
-        (inl (sym (to_pace next.phase) ∙ k.pace ∙ to_pace run.phase ∙ ap pace_by (sym e))) t;
+        (inl (k.pace ∙ ap pace_by (sym e))) t;
     leaves = λ h run next e _ _ phase _ t. worker_turns h (record h.worker { run = Some next }) refl (λ i. i) (inl (ap pace_in phase ∙ ap pace_by (sym e))) t;
     gets = λ h run content y f e q t.
         let g : Here = logs (with_run h (with_answer run content)) (Got run.attempt y content) in
@@ -409,20 +401,20 @@ module _ (c : Whole) (me n : ℕ) (old : Worker) (there : item_at c.workers me �
 
   -- the attempt has stopped, whatever comes of it
   abbrev StoppedHere : Here → Type 0
-  StoppedHere h = pace_in_run h.worker.run ≡ HasStopped
+  StoppedHere h = pace_by h.worker.run ≡ HasStopped
 
   rests_not_stopped : Rests ≡ HasStopped → ⊥
   rests_not_stopped e = absurd (cc)
 
-  waits_on : (r : Option Run) (run : Run) (y : Id) (f : Option Fetching) → r ≡ Some run → run.phase ≡ Waits y f → pace_in_run r ≡ HasStopped → ⊥
-  waits_on r run y f e q p = rests_not_stopped (sym (ap pace_in_run e ∙ ap pace_in_phase q) ∙ p)
+  waits_on : (r : Option Run) (run : Run) (y : Id) (f : Option Fetching) → r ≡ Some run → run.phase ≡ Waits y f → pace_by r ≡ HasStopped → ⊥
+  waits_on r run y f e q p = rests_not_stopped (sym (ap pace_by e ∙ ap pace_in q) ∙ p)
 
   stopped_kept : IsKept T O V Anyhow StoppedHere
   stopped_kept = record {
     writes = λ h es p. p;
     says_plain = λ h w m _ p. p;
     says_plain_to_node = λ h k m _ p. p;
-    objects = λ h x t p. ap pace_in_run t.tame.run ∙ p;
+    objects = λ h x t p. ap pace_by t.tame.run ∙ p;
     bears_new = λ h x spec _ p. p;
     comes_to_rest = λ h o task _ _ p. p;
     store = λ h s p. p;
@@ -431,8 +423,8 @@ module _ (c : Whole) (me n : ℕ) (old : Worker) (there : item_at c.workers me �
     asks_anew = λ h o old task _ _ p. p;
     asks_on = λ h o task t m k _ _ _ p. p;
     asks_again = λ h k task t m _ _ p. p;
-    run = λ h run next e k p. k.pace ∙ sym (ap pace_in_run e) ∙ p;
-    leaves = λ h run next e _ _ phase _ p. ap pace_in_phase phase ∙ sym (ap pace_in_run e) ∙ p;
+    run = λ h run next e k p. k.pace ∙ sym (ap pace_by e) ∙ p;
+    leaves = λ h run next e _ _ phase _ p. ap pace_in phase ∙ sym (ap pace_by e) ∙ p;
     gets = λ h run content y f e q p. absurd (waits_on h.worker.run run y f e q p);
     faults = λ h run fault y f e q p. absurd (waits_on h.worker.run run y f e q p);
     frees = λ h run y f e q p. absurd (waits_on h.worker.run run y f e q p);
@@ -453,7 +445,7 @@ module _ (c : Whole) (me n : ℕ) (old : Worker) (there : item_at c.workers me �
       let left : Turns (leaves_if_free (holds_ids stored o ids)) =
       both stored Turns kept o ids (record { who = ended.who; home = ended.home; turns = ended.turns }) in
       let stopped : StoppedHere (leaves_if_free (holds_ids stored o ids)) = both stored StoppedHere stopped_kept o ids refl in
-      frees_turns (leaves_if_free (holds_ids stored o ids)) (stopped_no_turn _ (sym (run_pace _) ∙ stopped)) left
+      frees_turns (leaves_if_free (holds_ids stored o ids)) (stopped_no_turn _ stopped) left
     where
       both : (stored : Here) (P : Here → Type 0) (k : IsKept T O V Anyhow P) (o : Id) (ids : List Id) → P stored → P (leaves_if_free (holds_ids stored o ids))
       both stored P k o ids p = leaves_if_free-kept T O V Anyhow P k (holds_ids stored o ids) (holds_ids-kept T O V Anyhow P k stored o ids p)

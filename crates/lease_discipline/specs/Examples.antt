@@ -4,6 +4,7 @@ use Rattle.meaning.specs.Values.{Birth, Task}
 use Rattle.event_log.specs.Entries.{Attempt, Begun, Born, Claim, Commit, Deliver, Entry, In, Opened, Refused, Tick, main_attempt}
 use Rattle.event_log.specs.Rules.{Setting}
 use Rattle.event_log.specs.Words.{attempt}
+use Rattle.event_log.specs.Legal.{opening}
 use Rattle.protocol.specs.Messages.{Ask, Give, Letter, Push, TheNode, TheWorker, Wait, letter}
 use Rattle.protocol.specs.Sets.{object_id}
 use Rattle.protocol_owed.specs.Owed.{RepliesAreMade}
@@ -70,17 +71,14 @@ pub record GivesBegin : Type 0 where
 
 -- ---- a tick
 
-abbrev pub opening_log : List Entry
-opening_log = Opened 1 1 ∷ Begun main_attempt 1 ∷ []
-
 abbrev pub nothing_comes : Setting → Happening
 nothing_comes s =
     record {
-      before = scene s opening_log [] (1 ∷ []);
+      before = scene s opening [] (1 ∷ []);
       event = Tick 1;
       entries = [];
       letters = [];
-      after = scene s opening_log [] (1 ∷ []);
+      after = scene s opening [] (1 ∷ []);
     }
 
 -- as a run opens, a tick owes nothing
@@ -91,10 +89,10 @@ TicksOweNothing = (s : Setting) → RepliesAreMade (nothing_comes s)
 
 -- as a run opens worker 1 is ready: it may be given out, and isn't to be answered 31; where it has no slot it is
 pub record ClaimsAreJudged : Type 0 where
-  pub given_out : (s : Setting) → ClaimIsAnswered (scene s opening_log [] (1 ∷ [])) (Claim 1) []
-  pub not_refused : (s : Setting) → ClaimIsAnswered (scene s opening_log [] (1 ∷ [])) (Claim 1) (Refused 31 ∷ []) → ⊥
-  pub refused : (s : Setting) → ClaimIsAnswered (scene s opening_log [] []) (Claim 1) (Refused 31 ∷ [])
-  pub not_given_out : (s : Setting) → ClaimIsAnswered (scene s opening_log [] []) (Claim 1) [] → ⊥
+  pub given_out : (s : Setting) → ClaimIsAnswered (scene s opening [] (1 ∷ [])) (Claim 1) []
+  pub not_refused : (s : Setting) → ClaimIsAnswered (scene s opening [] (1 ∷ [])) (Claim 1) (Refused 31 ∷ []) → ⊥
+  pub refused : (s : Setting) → ClaimIsAnswered (scene s opening [] []) (Claim 1) (Refused 31 ∷ [])
+  pub not_given_out : (s : Setting) → ClaimIsAnswered (scene s opening [] []) (Claim 1) [] → ⊥
 
 -- ---- a slot
 
@@ -104,4 +102,4 @@ waiting_network = letter (TheWorker 1) (TheNode 1) (Ask first_one 0) ∷ letter 
 -- no slot is free while an ask stands in the queue; worker 1, which may go on, keeps none that it doesn't have
 pub record SlotsAreJudged : Type 0 where
   pub free : (s : Setting) → SlotsAreRight (scene s given_log waiting_network []) 1 → ⊥
-  pub twice : (s : Setting) → SlotsAreRight (scene s opening_log [] (1 ∷ 1 ∷ [])) 1 → ⊥
+  pub twice : (s : Setting) → SlotsAreRight (scene s opening [] (1 ∷ 1 ∷ [])) 1 → ⊥

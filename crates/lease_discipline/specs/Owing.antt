@@ -12,7 +12,8 @@ use Rattle.protocol_laws.specs.Coming.{IsRight}
 use Rattle.protocol_owed.specs.Courses.{course, has_begun}
 use Rattle.protocol_owed.specs.Runs.{Running, seen}
 use Rattle.protocol_owed.specs.Turns.{ClaimIsAnswered}
-use Rattle.lease_discipline.specs.Told.{IsAsTold, IsInStep, entries_of}
+use Rattle.protocol_owed.specs.Told.{IsAsTold}
+use Rattle.lease_discipline.specs.Told.{IsInStep, entries_of}
 
 abbrev pub running : Whole → List Entry → Running
 running c log = record { whole = c; log = log }

@@ -11,8 +11,8 @@ use Rattle.protocol_owed.specs.Courses.{GoesOn, IsLeased, IsOut, LivesOn}
 use Rattle.protocol_owed.specs.Runs.{Handing, Running, after_event, after_events, opening_run, seen}
 use Rattle.protocol_owed.specs.Seen.{Scene}
 use Rattle.protocol_owed.specs.Turns.{AreDistinct, AskStands, IsBusy, RunnerStands}
+use Rattle.protocol_owed.specs.Told.{pace_by}
 use Rattle.lease_discipline.specs.Discipline.{Look}
-use Rattle.lease_discipline.specs.Told.{pace_by}
 
 -- ---- by the tables
 

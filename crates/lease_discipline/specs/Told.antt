@@ -1,37 +1,15 @@
 -- What the log tells of each worker is what its tables say.
-use Rattle.std.specs.Prelude.{◌≡◌, ◌++◌, ◌∷◌, ℕ, true, List, [], length, None, Option, Some}
-use Rattle.event_log.specs.Entries.{Attempt, Entry, Refused}
+use Rattle.std.specs.Prelude.{◌≡◌, ◌++◌, ◌∷◌, ℕ, true, List, [], length, None, Some}
+use Rattle.event_log.specs.Entries.{Entry, Refused}
 use Rattle.event_log.specs.Rules.{Setting}
 use Rattle.protocol.specs.Answers.{Answer, Refuses, Takes}
 use Rattle.protocol.specs.Messages.{Letter}
-use Rattle.protocol.specs.Sets.{first_item}
-use Rattle.protocol.specs.Tables.{HasEnded, HasFaulted, Out, Phase, Ready, Run, Waits, Worker, new_worker}
+use Rattle.protocol.specs.Tables.{Worker, new_worker}
 use Rattle.protocol.specs.Whole.{Whole, worker_at}
 use Rattle.protocol_laws.specs.Sound.{IsSound}
-use Rattle.protocol_owed.specs.Courses.{Course, GoesOn, HasStopped, IsOut, Pace, Rests, course_from, has_begun, opening_course}
+use Rattle.protocol_owed.specs.Courses.{Course, course_from, opening_course}
+use Rattle.protocol_owed.specs.Told.{IsAsTold}
 use Rattle.lease_discipline.specs.Discipline.{KeepsLeases}
-
--- how far an attempt is, by its phase
-abbrev pub pace_in : Phase → Pace
-pace_in Ready = GoesOn
-pace_in (Out j) = IsOut j
-pace_in (Waits y f) = Rests
-pace_in (HasEnded c) = HasStopped
-pace_in (HasFaulted f) = HasStopped
-
-abbrev pub pace_by : Option Run → Pace
-pace_by None = HasStopped
-pace_by (Some run) = pace_in run.phase
-
-abbrev pub attempt_by : Option Run → Option Attempt
-attempt_by None = None
-attempt_by (Some run) = Some run.attempt
-
--- the log's account of a worker is what its tables say: which attempts it began, the last of them, and how far it is with that
-pub record IsAsTold (k : Course) (x : Worker) : Type 0 where
-  pub began : (a : Attempt) → has_begun a k.began ≡ has_begun a x.began
-  pub last : first_item k.began ≡ attempt_by x.run
-  pub pace : k.pace ≡ pace_by x.run
 
 -- so of a live worker; of one that isn't there yet the log tells as of a new one
 pub record IsToldOf (k : Course) (c : Whole) (w : ℕ) : Type 0 where

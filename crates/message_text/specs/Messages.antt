@@ -43,6 +43,27 @@ inner_objects (o ∷ os) = id_text o ++ flat_map other_object os
 abbrev pub objects_text : List Id → List ℕ
 objects_text os = codes "[" ++ (inner_objects os ++ codes "]")
 
+-- the kind of a message
+abbrev pub kind_text : Message → List ℕ
+kind_text (Ask a t) = codes "Ask"
+kind_text (Give a t w) = codes "Give"
+kind_text (Elsewhere a t n) = codes "Elsewhere"
+kind_text (Wait a t) = codes "Wait"
+kind_text (Back a) = codes "Back"
+kind_text (Push a b) = codes "Push"
+kind_text (Finished a n ids) = codes "Finished"
+kind_text (FinishedAck a) = codes "FinishedAck"
+kind_text (Failed a f) = codes "Failed"
+kind_text (Where o) = codes "Where"
+kind_text (At o k ns) = codes "At"
+kind_text (Gone o f) = codes "Gone"
+kind_text (Fetch o k) = codes "Fetch"
+kind_text (CopyOf o k c) = codes "Copy"
+kind_text (Missing o k n) = codes "Missing"
+kind_text (Hold e o) = codes "Hold"
+kind_text (HoldAck e o) = codes "HoldAck"
+kind_text (Unhold e o) = codes "Unhold"
+
 -- Push(a1.1#0, remote(3) sq(7))
 abbrev pub push_text : Attempt → Birth → List ℕ
 push_text a b = codes "Push(" ++ (attempt_text a ++ (codes ", " ++ (birth_text b ++ codes ")")))

@@ -1,8 +1,8 @@
 // Messages.
 
 ghost use Rattle.std.specs.Prelude.{◌≡◌, ◌++◌, OnOk, string_bytes};
-ghost use Rattle.message_text.specs.Messages.{at_text, carrying_text, closed_text, copy_text, finished_ack_text, finished_text, hold_text, message_text};
-ghost use Rattle.message_text.specs.Messages.{place_text, push_text, stop_text};
+ghost use Rattle.message_text.specs.Messages.{at_text, carrying_text, closed_text, copy_text, finished_ack_text, finished_text, hold_text, kind_text};
+ghost use Rattle.message_text.specs.Messages.{message_text, place_text, push_text, stop_text};
 
 use crate::lists::{write_nodes, write_objects};
 use crate::parties::{attempt_out, fault_out, object_out};
@@ -191,5 +191,31 @@ pub fn write_message(text: &mut String, message: &Message) -> Result<(), AllocEr
             write!(text, "Wait({attempt}, {ask})")
         }
         _ => write_stop(text, message),
+    }
+}
+
+/// The kind of a message, such as `Push`.
+pub fn message_kind(message: &Message) -> &'static str
+    ensures { result.now ≡ kind_text message.now }
+{
+    match message {
+        Message::Ask(..) => "Ask",
+        Message::Give(..) => "Give",
+        Message::Elsewhere(..) => "Elsewhere",
+        Message::Wait(..) => "Wait",
+        Message::Back(..) => "Back",
+        Message::Push(..) => "Push",
+        Message::Finished(..) => "Finished",
+        Message::FinishedAck(..) => "FinishedAck",
+        Message::Failed(..) => "Failed",
+        Message::Where(..) => "Where",
+        Message::At(..) => "At",
+        Message::Gone(..) => "Gone",
+        Message::Fetch(..) => "Fetch",
+        Message::CopyOf(..) => "Copy",
+        Message::Missing(..) => "Missing",
+        Message::Hold(..) => "Hold",
+        Message::HoldAck(..) => "HoldAck",
+        Message::Unhold(..) => "Unhold",
     }
 }

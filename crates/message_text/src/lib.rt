@@ -8,4 +8,6 @@ mod parties;
 mod sent;
 mod text;
 
+pub use kinds::message_kind;
+pub use sent::{letters_between, sent_behind};
 pub use text::log_with_messages;

@@ -10,7 +10,7 @@ use protocol_data::Letter;
 use std::alloc::AllocError;
 
 /// How many messages had been sent behind that event, counted from 1; none before the first.
-fn sent_behind(sent: &[usize], event: usize) -> usize
+pub fn sent_behind(sent: &[usize], event: usize) -> usize
     ensures { result ≡ sent_behind sent.now event }
 {
     if event == 0 {
@@ -23,7 +23,7 @@ fn sent_behind(sent: &[usize], event: usize) -> usize
 }
 
 /// The messages with the numbers behind `from`, up to `until`.
-fn letters_between(letters: &[Letter], from: usize, until: usize) -> &[Letter]
+pub fn letters_between(letters: &[Letter], from: usize, until: usize) -> &[Letter]
     ensures { result.now ≡ letters_between letters.now from until }
 {
     if from >= letters.len() || until <= from {

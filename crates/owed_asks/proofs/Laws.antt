@@ -2,7 +2,7 @@
 use Rattle.std.proofs.Common.{◌≡◌, ℕ, zero, suc, ◌+◌, ◌<◌, ◌≤◌, List, [], ◌∷◌, ◌++◌, length, Some, None, Option, refl, ap, sym, subst, ◌∙◌, inl, inr}
 use Rattle.std.proofs.Common.{arith, append-nil}
 use Rattle.std.specs.Prelude.{Bool, true, false, if◌then◌else◌, not, ◌==◌, ◌&&◌, ◌||◌}
-use Rattle.std.proofs.lemmas.Bool.Decides.{nat_tests}
+use Rattle.std.proofs.lemmas.Bool.{eq-eqb}
 use Rattle.meaning.specs.Mains.{KeepsMainApart}
 use Rattle.meaning.specs.Values.{Argument, Birth, Id, Name, Put, Task, Value}
 use Rattle.meaning.specs.Births.{birth_at}
@@ -207,9 +207,6 @@ next_keeps s slots some slot apart gs right g is =
 
 -- ---- a calm run
 
-equal : (n : ℕ) → (n == n) ≡ true
-equal n = grind (arith, nat_tests)
-
 -- an answer that stands is one
 one_answer : (o : Option Reply) (a : Attempt) (t v m : ℕ) → Stands o (ask_key a t) (Give a t v) → Stands o (ask_key a t) (Elsewhere a t m) → ⊥
 unfolding Stands
@@ -248,7 +245,7 @@ module _ (s : Setting) (r : Running) (keeps : RunKeeps s r) (calm : IsCalm r.log
       none : (ns : List ℕ) → ((n : ℕ) → has ns n ≡ true → node_is_killed n r.log ≡ true) → ns ≡ []
       none [] f = refl
       none (n ∷ ns) f =
-          let first : has (n ∷ ns) n ≡ true = ap (λ t. t || has ns n) (equal n) in
+          let first : has (n ∷ ns) n ≡ true = ap (λ t. t || has ns n) (eq-eqb n n refl) in
           let killed = f n first in
           let alive = calm_node r.log n calm in
           absurd (cc)
@@ -346,13 +343,13 @@ module _ (s : Setting) (r : Running) (keeps : RunKeeps s r) (calm : IsCalm r.log
 
   asked_now : (a : Attempt) (q : IsAskedFor a) (t : ℕ) → q.t ≡ t → if_asked t a q.task ≡ true
   asked_now a q t same =
-      let numbers : (q.task.number == a.number) ≡ true = ap (λ i. i == a.number) q.number ∙ equal a.number in
-      let stands : stands_at q.task.progress t ≡ true = ap (λ p. stands_at p t) q.stands ∙ ap (λ i. i == t) same ∙ equal t in
+      let numbers : (q.task.number == a.number) ≡ true = ap (λ i. i == a.number) q.number ∙ eq-eqb a.number a.number refl in
+      let stands : stands_at q.task.progress t ≡ true = ap (λ p. stands_at p t) q.stands ∙ ap (λ i. i == t) same ∙ eq-eqb t t refl in
       ap (λ u. u && stands_at q.task.progress t) numbers ∙ stands
 
   -- the object in the owner's table, as its event finds it
   found : (a : Attempt) (q : IsAskedFor a) (node : Node) → task_of (object_at (here c a.object.owner q.owner node) a.object) ≡ Some q.task
-  found a q node = ap (λ u. task_of (if u then own_object (here c a.object.owner q.owner node) a.object.serial else None)) (equal a.object.owner) ∙ q.own
+  found a q node = ap (λ u. task_of (if u then own_object (here c a.object.owner q.owner node) a.object.serial else None)) (eq-eqb a.object.owner a.object.owner refl) ∙ q.own
 
   home : (w : ℕ) (x : Worker) → worker_at c w ≡ Some x → (node : Node) × (node_at c x.node ≡ Some node)
   home w x at = keeps.step.leases.homes w x at

@@ -38,12 +38,14 @@ use Rattle.protocol_owed.proofs.Moves as M
 use Rattle.protocol_owed.proofs.Nodes.{there_more}
 use Rattle.protocol_owed.proofs.Owing.{foreign_need_is_asked}
 use Rattle.protocol_owed.proofs.Replying.{copy_is_got, me_stays, sent_after}
-use Rattle.lease_discipline.specs.Told.{pace_by, pace_in}
-use Rattle.lease_discipline.proofs.Events.{OutAs, out_as}
+use Rattle.protocol_owed.specs.Told.{pace_by, pace_in}
+use Rattle.protocol_owed.proofs.CourseRuns.{OutOf, out_of}
+use Rattle.protocol_owed.proofs.TellingMore.{stopped_not}
+use Rattle.protocol_owed.proofs.Telling.{AnyTold, AnyOver}
 use Rattle.lease_discipline.proofs.Heres.{changed_now}
 use Rattle.lease_discipline.proofs.Moves.{Anyhow, IsKept, bears_all-kept, holds_ids-kept, leaves_if_free-kept, release_step-kept}
 use Rattle.lease_discipline.proofs.Tame.{item_mapped}
-use Rattle.lease_discipline.proofs.Told.{to_pace}
+use Rattle.lease_discipline.proofs.TurnEvents.{GivenBy}
 use Rattle.owed_asks.specs.Law.{CopiesAreGot, NewForeignWaitsAreAsked}
 use Rattle.owed_asks.proofs.Laws.{IsTaken, RunKeeps, delivery, is_taken, last_whole, next_keeps, runs_keep}
 use Rattle.owed_asks.proofs.WaitsTell.{IsWaitingHere, waits_for}
@@ -89,7 +91,7 @@ module _ (T : ℕ → Attempt → Type 0) (O : Attempt → Type 0) (V : ℕ → 
     asks_anew = λ h o before task _ _ u. u;
     asks_on = λ h o task t m i _ _ _ u. u;
     asks_again = λ h i task t m _ _ u. u;
-    run = λ h run next e i u. sym (to_pace next.phase) ∙ i.pace ∙ to_pace run.phase ∙ ap pace_by (sym e) ∙ u;
+    run = λ h run next e i u. i.pace ∙ ap pace_by (sym e) ∙ u;
     leaves = λ h run next e _ _ phase _ u. ap pace_in phase ∙ ap pace_by (sym e) ∙ u;
     gets = λ h run content y f e q u. absurd (waits_no h run y f e q u);
     faults = λ h run fault y f e q u. absurd (waits_no h run y f e q u);
@@ -101,29 +103,17 @@ module _ (T : ℕ → Attempt → Type 0) (O : Attempt → Type 0) (V : ℕ → 
     back_of = λ h m a _ _ u. u;
   }
 
-abbrev ToldBy : ℕ → Attempt → Type 0
-ToldBy w a = Unit {0}
-
-abbrev OverOf : Attempt → Type 0
-OverOf a = Unit {0}
-
-abbrev GivenBy : ℕ → ℕ → Attempt → ℕ → Type 0
-GivenBy n t a w = Unit {0}
-
 goes_rests : GoesOn ≡ Rests → ⊥
 goes_rests e = absurd (cc)
 
 stopped_rests : HasStopped ≡ Rests → ⊥
 stopped_rests e = absurd (cc)
 
-stopped_goes : HasStopped ≡ GoesOn → ⊥
-stopped_goes e = absurd (cc)
-
 abbrev HasStoppedHere : Here → Type 0
 HasStoppedHere h = pace_by h.worker.run ≡ HasStopped
 
-stopped_kept : IsKept ToldBy OverOf GivenBy Anyhow HasStoppedHere
-stopped_kept = pace_kept ToldBy OverOf GivenBy HasStopped stopped_rests
+stopped_kept : IsKept AnyTold AnyOver GivenBy Anyhow HasStoppedHere
+stopped_kept = pace_kept AnyTold AnyOver GivenBy HasStopped stopped_rests
 
 -- ---- a commit of worker h
 
@@ -147,7 +137,7 @@ stopped_by_death b run z =
     let h : Here = with_phase b run (Waits z None) in
     let waiting : Run = record run { phase = Waits z None } in
     let g : Here = gives_slot_back (logs (with_phase h waiting (HasFaulted (fault OwnerDied z))) (Faulted run.attempt z (fault OwnerDied z))) in
-    leaves_if_free-kept ToldBy OverOf GivenBy Anyhow HasStoppedHere stopped_kept g refl
+    leaves_if_free-kept AnyTold AnyOver GivenBy Anyhow HasStoppedHere stopped_kept g refl
 
 needs_asks : (b : Here) (run : Run) (z : Id) → AsksOwner b.me (release_step (needs b run z))
 needs_asks b run z last y f at waits apart =
@@ -178,7 +168,7 @@ needs_asks b run z last y f at waits apart =
         let rested : HasStoppedHere (needs b run z) =
         at_test (λ t. HasStoppedHere (if t then gives_slot_back (asks_where h z) else asks_where h z)) (is_waiting_for (asks_where h z).worker z)
         (λ _. asked) (λ _. asked) in
-        release_step-kept ToldBy OverOf GivenBy Anyhow HasStoppedHere stopped_kept (needs b run z) rested
+        release_step-kept AnyTold AnyOver GivenBy Anyhow HasStoppedHere stopped_kept (needs b run z) rested
 
 ends_asks : (b : Here) (run : Run) (content : Outcome) → AsksOwner b.me (release_step (ends b run content))
 ends_asks b run content =
@@ -187,13 +177,13 @@ ends_asks b run content =
     let ids : List Id = each_once (ids_in_outcome content) in
     let stored : Here = with_store g (with_primary (store_here b) o run.attempt.number content) in
     let held : HasStoppedHere (leaves_if_free (holds_ids stored o ids)) =
-    leaves_if_free-kept ToldBy OverOf GivenBy Anyhow HasStoppedHere stopped_kept (holds_ids stored o ids)
-    (holds_ids-kept ToldBy OverOf GivenBy Anyhow HasStoppedHere stopped_kept stored o ids refl) in
-    stopped_asks b.me (release_step (ends b run content)) (release_step-kept ToldBy OverOf GivenBy Anyhow HasStoppedHere stopped_kept
+    leaves_if_free-kept AnyTold AnyOver GivenBy Anyhow HasStoppedHere stopped_kept (holds_ids stored o ids)
+    (holds_ids-kept AnyTold AnyOver GivenBy Anyhow HasStoppedHere stopped_kept stored o ids refl) in
+    stopped_asks b.me (release_step (ends b run content)) (release_step-kept AnyTold AnyOver GivenBy Anyhow HasStoppedHere stopped_kept
     (ends b run content) held)
 
 stops_ask : (b : Here) (stop : Stopped) (r : Option Run) → pace_by r ≡ GoesOn → AsksOwner b.me (release_step (stops_by b stop r))
-stops_ask b stop None e = absurd (stopped_goes e)
+stops_ask b stop None e = absurd (stopped_not e)
 stops_ask b (AtGet z) (Some run) e = needs_asks b run z
 stops_ask b (AtEnd content) (Some run) e = ends_asks b run content
 
@@ -206,8 +196,8 @@ commit_asks h o run e = subst (λ r. AsksOwner h.me (release_step (commit_by h o
         let g : Here = logs_all (with_run h (with_outcomes run o)) es in
         let borne : Here = bears_all g run.attempt o.births in
         let goes : pace_by borne.worker.run ≡ GoesOn =
-        bears_all-kept ToldBy OverOf GivenBy Anyhow (λ z. pace_by z.worker.run ≡ GoesOn)
-        (pace_kept ToldBy OverOf GivenBy GoesOn goes_rests) g run.attempt o.births refl in
+        bears_all-kept AnyTold AnyOver GivenBy Anyhow (λ z. pace_by z.worker.run ≡ GoesOn)
+        (pace_kept AnyTold AnyOver GivenBy GoesOn goes_rests) g run.attempt o.births refl in
         let me : borne.me ≡ h.me = M.bears_all-kept (λ z. z.me ≡ h.me) (me_stays h.me) g run.attempt o.births refl in
         subst (λ m. AsksOwner m (release_step (stops_by borne o.stop borne.worker.run))) me (stops_ask borne o.stop borne.worker.run goes)
 
@@ -267,8 +257,8 @@ module _ (c : Whole) (j w : ℕ) (handed : Handed) (g : Given) (at : item_at c.j
       start : Here
       start = here d g.worker who.0 node.0
 
-      out : OutAs who.0.run j
-      out = out_as who.0.run j (ap (λ o. is_out_by o j) (sym who.1) ∙
+      out : OutOf who.0.run j
+      out = out_of who.0.run j (ap (λ o. is_out_by o j) (sym who.1) ∙
           and_right (not g.is_committed && is_of_job handed) (is_out_by (worker_at c g.worker) j) open_job)
 
       made : happens c (Commit j) handed ≡ after_worker d g.worker who.0.node (release_step (commit_step start done.0))

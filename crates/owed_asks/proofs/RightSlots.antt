@@ -15,8 +15,8 @@ use Rattle.protocol_owed.specs.Courses.{LivesOn, course}
 use Rattle.protocol_owed.specs.Runs.{Handing, Running, after_event, after_events, holders_in, opening_run, seen}
 use Rattle.protocol_owed.specs.Turns.{IsOneToRun}
 use Rattle.protocol_owed.proofs.Opening.{opens-full, runs-full}
+use Rattle.protocol_owed.specs.Told.{IsAsTold}
 use Rattle.lease_discipline.specs.Slots.{AreRight}
-use Rattle.lease_discipline.specs.Told.{IsAsTold}
 use Rattle.lease_discipline.proofs.SlotLaw.{law_of_kept_slots}
 use Rattle.lease_discipline.proofs.Told.{logs_tell, places}
 use Rattle.owed_asks.specs.Law.{SlotsAreAllRight}

@@ -1,6 +1,7 @@
 -- A worker in its event sends asks as it should.
-use Rattle.std.proofs.Common.{◌≡◌, ◌≢◌, ℕ, ◌+◌, List, [], ◌∷◌, ◌++◌, Some, None, Option, refl, ap, sym, subst, ◌∙◌, ◌⊎◌, inl, inr, arith}
+use Rattle.std.proofs.Common.{◌≡◌, ℕ, ◌+◌, List, [], ◌∷◌, ◌++◌, Some, None, Option, refl, ap, sym, subst, ◌∙◌, ◌⊎◌, inl, inr, arith}
 use Rattle.std.specs.Prelude.{Bool, true, false, ◌&&◌}
+use Rattle.std.proofs.lemmas.Bool.{both_ways}
 use Rattle.meaning.specs.Values.{Birth, Id}
 use Rattle.event_log.specs.Entries.{Attempt, Faulted, Got}
 use Rattle.event_log.specs.Words.{attempt}
@@ -17,16 +18,15 @@ use Rattle.protocol.specs.Asking.{asks_at, rests, with_begun}
 use Rattle.protocol.specs.Commits.{with_object}
 use Rattle.protocol.specs.Runs.{gives_slot_back, with_answer}
 use Rattle.protocol.specs.Whole.{Whole}
-use Rattle.protocol_owed.proofs.CourseEvents.{changed_none}
-use Rattle.protocol_owed.proofs.Nodes.{changed_cases, push_cases}
+use Rattle.protocol_owed.proofs.Nodes.{push_cases}
 use Rattle.protocol_owed.proofs.Letters.{among-append_cases, among-behind, among-more, among-push_cases}
 use Rattle.lease_discipline.specs.Asks.{Asked}
-use Rattle.lease_discipline.proofs.Tame.{changed_here, own_at}
-use Rattle.lease_discipline.proofs.Follows.{More, not_both}
+use Rattle.lease_discipline.proofs.Tame.{own_at}
+use Rattle.lease_discipline.proofs.Follows.{More}
 use Rattle.lease_discipline.proofs.Moves.{Anyhow, IsKept, is_plain}
 use Rattle.lease_discipline.proofs.Theres.{letter_cases, letter_last, letter_more, with_letter}
 use Rattle.lease_discipline.proofs.Heres.{by_number}
-use Rattle.lease_discipline.proofs.Asking.{IsPut, own_task}
+use Rattle.lease_discipline.proofs.Asking.{IsPut, own_task, same_task, put_task}
 use Rattle.owed_asks.specs.Routes.{AsksFollow, IsRouted, IsRoutedBetween, OwnerAsks, is_new, rests_now}
 use Rattle.owed_asks.proofs.NodeAnswers.{IsKeptBy, asks_slot-kept, frees-kept}
 
@@ -108,29 +108,6 @@ owner_same s v x y node same q = record {
   first = λ k task at zero old. subst (λ n. Asked s (attempt (object_id v k) 0) 0 n) (sym node) (q.first k task (sym (same k) ∙ at) zero old);
 }
 
-same_task : (a b : OwnTask) → ◌≡◌ {A = Option OwnTask} (Some a) (Some b) → a ≡ b
-same_task a b e = cc
-
-item_apart : (xs : List Object) (n m : ℕ) (f : Object → Object) → m ≢ n → item_at (changed_at xs n f) m ≡ item_at xs m
-item_apart xs n m f apart = by_item (item_at (changed_at xs n f) m) refl
-  where
-    by_item : (o : Option Object) → item_at (changed_at xs n f) m ≡ o → item_at (changed_at xs n f) m ≡ item_at xs m
-    by_item None e = e ∙ sym (changed_none xs n m f e)
-    by_item (Some y) e = elim (changed_cases xs n m f y e) [ inl (same, _, _, _) ↦ absurd (apart same) | inr (_, at) ↦ e ∙ sym at ]
-
-put_task : (x : Worker) (k0 : ℕ) (old task : OwnTask) → task_of (item_at x.objects k0) ≡ Some old →
-    IsPut x (record x { objects = changed_at x.objects k0 (with_task task) }) k0 old task
-put_task x k0 old task at = record {
-  before = at;
-  now = by_item (item_at x.objects k0) refl at;
-  apart = λ k other. ap task_of (item_apart x.objects k0 k (with_task task) other);
-}
-  where
-    by_item : (o : Option Object) → item_at x.objects k0 ≡ o → task_of o ≡ Some old →
-        task_of (item_at (changed_at x.objects k0 (with_task task)) k0) ≡ Some task
-    by_item None e f = absurd (cc)
-    by_item (Some y) e f = ap task_of (changed_here x.objects k0 (with_task task) y e)
-
 -- one task takes the place of another
 owner_put : (s t : List Letter) (v k0 : ℕ) (x y : Worker) (old task : OwnTask) → IsPut x y k0 old task → y.node ≡ x.node → More s t →
     ((i n : ℕ) → task.progress ≡ AskedAt i n → Asked t (attempt (object_id v k0) task.number) i n) →
@@ -201,7 +178,7 @@ module _ (c : Whole) (me n : ℕ) where
   with_one h l = with_letter c.network h.there.out.letters l
 
   not_ask : (m : Message) (a : Attempt) (i : ℕ) → is_ask m ≡ false → Ask a i ≡ m → ⊥
-  not_ask m a i e f = not_both (is_ask m) (ap is_ask (sym f)) e
+  not_ask m a i e f = both_ways (is_ask m) e (ap is_ask (sym f))
 
   quiet_letter : (h : Here) (u : ℕ) (to : Party) (m : Message) → is_ask m ≡ false → AsksNothing (sent_so h) (with_one h (letter (TheWorker u) to m))
   quiet_letter h u to m quiet = record {
@@ -461,7 +438,7 @@ module _ (c : Whole) (me n : ℕ) where
         | inl at ↦ q.mine.first k task (ap task_of at ∙ f) zero old
         | inr (_, same) ↦
             let g : new_task spec ≡ task = new_is task (ap (λ (u : Object). task_in u.maker) same ∙ f) in
-            absurd (not_both (is_new task) (sym (ap is_new g)) old)
+            absurd (both_ways (is_new task) old (sym (ap is_new g)))
       ]
 
   -- ---- all the smallest steps

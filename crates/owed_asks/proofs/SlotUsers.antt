@@ -1,8 +1,8 @@
 -- Whoever has a slot of a node has a use for it: what a node does keeps it.
 use Rattle.std.proofs.Common.{◌≡◌, ℕ, suc, ◌+◌, List, [], ◌∷◌, ◌++◌, length, Some, None, Option, refl, ap, sym, subst, ◌∙◌, ◌⊎◌, inl, inr, arith}
-use Rattle.std.proofs.Common.{append_assoc, length-append, zero}
+use Rattle.std.proofs.Common.{append_assoc, length-append}
 use Rattle.std.specs.Prelude.{Bool, true, false, if◌then◌else◌, not, ◌==◌, ◌&&◌, ◌||◌, nat_lt}
-use Rattle.std.specs.List.{list_any}
+use Rattle.std.proofs.lemmas.Bool.{both_ways, eqb-true}
 use Rattle.sequence.proofs.Places.{and_left, list_any-push_cases, or_cases, or_left, or_right, slice_get-last}
 use Rattle.meaning.proofs.BirthLaws.{at_test}
 use Rattle.meaning.specs.Values.{Id, Outcome}
@@ -10,7 +10,7 @@ use Rattle.event_log.specs.Entries.{Attempt}
 use Rattle.event_log.specs.Words.{same_attempt}
 use Rattle.event_log.specs.Breaks.{Among}
 use Rattle.protocol.specs.Numbered.{item_at}
-use Rattle.protocol.specs.Sets.{first_item, has, least, repeated, rest_of, with_number, without_number}
+use Rattle.protocol.specs.Sets.{first_item, has, least, repeated, rest_of, without_number}
 use Rattle.protocol.specs.Messages.{Letter, letter, Message, Party, TheWorker, TheNode, Ask, Give, Elsewhere, Wait, Back, Push, Finished, FinishedAck, Failed}
 use Rattle.protocol.specs.Messages.{Where, At, Gone, Fetch, CopyOf, Missing, Hold, HoldAck, Unhold}
 use Rattle.protocol.specs.Stores.{copy_in}
@@ -25,41 +25,17 @@ use Rattle.protocol_owed.specs.Courses.{GoesOn, IsOut, has_begun}
 use Rattle.protocol_owed.proofs.Asks.{has_key, same_key-refl}
 use Rattle.protocol_owed.proofs.FullNodes.{repeated-length}
 use Rattle.protocol_owed.proofs.Nodes.{there_more}
+use Rattle.protocol_owed.specs.Told.{pace_by}
+use Rattle.protocol_owed.proofs.Sets.{has-left, has-push, has-rest, has-with, repeated_more, has-first, has-gone, least-in}
 use Rattle.lease_discipline.specs.Discipline.{Gave, Look}
-use Rattle.lease_discipline.specs.Told.{pace_by}
-use Rattle.lease_discipline.proofs.Follows.{More, gave_more, not_both}
-use Rattle.lease_discipline.proofs.Nodes.{has-first, has-gone, least-in}
-use Rattle.lease_discipline.proofs.Tame.{same_number}
+use Rattle.lease_discipline.proofs.Follows.{More, gave_more}
 use Rattle.lease_discipline.proofs.Theres.{letter_last, letter_more, with_letter}
+use Rattle.lease_discipline.proofs.Nodes.{lease_in}
 
 -- ---- sets of numbers
 
-pub left_in : (xs : List ℕ) (w v : ℕ) → has (without_number xs w) v ≡ true → has xs v ≡ true
-left_in [] w v e = e
-left_in (x ∷ xs) w v e =
-    at_test (λ b. has (if not b then x ∷ without_number xs w else without_number xs w) v ≡ true → has (x ∷ xs) v ≡ true) (x == w)
-    (λ _ f. or_right (x == v) (has xs v) (left_in xs w v f))
-    (λ _ f. elim (or_cases (x == v) (has (without_number xs w) v) f) [
-      | inl g ↦ or_left (x == v) (has xs v) g
-      | inr g ↦ or_right (x == v) (has xs v) (left_in xs w v g)
-    ]) e
-
 pub not_left : (xs : List ℕ) (w v : ℕ) → has (without_number xs w) v ≡ true → w ≡ v → ⊥
-not_left xs w v e same = not_both (has (without_number xs w) w) (subst (λ u. has (without_number xs w) u ≡ true) (sym same) e) (has-gone xs w)
-
-pub pushed_in : (xs : List ℕ) (w v : ℕ) → has (xs ++ w ∷ []) v ≡ true → (has xs v ≡ true) ⊎ (w ≡ v)
-pushed_in xs w v e = elim (list_any-push_cases (λ y. y == v) xs w e) [ inl f ↦ inl f | inr f ↦ inr (same_number w v f) ]
-
-rest_in : (xs : List ℕ) (v : ℕ) → has (rest_of xs) v ≡ true → has xs v ≡ true
-rest_in [] v e = e
-rest_in (x ∷ xs) v e = or_right (x == v) (has xs v) e
-
-idle_in : (xs : List ℕ) (w v : ℕ) → has (with_number xs w) v ≡ true → (has xs v ≡ true) ⊎ (w ≡ v)
-idle_in xs w v e = at_test (λ b. has (if b then xs else xs ++ w ∷ []) v ≡ true → (has xs v ≡ true) ⊎ (w ≡ v)) (has xs w) (λ _ f. inl f)
-    (λ _ f. pushed_in xs w v f) e
-
-abbrev lease_in : List Lease → ℕ → Attempt → Bool
-lease_in ls w a = list_any (λ l. (l.worker == w) && same_attempt l.attempt a) ls
+not_left xs w v e same = both_ways (has (without_number xs w) w) (has-gone xs w) (subst (λ u. has (without_number xs w) u ≡ true) (sym same) e)
 
 lease_left : (ls : List Lease) (w v : ℕ) (a : Attempt) → lease_in (without_lease w ls) v a ≡ true → (lease_in ls v a ≡ true) × (w ≡ v → ⊥)
 lease_left [] w v a e = absurd (cc)
@@ -71,8 +47,7 @@ lease_left (l ∷ ls) w v a e =
     (λ _ apart f. elim (or_cases this (lease_in (without_lease w ls) v a) f) [
       | inl g ↦ (
         or_left this (lease_in ls v a) g,
-        λ same. not_both (l.worker == w)
-            (subst (λ u. (l.worker == u) ≡ true) (sym same) (and_left (l.worker == v) (same_attempt l.attempt a) g)) apart,
+        λ same. both_ways (l.worker == w) apart (subst (λ u. (l.worker == u) ≡ true) (sym same) (and_left (l.worker == v) (same_attempt l.attempt a) g)),
       )
       | inr g ↦ let h = lease_left ls w v a g in (or_right this (lease_in ls v a) h.0, h.1)
     ]) refl e
@@ -82,7 +57,7 @@ lease_pushed : (ls : List Lease) (w v : ℕ) (b a : Attempt) → lease_in (ls ++
 lease_pushed ls w v b a e = elim (list_any-push_cases (λ (l : Lease). (l.worker == v) && same_attempt l.attempt a) ls
     (record { worker = w; attempt = b }) e) [
       | inl f ↦ inl f
-      | inr f ↦ inr (same_number w v (and_left (w == v) (same_attempt b a) f))
+      | inr f ↦ inr (eqb-true w v (and_left (w == v) (same_attempt b a) f))
     ]
 
 -- ---- who has a use for a slot
@@ -184,16 +159,6 @@ first_key (j ∷ queue) k e =
 
 -- ---- a node in an event, beside these workers
 
-repeated_more : {X : Type 0} (k : ℕ) (x : X) → repeated k x ++ x ∷ [] ≡ repeated (k + 1) x
-repeated_more {X} k x = more k ∙ ap (λ i. repeated i x) one
-  where
-    more : (k : ℕ) → repeated k x ++ x ∷ [] ≡ repeated (suc k) x
-    more zero = refl
-    more (suc k) = ap (λ xs. x ∷ xs) (more k)
-
-    one : ◌≡◌ {A = ℕ} (suc k) (k + 1)
-    one = omega arith
-
 module _ (ws : List Worker) (net : List Letter) (n : ℕ) (but gone : ℕ → Type 0) where
   abbrev pub all_with : ℕ → List Worker
   all_with opened = ws ++ repeated opened (new_worker n)
@@ -242,12 +207,12 @@ module _ (ws : List Worker) (net : List Letter) (n : ℕ) (but gone : ℕ → Ty
             (letter_last net t.out.letters l),
       ) in
       record {
-        holders = λ i e. elim (pushed_in t.node.scheduler.holders w i e) [
+        holders = λ i e. elim (has-push t.node.scheduler.holders w i e) [
           | inl f ↦ v.holders i f
           | inr same ↦ inl (subst (IsUser (look_in t) sent n) same (record { here = h; why = inr (inr (k.attempt, gave, unbegun)) }))
         ];
         answered = v.answered;
-        idle = λ i e. v.idle i (left_in t.node.scheduler.idle w i e);
+        idle = λ i e. v.idle i (has-left t.node.scheduler.idle w i e);
         leased = λ i a e. elim (lease_pushed (without_lease w t.node.scheduler.leases) w i k.attempt a e) [
           | inl f ↦ v.leased i a (lease_left t.node.scheduler.leases w i a f).0
           | inr same ↦ inl (subst (IsHere (look_in t) n) same h)
@@ -287,7 +252,7 @@ module _ (ws : List Worker) (net : List Letter) (n : ℕ) (but gone : ℕ → Ty
       IsFresh (look_in t) t.node.scheduler → UsedThere t → UsedThere (grants_next t o)
   grants_next_used t None e c present asking fresh u = grants_queued_used t (first_item t.node.scheduler.queue) refl c present fresh u
   grants_next_used t (Some w) e c present asking fresh u = record {
-    holders = λ v f. elim (pushed_in t.node.scheduler.holders w v f) [
+    holders = λ v f. elim (has-push t.node.scheduler.holders w v f) [
       | inl g ↦ u.holders v g
       | inr same ↦
           let first : has t.node.scheduler.answered w ≡ true = has-first t.node.scheduler.answered w e in
@@ -296,7 +261,7 @@ module _ (ws : List Worker) (net : List Letter) (n : ℕ) (but gone : ℕ → Ty
             | inr g ↦ absurd (asking w first g)
           ]
     ];
-    answered = λ v f. u.answered v (rest_in t.node.scheduler.answered v f);
+    answered = λ v f. u.answered v (has-rest t.node.scheduler.answered v f);
     idle = u.idle;
     leased = u.leased;
   }
@@ -322,7 +287,7 @@ module _ (ws : List Worker) (net : List Letter) (n : ℕ) where
       (λ _ _. grants_used ws net n Nobody Nobody (with_scheduler t s) (record { number = c.number; counted = c.counted }) (none_gone s.idle)
       (none_gone s.answered) fresh
       (record {
-        holders = λ v e. elim (u.holders v (left_in t.node.scheduler.holders w v e)) [
+        holders = λ v e. elim (u.holders v (has-left t.node.scheduler.holders w v e)) [
           | inl f ↦ inl f
           | inr same ↦ absurd (not_left t.node.scheduler.holders w v e (sym same))
         ];
@@ -333,7 +298,7 @@ module _ (ws : List Worker) (net : List Letter) (n : ℕ) where
       (λ _ slotless. record {
         holders = λ v e. elim (u.holders v e) [
           | inl f ↦ inl f
-          | inr same ↦ absurd (not_both (has t.node.scheduler.holders w) (subst (λ i. has t.node.scheduler.holders i ≡ true) same e) slotless)
+          | inr same ↦ absurd (both_ways (has t.node.scheduler.holders w) slotless (subst (λ i. has t.node.scheduler.holders i ≡ true) same e))
         ];
         answered = u.answered;
         idle = u.idle;
@@ -351,15 +316,15 @@ module _ (ws : List Worker) (net : List Letter) (n : ℕ) where
       (has t.node.scheduler.holders w || has t.node.scheduler.answered w)
       (λ _. u)
       (λ _. grants_used ws net n but Nobody (with_scheduler t s) (record { number = c.number; counted = c.counted }) (none_gone s.idle) (none_gone s.answered)
-      (λ v x k e there queued. fresh v x k (left_in t.node.scheduler.idle w v e) there queued)
+      (λ v x k e there queued. fresh v x k (has-left t.node.scheduler.idle w v e) there queued)
       (record {
         holders = u.holders;
-        answered = λ v e. elim (pushed_in t.node.scheduler.answered w v e) [
+        answered = λ v e. elim (has-push t.node.scheduler.answered w v e) [
           | inl f ↦ u.answered v f
           | inr same ↦ inl (subst (IsAnswered
               (look_in ws net n but Nobody t) n) same asks)
         ];
-        idle = λ v e. u.idle v (left_in t.node.scheduler.idle w v e);
+        idle = λ v e. u.idle v (has-left t.node.scheduler.idle w v e);
         leased = u.leased;
       }))
     where
@@ -371,15 +336,15 @@ module _ (ws : List Worker) (net : List Letter) (n : ℕ) where
       UsedThere ws net n (One w) (One w) t → UsedThere ws net n Nobody Nobody (forgets t w)
   forgets_used t w c fresh u =
       frees_used (with_scheduler t s) w (record { number = c.number; counted = c.counted })
-      (λ v x k e there queued. fresh v x k (left_in t.node.scheduler.idle w v e) there queued)
+      (λ v x k e there queued. fresh v x k (has-left t.node.scheduler.idle w v e) there queued)
       (record {
         holders = u.holders;
-        answered = λ v e. elim (u.answered v (left_in t.node.scheduler.answered w v e)) [
+        answered = λ v e. elim (u.answered v (has-left t.node.scheduler.answered w v e)) [
           | inl f ↦ inl f
           | inr same ↦ absurd
               (not_left t.node.scheduler.answered w v e (sym same))
         ];
-        idle = λ v e. elim (u.idle v (left_in t.node.scheduler.idle w v e)) [
+        idle = λ v e. elim (u.idle v (has-left t.node.scheduler.idle w v e)) [
           | inl f ↦ inl f
           | inr same ↦ absurd (not_left t.node.scheduler.idle w v e
               (sym same))
@@ -431,7 +396,7 @@ module _ (ws : List Worker) (net : List Letter) (n : ℕ) where
       (λ _ e. record {
         holders = u.holders;
         answered = u.answered;
-        idle = λ v f. elim (idle_in t.node.scheduler.idle w v f) [
+        idle = λ v f. elim (has-with t.node.scheduler.idle w v f) [
           | inl g ↦ u.idle v g
           | inr same ↦ subst (λ i. IsHere (look_in ws net n Nobody Nobody t) n i ⊎ Nobody i) same (u.leased w a (latest e))
         ];

@@ -5,6 +5,7 @@ use Rattle.std.specs.Prelude.{Bool, true, false, if◌then◌else◌, not, ◌==
 use Rattle.std.specs.List.{flat_map, list_any}
 use Rattle.std.proofs.lemmas.List.Concat.{flat_map-append}
 use Rattle.std.proofs.lemmas.Bool.Decides.{nat_tests}
+use Rattle.std.proofs.lemmas.Bool.{false_from_ne_true}
 use Rattle.meaning.proofs.BirthLaws.{at_test, same_id-refl, same_id-true}
 use Rattle.meaning.specs.Values.{Birth, Id, main_birth}
 use Rattle.meaning.specs.Births.{Bearing, birth_at, same_id}
@@ -251,12 +252,8 @@ begun_there log past tells a w runs =
 
 -- ---- calm logs
 
-not_true : (b : Bool) → (b ≡ true → ⊥) → b ≡ false
-not_true true f = absurd (f refl)
-not_true false f = refl
-
 no_such : (log : List Entry) (p : Event → Bool) → ((e : Event) → p e ≡ true → is_failure e ≡ true) → IsCalm log → list_any p (accepted_events log) ≡ false
-no_such log p fails calm = not_true (list_any p (accepted_events log)) (λ e. bad (any_weaker p is_failure fails (accepted_events log) e))
+no_such log p fails calm = false_from_ne_true (list_any p (accepted_events log)) (λ e. bad (any_weaker p is_failure fails (accepted_events log) e))
   where
     bad : list_any is_failure (accepted_events log) ≡ true → ⊥
     bad e = let f = calm in absurd (cc)

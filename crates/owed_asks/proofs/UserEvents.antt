@@ -2,6 +2,7 @@
 use Rattle.std.proofs.Common.{◌≡◌, ◌≢◌, ℕ, ◌+◌, List, [], ◌∷◌, ◌++◌, length, map, Some, None, Option, refl, ap, sym, subst, ◌∙◌, ◌⊎◌}
 use Rattle.std.proofs.Common.{append-nil, inl, inr}
 use Rattle.std.specs.Prelude.{Bool, true, false, if◌then◌else◌, not, ◌&&◌, ◌==◌}
+use Rattle.std.proofs.lemmas.Bool.{both_ways, eqb-true, false_from_ne_true}
 use Rattle.sequence.proofs.Places.{and_right, or_cases}
 use Rattle.meaning.proofs.BirthLaws.{at_test}
 use Rattle.meaning.specs.Values.{Birth, Id, Outcome}
@@ -41,31 +42,23 @@ use Rattle.protocol_owed.proofs.CourseEvents.{one_of}
 use Rattle.protocol_owed.proofs.FullNodes.{NodesAreFull}
 use Rattle.protocol_owed.proofs.Letters.{among-more}
 use Rattle.protocol_owed.proofs.Nodes.{NodesAreRight, changed_cases, push_cases, there_more}
+use Rattle.protocol_owed.specs.Told.{pace_by, pace_in}
+use Rattle.protocol_owed.proofs.TellingMore.{stopped_pace}
+use Rattle.protocol_owed.proofs.CourseRuns.{OutOf, out_of}
+use Rattle.protocol_owed.proofs.Telling.{AnyTold, AnyOver}
 use Rattle.lease_discipline.specs.Asks.{Asked, IsDeadNode, IsPassed, KeepsAsks, Touched}
 use Rattle.lease_discipline.specs.Discipline.{IsOfNode, KeepsLeases}
-use Rattle.lease_discipline.specs.Told.{pace_by, pace_in}
-use Rattle.lease_discipline.proofs.Tame.{same_number}
 use Rattle.numbered.proofs.Places.{counted}
-use Rattle.lease_discipline.proofs.Follows.{is_false, not_both}
-use Rattle.lease_discipline.proofs.Heres.{by_number, changed_elsewhere, stopped_pace}
-use Rattle.lease_discipline.proofs.Told.{to_pace}
+use Rattle.lease_discipline.proofs.Heres.{by_number, changed_elsewhere}
 use Rattle.lease_discipline.proofs.Laws.{promise}
 use Rattle.lease_discipline.proofs.Moves.{Anyhow, IsHeardFrom, IsKept, asks_where-kept, bears_all-kept, holds_ids-kept, leaves_if_free-kept}
 use Rattle.lease_discipline.proofs.Moves.{notice_node_step-kept}
 use Rattle.lease_discipline.proofs.Moves.{notice_step-kept, reached-kept, release_step-kept, tick_step-kept}
-use Rattle.lease_discipline.proofs.Events.{OutAs, among_at, changed_same, item_map, out_as}
+use Rattle.lease_discipline.proofs.Events.{among_at, changed_same, item_map}
+use Rattle.lease_discipline.proofs.TurnEvents.{GivenBy}
 use Rattle.owed_asks.proofs.SlotUsers.{IsFresh, IsHere, IsUser, Nobody, One, Used, forgets_used, reached_used, used_more, used_so}
 use Rattle.owed_asks.proofs.Users.{Uses, frees_uses, look, my_answer, uses_kept, worker_uses, worker_uses_by}
 use Rattle.owed_asks.proofs.Waiting.{WaitsOnly, asks_where-waits, rests_waits}
-
-abbrev ToldBy : ℕ → Attempt → Type 0
-ToldBy w a = Unit {0}
-
-abbrev OverOf : Attempt → Type 0
-OverOf a = Unit {0}
-
-abbrev GivenBy : ℕ → ℕ → Attempt → ℕ → Type 0
-GivenBy n t a w = Unit {0}
 
 -- on every live node
 abbrev pub KeepsUses : Whole → Type 0
@@ -106,7 +99,7 @@ module _ (c : Whole) (k : Knowing c) (n : ℕ) (node : Node) (at : node_at c n �
   alive (other, there, off) =
       let f : ◌≡◌ {A = Option Node} (Some node) (Some other) = sym at ∙ there in
       let is : node ≡ other = cc in
-      not_both other.is_live (ap (λ (x : Node). x.is_live) (sym is) ∙ live) off
+      both_ways other.is_live off (ap (λ (x : Node). x.is_live) (sym is) ∙ live)
 
   never_main : Touched c.network main_attempt → ⊥
   never_main touched = let x = k.asks.owned main_attempt touched in (k.asks.owners 1 x.0 x.1).none 0 0 refl touched
@@ -114,7 +107,7 @@ module _ (c : Whole) (k : Knowing c) (n : ℕ) (node : Node) (at : node_at c n �
   pub unbegun_key : (w : ℕ) (x : Worker) (a : Attempt) (t : ℕ) → has node.scheduler.idle w ≡ true → worker_at c w ≡ Some x →
       (reply_to node.scheduler (ask_key a t) ≡ None) ⊎ (reply_to node.scheduler (ask_key a t) ≡ Some Queued) → Asked c.network a t n →
       has_begun a x.began ≡ false
-  unbegun_key w x a t idle there reply asked = is_false (has_begun a x.began) (λ begun. elim ((k.leases.workers.each w x there).began a begun) [
+  unbegun_key w x a t idle there reply asked = false_from_ne_true (has_begun a x.began) (λ begun. elim ((k.leases.workers.each w x there).began a begun) [
     | inl (main, _) ↦ never_main (subst (λ b. Touched c.network b) main (inl (t, n, asked)))
     | inr pushed ↦
         let closed = k.asks.closed a w pushed in
@@ -152,8 +145,8 @@ module _ (c : Whole) (me n : ℕ) (old : Worker) (at : item_at c.workers me ≡ 
   abbrev U : Option Pace → Here → Type 0
   U p = Uses c me n old at p
 
-  abbrev kept : (p : Option Pace) → IsKept ToldBy OverOf GivenBy Anyhow (U p)
-  kept p = uses_kept c me n old at ToldBy OverOf GivenBy p
+  abbrev kept : (p : Option Pace) → IsKept AnyTold AnyOver GivenBy Anyhow (U p)
+  kept p = uses_kept c me n old at AnyTold AnyOver GivenBy p
 
   -- an attempt that goes on doesn't ask for a slot
   abbrev Unasking : Here → Type 0
@@ -170,9 +163,9 @@ module _ (c : Whole) (me n : ℕ) (old : Worker) (at : item_at c.workers me ≡ 
 
   stopped_no : (h : Here) (run : Run) → h.worker.run ≡ Some run → has_stopped run.phase ≡ true → Unasking h → ⊥
   stopped_no h run e s u =
-      goes_stopped (sym u.0 ∙ ap pace_by e ∙ sym (to_pace run.phase) ∙ stopped_pace run.phase s)
+      goes_stopped (sym u.0 ∙ ap pace_by e ∙ stopped_pace run.phase s)
 
-  unasking_kept : IsKept ToldBy OverOf GivenBy Anyhow Unasking
+  unasking_kept : IsKept AnyTold AnyOver GivenBy Anyhow Unasking
   unasking_kept = record {
     writes = λ h es u. u;
     says_plain = λ h w m _ u. u;
@@ -187,7 +180,7 @@ module _ (c : Whole) (me n : ℕ) (old : Worker) (at : item_at c.workers me ≡ 
     asks_on = λ h o task t m i _ _ _ u. u;
     asks_again = λ h i task t m _ _ u. u;
     run = λ h run next e i u.
-        (sym (to_pace next.phase) ∙ i.pace ∙ to_pace run.phase ∙ ap pace_by (sym e) ∙ u.0, u.1);
+        (i.pace ∙ ap pace_by (sym e) ∙ u.0, u.1);
     leaves = λ h run next e s _ _ _ u. absurd (stopped_no h run e s u);
     gets = λ h run content y f e q u. absurd (waits_no h run y f e q u);
     faults = λ h run fault y f e q u. absurd (waits_no h run y f e q u);
@@ -219,18 +212,18 @@ module _ (c : Whole) (me n : ℕ) (old : Worker) (at : item_at c.workers me ≡ 
   stops_slot : (p : Pace) (h : Here) (run : Run) → pace_in run.phase ≡ p → Unasking h → U None h → U (Some p) (with_run h run)
   stops_slot p h run e unasking u =
       worker_uses c me n old at None (Some p) h (record h.worker { run = Some run }) refl refl refl (λ _. inr (ap (λ i. Some i) (sym e)))
-      (λ asks. absurd (not_both (has h.there.node.scheduler.answered me) asks unasking.1)) u
+      (λ asks. absurd (both_ways (has h.there.node.scheduler.answered me) unasking.1 asks)) u
 
   needs_uses : (h : Here) (run : Run) (y : Id) → Unasking h → U None h → U None (needs h run y)
   needs_uses h run y unasking u =
       let waits : Run = record run { phase = Waits y None } in
       let g : Here = asks_where (with_phase h run (Waits y None)) y in
-      let asked : U (Some Rests) g = asks_where-kept ToldBy OverOf GivenBy Anyhow (U (Some Rests)) (kept (Some Rests)) (with_phase h run (Waits y None)) y
+      let asked : U (Some Rests) g = asks_where-kept AnyTold AnyOver GivenBy Anyhow (U (Some Rests)) (kept (Some Rests)) (with_phase h run (Waits y None)) y
       (stops_slot Rests h waits refl unasking u) in
       let only : WaitsOnly y g = asks_where-waits y (with_phase h run (Waits y None)) (λ z e. same_id_of y z e) in
       at_test (λ b. is_waiting_for g.worker y ≡ b → U None (if b then gives_slot_back g else g)) (is_waiting_for g.worker y)
       (λ _ _. frees_uses c me n old at (Some Rests) None g asked)
-      (λ _ no. tight Rests g (λ e. not_both (is_waiting_for g.worker y) (rests_waits y g only e) no) asked) refl
+      (λ _ no. tight Rests g (λ e. both_ways (is_waiting_for g.worker y) no (rests_waits y g only e)) asked) refl
     where
       same_id_of : (y z : Id) → ◌≡◌ {A = Option Id} (Some y) (Some z) → z ≡ y
       same_id_of y z e = cc
@@ -243,11 +236,11 @@ module _ (c : Whole) (me n : ℕ) (old : Worker) (at : item_at c.workers me ≡ 
       let ids : List Id = each_once (ids_in_outcome content) in
       let stored : Here = with_store g (with_primary (store_here h) o run.attempt.number content) in
       let v : U (Some HasStopped) g = stops_slot HasStopped h ended refl unasking u in
-      let held : U (Some HasStopped) (holds_ids stored o ids) = holds_ids-kept ToldBy OverOf GivenBy Anyhow (U (Some HasStopped)) (kept
+      let held : U (Some HasStopped) (holds_ids stored o ids) = holds_ids-kept AnyTold AnyOver GivenBy Anyhow (U (Some HasStopped)) (kept
       (Some HasStopped)) stored o ids
       (record { who = v.who; home = v.home; lives = v.lives; number = v.number; counted = v.counted; used = v.used; fresh = v.fresh }) in
       frees_uses c me n old at (Some HasStopped) None (leaves_if_free (holds_ids stored o ids))
-      (leaves_if_free-kept ToldBy OverOf GivenBy Anyhow (U (Some HasStopped)) (kept (Some HasStopped)) (holds_ids stored o ids) held)
+      (leaves_if_free-kept AnyTold AnyOver GivenBy Anyhow (U (Some HasStopped)) (kept (Some HasStopped)) (holds_ids stored o ids) held)
 
   stops_uses : (h : Here) (stop : Stopped) (r : Option Run) → Unasking h → U None h → U None (stops_by h stop r)
   stops_uses h stop None unasking u = u
@@ -258,7 +251,7 @@ module _ (c : Whole) (me n : ℕ) (old : Worker) (at : item_at c.workers me ≡ 
   commit_uses h o run j e out u = subst (λ r. U None (commit_by h o r)) (sym e) by_run
     where
       silent : has h.there.node.scheduler.answered me ≡ false
-      silent = is_false (has h.there.node.scheduler.answered me) (λ asks. out_goes (sym (ap pace_by e ∙ ap pace_in out) ∙
+      silent = false_from_ne_true (has h.there.node.scheduler.answered me) (λ asks. out_goes (sym (ap pace_by e ∙ ap pace_in out) ∙
           my_answer c me n old at None h u asks))
         where
           out_goes : IsOut j ≡ GoesOn → ⊥
@@ -272,9 +265,9 @@ module _ (c : Whole) (me n : ℕ) (old : Worker) (at : item_at c.workers me ≡ 
           let v : U None (with_run h next) = worker_uses c me n old at None None h (record h.worker { run = Some next }) refl refl refl (λ _. inl
           (inl refl)) (λ _. refl) u in
           let borne : Here = bears_all g run.attempt o.births in
-          let b : U None borne = bears_all-kept ToldBy OverOf GivenBy Anyhow (U None) (kept None) g run.attempt o.births
+          let b : U None borne = bears_all-kept AnyTold AnyOver GivenBy Anyhow (U None) (kept None) g run.attempt o.births
           (record { who = v.who; home = v.home; lives = v.lives; number = v.number; counted = v.counted; used = v.used; fresh = v.fresh }) in
-          let q : Unasking borne = bears_all-kept ToldBy OverOf GivenBy Anyhow Unasking unasking_kept g run.attempt o.births (refl, silent) in
+          let q : Unasking borne = bears_all-kept AnyTold AnyOver GivenBy Anyhow Unasking unasking_kept g run.attempt o.births (refl, silent) in
           stops_uses borne o.stop borne.worker.run q b
 
   -- an attempt is given out, or begins: it has a slot, and asks for none
@@ -284,11 +277,11 @@ module _ (c : Whole) (me n : ℕ) (old : Worker) (at : item_at c.workers me ≡ 
       by_run : (r : Option Run) → U None (claim_by h j r)
       by_run None = u
       by_run (Some run) = worker_uses c me n old at None None h (record h.worker { run = Some (record run { phase = Out j }) }) refl refl refl
-          (λ _. inl (inr (inl (j, refl)))) (λ asks. absurd (not_both (has h.there.node.scheduler.answered me) asks silent)) u
+          (λ _. inl (inr (inl (j, refl)))) (λ asks. absurd (both_ways (has h.there.node.scheduler.answered me) silent asks)) u
 
   pub push_uses : (h : Here) (a : Attempt) (spec : Birth) → has h.there.node.scheduler.idle me ≡ false → U None h → U None (begins_run h a spec)
   push_uses h a spec busy u = worker_uses_by c me n old at None None h (begins_run h a spec).worker refl refl
-      (λ k idle. absurd (not_both (has h.there.node.scheduler.idle me) idle busy)) (λ _. inl (inl refl)) (λ _. refl) u
+      (λ k idle. absurd (both_ways (has h.there.node.scheduler.idle me) busy idle)) (λ _. inl (inl refl)) (λ _. refl) u
 
 -- ---- the end of an event of a node
 
@@ -345,7 +338,7 @@ worker_uses_event c jobs made delivered w f live knowing steps k = by_worker (wo
         } in
         let h : Here = release_step (f start) in
         let u : Uses d w x.node x at None h =
-        release_step-kept ToldBy OverOf GivenBy Anyhow (Uses d w x.node x at None) (uses_kept d w x.node x at ToldBy OverOf GivenBy None) (f start)
+        release_step-kept AnyTold AnyOver GivenBy Anyhow (Uses d w x.node x at None) (uses_kept d w x.node x at AnyTold AnyOver GivenBy None) (f start)
         (steps x at node home lives node_lives begins) in
         uses_end c (record d { workers = changed_at c.workers w (λ _. h.worker) }) x.node h.there refl refl
         (λ m v y apart there of_m. changed_elsewhere c.workers w v (λ _. h.worker) y (λ same. apart (sym of_m ∙ same_node v y same there at)) there) k
@@ -379,8 +372,7 @@ claim_event c w e knowing k =
     let f : is_ready_on c w (Some x) ≡ true = ap (is_ready_on c w) (sym at) ∙ ready in
     let slot : has_slot w (Some node) ≡ true = ap (has_slot w) (sym home) ∙ and_right (x.is_live && is_ready_run x.run) (has_slot w (node_at c x.node)) f in
     claim_uses d w x.node x at (here d w x node) (length c.jobs + 1)
-    (is_false (has node.scheduler.answered w) (λ asks. not_both (has node.scheduler.holders w) slot
-    ((knowing.full.each x.node node home).parts.apart w asks))) u) k
+    (false_from_ne_true (has node.scheduler.answered w) (λ asks. both_ways (has node.scheduler.holders w) ((knowing.full.each x.node node home).parts.apart w asks) slot)) u) k
 
 commit_event : (c : Whole) (j : ℕ) (handed : Handed) (g : Option Given) → commit_refusal c j handed g ≡ None → Knowing c → KeepsUses c →
     KeepsUses (committed_by c j handed g).whole
@@ -396,7 +388,7 @@ commit_event c j (OfJob o) (Some g) e knowing k =
     let d : Whole = with_committed c j (length o.births) in
     worker_uses_event c d.jobs d.made c.delivered g.worker (λ h. commit_step h o) live knowing
     (λ x at node home lives node_lives u.
-    let run : OutAs x.run j = out_as x.run j (ap (λ y. is_out_by y j) (sym at) ∙ out) in
+    let run : OutOf x.run j = out_of x.run j (ap (λ y. is_out_by y j) (sym at) ∙ out) in
     commit_uses d g.worker x.node x at (here d g.worker x node) o run.run j run.at run.out u) k
 
 -- ---- deliveries
@@ -409,8 +401,8 @@ module _ (c d : Whole) (i w : ℕ) (from : Party) (x : Worker) (at : worker_at d
   abbrev Q : Here → Type 0
   Q = Uses d w x.node x at None
 
-  abbrev q_kept : IsKept ToldBy OverOf GivenBy Anyhow Q
-  q_kept = uses_kept d w x.node x at ToldBy OverOf GivenBy None
+  abbrev q_kept : IsKept AnyTold AnyOver GivenBy Anyhow Q
+  q_kept = uses_kept d w x.node x at AnyTold AnyOver GivenBy None
 
   negated : (b : Bool) → not b ≡ true → b ≡ false
   negated true e = absurd (cc)
@@ -425,12 +417,11 @@ module _ (c d : Whole) (i w : ℕ) (from : Party) (x : Worker) (at : worker_at d
       let unbegun : has_begun a x.began ≡ false = negated (has_begun a x.began) (and_right (is_free x.run) (not (has_begun a x.began)) e) in
       let slot = (promise c knowing.leases i w from a spec x node sent there_too home live unbegun).slot in
       push_uses d w x.node x at start a spec
-      (is_false (has node.scheduler.idle w) (λ idle. not_both (has node.scheduler.holders w) slot
-      ((knowing.leases.nodes x.node node home).idle w idle).slotless)) u)
+      (false_from_ne_true (has node.scheduler.idle w) (λ idle. both_ways (has node.scheduler.holders w) ((knowing.leases.nodes x.node node home).idle w idle).slotless slot)) u)
       (λ _ _. u) refl
 
   heard_worker : (u : ℕ) → from ≡ TheWorker u → (m : Message) → item_at c.network i ≡ Some (letter from (TheWorker w) m) → Q start →
-      IsHeardFrom ToldBy OverOf GivenBy Anyhow Q q_kept start (TheWorker u) m
+      IsHeardFrom AnyTold AnyOver GivenBy Anyhow Q q_kept start (TheWorker u) m
   heard_worker u e (Push a spec) sent t = push_heard a spec sent refl t
   heard_worker u e (Finished a n ids) sent t = tt
   heard_worker u e (Failed a f) sent t = tt
@@ -450,7 +441,7 @@ module _ (c d : Whole) (i w : ℕ) (from : Party) (x : Worker) (at : worker_at d
   heard_worker u e (HoldAck h o) sent t = tt
   heard_worker u e (Unhold h o) sent t = tt
 
-  heard_node : (n : ℕ) (m : Message) → IsHeardFrom ToldBy OverOf GivenBy Anyhow Q q_kept start (TheNode n) m
+  heard_node : (n : ℕ) (m : Message) → IsHeardFrom AnyTold AnyOver GivenBy Anyhow Q q_kept start (TheNode n) m
   heard_node n (Give a j v) = λ _. tt
   heard_node n (Push a spec) = tt
   heard_node n (Finished a m ids) = tt
@@ -474,8 +465,8 @@ module _ (c d : Whole) (i w : ℕ) (from : Party) (x : Worker) (at : worker_at d
   reached_uses m sent t = by_party from refl
     where
       by_party : (s : Party) → from ≡ s → Q (reached start s m)
-      by_party (TheWorker u) e = reached-kept ToldBy OverOf GivenBy Anyhow Q q_kept start (TheWorker u) m (heard_worker u e m sent t) t
-      by_party (TheNode n) e = reached-kept ToldBy OverOf GivenBy Anyhow Q q_kept start (TheNode n) m (heard_node n m) t
+      by_party (TheWorker u) e = reached-kept AnyTold AnyOver GivenBy Anyhow Q q_kept start (TheWorker u) m (heard_worker u e m sent t) t
+      by_party (TheNode n) e = reached-kept AnyTold AnyOver GivenBy Anyhow Q q_kept start (TheNode n) m (heard_node n m) t
 
 -- a message reaches a live node
 node_event : (c : Whole) (delivered : List Bool) (n : ℕ) (from : Party) (m : Message) → Among (letter from (TheNode n) m) c.network →
@@ -597,14 +588,14 @@ kill_event c w live knowing k = by_worker (worker_at c w) refl live
 
 kill_node_event : (c : Whole) (n : ℕ) → KeepsUses c → KeepsUses (record c { nodes = changed_at c.nodes n dead_node; workers = map (dies_with n) c.workers })
 kill_node_event c n k m node e live = elim (changed_cases c.nodes n m dead_node node e) [
-  | inl (_, old, _, is) ↦ absurd (not_both node.is_live live (ap (λ (x : Node). x.is_live) is))
+  | inl (_, old, _, is) ↦ absurd (both_ways node.is_live (ap (λ (x : Node). x.is_live) is) live)
   | inr (apart, before) ↦ used_more Nobody Nobody (worker_at c) (λ v. item_at (map (dies_with n) c.workers) v) c.network c.network m node.scheduler (λ l i. i)
       (λ v x at home. item_map (dies_with n) c.workers v x at ∙ ap (λ z. Some z) (survives x (λ same. apart (sym home ∙ same)))) (k m node before live)
 ]
   where
     survives : (x : Worker) → (x.node ≡ n → ⊥) → dies_with n x ≡ x
     survives x other = at_test (λ b. (x.node == n) ≡ b → (if b then dead x else x) ≡ x) (x.node == n)
-        (λ _ f. absurd (other (same_number x.node n f))) (λ _ _. refl) refl
+        (λ _ f. absurd (other (eqb-true x.node n f))) (λ _ _. refl) refl
 
 store_event : (c : Whole) (n : ℕ) (f : Node → Node) → ((node : Node) → (f node).scheduler ≡ node.scheduler) → ((node : Node) →
     (f node).is_live ≡ node.is_live) →
@@ -630,18 +621,18 @@ happens_uses c (Commit j) handed e knowing k = commit_event c j handed (item_at 
 happens_uses c (Deliver i) handed e knowing k = deliver_event c i (item_at c.network i) refl knowing k
 happens_uses c (Tick w) handed e knowing k =
     worker_uses_event c c.jobs c.made c.delivered w tick_step (passed (is_live_worker (worker_at c w)) 30 e) knowing
-    (λ x at node home _ _ u. tick_step-kept ToldBy OverOf GivenBy Anyhow (Uses c w x.node x at None) (uses_kept c w x.node x at ToldBy OverOf GivenBy None)
+    (λ x at node home _ _ u. tick_step-kept AnyTold AnyOver GivenBy Anyhow (Uses c w x.node x at None) (uses_kept c w x.node x at AnyTold AnyOver GivenBy None)
     (here c w x node) u) k
 happens_uses c (Notice w v) handed e knowing k =
     worker_uses_event c c.jobs c.made c.delivered w (λ h. notice_step h v)
     (passed (is_live_worker (worker_at c w)) 30 (both_passed (no_worker c w) (unless (is_dead_worker (worker_at c v)) 35) e).0) knowing
-    (λ x at node home _ _ u. notice_step-kept ToldBy OverOf GivenBy Anyhow (Uses c w x.node x at None) (uses_kept c w x.node x at ToldBy OverOf GivenBy None)
+    (λ x at node home _ _ u. notice_step-kept AnyTold AnyOver GivenBy Anyhow (Uses c w x.node x at None) (uses_kept c w x.node x at AnyTold AnyOver GivenBy None)
     (here c w x node) v u) k
 happens_uses c (NoticeNode w n) handed e knowing k =
     worker_uses_event c c.jobs c.made c.delivered w (λ h. notice_node_step h n)
     (passed (is_live_worker (worker_at c w)) 30 (both_passed (no_worker c w) (unless (is_dead_node (node_at c n)) 35) e).0) knowing
-    (λ x at node home _ _ u. notice_node_step-kept ToldBy OverOf GivenBy Anyhow (Uses c w x.node x at None)
-    (uses_kept c w x.node x at ToldBy OverOf GivenBy None) (here c w x node) n (λ a i. tt) u) k
+    (λ x at node home _ _ u. notice_node_step-kept AnyTold AnyOver GivenBy Anyhow (Uses c w x.node x at None)
+    (uses_kept c w x.node x at AnyTold AnyOver GivenBy None) (here c w x node) n (λ a i. tt) u) k
 happens_uses c (Evict n o) handed e knowing k = store_event c n _ (λ _. refl) (λ _. refl) k
 happens_uses c (Lose n o) handed e knowing k = store_event c n _ (λ _. refl) (λ _. refl) k
 happens_uses c (Kill w) handed e knowing k = kill_event c w (passed (is_live_worker (worker_at c w)) 30 e) knowing k
@@ -680,7 +671,7 @@ opening_keeps_uses nodes slots n node e live = elim (changed_cases (repeated nod
     with_slot x = record x { scheduler = record x.scheduler { holders = 1 ∷ [] } }
 
     one_holder : (w : ℕ) → has (1 ∷ []) w ≡ true → 1 ≡ w
-    one_holder w f = elim (or_cases (1 == w) false f) [ inl g ↦ same_number 1 w g | inr g ↦ absurd (cc) ]
+    one_holder w f = elim (or_cases (1 == w) false f) [ inl g ↦ eqb-true 1 w g | inr g ↦ absurd (cc) ]
 
     of_driver : (n : ℕ) → n ≡ 1 → Used Nobody Nobody (worker_at (first_whole nodes slots)) [] n (with_slot (new_node slots)).scheduler
     of_driver n one = record {

@@ -19,19 +19,21 @@ use Rattle.protocol.specs.Asking.{rests, with_begun}
 use Rattle.protocol.specs.Commits.{with_object}
 use Rattle.protocol.specs.Runs.{asks_for_slot, gives_slot_back, with_answer}
 use Rattle.protocol.specs.Whole.{Whole}
-use Rattle.protocol_owed.specs.Courses.{GoesOn, HasStopped, Pace, Rests, has_begun}
+use Rattle.protocol_owed.specs.Courses.{GoesOn, HasStopped, Pace, has_begun}
 use Rattle.protocol_owed.proofs.Asks.{has_key}
-use Rattle.protocol_owed.proofs.FullNodes.{changed-length}
 use Rattle.protocol_owed.proofs.NodeMoves.{IsKeptThere, asks_slot-kept, frees-kept}
 use Rattle.protocol_owed.proofs.Nodes.{there_more}
+use Rattle.protocol_owed.specs.Told.{pace_by, pace_in}
+use Rattle.protocol_owed.proofs.Sets.{has-left}
+use Rattle.protocol_owed.proofs.TellingMore.{rests_not}
 use Rattle.lease_discipline.specs.Discipline.{Look}
-use Rattle.lease_discipline.specs.Told.{pace_by, pace_in}
 use Rattle.lease_discipline.proofs.Heres.{at_me, at_other, by_number, look_with, workers_with}
 use Rattle.lease_discipline.proofs.Moves.{Anyhow, IsKept}
 use Rattle.lease_discipline.proofs.Theres.{letter_more, with_letter}
-use Rattle.lease_discipline.proofs.Told.{to_pace}
-use Rattle.owed_asks.proofs.SlotUsers.{Counts, HasUse, IsAnswered, IsFresh, IsHere, IsUser, Nobody, One, Used, frees_used, left_in, slot_used}
+use Rattle.lease_discipline.proofs.Turns.{sch}
+use Rattle.owed_asks.proofs.SlotUsers.{Counts, HasUse, IsAnswered, IsFresh, IsHere, IsUser, Nobody, One, Used, frees_used, slot_used}
 use Rattle.owed_asks.proofs.SlotUsers.{used_more, used_so}
+use Rattle.numbered.proofs.Lists.{changed-length}
 
 -- ---- what a node does to idle workers and to its queue
 
@@ -45,12 +47,9 @@ as_wide s = record { idle = λ w e. e; queue = λ k e. e }
 narrows_then : (s t u : Scheduler) → Narrows s t → Narrows t u → Narrows s u
 narrows_then s t u p q = record { idle = λ w e. p.idle w (q.idle w e); queue = λ k e. p.queue k (q.queue k e) }
 
-abbrev sch : There → Scheduler
-sch t = t.node.scheduler
-
 leases_narrow : (t : There) (k : AskKey) (o : Option ℕ) → Narrows (sch t) (sch (leases_idle t k o))
-leases_narrow t k None = record { idle = λ w e. left_in (sch t).idle _ w e; queue = λ j e. e }
-leases_narrow t k (Some v) = record { idle = λ w e. left_in (sch t).idle v w e; queue = λ j e. e }
+leases_narrow t k None = record { idle = λ w e. has-left (sch t).idle _ w e; queue = λ j e. e }
+leases_narrow t k (Some v) = record { idle = λ w e. has-left (sch t).idle v w e; queue = λ j e. e }
 
 rest_key : (queue : List AskKey) (k : AskKey) → has_key k (rest_of queue) ≡ true → has_key k queue ≡ true
 rest_key [] k e = e
@@ -84,7 +83,7 @@ slot_narrow t w =
     let s : Scheduler = with_answered (sch t) w in
     at_test (λ b. Narrows (sch t) (sch (if b then t else grants (with_scheduler t s)))) (has (sch t).holders w || has (sch t).answered w)
     (λ _. as_wide (sch t))
-    (λ _. narrows_then (sch t) s (sch (grants (with_scheduler t s))) (record { idle = λ v e. left_in (sch t).idle w v e; queue = λ j e. e })
+    (λ _. narrows_then (sch t) s (sch (grants (with_scheduler t s))) (record { idle = λ v e. has-left (sch t).idle w v e; queue = λ j e. e })
     (grants_narrow (with_scheduler t s)))
 
 -- what else a node keeps in a step
@@ -115,9 +114,6 @@ opened_more ws n i k w y e at =
     subst (λ xs. item_at xs w ≡ Some y) (sym is) (there_more (ws ++ repeated i (new_worker n)) r.0 w y at)
 
 -- ---- an event of worker me of node n
-
-rests_goes : Rests ≡ GoesOn → ⊥
-rests_goes e = absurd (cc)
 
 module _ (c : Whole) (me n : ℕ) (old : Worker) (there : item_at c.workers me ≡ Some old) where
   abbrev pub look : Worker → ℕ → Look
@@ -304,7 +300,7 @@ module _ (c : Whole) (me n : ℕ) (old : Worker) (there : item_at c.workers me �
 
   waits_not : (p : Option Pace) (h : Here) (run : Run) (y : Id) (f : Option Fetching) → h.worker.run ≡ Some run → run.phase ≡ Waits y f → Uses p h →
       has h.there.node.scheduler.answered me ≡ true → ⊥
-  waits_not p h run y f e q u asks = rests_goes (sym (ap pace_by e ∙ ap pace_in q) ∙ my_answer p h u asks)
+  waits_not p h run y f e q u asks = rests_not (sym (ap pace_by e ∙ ap pace_in q) ∙ my_answer p h u asks)
 
   objects_uses : (p : Option Pace) (h : Here) (y : Worker) → y.node ≡ h.worker.node → y.is_live ≡ h.worker.is_live → y.began ≡ h.worker.began →
       y.run ≡ h.worker.run → Uses p h → Uses p (with_worker h y)
@@ -335,7 +331,7 @@ module _ (c : Whole) (me n : ℕ) (old : Worker) (there : item_at c.workers me �
         says_uses p g (TheNode k) _ (objects_uses p h g.worker refl refl refl refl u);
     asks_again = λ h k task t m _ _ u. says_uses p h (TheNode m) _ u;
     run = λ h run next e k u. same_uses p h (record h.worker { run = Some next }) refl refl refl
-        (sym (to_pace next.phase) ∙ k.pace ∙ to_pace run.phase ∙ ap pace_by (sym e)) u;
+        (k.pace ∙ ap pace_by (sym e)) u;
     leaves = λ h run next e _ _ phase _ u. same_uses p h (record h.worker { run = Some next }) refl refl refl (ap pace_in phase ∙ ap pace_by (sym e)) u;
     gets = λ h run content y f e q u.
         let g : Here = with_run h (with_answer run content) in

@@ -24,7 +24,7 @@ use Rattle.protocol.specs.Releases.{releases, releases_by}
 use Rattle.protocol.specs.Tables.{released, without_holder}
 use Rattle.protocol.specs.Steps.{each_from, own_id, says_to_node}
 use Rattle.protocol_owed.specs.Courses.{Rests}
-use Rattle.lease_discipline.specs.Told.{pace_by, pace_in}
+use Rattle.protocol_owed.specs.Told.{pace_by, pace_in}
 
 module _ (y : Id) where
   abbrev pub NeedsOnly : Option Run → Type 0

@@ -14,7 +14,8 @@ use Rattle.protocol_legal.specs.Knows.{KnowsPhase, KnowsRun, piece_of}
 use Rattle.protocol_legal.specs.Whole.{Between, setting_of}
 use Rattle.protocol_owed.specs.Courses.{Rests, WaitsFor, course}
 use Rattle.protocol_owed.specs.Runs.{Running, seen}
-use Rattle.lease_discipline.specs.Told.{IsAsTold, IsInStep, attempt_by, pace_by, pace_in}
+use Rattle.protocol_owed.specs.Told.{IsAsTold, attempt_by, pace_by, pace_in}
+use Rattle.lease_discipline.specs.Told.{IsInStep}
 use Rattle.lease_discipline.proofs.Told.{lives_there, logs_tell}
 
 -- ---- where nothing is born, the base of births doesn't matter

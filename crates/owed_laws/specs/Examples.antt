@@ -2,10 +2,11 @@
 use Rattle.std.specs.Prelude.{List, [], ◌++◌, ◌∷◌}
 use Rattle.event_log.specs.Entries.{Accepted, Born, Claim, Commit, Deliver, Entry, In, main_attempt}
 use Rattle.event_log.specs.Rules.{Setting}
+use Rattle.event_log.specs.Legal.{opening}
 use Rattle.protocol.specs.Messages.{Ask, Finished, FinishedAck, Letter, TheNode, TheWorker, letter}
 use Rattle.protocol.specs.Sets.{object_id}
 use Rattle.protocol_owed.specs.Replies.{BirthIsAsked, FinishIsAcknowledged, Happening}
-use Rattle.lease_discipline.specs.Examples.{first_one, given_log, one_once, opening_log, scene}
+use Rattle.lease_discipline.specs.Examples.{first_one, given_log, one_once, scene}
 
 -- ---- a birth
 
@@ -13,11 +14,11 @@ use Rattle.lease_discipline.specs.Examples.{first_one, given_log, one_once, open
 abbrev pub birth_comes : Setting → List Letter → Happening
 birth_comes s letters =
     record {
-      before = scene s (opening_log ++ In (Claim 1) 0 ∷ []) [] (1 ∷ []);
+      before = scene s (opening ++ In (Claim 1) 0 ∷ []) [] (1 ∷ []);
       event = Commit 1;
       entries = Born (object_id 1 1) main_attempt one_once ∷ [];
       letters = letters;
-      after = scene s (opening_log ++ In (Claim 1) 0 ∷ In (Commit 1) 0 ∷ Born (object_id 1 1) main_attempt one_once ∷ []) letters [];
+      after = scene s (opening ++ In (Claim 1) 0 ∷ In (Commit 1) 0 ∷ Born (object_id 1 1) main_attempt one_once ∷ []) letters [];
     }
 
 -- it is asked for; and altered, without its ask, or asked for at another node

@@ -33,7 +33,8 @@ use Rattle.protocol_owed.specs.Replies.{IsRequest}
 use Rattle.protocol_owed.specs.Seen.{delivered_in, letters_by}
 use Rattle.protocol_owed.proofs.Letters.{among-append_cases, among-behind, among-more, among-nothing}
 use Rattle.protocol_owed.proofs.Nodes.{there_more}
-use Rattle.lease_discipline.specs.Told.{IsInStep, attempt_by}
+use Rattle.protocol_owed.specs.Told.{attempt_by}
+use Rattle.lease_discipline.specs.Told.{IsInStep}
 use Rattle.owed_replies.specs.Kept.{IsAwaitedBy, IsBornIn, IsGoingOn, IsOverInTime, IsReported, IsRightBetween, IsRightLetter, KeepsReplies, RunIsRight, came_by}
 use Rattle.owed_replies.proofs.Objects.{Grows, IsGrown}
 

@@ -2,6 +2,7 @@
 use Rattle.std.proofs.Common.{◌≡◌, ℕ, zero, suc, ◌+◌, List, [], ◌∷◌, ◌++◌, length, Some, None, Option, refl, ap, sym, subst, ◌∙◌, ◌⊎◌, inl, inr}
 use Rattle.std.specs.Prelude.{Bool, true, false, if◌then◌else◌, not, ◌==◌, ◌&&◌}
 use Rattle.std.specs.List.{list_any}
+use Rattle.std.proofs.lemmas.Bool.{both_ways}
 use Rattle.meaning.proofs.BirthLaws.{at_test}
 use Rattle.meaning.specs.Readings.{IsBorn}
 use Rattle.meaning.specs.Runs.{Needs, Over, Stop, next_id}
@@ -33,7 +34,7 @@ use Rattle.protocol_owed.proofs.Letters.{among-append_cases, among-push_cases}
 use Rattle.owed_replies.specs.Kept.{IsBornIn, IsOverInTime, RunIsRight}
 use Rattle.owed_replies.proofs.Objects.{Grows, pushed_grows, put_grows, same_grows, succeeds_alike}
 use Rattle.owed_replies.proofs.Moves.{IsKept, answers_settled-kept, needs_own-kept, rests_if_waiting-kept}
-use Rattle.owed_replies.proofs.Paying.{Does, Pays, frees_does, leaves_pays, not_both, objects_does, pays_kept, run_does, said, says_to_node_does, writes_does}
+use Rattle.owed_replies.proofs.Paying.{Does, Pays, frees_does, leaves_pays, objects_does, pays_kept, run_does, said, says_to_node_does, writes_does}
 use Rattle.lease_discipline.proofs.Tame.{changed_here}
 
 -- ---- releases leave the attempt as it is
@@ -323,7 +324,7 @@ module _ (log : List Entry) (net : List Letter) (me : ℕ) (old : List Object) (
         run_does log net me old ok fin h next (record {
           needs = λ z i. absurd (cc);
           holds = r.holds;
-          told = λ _ _ over. absurd (not_both run.is_over over going);
+          told = λ _ _ over. absurd (both_ways run.is_over going over);
           main = r.main;
         }) q.0,
         λ s f. let same : next ≡ s = some_run next s f in subst (λ (x : Run). x.is_over ≡ false) same going,

@@ -18,7 +18,7 @@ use Rattle.protocol_owed.proofs.CourseEvents.{append_split, one_of}
 use Rattle.protocol_owed.proofs.Letters.{among-more, among-nothing, among-push_cases}
 use Rattle.protocol_owed.proofs.NodeMoves.{IsKeptThere}
 use Rattle.protocol_owed.proofs.Nodes.{changed_cases, there_more}
-use Rattle.lease_discipline.specs.Told.{attempt_by}
+use Rattle.protocol_owed.specs.Told.{attempt_by}
 use Rattle.lease_discipline.proofs.Heres.{by_number, changed_elsewhere, changed_now}
 use Rattle.owed_replies.specs.Kept.{IsAwaitedBy, IsGoingOn, IsOverInTime, IsRightBetween, IsRightLetter, KeepsReplies, RunIsRight}
 use Rattle.owed_replies.proofs.Objects.{Grows, grows_itself}

@@ -4,6 +4,7 @@ use Rattle.std.proofs.Common.{append-nil, arith}
 use Rattle.std.specs.Prelude.{Bool, true, false, if◌then◌else◌, not, ◌==◌, ◌&&◌, is_some}
 use Rattle.std.specs.List.{list_any}
 use Rattle.std.proofs.lemmas.Bool.Decides.{nat_tests}
+use Rattle.std.proofs.lemmas.Bool.{false_from_ne_true}
 use Rattle.sequence.proofs.Places.{and_right}
 use Rattle.meaning.proofs.BirthLaws.{at_test}
 use Rattle.meaning.specs.Readings.{IsBorn}
@@ -50,10 +51,11 @@ use Rattle.protocol_owed.proofs.Letters.{among-behind, among-nothing}
 use Rattle.protocol_owed.proofs.Nodes.{Keeps, changed_cases, there_more, there_still}
 use Rattle.protocol_owed.proofs.NodeMoves.{forgets-kept, node_reached-kept}
 use Rattle.protocol_owed.proofs.Replying.{Logged, logged_after, logged_stays}
-use Rattle.lease_discipline.specs.Told.{IsInStep, attempt_by}
-use Rattle.lease_discipline.proofs.Events.{OutAs, item_map, out_as}
+use Rattle.protocol_owed.specs.Told.{attempt_by}
+use Rattle.protocol_owed.proofs.CourseRuns.{OutOf, out_of}
+use Rattle.lease_discipline.specs.Told.{IsInStep}
+use Rattle.lease_discipline.proofs.Events.{item_map}
 use Rattle.lease_discipline.proofs.Heres.{changed_now}
-use Rattle.lease_discipline.proofs.Follows.{is_false}
 use Rattle.lease_discipline.proofs.Tame.{item_mapped}
 use Rattle.owed_replies.specs.Kept.{IsAwaitedBy, IsRightLetter, KeepsReplies}
 use Rattle.owed_replies.proofs.Objects.{grows_itself, put_grows, same_grows, then_grows}
@@ -302,7 +304,7 @@ module _ (s : Setting) (log : List Entry) (c : Whole) (before : IsInStep s log c
   -- ---- a commit
 
   out_going : (w : ℕ) (x : Worker) (j : ℕ) (run : Run) → worker_at c w ≡ Some x → x.run ≡ Some run → run.phase ≡ Out j → run.is_over ≡ false
-  out_going w x j run at is out = is_false run.is_over (λ over.
+  out_going w x j run at is out = false_from_ne_true run.is_over (λ over.
       let f : has_stopped (Out j) ≡ true = ap has_stopped (sym out) ∙ (before.leases.workers.each w x at).stopped run is over in absurd (cc))
 
   module _ (j : ℕ) (o : Outcomes) (me : ℕ) (x : Worker) (at : worker_at c me ≡ Some x) (live : x.is_live ≡ true) (node : Node) (home : node_at c x.node ≡ Some node)
@@ -385,7 +387,7 @@ module _ (s : Setting) (log : List Entry) (c : Whole) (before : IsInStep s log c
       and_right open_job (is_out_by (worker_at c g.worker) j) (passed (open_job && is_out_by (worker_at c g.worker) j) 32 both.0) in
       let x = live_there (worker_at c g.worker) (passed (is_live_worker (worker_at c g.worker)) 33 both.1) in
       let n = home_of g.worker x.worker x.at in
-      let run : OutAs x.worker.run j = out_as x.worker.run j (ap (λ y. is_out_by y j) (sym x.at) ∙ out) in
+      let run : OutOf x.worker.run j = out_of x.worker.run j (ap (λ y. is_out_by y j) (sym x.at) ∙ out) in
       let d : Whole = with_committed c j (length o.births) in
       let same : worker_does d g.worker (λ h. commit_step h o) ≡ after_worker d g.worker x.worker.node (release_step (commit_step (here d g.worker x.worker n.0) o)) =
       ap (worker_does_by d g.worker (λ h. commit_step h o)) x.at ∙ ap (worker_does_at d g.worker x.worker (λ h. commit_step h o)) n.1 in

@@ -14,6 +14,7 @@ use Rattle.protocol.specs.Tables.{knows_dead, without_place, Worker, Run, Phase,
 use Rattle.protocol.specs.Tables.{AtRest, AskedAt, RunsOn, Fetching, Holding, task_of, live_place, chosen_place, settled_number, needed_by}
 use Rattle.protocol.specs.Tables.{released, with_holder, with_place, without_holder, without_places, has_content}
 use Rattle.std.specs.List.{filter}
+use Rattle.std.proofs.lemmas.Bool.{not-true}
 use Rattle.protocol.specs.Steps.{Here, with_phase, with_run, logs_all, logs, says, says_to_node, with_worker, with_store, each_from, own_id}
 use Rattle.protocol.specs.Steps.{own_object, object_at, store_here, changes, is_own}
 use Rattle.protocol.specs.Runs.{with_answer, gives_slot_back, asks_for_slot, tells_stop, is_heard, leaves_if_free, faults_at, faults_by, faults}
@@ -42,8 +43,9 @@ use Rattle.protocol.specs.Deliveries.{reached_from_worker, reached_from_node, re
 use Rattle.event_log.specs.Breaks.{Among}
 use Rattle.sequence.proofs.Places.{and_left, and_right}
 use Rattle.protocol.specs.Notices.{is_unheard}
-use Rattle.owed_replies.proofs.Objects.{negated, Grows, HasFaultAt, answered_grows, asker_grows, fault_grows, fault_there, fetching_foreign, mapped_grows}
+use Rattle.owed_replies.proofs.Objects.{Grows, HasFaultAt, answered_grows, asker_grows, fault_grows, fault_there, fetching_foreign, mapped_grows}
 use Rattle.owed_replies.proofs.Objects.{put_grows, same_grows, settled_there, some_places, succeeds_alike}
+use Rattle.protocol_owed.proofs.Untouched.{asks_again-worker, sends_holds-worker, sends_tasks-worker}
 
 -- an entry that accepts no attempt, and ends none
 abbrev pub is_mute : Entry → Bool
@@ -54,46 +56,6 @@ is_mute _ = true
 abbrev pub is_quiet : List Entry → Bool
 is_quiet [] = true
 is_quiet (x ∷ es) = is_mute x && is_quiet es
-
-pub tells_stop-worker : (h : Here) (run : Run) (phase : Phase) → (tells_stop h run phase).worker ≡ h.worker
-tells_stop-worker h run (HasEnded c) = refl
-tells_stop-worker h run (HasFaulted f) = refl
-tells_stop-worker h run Ready = refl
-tells_stop-worker h run (Out j) = refl
-tells_stop-worker h run (Waits y f) = refl
-
-if_worker : (b : Bool) (x y : Here) (u : Worker) → x.worker ≡ u → y.worker ≡ u → (if b then x else y).worker ≡ u
-if_worker true x y u p q = p
-if_worker false x y u p q = q
-
-asks_again-worker : (h : Here) (phase : Phase) → (asks_again h phase).worker ≡ h.worker
-asks_again-worker h (Waits y None) = if_worker _ _ _ h.worker refl refl
-asks_again-worker h (Waits y (Some f)) = refl
-asks_again-worker h Ready = refl
-asks_again-worker h (Out j) = refl
-asks_again-worker h (HasEnded d) = refl
-asks_again-worker h (HasFaulted g) = refl
-
-sends_holds-worker : (h : Here) (ks : List Holding) → (sends_holds h ks).worker ≡ h.worker
-sends_holds-worker h [] = refl
-sends_holds-worker h (k ∷ ks) = sends_holds-worker (says h k.object.owner (Hold k.holder k.object)) ks
-
-sends_task_at-worker : (h : Here) (o : Id) (task : OwnTask) (q : Progress) → (sends_task_at h o task q).worker ≡ h.worker
-sends_task_at-worker h o task AtRest = refl
-sends_task_at-worker h o task (AskedAt t n) = refl
-sends_task_at-worker h o task (RunsOn w n) = refl
-
-sends_task-worker : (h : Here) (k : ℕ) (task : Option OwnTask) → (sends_task h k task).worker ≡ h.worker
-sends_task-worker h k None = refl
-sends_task-worker h k (Some task) = sends_task_at-worker h (own_id h k) task task.progress
-
-each_from-worker : (f : Here → ℕ → Here) → ((g : Here) (k : ℕ) → (f g k).worker ≡ g.worker) → (h : Here) (k n : ℕ) → (each_from f h k n).worker ≡ h.worker
-each_from-worker f each h k zero = refl
-each_from-worker f each h k (suc n) = each_from-worker f each (f h k) (k + 1) n ∙ each h k
-
-sends_tasks-worker : (h : Here) → (sends_tasks h).worker ≡ h.worker
-sends_tasks-worker h = each_from-worker (λ g k. sends_task g k (task_of (own_object g k))) (λ g k. sends_task-worker g k (task_of (own_object g k))) h 1
-    (length h.worker.objects)
 
 -- ---- the smallest steps
 
@@ -560,7 +522,7 @@ module _ (P : Here → Type 0) (kept : IsKept P) where
         at = e;
         same = refl;
         over = and_left run.is_over (not run.is_acknowledged) t;
-        unheard = negated run.is_acknowledged (and_right run.is_over (not run.is_acknowledged) t);
+        unheard = not-true run.is_acknowledged (and_right run.is_over (not run.is_acknowledged) t);
       }) p) (λ _. p)
 
   pub sends_run-kept : (h : Here) (r : Option Run) → h.worker.run ≡ r → P h → P (sends_run h r)

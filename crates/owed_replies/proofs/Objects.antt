@@ -1,6 +1,7 @@
 -- Changes of a worker's own objects: whoever waits for one waits on, unless it has its content or a fault.
 use Rattle.std.proofs.Common.{◌≡◌, ◌≢◌, ℕ, zero, suc, List, [], ◌∷◌, ◌++◌, map, Some, None, Option, refl, ap, sym, subst, ◌∙◌, ◌⊎◌, inl, inr}
-use Rattle.std.specs.Prelude.{Bool, true, false, if◌then◌else◌, is_some, not, slice_get, ◌==◌}
+use Rattle.std.specs.Prelude.{true, false, if◌then◌else◌, is_some, not, slice_get, ◌==◌}
+use Rattle.std.proofs.lemmas.Bool.{not-true}
 use Rattle.sequence.proofs.Places.{and_right, list_any-push_left}
 use Rattle.meaning.proofs.BirthLaws.{at_test}
 use Rattle.meaning.specs.Values.{Id}
@@ -122,13 +123,9 @@ pub settled_there : (h : Here) (o : Id) (x y : Object) → is_some x.settled ≡
 settled_there h o x y some at there = let same : x ≡ y = same_item h.worker.objects o.serial x y (looked_up h o x at) there in
     subst (λ (z : Object). is_some z.settled ≡ true) same some
 
-pub negated : (b : Bool) → not b ≡ true → b ≡ false
-negated true e = absurd (cc)
-negated false e = refl
-
 -- what can be had has a place
 pub some_places : (x : Object) → has_content x ≡ true → is_empty x.places ≡ false
-some_places x e = negated (is_empty x.places) (and_right (is_whole x) (not (is_empty x.places)) e)
+some_places x e = not-true (is_empty x.places) (and_right (is_whole x) (not (is_empty x.places)) e)
 
 -- a Fetch that begins or ends changes nothing of who owns what
 pub fetching_foreign : (h : Here) (o : Id) (f : Option Fetching) → is_own h o ≡ false → is_own (with_fetching h f) o ≡ false

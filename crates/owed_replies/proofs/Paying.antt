@@ -2,6 +2,7 @@
 use Rattle.std.proofs.Common.{◌≡◌, ℕ, zero, suc, List, [], ◌∷◌, ◌++◌, Some, None, Option, refl, ap, sym, subst, ◌∙◌, inl, inr, append_assoc}
 use Rattle.std.specs.Prelude.{Bool, true, false, if◌then◌else◌, not, ◌==◌, ◌&&◌}
 use Rattle.std.specs.List.{filter}
+use Rattle.std.proofs.lemmas.Bool.{both_ways, not-true}
 use Rattle.sequence.proofs.Places.{and_left, and_right}
 use Rattle.meaning.proofs.BirthLaws.{at_test}
 use Rattle.meaning.specs.Readings.{IsBorn}
@@ -20,9 +21,10 @@ use Rattle.protocol.specs.Steps.{Here, is_own, logs, logs_all, says, says_to_nod
 use Rattle.protocol.specs.Runs.{asks_for_slot, gives_slot_back, is_heard, leaves, leaves_by, leaves_if_free, tells, tells_stop, with_answer}
 use Rattle.protocol_owed.proofs.Letters.{among-more, among-last, among-push_cases, among-append_cases}
 use Rattle.protocol_owed.proofs.NodeMoves.{IsKeptThere, frees-kept, asks_slot-kept}
+use Rattle.protocol_owed.proofs.Untouched.{tells_stop-worker}
 use Rattle.owed_replies.specs.Kept.{IsBornIn, IsOverInTime, IsReported, IsRightLetter, RunIsRight}
-use Rattle.owed_replies.proofs.Objects.{Grows, negated, then_grows}
-use Rattle.owed_replies.proofs.Moves.{Awaits, IsKept, IsSaid, IsUnheard, Needs, is_mute, is_quiet, tells_stop-worker}
+use Rattle.owed_replies.proofs.Objects.{Grows, then_grows}
+use Rattle.owed_replies.proofs.Moves.{Awaits, IsKept, IsSaid, IsUnheard, Needs, is_mute, is_quiet}
 
 quiet_each : (es : List Entry) (x : Entry) → is_quiet es ≡ true → Among x es → is_mute x ≡ true
 quiet_each [] x q (k, e) = absurd (cc)
@@ -37,9 +39,6 @@ quiet_none es a q i = let f : false ≡ true = quiet_each es (Accepted a) q i in
 
 quiet_endless : (es : List Entry) (a : Attempt) (c : Outcome) → is_quiet es ≡ true → Among (Ended a c) es → ⊥
 quiet_endless es a c q i = let f : false ≡ true = quiet_each es (Ended a c) q i in cc
-
-pub not_both : (b : Bool) → b ≡ true → b ≡ false → ⊥
-not_both b e f = cc
 
 -- what is filtered was there
 kept_among : (test : Holding → Bool) (ks : List Holding) (k : Holding) → Among k (filter test ks) → Among k ks
@@ -204,7 +203,7 @@ module _ (log : List Entry) (net : List Letter) (me : ℕ) (old : List Object) (
       other_phase c e g apart = apart (sym e ∙ g)
 
       still : ((c : Outcome) → run.phase ≡ HasEnded c → ⊥) → RunIsRight log (sent_here h.there) me run
-      still apart = record { needs = right.needs; holds = right.holds; told = λ c e _ _. absurd (apart c e); main = λ m. absurd (not_both _ m other) }
+      still apart = record { needs = right.needs; holds = right.holds; told = λ c e _ _. absurd (apart c e); main = λ m. absurd (both_ways _ other m) }
 
       by_phase : (p : Phase) → run.phase ≡ p → Does (tells_stop (with_run h run) run p)
       by_phase (HasEnded c) e =
@@ -223,7 +222,7 @@ module _ (log : List Entry) (net : List Letter) (me : ℕ) (old : List Object) (
                     (subst (λ v. Among (letter (TheWorker v) (TheWorker run.attempt.object.owner) (Finished run.attempt h.worker.node (each_once (ids_in_outcome c)))) ((net ++ h.there.out.letters) ++ l ∷ [])) d.who
                     (among-last (net ++ h.there.out.letters) l)),
               );
-              main = λ m. absurd (not_both _ m other);
+              main = λ m. absurd (both_ways _ other m);
             });
             out = record { letters = λ m i. posts_right h.there l (refl, other) h.there.out.letters d.out.letters m i; quiet = d.out.quiet; ended = d.out.ended };
           }
@@ -247,7 +246,7 @@ module _ (log : List Entry) (net : List Letter) (me : ℕ) (old : List Object) (
       (same_attempt run.attempt main_attempt)
       (λ _ m. record {
         does = run_does h (record over { is_acknowledged = true })
-            (record { needs = right.needs; holds = right.holds; told = λ c _ _ other. absurd (not_both _ m other); main = λ _ _. refl }) d;
+            (record { needs = right.needs; holds = right.holds; told = λ c _ _ other. absurd (both_ways _ other m); main = λ _ _. refl }) d;
         in_time = λ r f _ going _. not_open (record over { is_acknowledged = true }) r f refl going;
       })
       (λ _ other.
@@ -264,7 +263,7 @@ module _ (log : List Entry) (net : List Letter) (me : ℕ) (old : List Object) (
       (λ _. record { does = told; in_time = λ r f _ going _. not_open over r (sym there ∙ f) refl going })) refl
     where
       not_open : (x r : Run) → Some x ≡ Some r → x.is_over ≡ true → r.is_over ≡ false → ⊥
-      not_open x r e f g = let same : x ≡ r = cc in not_both x.is_over f (subst (λ (y : Run). y.is_over ≡ false) (sym same) g)
+      not_open x r e f g = let same : x ≡ r = cc in both_ways x.is_over (subst (λ (y : Run). y.is_over ≡ false) (sym same) g) f
 
   pub leaves_pays : (h : Here) → Does h → Pays (leaves_if_free h)
   leaves_pays h d = by_run h.worker.run refl
@@ -278,7 +277,7 @@ module _ (log : List Entry) (net : List Letter) (me : ℕ) (old : List Object) (
           at_test (λ b. (has_stopped run.phase && not run.is_over && is_empty run.holds) ≡ b → Pays (if b then leaves h (record run { is_over = true }) else h))
           (has_stopped run.phase && not run.is_over && is_empty run.holds)
           (λ _ t. leaves_does h run e
-          (negated run.is_over (and_right (has_stopped run.phase) (not run.is_over) (and_left (has_stopped run.phase && not run.is_over) (is_empty run.holds) t))) d)
+          (not-true run.is_over (and_right (has_stopped run.phase) (not run.is_over) (and_left (has_stopped run.phase && not run.is_over) (is_empty run.holds) t))) d)
           (λ _ t. record { does = d; in_time = λ r f stopped going none. let same : run ≡ r = by_same r f in missed r (subst (λ (y : Run). (has_stopped y.phase && not y.is_over && is_empty y.holds) ≡ false) same t) stopped going none }) refl
         where
           by_same : (r : Run) → h.worker.run ≡ Some r → run ≡ r
@@ -288,7 +287,7 @@ module _ (log : List Entry) (net : List Letter) (me : ℕ) (old : List Object) (
           missed r t stopped going none =
               let all : (has_stopped r.phase && not r.is_over && is_empty r.holds) ≡ true =
               ap (λ b. b && not r.is_over && is_empty r.holds) stopped ∙ ap (λ b. true && not b && is_empty r.holds) going ∙ ap (λ ks. true && not false && is_empty ks) none in
-              not_both _ all t
+              both_ways _ t all
 
   -- ---- all the smallest steps
 

@@ -34,8 +34,8 @@ use Rattle.protocol_owed.specs.Replies.{Happening, IsRequest, RequestIsTold}
 use Rattle.protocol_owed.specs.Runs.{Running}
 use Rattle.protocol_owed.specs.Seen.{IsCalm, IsKnownAt, Tells}
 use Rattle.protocol_owed.proofs.Replying.{Sent, where_is_told}
+use Rattle.protocol_owed.proofs.Sets.{has-stays}
 use Rattle.lease_discipline.proofs.Events.{among_at}
-use Rattle.lease_discipline.proofs.Nodes.{has-stays}
 use Rattle.lease_discipline.proofs.Tame.{changed_here}
 use Rattle.owed_replies.specs.Kept.{IsBornIn, IsRightLetter}
 use Rattle.owed_replies.specs.Law.{happening}

@@ -28,6 +28,7 @@ use Rattle.lease_discipline.proofs.Opening.{only_driver}
 use Rattle.lease_discipline.proofs.Told.{events_stay_in_step, opening_is_in_step}
 use Rattle.protocol_legal.specs.Knows.{KnowsPhase, KnowsRun}
 use Rattle.protocol_legal.specs.Whole.{Between, setting_of}
+use Rattle.protocol_legal.proofs.FrameOpens.{accepted_none}
 use Rattle.owed_replies.specs.Kept.{IsGoingOn, IsOverInTime, KeepsReplies, RunIsRight}
 use Rattle.owed_replies.specs.Law.{AwaitsAcks, EventsKeepReplies, LawOfEnds, OpeningKeepsReplies}
 use Rattle.owed_replies.proofs.Advancing.{born_more, end_among, known_more, right_more}
@@ -35,10 +36,6 @@ use Rattle.owed_replies.proofs.Happens.{happens_keeps}
 use Rattle.owed_replies.proofs.Quiet.{all_live}
 
 -- ---- the opening
-
-no_events : accepted_events opening ≡ []
-unfolding accepted_events
-no_events = refl
 
 pub opening_keeps_replies : OpeningKeepsReplies
 opening_keeps_replies nodes slots = record {
@@ -50,8 +47,8 @@ opening_keeps_replies nodes slots = record {
     main = λ _ e. absurd (cc);
   });
   in_time = λ w x run at is. subst IsOverInTime (main_is w x run at is) (λ e. absurd (cc));
-  delivered = λ k i. absurd (among-nothing _ (subst (λ es. Among (Deliver k) es) no_events i));
-  askers = λ v y m i. absurd (among-nothing _ (subst (λ es. Among (letter (TheWorker v) (TheWorker y.owner) m) (flat_map (delivered_in []) es)) no_events i));
+  delivered = λ k i. absurd (among-nothing _ (subst (λ es. Among (Deliver k) es) accepted_none i));
+  askers = λ v y m i. absurd (among-nothing _ (subst (λ es. Among (letter (TheWorker v) (TheWorker y.owner) m) (flat_map (delivered_in []) es)) accepted_none i));
   ends = λ a b i. absurd (no_end a b i);
 }
   where

@@ -3,6 +3,7 @@ use Rattle.std.proofs.Common.{◌≡◌, ℕ, List, [], ◌∷◌, ◌++◌, Som
 use Rattle.std.specs.Prelude.{Bool, true, false, if◌then◌else◌, not, ◌==◌, ◌&&◌, ◌||◌, is_none}
 use Rattle.std.specs.List.{find, list_any}
 use Rattle.std.specs.Option.{option_map}
+use Rattle.std.proofs.lemmas.Bool.{eqb-true}
 use Rattle.meaning.proofs.BirthLaws.{at_test, same_id-refl}
 use Rattle.meaning.specs.Births.{same_id}
 use Rattle.meaning.specs.Values.{Id, Outcome}
@@ -38,7 +39,7 @@ use Rattle.protocol_owed.specs.Seen.{IsCalm}
 use Rattle.protocol_owed.proofs.Letters.{among-last, among-nothing}
 use Rattle.protocol_owed.proofs.Replying.{Logged, Sent, gets_it, logged_after, sent_after}
 use Rattle.lease_discipline.specs.Told.{IsInStep}
-use Rattle.lease_discipline.proofs.Tame.{changed_here, same_number}
+use Rattle.lease_discipline.proofs.Tame.{changed_here}
 use Rattle.owed_replies.specs.Law.{happening}
 use Rattle.owed_replies.proofs.Advancing.{IsBrought}
 use Rattle.owed_replies.proofs.Committing.{accepted_object, own_item}
@@ -66,7 +67,7 @@ module _ (g : Here) (y : Id) (z : Object) (run : Run) (number n : ℕ) (at : g.w
       (at_test (λ t. has (n ∷ []) g.worker.node ≡ t →
       IsServed run g.me y (if t then looks_here_by h y z (copy_in (store_here g) y (settled_number z)) else looks_elsewhere_by h y z (live_place h.worker (n ∷ []))))
       (has (n ∷ []) g.worker.node)
-      (λ _ here_too. looks_here h f is refl (stored (same_number n g.worker.node (only (n == g.worker.node) here_too))))
+      (λ _ here_too. looks_here h f is refl (stored (eqb-true n g.worker.node (only (n == g.worker.node) here_too))))
       (λ _ _. subst (λ ms. IsServed run g.me y (looks_elsewhere_by h y z (find (λ i. not (has ms i)) (n ∷ [])))) (sym no_dead)
       (inr (n, settled_number z, among-last g.there.out.letters (letter (TheWorker g.me) (TheNode n) (Fetch y (settled_number z)))))) refl)
     where

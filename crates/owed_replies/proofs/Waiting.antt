@@ -2,6 +2,7 @@
 use Rattle.std.proofs.Common.{◌≡◌, ◌≢◌, ℕ, List, [], ◌∷◌, Some, None, Option, refl, ap, sym, subst, ◌∙◌, ◌⊎◌, inl, inr, arith}
 use Rattle.std.specs.Prelude.{true, false, if◌then◌else◌, ◌==◌}
 use Rattle.std.proofs.lemmas.Bool.Decides.{nat_tests}
+use Rattle.std.proofs.lemmas.Bool.{eqb-true, false_from_ne_true}
 use Rattle.meaning.specs.Births.{Bearing, numbered}
 use Rattle.meaning.specs.Meaning.{replay, run_birth}
 use Rattle.meaning.specs.Runs.{Bears, Ends, Gets, Needs, Piece, Prints, Stop, piece}
@@ -30,10 +31,8 @@ use Rattle.protocol_owed.specs.Replies.{AtIsUsed, Happening, HoldIsAcknowledged,
 use Rattle.protocol_owed.specs.Runs.{Running, seen}
 use Rattle.protocol_owed.specs.Seen.{IsCalm}
 use Rattle.protocol_owed.proofs.Replying.{IsAnswered, IsFetched, IsMissed, Uses, at_is_used, hold_is_acknowledged}
-use Rattle.lease_discipline.specs.Told.{IsAsTold, attempt_by, pace_by, pace_in}
+use Rattle.protocol_owed.specs.Told.{IsAsTold, attempt_by, pace_by, pace_in}
 use Rattle.lease_discipline.proofs.Events.{among_at}
-use Rattle.lease_discipline.proofs.Follows.{is_false}
-use Rattle.lease_discipline.proofs.Tame.{same_number}
 use Rattle.lease_discipline.proofs.Told.{lives_there, logs_tell, places}
 use Rattle.owed_replies.specs.Kept.{IsRightLetter}
 use Rattle.owed_replies.specs.Law.{happening}
@@ -151,7 +150,7 @@ module _ (s : Setting) (r : Running) (k : RunReplies s r) (calm : IsCalm r.log) 
     as_delivery i is = subst (λ f. answer c f handed ≡ Takes step) is answered
 
     foreign_to : (y : Id) (w : ℕ) → y.owner ≢ w → (y.owner == w) ≡ false
-    foreign_to y w other = is_false (y.owner == w) (λ f. other (same_number y.owner w f))
+    foreign_to y w other = false_from_ne_true (y.owner == w) (λ f. other (eqb-true y.owner w f))
 
     pub places_owed : AtIsUsed hap
     places_owed w a y number nodes other (i, is, sent) waits =

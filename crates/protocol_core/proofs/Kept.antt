@@ -1,8 +1,10 @@
 -- What is kept of a run, event by event.
 use Rattle.std.proofs.Common.{◌≡◌, ℕ, ◌<◌, true, false, List, [], ◌++◌, Option, Some, None, IfSome, refl, sym, ap, ◌∙◌, subst}
 use Rattle.meaning.specs.Syntax.{Script}
+use Rattle.std.specs.List.{AllByRecursion}
 use Rattle.script_check.specs.Scripts.{IsWellTyped}
 use Rattle.event_log.specs.Entries.{Entry, Event}
+use Rattle.event_log.specs.Legal.{Whole}
 use Rattle.event_log.specs.Views.{code_of}
 use Rattle.event_log.specs.declared.refusal.Refusal.{Refusal}
 use Rattle.segment.specs.Jobs.{JobData, Done, IsBegun, IsTrueOf}
@@ -16,10 +18,13 @@ use Rattle.protocol.specs.Jobs.{Handed, Job}
 use Rattle.protocol_laws.specs.Given.{IsGood, IsGoodIfGiven, GivesGood, ClaimsGiveGoodJobs}
 use Rattle.protocol_laws.specs.Law.{EventsKeepSound, OpeningIsSound, SoundIsLegal}
 use Rattle.protocol_laws.specs.Sound.{IsSound}
+use Rattle.protocol_legal.specs.Whole.{setting_of}
+use Rattle.exchange.specs.Refusals.{HasUnknown, IsNoCode}
 use Rattle.protocol_core.specs.States.{RunState, IsLegal, IsSoundRun, beside, first_state}
 use Rattle.protocol_core.specs.Steps.{Accepts, GivesJob, GivesThat, IsHanded, IsApplied, Applies, RunsOut, Tells}
 use Rattle.protocol_core.specs.Steps as told
 use Rattle.protocol_core.proofs.Jobs.{begun, gives_good, right}
+use Rattle.protocol_core.proofs.Known.{IsKnown, known_behind, none_unknown, refused_for_cause}
 
 -- ---- what is kept
 
@@ -65,6 +70,15 @@ module _ (script : Script) (before after : RunState) (e : Event) (seat : ℕ) (w
       let next = law s kept.typed.main_apart before.log before.whole e seat handed sound_before (right script before.first_nodes before.whole e work handed is_handed is_true) in
       let there : IsSound s after.log after.whole = subst (λ l. IsSound s l after.whole) (sym log) (subst (λ c. IsSound s (before.log ++ logged e seat a) c) (sym whole) next) in
       kept_of script after legal kept.typed (subst (λ n. 0 < n) (sym nodes) kept.nodes) (subst (λ n. IsSound (beside script n []) after.log after.whole) (sym nodes) there)
+
+  -- nothing of it is a refusal of a number that none has
+  pub known_applied : EventsKeepSound → SoundIsLegal → AllByRecursion IsKnown (logged e seat (answer before.whole e handed))
+  known_applied law legal =
+      let a : Answer = answer before.whole e handed in
+      let s = beside script before.first_nodes [] in
+      let next : IsSound s (before.log ++ logged e seat a) (whole_after before.whole a) =
+      law s kept.typed.main_apart before.log before.whole e seat handed sound_before (right script before.first_nodes before.whole e work handed is_handed is_true) in
+      known_behind (setting_of s (whole_after before.whole a)) Whole before.log (logged e seat a) (legal s (before.log ++ logged e seat a) (whole_after before.whole a) next)
 
   -- a job that it gives out may be run
   pub job_begun : ClaimsGiveGoodJobs → (job : JobData) → outcome_of (answer before.whole e handed) ≡ Taken (Some (job_in job)) → IsBegun script job
@@ -154,3 +168,21 @@ pub begun_behind : (script : Script) (before after : RunState) (e : Event) (seat
     ClaimsGiveGoodJobs → Came script before after e seat work outcome → (job : JobData) → outcome ≡ Taken (Some (job_in job)) → IsBegun script job
 begun_behind script before after e seat work outcome kept goes_on law h job gives =
     job_begun script before after e seat work h.handed kept goes_on h.is_handed h.is_true law job (sym h.outcome_is ∙ gives)
+
+-- ---- what can't come: an entry of a number that none has, a refusal of such a number
+
+pub known_entries : (script : Script) (before : RunState) (e taken : Event) (seat : ℕ) (work : Option Done) (handed : Handed) (reply : Reply) → IsSoundRun script before → before.is_halted ≡ false →
+    taken ≡ e → IsHanded before.whole e work handed → IfSome work (λ d. IsTrueOf script d) → reply ≡ reply_of taken seat (answer before.whole taken handed) →
+    EventsKeepSound → SoundIsLegal → HasUnknown reply.entries → ⊥
+known_entries script before e taken seat work handed reply kept goes_on same is_handed is_true replied law legal unknown =
+    let known = known_applied script before before e seat work handed kept goes_on is_handed is_true law legal in
+    let there : AllByRecursion IsKnown (logged taken seat (answer before.whole taken handed)) = subst (λ x. AllByRecursion IsKnown (logged x seat (answer before.whole x handed))) (sym same) known in
+    none_unknown (logged taken seat (answer before.whole taken handed)) there (subst HasUnknown (ap (λ (r : Reply). r.entries) replied) unknown)
+
+pub known_code : (script : Script) (before : RunState) (e taken : Event) (seat code : ℕ) (work : Option Done) (handed : Handed) (reply : Reply) → IsSoundRun script before → before.is_halted ≡ false →
+    taken ≡ e → IsHanded before.whole e work handed → IfSome work (λ d. IsTrueOf script d) → reply ≡ reply_of taken seat (answer before.whole taken handed) →
+    EventsKeepSound → SoundIsLegal → reply.outcome ≡ Refused code → IsNoCode code → ⊥
+known_code script before e taken seat code work handed reply kept goes_on same is_handed is_true replied law legal refused none =
+    let known = known_applied script before before e seat work handed kept goes_on is_handed is_true law legal in
+    let there : AllByRecursion IsKnown (logged taken seat (answer before.whole taken handed)) = subst (λ x. AllByRecursion IsKnown (logged x seat (answer before.whole x handed))) (sym same) known in
+    refused_for_cause taken seat (answer before.whole taken handed) code there (sym (ap (λ (r : Reply). r.outcome) replied) ∙ refused) none

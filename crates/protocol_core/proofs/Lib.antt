@@ -1,3 +1,4 @@
 mod Jobs
 mod Kept
+mod Known
 mod Cursors

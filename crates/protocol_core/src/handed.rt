@@ -7,7 +7,7 @@ ghost use Rattle.segment.specs.Jobs.{IsTrueOf};
 ghost use Rattle.protocol_core.specs.Steps.{IsHanded, IsHandedFor, IsOutAs};
 
 use event_log::Event;
-use exchange::{outcomes_of, parts_of_run};
+use exchange::{is_job_of, outcomes_of};
 use number_lists::item_at_number;
 use protocol_data::{Handed, Phase, Run, Whole};
 use segment::{Done, DoneParts, ScriptName};
@@ -43,12 +43,10 @@ fn handed_for<S: ScriptName>(
     let Some(done) = done else {
         return Ok(Handed::Nothing);
     };
-    let own = done.job();
     let Some(run) = run_out_as(whole, job) else {
         return Ok(Handed::OfAnother);
     };
-    let parts = parts_of_run(alloc, job, run)?;
-    if !own.is_made_of(&parts) {
+    if !is_job_of(done.job(), job, run) {
         return Ok(Handed::OfAnother);
     }
     let DoneParts {

@@ -7,7 +7,7 @@ ghost use Rattle.protocol_core.specs.Opening.{new_nodes};
 
 use held::Origin;
 use numbers::{NodeId, ObjectId, WorkerId};
-use protocol_data::{Node, Objects, Phase, Run, Whole, Worker};
+use protocol_data::{Attempts, Node, Objects, Phase, Run, Whole, Worker};
 use sequence::Seq;
 use std::alloc::{AllocError, Global};
 use task_spec::Birth;
@@ -77,7 +77,7 @@ fn driver(alloc: Global) -> Result<Worker, AllocError>
     ensures { IfOk result (λ worker. worker ≡ driver) }
 {
     let run = main_run(alloc)?;
-    let mut began = Seq::new(alloc);
+    let mut began = Attempts::new(alloc);
     began.push(main_attempt())?;
     Ok(Worker {
         node: NodeId(1),

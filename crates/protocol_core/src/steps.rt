@@ -48,12 +48,12 @@ fn try_step<S: ScriptName>(
     let reply = answer(alloc, &mut state.whole, &happening, seat, handed)?;
     let Reply { entries, outcome } = reply;
     let Some(logged) = logged_entries(alloc, &entries)? else {
-        return Err(Halt::NoNumber);
+        unreachable!();
     };
     match outcome {
         Outcome::Refused(code) => {
             let Some(refusal) = refusal_of(code) else {
-                return Err(Halt::NoNumber);
+                unreachable!();
             };
             state.add(logged)?;
             Ok(Told::Refused(refusal))

@@ -2,6 +2,7 @@
 use Rattle.std.specs.Prelude.{Bool, List, None, Option, Some, [], false, nat_lt, not, slice_get, ℕ, ◌&&◌, ◌==◌, ◌||◌, ◌∷◌, ◌≡◌, true}
 use Rattle.std.specs.List.{list_any}
 use Rattle.meaning.specs.Values.{Id}
+use Rattle.event_log.specs.Entries.{Attempt}
 use Rattle.event_log.specs.Words.{same_attempt}
 use Rattle.protocol_data.specs.declared.node.AskKey.{AskKey}
 use Rattle.protocol_data.specs.declared.node.Asked.{Asked}
@@ -28,3 +29,8 @@ AreDistinct (x ∷ xs) = (list_any (is_that_ask x.key) xs ≡ false) × AreDisti
 abbrev pub AreNoted : List ℕ → List Asked → Type 0
 AreNoted bounds [] = Unit {0}
 AreNoted bounds (x ∷ xs) = (may_be_noted bounds x.key.attempt.object ≡ true) × AreNoted bounds xs
+
+-- each attempt's object may have been noted
+abbrev pub AreBounded : List ℕ → List Attempt → Type 0
+AreBounded bounds [] = Unit {0}
+AreBounded bounds (a ∷ rest) = (may_be_noted bounds a.object ≡ true) × AreBounded bounds rest

@@ -17,7 +17,7 @@ use std::marker::Model;
 const MOST_OWNERS: u32 = 4096;
 
 /// Whether the object may have been noted.
-fn may_be_noted(bounds: &Seq<u64>, object: ObjectId) -> bool
+pub fn may_be_noted(bounds: &Seq<u64>, object: ObjectId) -> bool
     ensures { result ≡ may_be_noted bounds.now object }
 {
     let owner = object.owner.0;
@@ -46,7 +46,7 @@ fn lengthen(bounds: &mut Seq<u64>, owner: usize) -> Result<(), AllocError>
 }
 
 /// The object is noted.
-fn note(bounds: &mut Seq<u64>, object: ObjectId) -> Result<(), AllocError>
+pub fn note(bounds: &mut Seq<u64>, object: ObjectId) -> Result<(), AllocError>
     ensures noted { OnOk result (may_be_noted bounds.new object ≡ true) }
     ensures kept { (o : Id) → may_be_noted bounds.old o ≡ true → may_be_noted bounds.new o ≡ true }
 {

@@ -2,6 +2,8 @@
 -- so the releases are allowed too.
 use Rattle.std.proofs.Common.{arith, ◌<◌, ◌≡◌, ℕ, ◌+◌, Bool, true, false, List, [], ◌∷◌, ◌++◌, length, Option, Some, None, refl, sym, ap, ◌∙◌, subst}
 use Rattle.std.specs.Prelude.{◌&&◌, if◌then◌else◌, is_some, not, ◌==◌}
+use Rattle.std.proofs.lemmas.Option.{same_Some}
+use Rattle.std.proofs.lemmas.Bool.{and_parts, eq-eqb, eqb-true, not-true}
 use Rattle.meaning.specs.Mains.{KeepsMainApart}
 use Rattle.meaning.proofs.BirthLaws.{at_test}
 use Rattle.event_log.specs.Entries.{Event, Claim, Commit, Deliver, Tick, Notice, NoticeNode, Evict, Lose, Kill, KillNode, Join, Entry, In, Refused}
@@ -43,9 +45,8 @@ use Rattle.protocol_legal.specs.Says.{SaysBetween}
 use Rattle.protocol_legal.specs.Steps.{EventsOfOthers, EventsOfWorkers, frame_of}
 use Rattle.protocol_legal.specs.Whole.{Between, committed_in, setting_of}
 use Rattle.protocol_legal.proofs.FrameHolds.{said_behind, steps_stay_legal}
-use Rattle.protocol_legal.proofs.FrameLists.{item_within, some_is, eq_same, eq_true, from_one_of}
+use Rattle.protocol_legal.proofs.FrameLists.{from_one_of}
 use Rattle.protocol_legal.proofs.OnlyMainPrints.{only_main_prints}
-use Rattle.holding_steps.proofs.Lists.{changed_length}
 use Rattle.holding_steps.proofs.NodeNotices.{mapped_length}
 use Rattle.protocol_laws.specs.Sound.{IsOutAs, IsSound, JobsAreOut}
 use Rattle.protocol_laws.proofs.JobsOut.{OwnJobs, from_dead_node, from_killed, from_opened, from_same, jobs_after, jobs_kept, long_opened, own_committed, own_given, own_stay, ready_has_none}
@@ -53,7 +54,8 @@ use Rattle.protocol_laws.proofs.Refusals.{limited_for_cause, refused_for_cause, 
 use Rattle.protocol_laws.proofs.StaysOut.{out_at_message, out_at_node_notice, out_at_notice, out_at_release, out_at_tick}
 use Rattle.protocol_laws.specs.Coming.{IsRight}
 use Rattle.protocol_laws.proofs.Premises.{births_in, dead_on, refused_true, runs_begun, untouched, worker_killed_in}
-use Rattle.protocol_laws.proofs.Tests.{WorkerThere, and_parts, dead_node, dead_worker, live_node, live_worker, not_true, or_none, out_run, ready_run, unless_none}
+use Rattle.protocol_laws.proofs.Tests.{WorkerThere, dead_node, dead_worker, live_node, live_worker, or_none, out_run, ready_run, unless_none}
+use Rattle.numbered.proofs.Lists.{item_within, changed-length}
 
 -- after the event, which made this of the whole, the run is sound
 abbrev pub Follows : Setting → List Entry → Event → ℕ → Moved → Type 0
@@ -253,7 +255,7 @@ module _ (s : Setting) (apart : KeepsMainApart s.script) (log : List Entry) (c :
           clash w e = cc
 
           other : (i : Letter) (w : ℕ) → item_at c.network k ≡ Some i → i.receiver ≡ TheWorker w → ⊥
-          other i w j p = clash w (sym to ∙ ap (λ (v : Letter). v.receiver) (some_is l i (sym sent ∙ j)) ∙ p)
+          other i w j p = clash w (sym to ∙ ap (λ (v : Letter). v.receiver) (same_Some l i (sym sent ∙ j)) ∙ p)
 
           to_node : is_live_node (node_at c n) ≡ true → delivered_by c k (item_at c.network k) ≡ node_does (with_delivered c k) n (λ g. node_reached g l.sender l.message)
           to_node i = ap (delivered_by c k) sent ∙ ap (delivered_to (with_delivered c k) l) to ∙ ap (λ v. if v then node_does (with_delivered c k) n (λ g. node_reached g l.sender l.message) else moved (with_delivered c k)) i
@@ -284,7 +286,7 @@ module _ (s : Setting) (apart : KeepsMainApart s.script) (log : List Entry) (c :
           let parts = or_none (unless (not g.is_committed && true && is_out_by (worker_at c g.worker) j) 32) (unless (is_live_worker (worker_at c g.worker)) 33) h in
           let l = live_worker c g.worker (unless_none (is_live_worker (worker_at c g.worker)) 33 parts.1) in
           let a = and_parts (not g.is_committed && true) (is_out_by (worker_at c g.worker) j) (unless_none (not g.is_committed && true && is_out_by (worker_at c g.worker) j) 32 parts.0) in
-          let fresh : g.is_committed ≡ false = not_true g.is_committed (and_parts (not g.is_committed) true a.0).0 in
+          let fresh : g.is_committed ≡ false = not-true g.is_committed (and_parts (not g.is_committed) true a.0).0 in
           let run = out_run l.worker.run j (ap (λ (i : Option Worker). is_out_by i j) (sym l.at) ∙ a.1) in
           let claimed : worker_of_job j log ≡ Some g.worker = ap (λ (ws : List ℕ). from_one ws j) b.knows.claims ∙ from_one_of (λ (i : Given). i.worker) c.jobs j g e in
           let done = right g l.worker run.0 e l.at run.1 run.2 in
@@ -313,7 +315,7 @@ module _ (s : Setting) (apart : KeepsMainApart s.script) (log : List Entry) (c :
       front = changed_at c.workers w dead
 
       long : length front ≡ length c.workers
-      long = changed_length c.workers w dead
+      long = changed-length c.workers w dead
 
       by_node : (x : Worker) (o : Option Node) → JobsAreOut (node_does_by (record c { workers = changed_at c.workers w dead }) x.node (λ h. forgets h w) o).whole
       by_node x None = jobs_kept c (record c { workers = changed_at c.workers w dead }) refl 0 (let e = long in omega (arith, e)) (from_killed c w) sound.jobs
@@ -337,7 +339,7 @@ module _ (s : Setting) (apart : KeepsMainApart s.script) (log : List Entry) (c :
   happens_to (Kill w) seat handed r right =
       let l = live_worker c w (unless_none (is_live_worker (worker_at c w)) 30 r) in
       both s log (Kill w) seat (happens c (Kill w) handed) (on_others.killed w seat l.worker l.at l.lives)
-      (steps_land.worker_dies log facts c (Kill w) seat w t (worker_killed_in s log c b (Kill w) seat w l.worker l.at (eq_same w)))
+      (steps_land.worker_dies log facts c (Kill w) seat w t (worker_killed_in s log c b (Kill w) seat w l.worker l.at (eq-eqb w w refl)))
       (killed_jobs w)
   happens_to (KillNode n) seat handed r right =
       let l = live_node c n (unless_none (is_live_node (node_at c n)) 36 r) in
@@ -349,7 +351,7 @@ module _ (s : Setting) (apart : KeepsMainApart s.script) (log : List Entry) (c :
       }
     where
       flipped : (n m : ℕ) → (m == n) ≡ true → (n == m) ≡ true
-      flipped n m i = subst (λ k. (k == m) ≡ true) (eq_true m n i) (eq_same m)
+      flipped n m i = subst (λ k. (k == m) ≡ true) (eqb-true m n i) (eq-eqb m m refl)
   happens_to Join seat handed r right = record { between = on_others.joined seat; jobs = beside_jobs c (happens c Join Nothing).whole refl refl sound.jobs; past = facts; held = steps_land.joins (log ++ In Join seat ∷ []) facts c (steps_land.comes log facts c Join seat t) }
 
   -- ---- one event, refused or taken

@@ -1,6 +1,8 @@
 -- Claims give jobs that may be run.
 use Rattle.std.proofs.Common.{◌≡◌, ℕ, ◌+◌, true, List, [], ◌∷◌, ◌++◌, length, Option, Some, None, inl, inr, refl, sym, ap, ◌∙◌, subst, append-nil}
 use Rattle.std.specs.Prelude.{◌&&◌, if◌then◌else◌, slice_get}
+use Rattle.std.proofs.lemmas.Option.{same_Some}
+use Rattle.std.proofs.lemmas.Bool.{and_parts}
 use Rattle.meaning.specs.Values.{Birth, Id, main_birth}
 use Rattle.meaning.specs.Syntax.{Number}
 use Rattle.meaning.specs.Births.{birth_at, same_id}
@@ -27,7 +29,7 @@ use Rattle.protocol_laws.specs.Sound.{IsSound}
 use Rattle.protocol_laws.specs.Pace.{IsInStep}
 use Rattle.protocol_laws.specs.Given.{ClaimsGiveGoodJobs, GivesGood, IsGood, IsGoodIfGiven}
 use Rattle.protocol_laws.proofs.Pace.{attempts_keep_pace}
-use Rattle.protocol_laws.proofs.Tests.{and_parts, live_worker, or_none, ready_run, unless_none}
+use Rattle.protocol_laws.proofs.Tests.{live_worker, or_none, ready_run, unless_none}
 
 -- ---- what was begun is a task
 
@@ -54,9 +56,6 @@ task_first o k w e =
 
 -- ---- the job
 
-some_is : {X : Type 0} (x y : X) → Some x ≡ Some y → x ≡ y
-some_is x y h = cc
-
 module _ (s : Setting) (checks : ScriptChecks s.script s.script) (main : IsBirthOf s.script main_birth Number) (log : List Entry) (c : Whole) (sound : IsSound s log c) where
   run_is_good : (number w : ℕ) (x : Worker) (run : Run) → worker_at c w ≡ Some x → x.is_live ≡ true → x.run ≡ Some run → IsGood s.script (job_of number run)
   run_is_good number w x run at live is =
@@ -65,7 +64,7 @@ module _ (s : Setting) (checks : ScriptChecks s.script s.script) (main : IsBirth
       let task = always BegunAreTasks task_step WholeLog S log task_first sound.between.legal run.attempt.object run.attempt.number w k.runs in
       let pace : IsInStep s.script log run.attempt run.spec run.base run.births = attempts_keep_pace WholeLog S log checks main sound.between.legal run.attempt run.spec run.base run.births k.spec k.own in
       record {
-        task = subst IsTask (some_is task.0 run.spec (sym task.1 ∙ k.spec)) task.2;
+        task = subst IsTask (same_Some task.0 run.spec (sym task.1 ∙ k.spec)) task.2;
         kind = (legal_logs_keep WholeLog S log checks main sound.between.legal).kinds run.attempt.object run.spec k.spec;
         answers = subst (AnswersFit (run_birth s.script run.spec) run.base) k.answers pace.fit;
         births = subst (λ cs. IsFirst run.births (replay s.script run.spec run.base cs).births) k.answers pace.births;

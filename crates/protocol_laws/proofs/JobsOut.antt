@@ -1,27 +1,23 @@
 -- Who has a job is busy with it: each event keeps that so.
 use Rattle.std.proofs.Common.{◌≡◌, ℕ, zero, suc, ◌+◌, ◌<◌, Bool, true, false, List, [], ◌∷◌, ◌++◌, ◌⊎◌, inl, inr, Some, refl, sym, ap, ◌∙◌, subst, length, map, arith}
 use Rattle.std.specs.Prelude.{◌==◌, ◌&&◌, ◌||◌, if◌then◌else◌, not}
+use Rattle.std.proofs.lemmas.Bool.{eqb-true, true≢false}
+use Rattle.std.proofs.lemmas.Option.{same_Some}
+use Rattle.std.proofs.lemmas.List.{length-append}
 use Rattle.event_log.specs.Entries.{Entry}
 use Rattle.event_log.specs.Events.{claims, has_job_out, is_committed, is_out_from}
 use Rattle.protocol.specs.Numbered.{item_at, changed_at}
 use Rattle.numbered.specs.Counting.{item_of}
 use Rattle.numbered.proofs.Places.{placed}
+use Rattle.numbered.proofs.Lists.{changed_cases, changed-length, pushed_cases, joined_cases, counted_repeated_at}
 use Rattle.protocol.specs.Sets.{repeated}
 use Rattle.protocol.specs.Jobs.{Given}
 use Rattle.protocol.specs.Tables.{Out, Ready, Run, Worker, new_worker}
 use Rattle.protocol.specs.Whole.{Whole, worker_at}
 use Rattle.protocol.specs.Events.{as_committed, dead, dies_with}
-use Rattle.holding_steps.proofs.Lists.{changed_cases, changed_length, eq_true, pushed_cases}
 use Rattle.holding_steps.proofs.Happening.{item_first, item_later}
 use Rattle.holding_steps.proofs.NodeNotices.{mapped_cases}
-use Rattle.holding_steps.proofs.Wholes.{joined_cases, length_join, repeated_at}
 use Rattle.protocol_laws.specs.Sound.{IsOutAs, JobsAreOut}
-
-clash : true ≡ false → ⊥
-clash e = cc
-
-some_is : {X : Type 0} (x y : X) → Some x ≡ Some y → x ≡ y
-some_is x y h = cc
 
 -- ---- the workers of a whole afterwards
 
@@ -49,18 +45,18 @@ long_repeated (suc n) z = ap (λ i. suc i) (long_repeated n z)
 pub from_opened : (c : Whole) (front : List Worker) (n at : ℕ) → length front ≡ length c.workers → CameFrom c front → CameFrom c (front ++ repeated n (new_worker at))
 from_opened c front n at long from v y h live = elim (joined_cases front (repeated n (new_worker at)) v y h) [
   | inl k ↦ from v y k live
-  | inr k ↦ inr (let i = (repeated_at n (new_worker at) (1 + length front) v y k).1 in omega (arith, i, long))
+  | inr k ↦ inr (let i = (counted_repeated_at n (new_worker at) (1 + length front) v y k).1 in omega (arith, i, long))
 ]
 
 pub long_opened : (c : Whole) (front : List Worker) (n at : ℕ) → length front ≡ length c.workers → length (front ++ repeated n (new_worker at)) ≡ length c.workers + n
-long_opened c front n at long = let a : length (front ++ repeated n (new_worker at)) ≡ length front + length (repeated n (new_worker at)) = length_join front (repeated n (new_worker at)) in let b : length (repeated n (new_worker at)) ≡ n = long_repeated n (new_worker at) in omega (arith, a, b, long)
+long_opened c front n at long = let a : length (front ++ repeated n (new_worker at)) ≡ length front + length (repeated n (new_worker at)) = length-append front (repeated n (new_worker at)) in let b : length (repeated n (new_worker at)) ≡ n = long_repeated n (new_worker at) in omega (arith, a, b, long)
 
 pub from_same : (c : Whole) → CameFrom c c.workers
 from_same c v y h live = inl h
 
 pub from_killed : (c : Whole) (w : ℕ) → CameFrom c (changed_at c.workers w dead)
 from_killed c w v y h live = elim (changed_cases c.workers w dead v y h) [
-  | inl k ↦ absurd (clash (sym live ∙ ap (λ (z : Worker). z.is_live) (sym k.1.2)))
+  | inl k ↦ absurd (true≢false (sym live ∙ ap (λ (z : Worker). z.is_live) (sym k.1.2)))
   | inr k ↦ inl k.1
 ]
 
@@ -68,7 +64,7 @@ pub from_dead_node : (c : Whole) (n : ℕ) → CameFrom c (map (dies_with n) c.w
 from_dead_node c n v y h live = let r = mapped_cases (dies_with n) c.workers v y h in by_test r.0 (r.0.node == n) r.1 r.2
   where
     by_test : (x : Worker) (t : Bool) → worker_at c v ≡ Some x → (if t then dead x else x) ≡ y → (worker_at c v ≡ Some y) ⊎ (length c.workers < v)
-    by_test x true at e = absurd (clash (sym live ∙ ap (λ (z : Worker). z.is_live) (sym e)))
+    by_test x true at e = absurd (true≢false (sym live ∙ ap (λ (z : Worker). z.is_live) (sym e)))
     by_test x false at e = inl (at ∙ ap Some e)
 
 -- ---- a worker's own event
@@ -87,7 +83,7 @@ jobs_after c d w after opened at is own o = record {
       | inl m ↦ subst (IsOutAs j) m.1.2 (own.own j g i fresh m.0)
       | inr m ↦ o.out j g x (own.others j g i fresh m.0) fresh m.1 live
     ]
-    | inr k ↦ let r = (repeated_at opened (new_worker at) (1 + length front) g.worker x k).1 in let h = own.given j g i in let l : length front ≡ length c.workers = changed_length c.workers w (λ _. after) in absurd (omega (arith, r, h, l))
+    | inr k ↦ let r = (counted_repeated_at opened (new_worker at) (1 + length front) g.worker x k).1 in let h = own.given j g i in let l : length front ≡ length c.workers = changed-length c.workers w (λ _. after) in absurd (omega (arith, r, h, l))
   ];
 }
   where
@@ -95,7 +91,7 @@ jobs_after c d w after opened at is own o = record {
     front = changed_at c.workers w (λ _. after)
 
     long : length d.workers ≡ length c.workers + opened
-    long = ap length is ∙ long_opened c front opened at (changed_length c.workers w (λ _. after))
+    long = ap length is ∙ long_opened c front opened at (changed-length c.workers w (λ _. after))
 
 module _ (c : Whole) (o : JobsAreOut c) (w : ℕ) (x : Worker) (at : worker_at c w ≡ Some x) (live : x.is_live ≡ true) where
   there : (g : Given) → g.worker ≡ w → worker_at c g.worker ≡ Some x
@@ -111,7 +107,7 @@ module _ (c : Whole) (o : JobsAreOut c) (w : ℕ) (x : Worker) (at : worker_at c
 
   -- a worker that is ready has no job
   ready_alone : (run : Run) → x.run ≡ Some run → run.phase ≡ Ready → (j : ℕ) → IsOutAs j x → ⊥
-  ready_alone run is ready j p = apart (sym ready ∙ ap (λ (r : Run). r.phase) (some_is run p.0 (sym is ∙ p.1)) ∙ p.2)
+  ready_alone run is ready j p = apart (sym ready ∙ ap (λ (r : Run). r.phase) (same_Some run p.0 (sym is ∙ p.1)) ∙ p.2)
     where
       apart : Ready ≡ Out j → ⊥
       apart e = cc
@@ -141,11 +137,11 @@ module _ (c : Whole) (o : JobsAreOut c) (w : ℕ) (x : Worker) (at : worker_at c
       | inr m ↦ o.given i g m.1
     ];
     own = λ i g k fresh e. elim (changed_cases c.jobs j as_committed i g k) [
-      | inl m ↦ absurd (clash (ap (λ (y : Given). y.is_committed) m.1.2 ∙ fresh))
+      | inl m ↦ absurd (true≢false (ap (λ (y : Given). y.is_committed) m.1.2 ∙ fresh))
       | inr m ↦ absurd (m.0 (same i (o.out i g x m.1 fresh (there g e) live)))
     ];
     others = λ i g k fresh e. elim (changed_cases c.jobs j as_committed i g k) [
-      | inl m ↦ absurd (clash (ap (λ (y : Given). y.is_committed) m.1.2 ∙ fresh))
+      | inl m ↦ absurd (true≢false (ap (λ (y : Given). y.is_committed) m.1.2 ∙ fresh))
       | inr m ↦ m.1
     ];
   }
@@ -154,7 +150,7 @@ module _ (c : Whole) (o : JobsAreOut c) (w : ℕ) (x : Worker) (at : worker_at c
       number i e = cc
 
       same : (i : ℕ) → IsOutAs i x → i ≡ j
-      same i p = number i (sym p.2 ∙ ap (λ (r : Run). r.phase) (some_is p.0 run (sym p.1 ∙ is)) ∙ out)
+      same i p = number i (sym p.2 ∙ ap (λ (r : Run). r.phase) (same_Some p.0 run (sym p.1 ∙ is)) ∙ out)
 
   -- ---- by the log
 
@@ -163,7 +159,7 @@ module _ (c : Whole) (o : JobsAreOut c) (w : ℕ) (x : Worker) (at : worker_at c
   none_out log (g ∷ gs) k h = by_test (g.worker == w) refl (none_out log gs (k + 1) (λ i y e. h i y (item_later g gs k i y e)))
     where
       by_test : (t : Bool) → (g.worker == w) ≡ t → is_out_from log w (k + 1) (map (λ (y : Given). y.worker) gs) ≡ false → ((t && not (is_committed k log)) || is_out_from log w (k + 1) (map (λ (y : Given). y.worker) gs)) ≡ false
-      by_test true e r = ap (λ b. not b || is_out_from log w (k + 1) (map (λ (y : Given). y.worker) gs)) (h k g (item_first g gs k) (eq_true g.worker w e)) ∙ r
+      by_test true e r = ap (λ b. not b || is_out_from log w (k + 1) (map (λ (y : Given). y.worker) gs)) (h k g (item_first g gs k) (eqb-true g.worker w e)) ∙ r
       by_test false e r = r
 
   -- no job of a ready worker is out

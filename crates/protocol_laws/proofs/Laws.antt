@@ -14,9 +14,10 @@ use Rattle.protocol_legal.proofs.FrameHolds.{steps_stay_legal}
 use Rattle.numbered.proofs.Places.{counted}
 use Rattle.protocol.specs.Jobs.{Given}
 use Rattle.protocol_laws.specs.Sound.{IsSound, JobsAreOut}
-use Rattle.protocol_laws.specs.Coming.{AllRight, Coming, all_after, log_after}
+use Rattle.protocol_laws.specs.Coming.{AllRight, all_after, log_after}
 use Rattle.protocol_laws.specs.Law.{EventsKeepSound, NothingHeldIsReleased, OpeningIsSound, ProtocolStaysLegal, SoundIsLegal}
 use Rattle.protocol_laws.proofs.Events.{event_stays}
+use Rattle.protocol_owed.specs.Runs.{Handing}
 
 pub opening_is_sound : OpeningIsSound
 opening_is_sound s slots some = record { between = steps_stay_legal.opens s slots some; past = Begun main_attempt 1 ∷ []; held = steps_keep.first s.nodes slots; jobs = none_out }
@@ -33,7 +34,7 @@ event_keeps_sound s apart log c e seat handed sound right = event_stays s apart 
 pub sound_is_legal : SoundIsLegal
 sound_is_legal s log c sound = sound.between.legal
 
-events_stay : (s : Setting) → KeepsMainApart s.script → (log : List Entry) (c : Whole) (xs : List Coming) → IsSound s log c → AllRight s c xs → IsSound s (log_after log c xs) (all_after c xs)
+events_stay : (s : Setting) → KeepsMainApart s.script → (log : List Entry) (c : Whole) (xs : List Handing) → IsSound s log c → AllRight s c xs → IsSound s (log_after log c xs) (all_after c xs)
 events_stay s apart log c [] sound right = sound
 events_stay s apart log c (x ∷ xs) sound right =
     events_stay s apart (log ++ logged x.event x.seat (answer c x.event x.handed)) (whole_after c (answer c x.event x.handed)) xs

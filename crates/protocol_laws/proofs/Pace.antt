@@ -2,6 +2,7 @@
 use Rattle.std.proofs.Common.{◌≡◌, List, [], ◌∷◌, ◌++◌, ◌⊎◌, inl, inr, Some, refl, sym, ap, ◌∙◌, subst, append-nil, append_assoc}
 use Rattle.std.specs.Prelude.{if◌then◌else◌}
 use Rattle.std.specs.List.{flat_map}
+use Rattle.std.proofs.lemmas.Option.{same_Some}
 use Rattle.meaning.specs.Lists.{IsFirst}
 use Rattle.meaning.specs.Values.{Named, Outcome, Val, Trapped, Birth, Id, Value}
 use Rattle.meaning.specs.Syntax.{Script}
@@ -64,9 +65,6 @@ first_itself (x ∷ xs) = (refl, first_itself xs)
 
 heads : {X : Type 0} (x y : X) (xs ys : List X) → x ∷ xs ≡ y ∷ ys → (x ≡ y) × (xs ≡ ys)
 heads x y xs ys h = (cc, cc)
-
-some_is : {X : Type 0} (x y : X) → Some x ≡ Some y → x ≡ y
-some_is x y h = cc
 
 -- births numbered from an id on tell it, if there are any
 numbered_same : (base other : Id) (bs cs : List Birth) → numbered base bs ≡ numbered other cs → (bs ≡ cs) × ((cs ≡ []) ⊎ (base ≡ other))
@@ -140,7 +138,7 @@ module _ (s : Setting) (before : List Entry) (x : Entry) (paces : AllPace s.scri
       prints = subst (λ vs. IsFirst vs (replay script spec base (answers_of a before)).prints) (sym h.0.prints) tt;
       fit = subst (AnswersFit (run_birth script spec) base) (sym h.0.answers) (none_fit (run_birth script spec) base);
     }
-    | inr h ↦ let same : h.spec ≡ spec = some_is h.spec spec (sym h.born ∙ born) in let k = h.in_step base bs own in
+    | inr h ↦ let same : h.spec ≡ spec = same_Some h.spec spec (sym h.born ∙ born) in let k = h.in_step base bs own in
         subst (λ i. WasInStep a i base) same (record { prints = k.prints; fit = k.fit })
   ]
 
@@ -317,7 +315,7 @@ attempts_keep_pace end s log checks main h a spec base bs born own = elim all [
     prints = subst (λ vs. IsFirst vs (replay s.script spec base (answers_of a log)).prints) (sym k.0.prints) tt;
     fit = subst (AnswersFit (run_birth s.script spec) base) (sym k.0.answers) (none_fit (run_birth s.script spec) base);
   }
-  | inr k ↦ subst (λ i. IsInStep s.script log a i base bs) (some_is k.spec spec (sym k.born ∙ born)) (k.in_step base bs own)
+  | inr k ↦ subst (λ i. IsInStep s.script log a i base bs) (same_Some k.spec spec (sym k.born ∙ born)) (k.in_step base bs own)
 ]
   where
     idle : AllPace s.script opening

@@ -2,6 +2,7 @@
 use Rattle.std.proofs.Common.{◌≡◌, ℕ, Bool, true, false, List, [], ◌∷◌, ◌++◌, Option, Some, None, refl, sym, ap, ◌∙◌, subst, append-nil}
 use Rattle.std.specs.Prelude.{◌||◌, slice_get}
 use Rattle.std.specs.List.{list_any}
+use Rattle.std.proofs.lemmas.Bool.{true≢false}
 use Rattle.event_log.specs.Entries.{Entry, Event, In, Refused}
 use Rattle.event_log.specs.Words.{attempt, births, worker_of}
 use Rattle.event_log.specs.Events.{accepted_events, from_one, is_killed, kills, node_of, on_node}
@@ -26,24 +27,17 @@ use Rattle.protocol_legal.specs.Knows.{KnowsMaker, KnowsObject, KnowsProgress, K
 use Rattle.protocol_legal.specs.Whole.{Between, setting_of}
 use Rattle.protocol_legal.proofs.FrameIn.{any_join}
 use Rattle.protocol_legal.proofs.FrameEnters.{accepts_in}
-use Rattle.protocol_legal.proofs.FrameNodesChange.{CameFrom, from_one_from}
+use Rattle.protocol_legal.proofs.FrameNodesChange.{CameFrom, from_one_from, or_last}
 use Rattle.protocol_legal.proofs.FrameWorker.{home_of_worker}
 
-clash : true ≡ false → ⊥
-clash e = cc
-
 -- ---- who is killed by an event
-
-or_true : (a : Bool) → (a || (true || false)) ≡ true
-or_true true = refl
-or_true false = refl
 
 pub killed_in : (log : List Entry) (e : Event) (seat v n : ℕ) → node_of v log ≡ Some n → kills v n e ≡ true → is_killed v (log ++ In e seat ∷ []) ≡ true
 unfolding is_killed
 killed_in log e seat v n home k =
     ap (λ o. on_node o false (λ m. list_any (kills v m) (accepted_events (log ++ In e seat ∷ [])))) (node_of-more log (In e seat ∷ []) v n home)
     ∙ ap (list_any (kills v n)) (accepts_in log e seat) ∙ any_join (kills v n) (accepted_events log) (e ∷ [])
-    ∙ ap (λ t. list_any (kills v n) (accepted_events log) || (t || false)) k ∙ or_true (list_any (kills v n) (accepted_events log))
+    ∙ ap (λ t. list_any (kills v n) (accepted_events log) || (t || false)) k ∙ or_last (list_any (kills v n) (accepted_events log))
 
 -- an event bears nothing yet
 pub births_in : (log : List Entry) (e : Event) (seat : ℕ) → births (log ++ In e seat ∷ []) ≡ births log
@@ -123,7 +117,7 @@ module _ (s : Setting) (log : List Entry) (c : Whole) (b : Between s log c) wher
             ap (λ (y : Node). y.is_live) (sym same) ∙ z.2
 
         by_life : (l : Bool) → u.item.is_live ≡ l → Has (Killed v) facts
-        by_life true l = absurd (clash (sym (alive l) ∙ dead))
+        by_life true l = absurd (true≢false (sym (alive l) ∙ dead))
         by_life false l = t.dead v u.item u.at l
 
     -- ---- what is pushed

@@ -3,6 +3,7 @@ use Rattle.std.proofs.Common.{◌≡◌, ℕ, zero, suc, ◌+◌, ◌<◌, Bool,
 use Rattle.std.specs.Prelude.{◌&&◌, not, nat_lt, is_some, if◌then◌else◌}
 use Rattle.std.specs.List.{list_any}
 use Rattle.std.proofs.lemmas.Bool.Decides.{nat_tests}
+use Rattle.std.proofs.lemmas.Bool.{and_parts, not-true}
 use Rattle.meaning.specs.Values.{Id}
 use Rattle.meaning.proofs.BirthLaws.{at_test}
 use Rattle.event_log.specs.Breaks.{Among}
@@ -29,7 +30,7 @@ use Rattle.protocol_legal.proofs.FrameLists.{from_one_of}
 use Rattle.protocol_legal.proofs.FrameNodesChange.{from_one_from}
 use Rattle.protocol_legal.proofs.FrameWorker.{home_of_worker}
 use Rattle.protocol_legal.proofs.Heard.{home_of_live}
-use Rattle.protocol_laws.proofs.Tests.{and_parts, not_true, or_none, unless_none}
+use Rattle.protocol_laws.proofs.Tests.{or_none, unless_none}
 
 -- ---- words of one worker or node
 
@@ -46,7 +47,7 @@ live_unkilled : (log : List Entry) (v n : ℕ) → node_of v log ≡ Some n → 
 unfolding is_live is_killed
 live_unkilled log v n h l =
     ap (λ o. on_node o false (λ m. list_any (kills v m) (accepted_events log))) h
-    ∙ not_true (list_any (kills v n) (accepted_events log)) (sym (ap (λ o. on_node o false (λ m. not (list_any (kills v m) (accepted_events log)))) h) ∙ l)
+    ∙ not-true (list_any (kills v n) (accepted_events log)) (sym (ap (λ o. on_node o false (λ m. not (list_any (kills v m) (accepted_events log)))) h) ∙ l)
 
 dead_if_killed : (first n : ℕ) (log : List Entry) → node_is_killed n log ≡ true → node_lives first n log ≡ false
 unfolding node_lives
@@ -268,7 +269,7 @@ module _ (s : Setting) (log : List Entry) (c : Whole) (b : Between s log c) wher
         | inl k ↦ is_code (Commit j) 32 code k.1 (no_job S log j)
         | inr k ↦
             let a = and_parts (not g.is_committed && is_of_job handed) (is_out_by (worker_at c g.worker) j) k.0 in
-            let fresh = not_true g.is_committed (and_parts (not g.is_committed) (is_of_job handed) a.0).0 in
+            let fresh = not-true g.is_committed (and_parts (not g.is_committed) (is_of_job handed) a.0).0 in
             let r = one (is_live_worker (worker_at c g.worker)) 33 code k.1 in
             is_code (Commit j) 33 code r.1 (as_shown S log (Commit j) 33 true (shown_job j g e fresh ∙ ap (λ t. causes.unless t 33 None) r.0))
       ]
@@ -298,7 +299,7 @@ module _ (s : Setting) (log : List Entry) (c : Whole) (b : Between s log c) wher
   commit_limited j handed (Some g) e h =
       let p = or_none (tables.unless (not g.is_committed && is_of_job handed && is_out_by (worker_at c g.worker) j) 32) (tables.unless (is_live_worker (worker_at c g.worker)) 33) h in
       let a = and_parts (not g.is_committed && is_of_job handed) (is_out_by (worker_at c g.worker) j) (unless_none _ 32 p.0) in
-      let fresh = not_true g.is_committed (and_parts (not g.is_committed) (is_of_job handed) a.0).0 in
+      let fresh = not-true g.is_committed (and_parts (not g.is_committed) (is_of_job handed) a.0).0 in
       as_unseen S log (Commit j) 37 true (shown_job j g e fresh ∙ ap (λ t. causes.unless t 33 None) (unless_none (is_live_worker (worker_at c g.worker)) 33 p.1)) (0, refl)
 
   store_lives : (n : ℕ) (f : Store → Option ℕ) → store_refusal f (node_at c n) ≡ None → is_live_node (node_at c n) ≡ true

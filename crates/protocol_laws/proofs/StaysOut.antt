@@ -2,6 +2,8 @@
 use Rattle.std.proofs.Common.{◌≡◌, ℕ, Bool, true, false, Option, Some, refl, sym, ap, ◌∙◌, subst}
 use Rattle.std.specs.Prelude.{◌&&◌, if◌then◌else◌, not}
 use Rattle.std.specs.List.{list_any}
+use Rattle.std.proofs.lemmas.Option.{same_Some}
+use Rattle.std.proofs.lemmas.Bool.{false≢true}
 use Rattle.meaning.specs.Values.{Birth, Id}
 use Rattle.event_log.specs.Entries.{Attempt}
 use Rattle.event_log.specs.Words.{same_attempt}
@@ -14,21 +16,16 @@ use Rattle.protocol.specs.Notices.{notice_node_step, notice_step}
 use Rattle.protocol.specs.Releases.{release_step}
 use Rattle.protocol.specs.Ticks.{tick_step}
 use Rattle.protocol_owed.specs.Courses.{IsOut}
-use Rattle.protocol_owed.proofs.RunMoves.{IsHeard, IsHeardFrom, IsKept, pace_in_phase, notice_node_step-kept, notice_step-kept, reached-kept, release_step-kept, tick_step-kept}
+use Rattle.protocol_owed.proofs.RunMoves.{IsHeard, IsHeardFrom, IsKept, notice_node_step-kept, notice_step-kept, reached-kept, release_step-kept, tick_step-kept}
+use Rattle.protocol_owed.specs.Told.{pace_in}
 use Rattle.protocol_laws.specs.Sound.{IsOutAs}
 
-some_is : {X : Type 0} (x y : X) → Some x ≡ Some y → x ≡ y
-some_is x y h = cc
-
-out_of_pace : (j : ℕ) (p : Phase) → pace_in_phase p ≡ IsOut j → p ≡ Out j
+out_of_pace : (j : ℕ) (p : Phase) → pace_in p ≡ IsOut j → p ≡ Out j
 out_of_pace j Ready h = absurd (cc)
 out_of_pace j (Out i) h = cc
 out_of_pace j (Waits y f) h = absurd (cc)
 out_of_pace j (HasEnded c) h = absurd (cc)
 out_of_pace j (HasFaulted f) h = absurd (cc)
-
-clash : false ≡ true → ⊥
-clash e = cc
 
 waits_apart : (j : ℕ) (y : Id) (f : Option Fetching) → Out j ≡ Waits y f → ⊥
 waits_apart j y f e = cc
@@ -39,7 +36,7 @@ module _ (j : ℕ) where
 
   -- of the worker's attempt, that it is out
   phase_of : (x : Worker) (run : Run) → x.run ≡ Some run → IsOutAs j x → run.phase ≡ Out j
-  phase_of x run e p = ap (λ (r : Run). r.phase) (some_is run p.0 (sym e ∙ p.1)) ∙ p.2
+  phase_of x run e p = ap (λ (r : Run). r.phase) (same_Some run p.0 (sym e ∙ p.1)) ∙ p.2
 
   kept : IsKept (λ w a. Unit {0}) (λ a. Unit {0}) Stays
   kept = record {
@@ -50,8 +47,8 @@ module _ (j : ℕ) where
     store = λ h s p. p;
     frees = λ h p. p;
     asks = λ h p. p;
-    run = λ h run next e a p. (next, refl, out_of_pace j next.phase (a.pace ∙ ap pace_in_phase (phase_of h.worker run e p)));
-    leaves = λ h run next e stopped a q o p. absurd (clash (sym (ap has_stopped (phase_of h.worker run e p)) ∙ stopped));
+    run = λ h run next e a p. (next, refl, out_of_pace j next.phase (a.pace ∙ ap pace_in (phase_of h.worker run e p)));
+    leaves = λ h run next e stopped a q o p. absurd (false≢true (sym (ap has_stopped (phase_of h.worker run e p)) ∙ stopped));
     gets = λ h run c y f e q p. absurd (waits_apart j y f (sym (phase_of h.worker run e p) ∙ q));
     faults = λ h run f y g e q p. absurd (waits_apart j y g (sym (phase_of h.worker run e p) ∙ q));
     tells_end = λ h run n ids e o p. p;
@@ -84,7 +81,7 @@ module _ (j : ℕ) where
   pushed h a spec over p = subst (λ b. IsOutAs j (if b && not (list_any (λ c. same_attempt c a) h.worker.began) then begins_run h a spec else h).worker) (sym busy) p
     where
       going : (b : Bool) → p.0.is_over ≡ b → p.0.is_over ≡ false
-      going true e = absurd (clash (sym (ap has_stopped p.2) ∙ over p.0 p.1 e))
+      going true e = absurd (false≢true (sym (ap has_stopped p.2) ∙ over p.0 p.1 e))
       going false e = e
 
       busy : is_free h.worker.run ≡ false

@@ -1,12 +1,11 @@
 -- What follows of it that an event isn't refused.
 use Rattle.std.proofs.Common.{◌≡◌, ℕ, Bool, true, false, Option, Some, None, refl, ap}
-use Rattle.std.specs.Prelude.{◌&&◌, not}
+use Rattle.std.proofs.lemmas.Bool.{eqb-true, not-true}
 use Rattle.protocol.specs.Nodes.{Node}
 use Rattle.protocol.specs.Tables.{Run, Worker, Ready, Out, Phase, Waits, HasEnded, HasFaulted}
 use Rattle.protocol.specs.Whole.{Whole, node_at, worker_at}
 use Rattle.protocol.specs.Events.{is_live_node, is_live_worker}
 use Rattle.protocol.specs.Refusals.{is_dead_node, is_dead_worker, is_job, is_ready_phase, is_ready_run, job_in_phase, job_in_run, or_code, unless}
-use Rattle.protocol_legal.proofs.FrameLists.{eq_true}
 
 pub or_none : (a b : Option ℕ) → or_code a b ≡ None → (a ≡ None) × (b ≡ None)
 or_none None b h = (refl, h)
@@ -15,14 +14,6 @@ or_none (Some a) b h = absurd (cc)
 pub unless_none : (t : Bool) (code : ℕ) → unless t code ≡ None → t ≡ true
 unless_none true code h = refl
 unless_none false code h = absurd (cc)
-
-pub and_parts : (a b : Bool) → (a && b) ≡ true → (a ≡ true) × (b ≡ true)
-and_parts true b h = (refl, h)
-and_parts false b h = absurd (cc)
-
-pub not_true : (t : Bool) → not t ≡ true → t ≡ false
-not_true true g = absurd (cc)
-not_true false g = refl
 
 -- ---- the living and the dead
 
@@ -49,7 +40,7 @@ module _ (c : Whole) where
     where
       go : (o : Option Worker) → worker_at c w ≡ o → is_dead_worker o ≡ true → WorkerThere c w false
       go None e l = absurd (cc)
-      go (Some x) e l = record { worker = x; at = e; lives = not_true x.is_live l }
+      go (Some x) e l = record { worker = x; at = e; lives = not-true x.is_live l }
 
   pub live_node : (n : ℕ) → is_live_node (node_at c n) ≡ true → NodeThere c n true
   live_node n h = go (node_at c n) refl h
@@ -63,7 +54,7 @@ module _ (c : Whole) where
     where
       go : (o : Option Node) → node_at c n ≡ o → is_dead_node o ≡ true → NodeThere c n false
       go None e l = absurd (cc)
-      go (Some x) e l = record { node = x; at = e; lives = not_true x.is_live l }
+      go (Some x) e l = record { node = x; at = e; lives = not-true x.is_live l }
 
 -- ---- attempts
 
@@ -84,7 +75,7 @@ out_run (Some run) j h = (run, refl, phase run.phase h)
   where
     phase : (p : Phase) → is_job (job_in_phase p) j ≡ true → p ≡ Out j
     phase Ready g = absurd (cc)
-    phase (Out i) g = ap Out (eq_true i j g)
+    phase (Out i) g = ap Out (eqb-true i j g)
     phase (Waits y k) g = absurd (cc)
     phase (HasEnded k) g = absurd (cc)
     phase (HasFaulted k) g = absurd (cc)

@@ -1,5 +1,5 @@
 -- Events one after the other, and what is asked of those who hand in what was done on a job.
-use Rattle.std.specs.Prelude.{◌≡◌, List, [], ◌∷◌, ◌++◌, Some, ℕ}
+use Rattle.std.specs.Prelude.{◌≡◌, List, [], ◌∷◌, ◌++◌, Some}
 use Rattle.event_log.specs.Entries.{Commit, Entry, Event}
 use Rattle.event_log.specs.Rules.{Setting}
 use Rattle.protocol.specs.Answers.{answer, logged, whole_after}
@@ -8,18 +8,13 @@ use Rattle.protocol.specs.Numbered.{item_at}
 use Rattle.protocol.specs.Tables.{Out, Run, Worker}
 use Rattle.protocol.specs.Whole.{Whole, worker_at}
 use Rattle.protocol_legal.specs.Done.{IsTrue}
+use Rattle.protocol_owed.specs.Runs.{Handing}
 
--- an event, the seat from which it comes, and what is handed in with it
-pub record Coming : Type 0 where
-  pub event : Event
-  pub seat : ℕ
-  pub handed : Handed
-
-abbrev pub log_after : List Entry → Whole → List Coming → List Entry
+abbrev pub log_after : List Entry → Whole → List Handing → List Entry
 log_after log c [] = log
 log_after log c (x ∷ xs) = log_after (log ++ logged x.event x.seat (answer c x.event x.handed)) (whole_after c (answer c x.event x.handed)) xs
 
-abbrev pub all_after : Whole → List Coming → Whole
+abbrev pub all_after : Whole → List Handing → Whole
 all_after c [] = c
 all_after c (x ∷ xs) = all_after (whole_after c (answer c x.event x.handed)) xs
 
@@ -30,6 +25,6 @@ IsRight s c (Commit j) (OfJob d) =
     item_at c.jobs j ≡ Some g → worker_at c g.worker ≡ Some x → x.run ≡ Some run → run.phase ≡ Out j → IsTrue s run d
 IsRight s c e handed = Unit {0}
 
-abbrev pub AllRight : Setting → Whole → List Coming → Type 0
+abbrev pub AllRight : Setting → Whole → List Handing → Type 0
 AllRight s c [] = Unit {0}
 AllRight s c (x ∷ xs) = IsRight s c x.event x.handed × AllRight s (whole_after c (answer c x.event x.handed)) xs

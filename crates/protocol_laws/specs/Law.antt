@@ -10,8 +10,9 @@ use Rattle.protocol.specs.Answers.{answer, logged, whole_after}
 use Rattle.protocol.specs.Jobs.{Handed}
 use Rattle.protocol.specs.Whole.{Whole, first_whole}
 use Rattle.protocol_legal.specs.Whole.{setting_of}
-use Rattle.protocol_laws.specs.Coming.{AllRight, Coming, IsRight, all_after, log_after}
+use Rattle.protocol_laws.specs.Coming.{AllRight, IsRight, all_after, log_after}
 use Rattle.protocol_laws.specs.Sound.{IsSound}
+use Rattle.protocol_owed.specs.Runs.{Handing}
 
 -- in a cluster that has a node a run begins sound
 abbrev pub OpeningIsSound : Type 0
@@ -30,7 +31,7 @@ SoundIsLegal = (s : Setting) (log : List Entry) (c : Whole) → IsSound s log c 
 -- whatever list of events comes, the log that the protocol writes of it is legal
 abbrev pub ProtocolStaysLegal : Type 0
 ProtocolStaysLegal =
-    (s : Setting) (slots : ℕ) → 0 < s.nodes → KeepsMainApart s.script → (xs : List Coming) → AllRight s (first_whole s.nodes slots) xs →
+    (s : Setting) (slots : ℕ) → 0 < s.nodes → KeepsMainApart s.script → (xs : List Handing) → AllRight s (first_whole s.nodes slots) xs →
     Legal (setting_of s (all_after (first_whole s.nodes slots) xs)) (log_after opening (first_whole s.nodes slots) xs)
 
 -- what is released behind the opening isn't held where it is released

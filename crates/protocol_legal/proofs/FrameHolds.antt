@@ -2,6 +2,7 @@
 use Rattle.std.proofs.Common.{◌≡◌, ℕ, ◌+◌, Bool, true, false, List, [], ◌∷◌, ◌++◌, Some, refl, subst}
 use Rattle.std.specs.Prelude.{if◌then◌else◌, ◌==◌}
 use Rattle.std.specs.List.{AllByRecursion}
+use Rattle.std.proofs.lemmas.Option.{same_Some}
 use Rattle.event_log.specs.Entries.{Deliver, Entry, In}
 use Rattle.event_log.specs.Rules.{Setting}
 use Rattle.event_log.proofs.Extending.{logs_extend}
@@ -12,7 +13,6 @@ use Rattle.numbered.proofs.Places.{counted}
 use Rattle.protocol_legal.specs.Past.{past}
 use Rattle.protocol_legal.specs.Says.{Says}
 use Rattle.protocol_legal.proofs.Growing.{says_grows}
-use Rattle.protocol_legal.proofs.FrameLists.{some_is}
 use Rattle.protocol_legal.proofs.FrameIn.{grows_silent, in_says_nothing}
 use Rattle.protocol_legal.proofs.FrameWorker as worker
 use Rattle.protocol_legal.proofs.FrameEnters as enters
@@ -32,7 +32,7 @@ item_said P [] i k l h g = absurd (cc)
 item_said P (x ∷ ls) i k l h g = one (i == k) g (item_said P ls (i + 1) k l h.1)
   where
     one : (t : Bool) → (if t then Some x else item_of (i + 1) ls k) ≡ Some l → (item_of (i + 1) ls k ≡ Some l → P l) → P l
-    one true e ih = subst P (some_is x l e) h.0
+    one true e ih = subst P (same_Some x l e) h.0
     one false e ih = ih e
 
 -- the worker is taken out of the whole, and put back

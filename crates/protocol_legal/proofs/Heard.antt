@@ -2,6 +2,7 @@
 use Rattle.std.proofs.Common.{◌≡◌, ℕ, true, false, List, [], ◌∷◌, ◌++◌, inl, inr, Option, Some, None, refl, sym, ap, ◌∙◌, subst, append-nil, append_assoc}
 use Rattle.std.specs.Prelude.{if◌then◌else◌, not}
 use Rattle.std.specs.List.{list_any}
+use Rattle.std.proofs.lemmas.Option.{same_Some}
 use Rattle.event_log.specs.Entries.{Event, Claim, Commit, Deliver, Tick, Notice, NoticeNode, Evict, Lose, Kill, KillNode, Join, Entry, In}
 use Rattle.event_log.specs.Events.{accepted_events, is_live, kills, node_of, on_node, refused_next, under_way}
 use Rattle.event_log.specs.Legal.{has_event}
@@ -9,7 +10,6 @@ use Rattle.event_log.specs.Rules.{Receiver, ToWorker, ToNode, worker_to, actor, 
 use Rattle.event_log.proofs.EventLaws.{accepted-event}
 use Rattle.event_log.proofs.Extending.{node_of-more}
 use Rattle.protocol_legal.proofs.FrameIn.{lives_more}
-use Rattle.protocol_legal.proofs.FrameLists.{some_is}
 
 to_worker : (r : Option Receiver) (w : ℕ) → worker_to r ≡ Some w → r ≡ Some (ToWorker w)
 to_worker None w h = absurd (cc)
@@ -31,7 +31,7 @@ heard_by s before Join w h k = tt
 
 -- an own event of a live worker
 pub heard_now : (s : Setting) (log : List Entry) (e : Event) (w : ℕ) → IsOwn s log w → under_way log ≡ Some e → IsHeard s log e
-heard_now s log e w own now = subst (IsHeard s log) (some_is own.event e (sym own.now ∙ now)) (heard_by s log own.event w own.own own.lives)
+heard_now s log e w own now = subst (IsHeard s log) (same_Some own.event e (sym own.now ∙ now)) (heard_by s log own.event w own.own own.lives)
 
 -- who lives was opened
 pub home_of_live : (log : List Entry) (w : ℕ) → is_live w log ≡ true → (n : ℕ) × (node_of w log ≡ Some n)

@@ -28,13 +28,13 @@ pub record Account : Type 0 where
 abbrev pub account_of : RunState → List ℕ → List ℕ → Account
 account_of c sent lines = record { log = c.log; messages = c.whole.network; sent = sent; lines = lines }
 
--- the timeline of a log, on one line
-abbrev pub timeline_text : List CodeEntry → List ℕ
-timeline_text log = compact_text (timeline_data log) ++ codes "\n"
+-- the timeline of a log with its messages, on one line
+abbrev pub timeline_text : List CodeEntry → List Letter → List ℕ → List ℕ
+timeline_text log messages sent = compact_text (timeline_data log messages sent) ++ codes "\n"
 
 -- a timeline is made of entries as the code has them, and the log is what they stand for
-abbrev pub IsTimelineOf : List Entry → List ℕ → Type 0
-IsTimelineOf log text = (entries : List CodeEntry) × (log_of entries ≡ log) × (text ≡ timeline_text entries)
+abbrev pub IsTimelineOf : Account → List ℕ → Type 0
+IsTimelineOf a text = (entries : List CodeEntry) × (log_of entries ≡ a.log) × (text ≡ timeline_text entries a.messages a.sent)
 
 abbrev pub IsReportIn : Form → Account → List ℕ → Type 0
 IsReportIn forms.Text a text = text ≡ report_text a.log
@@ -43,5 +43,5 @@ IsReportIn forms.Log a text = text ≡ log_text a.log
 IsReportIn forms.LogWithMessages a text = text ≡ log_with_messages a.log a.messages a.sent
 IsReportIn (forms.Why o) a text = text ≡ why_text a.log a.lines (id_of o)
 IsReportIn forms.WhyMain a text = text ≡ why_main_text a.log a.lines
-IsReportIn forms.Timeline a text = IsTimelineOf a.log text
+IsReportIn forms.Timeline a text = IsTimelineOf a text
 IsReportIn forms.Lineage a text = text ≡ lineage_text a.log

@@ -64,7 +64,14 @@ pub fn report<S: ScriptName>(
         }
         Form::Why(object) => why_text(alloc, board.log(), lines.as_slice(), object),
         Form::WhyMain => why_main_text(alloc, board.log(), lines.as_slice()),
-        Form::Timeline => timeline_json(alloc, board.log()),
+        Form::Timeline => {
+            timeline_json(
+                alloc,
+                board.log(),
+                board.messages().as_slice(),
+                sent.as_slice(),
+            )
+        }
         Form::Lineage => lineage_text(alloc, board.log()),
     }
 }

@@ -1,6 +1,6 @@
 // Lines and columns of a text.
 
-ghost use Rattle.std.specs.Prelude.{◌≡◌, ◌≤◌, length, take, drop, All, ◌≢◌};
+ghost use Rattle.std.specs.Prelude.{◌≡◌, ◌≤◌, length, take, drop, All, ◌≢◌, IfSome, slice_get};
 ghost use Rattle.raysim_explain.specs.Places.{place_in};
 
 /// A place in a text: its line and its column, both counted from 1, the column in bytes; and where its line begins, in
@@ -45,6 +45,8 @@ pub fn line_at(text: &[u8], at: usize) -> &[u8]
     ensures begins { result.now ≡ take (length result.now) (drop (place_in text.now at).start text.now) }
     // It has no line feed.
     ensures one { All (λ b. b ≢ 10) result.now }
+    // What stands behind it, if anything, is a line feed.
+    ensures whole { IfSome (slice_get (drop (place_in text.now at).start text.now) (length result.now)) (λ b. b ≡ 10) }
 {
     let rest = &text[place_of(text, at).start..];
     let mut end = 0;

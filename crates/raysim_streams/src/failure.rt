@@ -1,6 +1,6 @@
 // What a read or a write that failed is called, and when one has.
 
-ghost use Rattle.std.specs.Prelude.{◌≡◌, true, OnErr};
+ghost use Rattle.std.specs.Prelude.{◌≡◌, true, OnErr, OnOk};
 ghost use Rattle.raysim_streams.specs.Settled.{failure_by, settled};
 
 use std::io;
@@ -39,6 +39,7 @@ pub fn settle(
 ) -> Result<usize, Failure>
     ensures settled { result ≡ settled done least side }
     ensures failed { OnErr result (failed.new ≡ true) }
+    ensures unfailed { OnOk result (failed.new ≡ failed.old) }
 {
     match done {
         Ok(n) if n >= least => Ok(n),

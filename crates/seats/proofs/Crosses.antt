@@ -25,6 +25,8 @@ use Rattle.script_syntax.proofs.tree.ValueType.TheLaws.TheKnot as kinds
 use Rattle.script_check.proofs.tree.CheckedExpr.TheLaws.TheKnot as exprs
 use Rattle.script_check.proofs.tree.CheckedStatement.TheLaws.TheKnot as statements
 use Rattle.script_check.specs.contracts.checked.Checked as Checked
+use Rattle.frame_code.specs.contracts.instruction.Code as Code
+use Rattle.frame_code.specs.contracts.instruction.Instruction as Instruction
 use Rattle.frames.specs.contracts.compiled.Compiled as Compiled
 use Rattle.segment.specs.declared.script_name.ScriptName as script_name
 use Rattle.protocol_data.proofs.message.Party.TheSendSync as party
@@ -43,9 +45,15 @@ use Rattle.seats.specs.contracts.shared.Shared as Shared
 pub checked_sync : IsSync Checked.the_row
 checked_sync = search (exprs.crosses, statements.crosses, kinds.crosses, crosses, sendable) depth 60 fits 20000
 
+instruction_sync : IsSync Instruction.the_field.row
+instruction_sync = search (crosses, sendable) depth 60 fits 20000
+
+code_sync : IsSync Code.the_field.row
+code_sync = search (instruction_sync, crosses, sendable) depth 60 fits 20000
+
 -- a script with its code
 pub compiled_sync : IsSync Compiled.the_row
-compiled_sync = search (checked_sync, exprs.crosses, statements.crosses, kinds.crosses, crosses, sendable) depth 60 fits 20000
+compiled_sync = search (checked_sync, code_sync, crosses, sendable) depth 60 fits 20000
 
 content_send : IsSend Content.the_row
 content_send = search (value.crosses, crosses, sendable) depth 60 fits 20000

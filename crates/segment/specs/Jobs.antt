@@ -13,6 +13,7 @@ use Rattle.values.specs.declared.content.Content.{Content}
 use Rattle.values.specs.Values.{value_of, content_of, id_of}
 use Rattle.task_spec.specs.declared.birth.Birth.{Birth}
 use Rattle.task_spec.specs.Births.{birth_of}
+use Rattle.frame_laws.specs.Steps.{HasSteps}
 use Rattle.evaluation.specs.declared.piece.Stop.{Stop}
 use Rattle.evaluation.specs.Pieces.{stop_of}
 
@@ -32,20 +33,6 @@ pub record Done : Type 0 where
   pub births : List Birth
   pub prints : List RunValue
   pub stop : Stop
-
--- the two have the same task, and did and were answered the same
-pub record HasSameHistory (j k : JobData) : Type 0 where
-  pub spec : birth_of j.spec ≡ birth_of k.spec
-  pub births : map birth_of j.births ≡ map birth_of k.births
-  pub printed : map value_of j.printed ≡ map value_of k.printed
-  pub answers : map content_of j.answers ≡ map content_of k.answers
-
--- the two are the same job
-pub record IsSameJob (j k : JobData) : Type 0 where
-  pub number : j.number ≡ k.number
-  pub attempt : j.attempt ≡ k.attempt
-  pub base : j.base ≡ k.base
-  pub history : HasSameHistory j k
 
 -- what the job's task does on the job's answers
 abbrev pub replay_of : Script → JobData → Piece
@@ -81,3 +68,7 @@ pub record IsBegun (script : Script) (j : JobData) : Type 0 where
 -- what was done is true of its job: with what the job had, it is the whole replay
 abbrev pub IsTrueOf : Script → Done → Type 0
 IsTrueOf script d = replay_of script d.job ≡ whole_of d
+
+-- the job's task began so many steps from its last stop, which was at the get of the last of the job's answers, up to where it stops
+abbrev pub HasStepsOf : Script → JobData → ℕ → Type 0
+HasStepsOf script j steps = HasSteps script (birth_of j.spec) (id_of j.base) (map content_of j.answers) steps

@@ -2,7 +2,7 @@
 
 ghost use Rattle.std.specs.Prelude.{◌≡◌, IfSome};
 ghost use Rattle.evaluation.specs.Pieces.{piece_of};
-ghost use Rattle.segment.specs.Jobs.{IsTrueOf};
+ghost use Rattle.segment.specs.Jobs.{IsTrueOf, HasStepsOf};
 ghost use Rattle.segment.specs.Frames.{WaitsAfter};
 ghost use Rattle.segment.specs.Parts.{data_of};
 ghost use Rattle.segment.specs.Pieces.{done_of};
@@ -39,7 +39,7 @@ impl<S: ScriptName> Model for Done<S> {
     ghost use Rattle.std.specs.Coded.{codes};
     ghost use Rattle.values.specs.contracts.value.RunValue as run_values;
     ghost use Rattle.std.specs.Prelude.{IfSome};
-    ghost use Rattle.segment.specs.Jobs.{Done, IsTrueOf};
+    ghost use Rattle.segment.specs.Jobs.{Done, IsTrueOf, HasStepsOf};
     ghost use Rattle.segment.specs.Frames.{WaitsAfter};
     ghost use Rattle.segment.specs.Pieces.{done_of};
 
@@ -49,7 +49,8 @@ impl<S: ScriptName> Model for Done<S> {
 
     ghost view = { λ d. done_of d.job d.piece };
 
-    ghost invariant = { λ d. IsTrueOf S.script (done_of d.job d.piece) × IfSome d.piece.frame (WaitsAfter S.script (done_of d.job d.piece)) };
+    ghost invariant = { λ d. IsTrueOf S.script (done_of d.job d.piece) × IfSome d.piece.frame (WaitsAfter S.script (done_of d.job d.piece))
+        × HasStepsOf S.script d.job d.piece.steps };
 }
 
 impl<S: ScriptName> Done<S> {
@@ -57,6 +58,7 @@ impl<S: ScriptName> Done<S> {
     pub(crate) fn new(job: Job<S>, piece: Piece) -> Done<S>
         requires is_true { IsTrueOf S.script (done_of job piece) }
         requires waits { IfSome piece.frame (WaitsAfter S.script (done_of job piece)) }
+        requires counts { HasStepsOf S.script job piece.steps }
         ensures { result ≡ done_of job piece }
     {
         Done { job, piece }
@@ -91,6 +93,14 @@ impl<S: ScriptName> Done<S> {
         &self.piece.stop
     }
 
+    /// How many steps the attempt began since its last stop: statements, and expressions but for parentheses, each when it begins. The last stop
+    /// was at the get of the last of the job's answers; where it has none, all are counted. At 2^64 - 1 the count stays. Takes no memory.
+    pub fn steps(&self) -> u64
+        ensures { HasStepsOf S.script self.now.job result }
+    {
+        self.piece.steps
+    }
+
     /// Takes the frame from which the task goes on, if there is one, and leaves the rest as it is.
     pub fn take_frame(&mut self) -> Option<Frame>
         ensures waits { IfSome result (WaitsAfter S.script self.old) }
@@ -113,6 +123,7 @@ impl<S: ScriptName> Done<S> {
             prints,
             stop,
             frame: _,
+            steps: _,
         } = piece;
         DoneParts {
             job: job.into_parts(),

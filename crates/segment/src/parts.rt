@@ -1,11 +1,11 @@
 // What a job has.
 
-ghost use Rattle.std.specs.Prelude.{◌≡◌, IfOk, IfErr, IfSome, drop, true};
+ghost use Rattle.std.specs.Prelude.{◌≡◌, IfOk, IfErr, IfSome, drop};
 ghost use Rattle.meaning.specs.Values.{Trapped, Broken};
 ghost use Rattle.meaning.specs.Runs.{Over};
 ghost use Rattle.script_check.specs.Trees.{script_of};
 ghost use Rattle.evaluation.specs.Pieces.{piece_of};
-ghost use Rattle.segment.specs.Jobs.{replay_of, beyond, HasSameHistory, IsBegun, IsSameJob, IsTrueOf};
+ghost use Rattle.segment.specs.Jobs.{replay_of, beyond, HasStepsOf, IsBegun, IsTrueOf};
 ghost use Rattle.segment.specs.Frames.{Fits, WaitsAfter};
 ghost use Rattle.segment.specs.Parts.{data_of};
 ghost use Rattle.segment.specs.Pieces.{done_of};
@@ -13,8 +13,8 @@ ghost use Rattle.segment.specs.Pieces.{done_of};
 use evaluation::{Compiled, Frame, Piece, PieceError, go_on, run_piece};
 use ids::{AttemptId, ObjectId};
 use std::alloc::{AllocError, Global};
-use task_spec::{Birth, are_same_births};
-use values::{Content, RunValue, are_same_contents, are_same_values};
+use task_spec::Birth;
+use values::{Content, RunValue};
 
 /// The parts of a job.
 #[derive(Drop)]
@@ -45,28 +45,6 @@ fn items_after<T: Drop>(items: Vec<T>, count: usize) -> Result<Vec<T>, AllocErro
 }
 
 impl JobParts {
-    /// Whether the other parts are those of the same job.
-    pub fn is_same(&self, other: &JobParts) -> bool
-        ensures same { result ≡ true → IsSameJob (data_of self.now) (data_of other.now) }
-        ensures only { IsSameJob (data_of self.now) (data_of other.now) → result ≡ true }
-    {
-        self.number == other.number
-            && self.attempt == other.attempt
-            && self.base == other.base
-            && self.has_same_history(other)
-    }
-
-    /// Whether the other job has the same task, births, prints and answers.
-    fn has_same_history(&self, other: &JobParts) -> bool
-        ensures same { result ≡ true → HasSameHistory (data_of self.now) (data_of other.now) }
-        ensures only { HasSameHistory (data_of self.now) (data_of other.now) → result ≡ true }
-    {
-        self.spec.is_same(&other.spec)
-            && are_same_births(&self.births, &other.births)
-            && are_same_values(&self.printed, &other.printed)
-            && are_same_contents(&self.answers, &other.answers)
-    }
-
     /// Runs the task from its start on the answers, and gives what it bears and prints beyond what it bore and printed before. What the
     /// run makes again is dropped.
     fn run_again(&self, alloc: Global, script: &Compiled) -> Result<Piece, PieceError>
@@ -74,6 +52,7 @@ impl JobParts {
         ensures broken { IfErr result (λ e. e ≡ PieceError.Broken → (replay_of (script_of script.now) (data_of self.now)).stop ≡ Over (Trapped Broken)) }
         ensures waits { IfOk result (λ p. IsTrueOf (script_of script.now) (done_of (data_of self.now) p) →
             IfSome p.frame (WaitsAfter (script_of script.now) (done_of (data_of self.now) p))) }
+        ensures counts { IfOk result (λ p. HasStepsOf (script_of script.now) (data_of self.now) p.steps) }
     {
         let piece = run_piece(alloc, script, &self.spec, self.base, &self.answers)?;
         let births = items_after(piece.births, self.births.len())?;
@@ -83,6 +62,7 @@ impl JobParts {
             prints,
             stop: piece.stop,
             frame: piece.frame,
+            steps: piece.steps,
         })
     }
 
@@ -98,6 +78,7 @@ impl JobParts {
         ensures whole { IfOk result (λ p. IsTrueOf (script_of script.now) (done_of (data_of self.now) p)) }
         ensures broken { IfErr result (λ e. e ≡ PieceError.Broken → (replay_of (script_of script.now) (data_of self.now)).stop ≡ Over (Trapped Broken)) }
         ensures waits { IfOk result (λ p. IfSome p.frame (WaitsAfter (script_of script.now) (done_of (data_of self.now) p))) }
+        ensures counts { IfOk result (λ p. HasStepsOf (script_of script.now) (data_of self.now) p.steps) }
     {
         let Some(frame) = frame else {
             return self.run_again(alloc, script);

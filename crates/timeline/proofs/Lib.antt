@@ -1,1 +1,2 @@
+mod Beginning
 mod Floats

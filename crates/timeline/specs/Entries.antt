@@ -4,13 +4,16 @@ use Rattle.std.specs.List.{flat_map}
 use Rattle.serde_json.specs.Data.{Data}
 use Rattle.meaning.specs.Births.{Bearing}
 use Rattle.event_log.specs.Events.{refused_next}
-use Rattle.event_log.specs.Views.{entry_of, log_of}
+use Rattle.event_log.specs.Views.{log_of}
 use Rattle.event_log.specs.declared.entry.Entry.{Entry}
-use Rattle.log_words.specs.Told.{Told, told_after}
+use Rattle.log_words.specs.Told.{Told}
+use Rattle.protocol_data.specs.declared.message.Letter.{Letter}
 use Rattle.timeline.specs.declared.rows.Row.{Row}
 use Rattle.timeline.specs.Rows.{row_after, new_rows}
 use Rattle.timeline.specs.Marks.{entry_marks}
 use Rattle.timeline.specs.Endings.{row_data, open_data}
+use Rattle.timeline.specs.Told.{told_with}
+use Rattle.timeline.specs.Arrows.{entry_arrows}
 
 -- the spans that end in the rows, then the rest
 unfoldable pub entry_data : List Bearing → ℕ → List Row → Entry → Bool → List Data
@@ -19,13 +22,15 @@ entry_data births clock rows x refused = flat_map (row_data births clock x refus
 unfoldable pub rows_after : Told → List Row → Entry → Bool → List Row
 rows_after told rows x refused = map (row_after told x refused) rows ++ new_rows x
 
--- what has been told with the entry
-abbrev pub told_with : Told → Entry → List Entry → Told
-told_with told x rest = told_after told (entry_of x) (refused_next (log_of rest))
+-- with what it adds of messages, where `arrivals` has for each the event that delivered it first
+unfoldable pub whole_data : List Bearing → List Letter → List ℕ → List ℕ → ℕ → List Row → Entry → Bool → List Data
+whole_data births letters sent arrivals clock rows x refused =
+    entry_data births clock rows x refused ++ entry_arrows letters sent arrivals rows clock x refused
 
 -- `told` and `rows` are what stood before the entries
-abbrev pub entries_data : List Bearing → Told → List Row → List Entry → List Data
-entries_data births told rows [] = flat_map (open_data births told.events) rows
-entries_data births told rows (x ∷ rest) =
-    entry_data births (told_with told x rest).events rows x (refused_next (log_of rest))
-    ++ entries_data births (told_with told x rest) (rows_after (told_with told x rest) rows x (refused_next (log_of rest))) rest
+abbrev pub entries_data : List Bearing → List Letter → List ℕ → List ℕ → Told → List Row → List Entry → List Data
+entries_data births letters sent arrivals told rows [] = flat_map (open_data births told.events) rows
+entries_data births letters sent arrivals told rows (x ∷ rest) =
+    whole_data births letters sent arrivals (told_with told x rest).events rows x (refused_next (log_of rest))
+    ++ entries_data births letters sent arrivals (told_with told x rest)
+    (rows_after (told_with told x rest) rows x (refused_next (log_of rest))) rest

@@ -2,5 +2,11 @@ pub mod Rows
 pub mod Spans
 pub mod Marks
 pub mod Endings
+pub mod Nodes
+pub mod Places
+pub mod Parties
+pub mod Told
+pub mod Arrivals
+pub mod Arrows
 pub mod Entries
 pub mod Text

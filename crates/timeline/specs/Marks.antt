@@ -3,13 +3,13 @@ use Rattle.std.specs.Prelude.{ℕ, Bool, if◌then◌else◌, List, [], ◌∷�
 use Rattle.serde_json.specs.Data.{Data, number, unsigned, string, object, member, no_members}
 use Rattle.values.specs.Values.{id_of}
 use Rattle.report.specs.Values.{id_text}
-use Rattle.ids.specs.Texts.{worker_text, node_text}
+use Rattle.ids.specs.Texts.{worker_text}
 use Rattle.event_log.specs.declared.event.Event.{Event}
 use Rattle.event_log.specs.declared.event.Event.TheVariants.{Lose, KillNode}
 use Rattle.event_log.specs.declared.entry.Entry.{Entry}
 use Rattle.event_log.specs.declared.entry.Entry.TheVariants.{In, Opened}
 
--- the name of a node, or of a worker's row
+-- the name of a node, or of a row
 abbrev pub name_data : List ℕ → List ℕ → ℕ → ℕ → Data
 name_data name kind node worker =
     object (member (codes "args") (object (member (codes "name") (string name) no_members)) (member (codes "name") (string kind)
@@ -29,7 +29,6 @@ event_marks clock _ = []
 
 -- what an entry adds in no worker's row
 abbrev pub entry_marks : ℕ → Entry → Bool → List Data
-entry_marks clock (Opened w n) refused =
-    name_data (node_text n) (codes "process_name") n.0 0 ∷ name_data (worker_text w) (codes "thread_name") n.0 w.0 ∷ []
+entry_marks clock (Opened w n) refused = name_data (worker_text w) (codes "thread_name") n.0 w.0 ∷ []
 entry_marks clock (In e seat) refused = if refused then [] else event_marks clock e
 entry_marks clock _ refused = []

@@ -8,13 +8,15 @@ ghost use Rattle.event_log.specs.Views.{log_of};
 ghost use Rattle.log_words.specs.Index.{IsIndexOf};
 ghost use Rattle.log_words.specs.Told.{nothing_told, told_of};
 ghost use Rattle.timeline.specs.Endings.{open_data, row_data};
-ghost use Rattle.timeline.specs.Entries.{entries_data, entry_data};
+ghost use Rattle.timeline.specs.Entries.{entries_data, entry_data, whole_data};
 
+use crate::arrows::add_arrows;
 use crate::endings::{add_open, add_row};
 use crate::marks::add_marks;
 use crate::rows::{Row, rows_after};
 use event_log::Entry;
 use log_words::{BirthIndex, Told, is_refusal_at};
+use protocol_data::Letter;
 use serde_json::Value;
 use std::alloc::{AllocError, Global};
 
@@ -55,6 +57,30 @@ fn add_entry(
     add_marks(alloc, all, clock, entry, is_refused)
 }
 
+/// Adds what an entry adds in the rows, and then what it adds of messages.
+#[tactic(auto, unfolding(crate::specs::Entries::whole_data))]
+fn add_whole(
+    alloc: Global,
+    all: &mut Vec<Value>,
+    index: &BirthIndex,
+    log: &[Entry],
+    letters: &[Letter],
+    sent: &[usize],
+    arrivals: &[usize],
+    clock: usize,
+    rows: &[Row],
+    entry: &Entry,
+    is_refused: bool,
+) -> Result<(), AllocError>
+    ensures { IsIndexOf index.now log.now → OnOk result (map view all.new.items ≡ map view all.old.items
+        ++ whole_data (births (log_of log.now)) letters.now sent.now arrivals.now clock rows.now entry.now is_refused) }
+{
+    add_entry(alloc, all, index, log, clock, rows, entry, is_refused)?;
+    add_arrows(
+        alloc, all, letters, sent, arrivals, rows, clock, entry, is_refused,
+    )
+}
+
 fn add_all_open(
     alloc: Global,
     all: &mut Vec<Value>,
@@ -72,22 +98,32 @@ fn add_all_open(
     Ok(())
 }
 
-/// What the entries of a log add.
-pub fn entries_json(alloc: Global, log: &[Entry]) -> Result<Vec<Value>, AllocError>
-    ensures { IfOk result (λ all. map view all.items ≡ entries_data (births (log_of log.now)) nothing_told [] log.now) }
+/// What the entries of a log add, where `arrivals` has for each message the event that delivered it first.
+pub fn add_entries(
+    alloc: Global,
+    all: &mut Vec<Value>,
+    log: &[Entry],
+    letters: &[Letter],
+    sent: &[usize],
+    arrivals: &[usize],
+) -> Result<(), AllocError>
+    ensures { OnOk result (map view all.new.items ≡ map view all.old.items
+        ++ entries_data (births (log_of log.now)) letters.now sent.now arrivals.now nothing_told [] log.now) }
 {
     let index = BirthIndex::of(alloc, log)?;
-    let mut all = Vec::new(alloc);
     let mut told = Told::new(alloc);
     let mut rows = Vec::new(alloc);
     for (place, entry) in log.iter().enumerate() {
         let is_refused = is_refusal_at(log, place + 1);
         told.note(entry, is_refused)?;
-        add_entry(
+        add_whole(
             alloc,
-            &mut all,
+            all,
             &index,
             log,
+            letters,
+            sent,
+            arrivals,
             told.events,
             &rows,
             entry,
@@ -95,6 +131,5 @@ pub fn entries_json(alloc: Global, log: &[Entry]) -> Result<Vec<Value>, AllocErr
         )?;
         rows = rows_after(alloc, &told, entry, is_refused, &rows)?;
     }
-    add_all_open(alloc, &mut all, &index, log, told.events, &rows)?;
-    Ok(all)
+    add_all_open(alloc, all, &index, log, told.events, &rows)
 }

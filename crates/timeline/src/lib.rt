@@ -1,9 +1,14 @@
-//! A log as a timeline, for viewers of Chrome's trace events.
+//! A run as a timeline, for viewers of Chrome's trace events.
 #![tactic(auto)]
 
+mod arrivals;
+mod arrows;
 mod endings;
 mod entries;
 mod marks;
+mod nodes;
+mod parties;
+mod places;
 mod rows;
 mod spans;
 mod text;

@@ -2,7 +2,7 @@
 
 ghost use Rattle.std.specs.Prelude.{◌≡◌, ◌++◌, ◌∷◌, [], IfOk, OnOk, codes, map, string_bytes};
 ghost use Rattle.serde_json.specs.View.{view};
-ghost use Rattle.ids.specs.Texts.{node_text, worker_text};
+ghost use Rattle.ids.specs.Texts.{worker_text};
 ghost use Rattle.values.specs.Values.{id_of};
 ghost use Rattle.report.specs.Values.{id_text};
 ghost use Rattle.timeline.specs.Marks.{entry_marks, event_marks, mark_data, name_data};
@@ -12,20 +12,21 @@ use ids::{NodeId, ObjectId, WorkerId};
 use serde_json::{Value, json};
 use std::alloc::{AllocError, Global};
 
-fn name_json(
+/// The name of a node, or of a row.
+pub fn name_json(
     alloc: Global,
     name: &str,
     kind: &str,
-    node: NodeId,
+    node: u32,
     worker: u32,
 ) -> Result<Value, AllocError>
-    ensures { IfOk result (λ v. view v ≡ name_data name.now kind.now node.0 worker) }
+    ensures { IfOk result (λ v. view v ≡ name_data name.now kind.now node worker) }
 {
     json!(in alloc; {
         "args": {"name": name},
         "name": kind,
         "ph": "M",
-        "pid": node.0,
+        "pid": node,
         "tid": worker
     })
 }
@@ -51,12 +52,6 @@ pub fn mark_json(
         "tid": worker,
         "ts": time
     })
-}
-
-fn node_name(alloc: Global, node: NodeId) -> Result<String, AllocError>
-    ensures { IfOk result (λ s. string_bytes s ≡ node_text node) }
-{
-    format!(in alloc; "{node}")
 }
 
 fn worker_name(alloc: Global, worker: WorkerId) -> Result<String, AllocError>
@@ -89,19 +84,18 @@ fn add_event_marks(
     }
 }
 
-fn add_names(
+fn add_name(
     alloc: Global,
     all: &mut Vec<Value>,
     worker: WorkerId,
     node: NodeId,
 ) -> Result<(), AllocError>
     ensures { OnOk result (map view all.new.items ≡ map view all.old.items
-        ++ (name_data (node_text node) (codes "process_name") node.0 0 ∷ name_data (worker_text worker) (codes "thread_name") node.0 worker.0 ∷ [])) }
+        ++ (name_data (worker_text worker) (codes "thread_name") node.0 worker.0 ∷ [])) }
 {
-    let name = node_name(alloc, node)?;
-    all.push(name_json(alloc, name.as_str(), "process_name", node, 0)?)?;
     let name = worker_name(alloc, worker)?;
-    all.push(name_json(alloc, name.as_str(), "thread_name", node, worker.0)?)?;
+    let name = name_json(alloc, name.as_str(), "thread_name", node.0, worker.0)?;
+    all.push(name)?;
     Ok(())
 }
 
@@ -116,7 +110,7 @@ pub fn add_marks(
     ensures { OnOk result (map view all.new.items ≡ map view all.old.items ++ entry_marks clock entry.now is_refused) }
 {
     match entry {
-        Entry::Opened { worker, node } => add_names(alloc, all, *worker, *node),
+        Entry::Opened { worker, node } => add_name(alloc, all, *worker, *node),
         Entry::In { event, .. } => {
             if is_refused {
                 return Ok(());

@@ -1,9 +1,10 @@
-use Rattle.std.proofs.Common.{◌≡◌, List, [], ◌∷◌, ◌++◌, map, refl, sym, ap, ◌∙◌}
+use Rattle.std.proofs.Common.{◌≡◌, List, [], ◌∷◌, ◌++◌, map, refl, sym, ap, ◌∙◌, subst}
 use Rattle.meaning.specs.Values as meant
 use Rattle.meaning.specs.Meaning.{replay}
 use Rattle.script_check.specs.Trees.{script_of}
 use Rattle.values.specs.Values.{value_of, content_of}
 use Rattle.task_spec.specs.Births.{birth_of}
+use Rattle.frame_laws.specs.Steps.{HasSteps}
 use Rattle.frame_laws.specs.Resuming.{after}
 use Rattle.frames.proofs.Doing.{if_ok, on_err}
 use Rattle.evaluation.specs.Pieces.{answered_so, past_of, stop_of}
@@ -41,3 +42,13 @@ returns-clause-keeps c =
     kept_so p c.in_ok-attempt.attempt of script (birth_of spec) (birth_of spec) base (past_of before) _ _ refl (ap (λ o. o ∷ []) c.in_ok-answer.ensures) frame
     (c.in_ok-attempt.ensures.keeps (birth_of spec) base (past_of before) waiting))
     c.finish.ensures.value c.finish.ensures.frame
+
+pub returns-clause-counts : goal.returns-clause-counts
+returns-clause-counts c =
+    let script = script_of c.args.script.now in
+    both_ok _ _ _ c.finish.result
+    (λ p of steps spec base before waiting.
+    subst (HasSteps script (birth_of spec) base (answered_so before c.args.answer.now)) (sym steps)
+    (subst (λ o. HasSteps script (birth_of spec) base (map content_of before.answers ++ o ∷ []) c.in_ok-attempt.attempt.steps) c.in_ok-answer.ensures
+    (c.in_ok-attempt.ensures.counts (birth_of spec) base (past_of before) waiting (stop_of p.stop) of.stop)))
+    c.finish.ensures.value c.finish.ensures.steps

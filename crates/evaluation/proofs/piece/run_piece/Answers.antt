@@ -1,10 +1,11 @@
-use Rattle.std.proofs.Common.{◌≡◌, ◌∙◌, List, map, sym, ap}
+use Rattle.std.proofs.Common.{◌≡◌, ◌∙◌, List, map, sym, ap, subst}
 use Rattle.meaning.specs.Values as meant
 use Rattle.meaning.specs.Values.{Name, Task}
 use Rattle.meaning.specs.Meaning.{replay}
 use Rattle.script_check.specs.Trees.{script_of}
 use Rattle.values.specs.Values.{content_of, id_of}
 use Rattle.task_spec.specs.Births.{argument_of as task_argument, birth_of}
+use Rattle.frame_laws.specs.Steps.{HasSteps}
 use Rattle.frames.specs.Values.{outcome_of}
 use Rattle.frames.specs.Machines.{argument_of}
 use Rattle.frames.specs.Courses.{no_past}
@@ -63,3 +64,20 @@ returns-in_ok-attempt-in-Task-clause-keeps c =
     (birth_of c.args.spec.now) (id_of c.args.base) no_past (map outcome_of c.in_ok-answers-in-Task.answers.items) answers is c.in_ok-answers-in-Task.ensures
     frame (c.in_ok-attempt-in-Task.ensures.keeps c.in-Task.retries))
     c.finish.ensures.value c.finish.ensures.frame
+
+pub returns-in_ok-attempt-in-Task-clause-counts : goal.returns-in_ok-attempt-in-Task-clause-counts
+returns-in_ok-attempt-in-Task-clause-counts c =
+    let task = λ (g : Name) (args : List meant.Argument). Task g args c.in-Task.depth c.in-Task.retries in
+    let script = script_of c.args.script.now in
+    let base = id_of c.args.base in
+    let a = c.in_ok-attempt-in-Task.attempt in
+    let is : birth_of c.args.spec.now ≡ task c.as_str.result.now (map argument_of c.deref-in-Task.result.now) =
+    ap birth_of c.in-Task.is ∙ ap (λ g. task g (map task_argument c.in-Task.arguments.items)) (sym c.as_str.ensures.value)
+    ∙ ap (λ xs. task c.as_str.result.now (map task_argument xs)) (sym c.deref.ensures.value)
+    ∙ ap (task c.as_str.result.now) (sym c.in_ok-arguments-in-Task.ensures ∙ ap (map argument_of) (sym c.deref-in-Task.ensures.value)) in
+    both_ok _ _ _ c.finish.result
+    (λ p of steps. subst (HasSteps script (birth_of c.args.spec.now) base (map content_of c.args.answers.now)) (sym steps)
+    (subst (λ os. HasSteps script (birth_of c.args.spec.now) base os a.steps) c.in_ok-answers-in-Task.ensures
+    (subst (λ b. HasSteps script b base (map outcome_of c.in_ok-answers-in-Task.answers.items) a.steps) (sym is)
+    (c.in_ok-attempt-in-Task.ensures.counts c.in-Task.retries (stop_of p.stop) of.stop))))
+    c.finish.ensures.value c.finish.ensures.steps

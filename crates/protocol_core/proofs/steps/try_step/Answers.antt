@@ -1,4 +1,4 @@
-use Rattle.std.proofs.Common.{◌≡◌, Some, sym, ap, ◌∙◌, subst, IfSome, map}
+use Rattle.std.proofs.Common.{◌≡◌, Some, sym, ap, ◌∙◌, subst, IfSome, IfNone, map}
 use Rattle.event_log.specs.Views.{entry_of, event_of}
 use Rattle.segment.specs.Parts as parts
 use Rattle.protocol.specs.Answers.{answer}
@@ -7,7 +7,8 @@ use Rattle.answers.specs.declared.reply.Outcome.TheVariants.{Taken}
 use Rattle.protocol_core.specs.Steps.{Accepts, GivesJob}
 use Rattle.protocol_core.specs.Steps as told
 use Rattle.protocol_core.specs.Views.{data_of, state_of}
-use Rattle.protocol_core.proofs.Kept.{came, applies, kept_behind, begun_behind, tells_refused, tells_job}
+use Rattle.exchange.specs.Refusals.{HasUnknown}
+use Rattle.protocol_core.proofs.Kept.{came, applies, kept_behind, begun_behind, known_code, known_entries, tells_refused, tells_job}
 use Rattle.protocol_core.proofs.steps.try_step.Goals as goal
 
 pub returns-in-Refused-clause-applied : goal.returns-in-Refused-clause-applied
@@ -87,3 +88,17 @@ returns-clause-kept g c =
     c.happening_of-happening.ensures c.in_ok-handed.ensures.handed c.handed_with.ensures.is_true c.in_ok-reply.ensures.reply known
     c.in_ok-add-in-Taken-Some.ensures.ok (c.add-in-Taken-Some.ensures.whole ∙ c.in_ok-reply.ensures.whole) c.add-in-Taken-Some.ensures.nodes (c.add-in-Taken-Some.ensures.halted ∙ c.requires.goes_on) in
     kept_behind script before after e c.args.seat c.args.done c.in_ok-reply.reply.outcome c.requires.kept c.requires.goes_on c.event_keeps_sound.ensures c.sound_is_legal.ensures h
+
+pub unreachable-requires : goal.unreachable-requires
+unreachable-requires g c =
+    let unknown = subst (λ o. IfNone o (HasUnknown c.in_ok-reply.reply.entries)) c.in_default.is c.in_ok-logged.ensures.unknown in
+    known_entries g.S.ScriptName.script (state_of (data_of c.args.state.now)) (event_of c.args.event) (entries.event_of c.happening_of-happening.result)
+    c.args.seat c.args.done c.in_ok-handed.handed c.in_ok-reply.reply c.requires.kept c.requires.goes_on c.happening_of-happening.ensures
+    c.in_ok-handed.ensures.handed c.handed_with.ensures.is_true c.in_ok-reply.ensures.reply c.event_keeps_sound.ensures c.sound_is_legal.ensures unknown
+
+pub unreachable-requires-in_default-refusal_of : goal.unreachable-requires-in_default-refusal_of
+unreachable-requires-in_default-refusal_of g c =
+    known_code g.S.ScriptName.script (state_of (data_of c.args.state.now)) (event_of c.args.event) (entries.event_of c.happening_of-happening.result)
+    c.args.seat c.in-Refused.code c.args.done c.in_ok-handed.handed c.in_ok-reply.reply c.requires.kept c.requires.goes_on c.happening_of-happening.ensures
+    c.in_ok-handed.ensures.handed c.handed_with.ensures.is_true c.in_ok-reply.ensures.reply c.event_keeps_sound.ensures c.sound_is_legal.ensures
+    c.in-Refused.is c.in_default-refusal_of.ensures.unknown

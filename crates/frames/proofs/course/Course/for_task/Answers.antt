@@ -8,7 +8,7 @@ use Rattle.frames.proofs.Starting.{frame_starts}
 use Rattle.frames.proofs.course.Course.for_task.Goals as goal
 
 abbrev deeds : List meant.Birth → List meant.Value → meant.Id → Deeds
-deeds births prints id = record { births = births; prints = prints; next = id }
+deeds births prints id = record { births = births; prints = prints; next = id; steps = 0 }
 
 pub returns-clause-stands : goal.returns-clause-stands
 returns-clause-stands c script g f depth retries same numbered found count shallow =

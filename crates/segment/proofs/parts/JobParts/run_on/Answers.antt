@@ -1,9 +1,9 @@
-use Rattle.std.proofs.Common.{◌≡◌, IfOk, IfErr, IfSome, List, [], ◌∷◌, ◌++◌, map, Some, sym, ap, ◌∙◌, subst}
+use Rattle.std.proofs.Common.{◌≡◌, IfSome, [], ◌∷◌, ◌++◌, map, sym, ap, ◌∙◌, subst}
 use Rattle.meaning.specs.Meaning.{replay}
 use Rattle.script_check.specs.Trees.{script_of}
 use Rattle.values.specs.Values.{content_of, id_of}
-use Rattle.values.specs.declared.content.Content.{Content}
 use Rattle.task_spec.specs.Births.{birth_of}
+use Rattle.frame_laws.specs.Steps.{HasSteps}
 use Rattle.frames.specs.Frames.{IsWaiting}
 use Rattle.frames.proofs.Doing.{if_ok, on_err}
 use Rattle.evaluation.specs.Pieces.{answered_so, past_of}
@@ -78,3 +78,20 @@ returns-clause-waits c =
     (record { answers = cs; births = (whole_of (done_of j p)).births; prints = (whole_of (done_of j p)).prints })))
     (sym answers) (keeps j.spec (id_of j.base) (before_of j rest) waits))
     c.go_on.ensures.keeps
+
+pub returns-clause-counts : goal.returns-clause-counts
+returns-clause-counts c =
+    let j = data_of c.args.self.now in
+    let script = script_of c.args.script.now in
+    let rest = c.in-Some-split_last.field-0-1.now in
+    let answer = c.in-Some-split_last.answer.now in
+    let last : j.answers ≡ rest ++ answer ∷ [] = sym c.deref.ensures.value ∙ c.in-Some-split_last.ensures.cases.0 in
+    let fits : Fits script j c.in-Some.frame = subst (λ f. IfSome f (Fits script j)) c.in-Some.is c.requires.fits in
+    let waits : IsWaiting script (birth_of j.spec) (id_of j.base) (past_of (before_of j rest)) c.in-Some.frame =
+    subst (λ cs. IsWaiting script (birth_of j.spec) (id_of j.base) (past_of (before_of j cs)) c.in-Some.frame)
+    (rest_same fits.earlier rest fits.answer answer (sym fits.answers ∙ last)) fits.waits in
+    let answers : map content_of j.answers ≡ answered_so (before_of j rest) answer = ap (map content_of) last ∙ map_last content_of rest answer in
+    if_ok _ _ c.go_on.result
+    (λ p counts. subst (λ cs. HasSteps script (birth_of j.spec) (id_of j.base) cs p.steps) (sym answers)
+    (counts j.spec (id_of j.base) (before_of j rest) waits))
+    c.go_on.ensures.counts

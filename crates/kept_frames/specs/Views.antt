@@ -1,0 +1,6 @@
+-- What is known of an attempt, as contracts see it.
+use Rattle.kept_frames.specs.declared.known.Known.{Known}
+use Rattle.kept_frames.specs.Known.{KnownData}
+
+abbrev pub data_of : Known → KnownData
+data_of k = record { spec = k.spec; base = k.base; births = k.births; prints = k.prints; answers = k.answers.items }

@@ -1,0 +1,103 @@
+// What is known of an attempt that goes on.
+
+ghost use Rattle.std.specs.Prelude.{◌≡◌, ◌++◌, IfOk, IfSome, OnOk, map};
+ghost use Rattle.values.specs.Values.{content_of};
+ghost use Rattle.kept_frames.specs.Known.{IsAfter, IsAt, IsNext};
+ghost use Rattle.kept_frames.specs.Views.{data_of};
+
+use ids::ObjectId;
+use segment::{Done, Job, ScriptName};
+use std::alloc::{AllocError, Global};
+use task_spec::Birth;
+use values::Content;
+
+/// An attempt, and how far it came. What it bore and printed follows from its answers and how much that was.
+#[derive(Drop)]
+pub(crate) struct Known {
+    pub spec: Birth,
+    /// The id of its first own birth.
+    pub base: ObjectId,
+    /// How many births and prints it made so far.
+    pub births: usize,
+    pub prints: usize,
+    /// What it was answered so far.
+    pub answers: Vec<Content>,
+}
+
+#[tactic(auto, using(crate::proofs::Adding::added))]
+fn add_answers(alloc: Global, to: &mut Vec<Content>, more: &[Content]) -> Result<(), AllocError>
+    ensures { OnOk result (map content_of to.new.items ≡ map content_of to.old.items ++ map content_of more.now) }
+{
+    for answer in more {
+        to.push(answer.copy(alloc)?)?;
+    }
+    Ok(())
+}
+
+/// The job's attempt, before what the job does.
+fn read<S: ScriptName>(alloc: Global, job: &Job<S>) -> Result<Known, AllocError>
+    ensures { IfOk result (λ known. IsAt (data_of known) job.now) }
+{
+    let spec = job.spec().copy(alloc)?;
+    let mut answers = Vec::new(alloc);
+    add_answers(alloc, &mut answers, job.answers())?;
+    Ok(Known {
+        spec,
+        base: job.base(),
+        births: job.births().len(),
+        prints: job.printed().len(),
+        answers,
+    })
+}
+
+/// The job's attempt, before what the job does; from what was known before its last answer, if anything was.
+fn known_at<S: ScriptName>(
+    alloc: Global,
+    known: Option<Known>,
+    job: &Job<S>,
+) -> Result<Known, AllocError>
+    requires { IfSome known (λ known. IsNext (data_of known) job.now) }
+    ensures { IfOk result (λ known. IsAt (data_of known) job.now) }
+{
+    let Some(known) = known else {
+        return read(alloc, job);
+    };
+    let Some((answer, _)) = job.answers().split_last() else {
+        return read(alloc, job);
+    };
+    let mut known = known;
+    known.answers.push(answer.copy(alloc)?)?;
+    Ok(known)
+}
+
+/// The attempt, once the job was run.
+pub(crate) fn known_after<S: ScriptName>(
+    alloc: Global,
+    known: Option<Known>,
+    done: &Done<S>,
+) -> Result<Known, AllocError>
+    requires { IfSome known (λ known. IsNext (data_of known) done.now.job) }
+    ensures { IfOk result (λ known. IsAfter (data_of known) done.now) }
+{
+    let known = known_at(alloc, known, done.job())?;
+    let Known {
+        spec,
+        base,
+        births,
+        prints,
+        answers,
+    } = known;
+    let Some(births) = births.checked_add(done.births().len()) else {
+        return Err(AllocError);
+    };
+    let Some(prints) = prints.checked_add(done.prints().len()) else {
+        return Err(AllocError);
+    };
+    Ok(Known {
+        spec,
+        base,
+        births,
+        prints,
+        answers,
+    })
+}

@@ -1,0 +1,59 @@
+-- The nodes of a run, and their names.
+use Rattle.std.specs.Prelude.{ℕ, zero, suc, Bool, nat_lt, if◌then◌else◌, List, [], ◌∷◌, ◌++◌, codes}
+use Rattle.std.specs.Fmt.{decimal}
+use Rattle.serde_json.specs.Data.{Data}
+use Rattle.event_log.specs.Events.{refused_next}
+use Rattle.event_log.specs.Views.{log_of}
+use Rattle.event_log.specs.declared.event.Event.{Event}
+use Rattle.event_log.specs.declared.event.Event.TheVariants.{Lose, KillNode}
+use Rattle.event_log.specs.declared.entry.Entry.{Entry}
+use Rattle.event_log.specs.declared.entry.Entry.TheVariants.{In, Opened}
+use Rattle.protocol_data.specs.declared.message.Letter.{Letter}
+use Rattle.protocol_data.specs.declared.message.Party.{Party}
+use Rattle.protocol_data.specs.declared.message.Party.TheVariants.{TheWorker, TheNode}
+use Rattle.timeline.specs.Marks.{name_data}
+
+abbrev pub greater : ℕ → ℕ → ℕ
+greater m n = if nat_lt m n then n else m
+
+-- ---- the greatest number of a node
+
+abbrev pub node_in_party : Party → ℕ
+node_in_party (TheWorker w) = 0
+node_in_party (TheNode n) = n
+
+abbrev pub node_in_event : Event → ℕ
+node_in_event (Lose n o) = n.0
+node_in_event (KillNode n) = n.0
+node_in_event _ = 0
+
+-- `refused` says of an event that it is refused
+abbrev pub node_in_entry : Entry → Bool → ℕ
+node_in_entry (Opened w n) refused = n.0
+node_in_entry (In e seat) refused = if refused then 0 else node_in_event e
+node_in_entry _ refused = 0
+
+abbrev pub greatest_in_log : ℕ → List Entry → ℕ
+greatest_in_log n [] = n
+greatest_in_log n (x ∷ rest) = greatest_in_log (greater n (node_in_entry x (refused_next (log_of rest)))) rest
+
+abbrev pub greatest_in_letters : ℕ → List Letter → ℕ
+greatest_in_letters n [] = n
+greatest_in_letters n (l ∷ ls) = greatest_in_letters (greater (greater n (node_in_party l.sender)) (node_in_party l.receiver)) ls
+
+abbrev pub greatest_node : List Letter → List Entry → ℕ
+greatest_node letters log = greatest_in_log (greatest_in_letters 0 letters) log
+
+-- ---- their names
+
+abbrev pub node_name : ℕ → List ℕ
+node_name n = codes "n" ++ decimal n
+
+-- the node, and its own row
+abbrev pub node_names : ℕ → List Data
+node_names n = name_data (node_name n) (codes "process_name") n 0 ∷ name_data (node_name n) (codes "thread_name") n 0 ∷ []
+
+-- those of the first nodes
+abbrev pub names_of : ℕ → List Data
+names_of zero = []
+names_of (suc n) = names_of n ++ node_names (suc n)

@@ -16,11 +16,11 @@ WORD = re.compile(r"[^\s()\[\]{},;λ]+")
 
 # whose public contracts a user of the program relies on, and what they are for
 ROOTS = [
-    ("What the commands promise", ["raysim_commands", "thread_commands", "raysim_streams", "raysim_options"]),
+    ("What the commands promise", ["raysim_commands", "raysim_streams", "raysim_options"]),
     ("What a run and its parts promise in addition",
-     ["protocol_board", "protocol_core", "driving", "history", "segment", "serial", "script_check", "script_syntax", "script_tokens", "event_files", "report_json",
+     ["protocol_board", "protocol_core", "history", "segment", "serial", "script_check", "script_syntax", "script_tokens", "event_files", "report_json",
       "log_text", "message_text", "story_text", "why_text", "lineage_text", "timeline"]),
-    ("What the laws say in addition", ["meaning", "event_log", "meaning_laws", "kind_laws", "protocol_laws", "owed_laws"]),
+    ("What the laws say in addition", ["meaning", "script_laws", "event_log", "meaning_laws", "kind_laws", "protocol_laws", "owed_laws"]),
 ]
 
 

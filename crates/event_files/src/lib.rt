@@ -17,6 +17,3 @@ pub use events::{MOST_EVENTS, parse_events, print_events};
 pub use line::Line;
 pub use numbering::line_numbers;
 pub use plan::{PlanLine, RunPlan, parse_plan};
-
-#[cfg(test)]
-mod tests;

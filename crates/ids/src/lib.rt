@@ -11,6 +11,3 @@ pub use attempt::AttemptId;
 pub use node::NodeId;
 pub use object::ObjectId;
 pub use worker::WorkerId;
-
-#[cfg(test)]
-mod tests;

@@ -8,7 +8,7 @@ use Rattle.meaning.specs.Meaning.{run_birth}
 use Rattle.meaning.specs.Births.{same_id, numbered}
 use Rattle.meaning.specs.Kinds.{ScriptChecks, IsBirthOf, AnswersFit}
 use Rattle.meaning.specs.Readings.{read_birth, den, BirthsHold}
-use Rattle.meaning.proofs.KeptKinds.{law_of_kinds, birth_read}
+use Rattle.script_laws.proofs.KeptKinds.{law_of_kinds, birth_read}
 use Rattle.event_log.specs.Entries.{Attempt, Entry, main_object}
 use Rattle.event_log.specs.Words.{births, answers_of, own_births}
 use Rattle.event_log.specs.Rules.{Setting, Stops, HasContent}

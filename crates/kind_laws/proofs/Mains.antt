@@ -8,7 +8,7 @@ use Rattle.meaning.specs.Runs.{Piece, next_id}
 use Rattle.meaning.specs.Births.{Bearing, same_id, birth_at, numbered}
 use Rattle.meaning.specs.Mains.{KeepsMainApart, IsNotMains}
 use Rattle.meaning.proofs.BirthLaws.{at_test, same_id-true, or_else, birth_at-push}
-use Rattle.meaning.proofs.Mains.{main_stays_apart}
+use Rattle.script_laws.proofs.Mains.{main_stays_apart}
 use Rattle.event_log.specs.Entries.{Attempt, Entry, In, Refused, Opened, Begun, Born, Got, Printed, Ended, Accepted, Faulted, Resolved, Released, main_object}
 use Rattle.event_log.specs.Words.{births, born_in, own_births, answers_of}
 use Rattle.event_log.specs.Rules.{Setting, Allowed, MayBear, Replays}

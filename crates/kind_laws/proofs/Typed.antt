@@ -10,11 +10,11 @@ use Rattle.meaning.specs.Ids.{BirthIn}
 use Rattle.meaning.specs.Kinds.{ScriptChecks}
 use Rattle.meaning.specs.KindLaw.{KindsOf}
 use Rattle.meaning.specs.Readings.{read_birth, den, BirthsHold, IsBorn}
-use Rattle.meaning.proofs.KeptKinds.{law_of_kinds}
-use Rattle.meaning.proofs.Agreeing.{birth_same}
-use Rattle.meaning.proofs.Dens.{same, by_birth}
-use Rattle.meaning.proofs.Ids.{births_keep}
-use Rattle.meaning.proofs.Given.{born_by_piece}
+use Rattle.script_laws.proofs.KeptKinds.{law_of_kinds}
+use Rattle.script_laws.proofs.Agreeing.{birth_same}
+use Rattle.script_laws.proofs.Dens.{same, by_birth}
+use Rattle.script_laws.proofs.Ids.{births_keep}
+use Rattle.script_laws.proofs.Given.{born_by_piece}
 use Rattle.event_log.specs.Entries.{Attempt, Entry, In, Refused, Opened, Begun, Born, Got, Printed, Ended, Accepted, Faulted, Resolved, Released}
 use Rattle.event_log.specs.Words.{births, born_in, own_births}
 use Rattle.event_log.specs.Rules.{Setting, Allowed, MayBear}

@@ -1,11 +1,3 @@
-pub mod Replay
-pub mod Safety
-pub mod KeptKinds
-pub mod Ids
-pub mod Mains
-pub mod Given
-pub mod Agreeing
 pub mod BirthLaws
 pub mod Names
-pub mod Dens
 pub mod LoopExamples

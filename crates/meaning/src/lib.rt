@@ -1,5 +1,4 @@
-//! What a script means: the serial run, what a task does on answers, and the laws that tie them.
+//! What a script means: the serial run, what a task does on answers, and the statements of the laws that tie them.
 #![tactic(auto)]
 
 pub mod examples;
-pub mod law;

@@ -8,7 +8,7 @@ use Rattle.meaning.specs.Births.{Bearing, birth_at}
 use Rattle.meaning.specs.Ids.{BirthIn}
 use Rattle.meaning.specs.Readings.{IsBorn, NameEarlier}
 use Rattle.meaning.proofs.BirthLaws.{or_else, birth_at-push}
-use Rattle.meaning.proofs.Dens.{kept, sub, same, by_birth, holds_push, named_push}
+use Rattle.script_laws.proofs.Dens.{kept, sub, same, by_birth, holds_push, named_push}
 use Rattle.event_log.specs.Entries.{Attempt}
 use Rattle.event_log.specs.Words.{next_serial}
 use Rattle.event_log.proofs.WordLaws.{next_serial-push, Deeds}

@@ -10,7 +10,7 @@ use Rattle.meaning.specs.Births.{Bearing, birth_at, numbered}
 use Rattle.meaning.specs.Ids.{OutcomeIn, BirthIn, OutcomesIn, ValuesIn, ObjectsIn}
 use Rattle.meaning.specs.Readings.{read, read_outcome, read_birth, BirthsHold, den, AllHold, IsBorn, NameEarlier}
 use Rattle.meaning.specs.Law.{gets_of, prints_of, get_after}
-use Rattle.meaning.proofs.Agreeing.{outcomes_same, values_same, birth_same, outcomes_more, values_more}
+use Rattle.script_laws.proofs.Agreeing.{outcomes_same, values_same, birth_same, outcomes_more, values_more}
 use Rattle.event_log.specs.Entries.{Attempt, Entry}
 use Rattle.event_log.specs.Words.{births, next_serial, own_births, Lack, Content, Lacking}
 use Rattle.event_log.proofs.WordLaws.{Deeds, deeds, nothing_done}

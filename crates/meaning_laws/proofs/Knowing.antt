@@ -7,7 +7,7 @@ use Rattle.meaning.specs.Meaning.{replay}
 use Rattle.meaning.specs.Births.{Bearing, numbered}
 use Rattle.meaning.specs.Ids.{BirthIn, StopIn}
 use Rattle.meaning.specs.Law.{IsGiven}
-use Rattle.meaning.proofs.Given.{law_of_ids}
+use Rattle.script_laws.proofs.Given.{law_of_ids}
 use Rattle.event_log.specs.Entries.{Attempt, Entry}
 use Rattle.event_log.specs.Words.{own_births, answers_of}
 use Rattle.event_log.specs.Rules.{Setting, Stops, MayBear}

@@ -11,11 +11,11 @@ use Rattle.meaning.specs.Births.{Bearing, birth_at, numbered}
 use Rattle.meaning.specs.Ids.{BirthIn, OutcomeIn, ValueIn, OutcomesIn, ValuesIn, ObjectsIn, StopIn}
 use Rattle.meaning.specs.Readings.{Reading, read, read_outcome, read_birth, BirthsHold, den, IsBorn}
 use Rattle.meaning.specs.Law.{gets_of, prints_of, get_after, StopsAs, Begins}
-use Rattle.meaning.proofs.Replay.{law_of_replay}
-use Rattle.meaning.proofs.Ids.{births_keep}
-use Rattle.meaning.proofs.Given.{born_by_piece, stop_by_piece}
+use Rattle.script_laws.proofs.Replay.{law_of_replay}
+use Rattle.script_laws.proofs.Ids.{births_keep}
+use Rattle.script_laws.proofs.Given.{born_by_piece, stop_by_piece}
 use Rattle.meaning.proofs.BirthLaws.{at_test}
-use Rattle.meaning.proofs.Dens.{new_born}
+use Rattle.script_laws.proofs.Dens.{new_born}
 use Rattle.event_log.specs.Entries.{Attempt, Fault, Entry, Born, Got, Printed, Ended, Faulted, main_attempt}
 use Rattle.event_log.specs.Words.{same_attempt, births, born_in, own_births, own_in, Lack, Content, Lacking}
 use Rattle.event_log.specs.Rules.{Setting, Replays, Stops, HasContent, MayBear, MayPrint, MayEnd, MayGet, MayFault}

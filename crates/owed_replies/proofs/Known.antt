@@ -1,8 +1,8 @@
 -- What an attempt waits for, and what stands in its births and its end, was born.
 use Rattle.std.proofs.Common.{◌≡◌, ℕ, zero, suc, List, [], ◌∷◌, Some, refl, ap, sym, subst, ◌∙◌, inl, inr}
 use Rattle.std.specs.Prelude.{Bool, true}
-use Rattle.meaning.proofs.Given.{stop_by_piece}
-use Rattle.meaning.proofs.Ids.{births_keep}
+use Rattle.script_laws.proofs.Given.{stop_by_piece}
+use Rattle.script_laws.proofs.Ids.{births_keep}
 use Rattle.meaning.specs.Births.{birth_at, numbered}
 use Rattle.meaning.specs.Ids.{ObjectsIn, OutcomesIn, StopIn}
 use Rattle.meaning.specs.Meaning.{replay, run_birth}

@@ -1,3 +1,4 @@
 mod Jobs
 mod Meant
 mod Playing
+mod Turning

@@ -1,11 +1,17 @@
-//! A run on any number of nodes whose type keeps what its log means, and the replay of event files on it.
+//! A run on any number of nodes whose type keeps what its log means; the replay of event files on it; and such a run that is driven, event by
+//! event, as the settle rule names them, until it names none.
 #![tactic(auto)]
 
 mod board;
+mod driving;
 mod given;
 mod replay;
 mod stopped;
+mod unfinished;
 
 pub use crate::board::Board;
+pub use driving::drive;
+pub use protocol_core::{Cluster, Core, Reply};
 pub use replay::Replay;
 pub use stopped::Stopped;
+pub use unfinished::Unfinished;

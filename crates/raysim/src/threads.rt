@@ -5,14 +5,15 @@ ghost use Rattle.raysim_options.specs.Reads.{AreThreads};
 use crate::replays::{Replayed, Texts, read_behind, with_views};
 use crate::told::tell;
 use crate::views::{OUTPUT, Views};
-use raysim_commands::{Cluster, Failure, Form, Refusal, Tracked, put_all, read_script};
+use raysim_commands::{
+    Cluster, Failure, Form, OpenGate, Refusal, Tracked, put_all, read_script, run_threaded,
+};
 use raysim_options::{RunOptions, ScriptOptions};
 use std::process::ExitCode;
 use std::rt::{Clock, Files};
 use std::sync::Wait;
 use std::thread::Threads;
 use std::{fs, io};
-use thread_commands::{OpenGate, run_threaded};
 
 /// What a run on threads gives, before anything is out.
 #[derive(Drop)]

@@ -4,7 +4,7 @@ use Rattle.std.specs.Prelude.{IfSome}
 use Rattle.std.specs.Io.KnownBytes.{Appends}
 use Rattle.meaning.specs.Syntax.{Script}
 use Rattle.raysim_commands.specs.Scripts.{IsScript}
-use Rattle.protocol_core.specs.Clusters.{Size}
+use Rattle.protocol_board.specs.Cores.{Size}
 use Rattle.raysim_commands.specs.declared.form.Form.{Form}
 use Rattle.raysim_commands.specs.RunReports.{IsReportOf, IsRunBegun}
 

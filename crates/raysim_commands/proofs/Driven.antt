@@ -2,12 +2,11 @@
 use Rattle.std.proofs.Common.{◌≡◌, ◌∙◌, ℕ, List, [], sym, ap, subst}
 use Rattle.meaning.specs.Syntax.{Script}
 use Rattle.history.specs.Main.{status_of}
-use Rattle.protocol_core.specs.Clusters.{Size}
-use Rattle.protocol_core.specs.States.{RunState, first_state}
+use Rattle.protocol_board.specs.Cores.{Size, RunState, first_state}
 use Rattle.protocol_board.specs.Meant.{IsSoundLog}
-use Rattle.driving.specs.declared.unfinished.Unfinished.{Unfinished}
-use Rattle.driving.specs.Stops.{unfinished_code}
-use Rattle.driving.specs.Drives.{Course, EndsSo, StopsSo}
+use Rattle.protocol_board.specs.declared.unfinished.Unfinished.{Unfinished}
+use Rattle.protocol_board.specs.Stops.{unfinished_code}
+use Rattle.protocol_board.specs.Drives.{Course, EndsSo, StopsSo}
 use Rattle.raysim_streams.specs.declared.Refusal.TheVariants.{Stopped}
 use Rattle.raysim_commands.specs.declared.form.Form.{Form}
 use Rattle.raysim_commands.specs.Reports.{IsReportIn, account_of}

@@ -1,5 +1,6 @@
 pub mod Begun
 pub mod Driven
+pub mod Explained
 pub mod Reading
 pub mod Refused
 pub mod Simulated

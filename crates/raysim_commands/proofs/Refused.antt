@@ -14,7 +14,7 @@ use Rattle.script_check.specs.declared.error.CheckError.TheVariants as faults
 use Rattle.raysim_streams.specs.declared.Refusal.{Refusal}
 use Rattle.raysim_streams.specs.declared.Refusal.TheVariants.{At, NoMemory, Stopped, BadLine, Failed}
 use Rattle.raysim_commands.specs.Scripts.{IsNoScript, IsRefusalOf, IsNoScriptFor, syntax_refusal, check_refusal, Explains}
-use Rattle.protocol_core.specs.Clusters.{Size}
+use Rattle.protocol_board.specs.Cores.{Size}
 use Rattle.raysim_commands.specs.RunReports.{ExplainsRun}
 
 -- the parser's error

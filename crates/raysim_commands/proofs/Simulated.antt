@@ -4,7 +4,7 @@ use Rattle.std.specs.Prelude.{IfSome}
 use Rattle.std.specs.Io.KnownBytes.{Appends}
 use Rattle.meaning.specs.Syntax.{Script}
 use Rattle.event_files.specs.declared.line.Line.{Line}
-use Rattle.protocol_core.specs.Clusters.{Size}
+use Rattle.protocol_board.specs.Cores.{Size}
 use Rattle.raysim_streams.specs.declared.Failure.TheVariants.{Read, Write, Closed}
 use Rattle.raysim_streams.specs.declared.Refusal.{Refusal}
 use Rattle.raysim_streams.specs.declared.Refusal.TheVariants.{At, NoMemory, Stopped, BadLine, Failed}

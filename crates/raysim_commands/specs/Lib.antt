@@ -3,3 +3,4 @@ pub mod RunReports
 pub mod Scripts
 pub mod SerialReports
 pub mod SimReports
+pub mod ThreadReports

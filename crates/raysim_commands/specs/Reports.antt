@@ -12,7 +12,7 @@ use Rattle.lineage_text.specs.Text.{lineage_text}
 use Rattle.message_text.specs.Text.{log_with_messages}
 use Rattle.timeline.specs.Text.{timeline_data}
 use Rattle.protocol.specs.Messages.{Letter}
-use Rattle.protocol_core.specs.States.{RunState}
+use Rattle.protocol_board.specs.Cores.{RunState}
 use Rattle.protocol_board.specs.Reports.{json_text}
 use Rattle.raysim_commands.specs.declared.form.Form.{Form}
 use Rattle.raysim_commands.specs.declared.form.Form.TheVariants as forms

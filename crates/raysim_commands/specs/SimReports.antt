@@ -8,8 +8,7 @@ use Rattle.event_files.specs.Lines.{IsLine, line_text}
 use Rattle.event_files.specs.Numbering.{line_numbers}
 use Rattle.event_log.specs.Events.{from_one}
 use Rattle.history.specs.Main.{status_of}
-use Rattle.protocol_core.specs.Clusters.{Size}
-use Rattle.protocol_core.specs.States.{first_state}
+use Rattle.protocol_board.specs.Cores.{Size, first_state}
 use Rattle.protocol_board.specs.declared.stopped.Stopped.{Stopped}
 use Rattle.protocol_board.specs.declared.stopped.Stopped.TheVariants as stops
 use Rattle.protocol_board.specs.Meant.{IsSoundLog}

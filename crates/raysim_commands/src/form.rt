@@ -3,7 +3,7 @@
 ghost use Rattle.std.specs.Prelude.{◌≡◌, IfOk, string_bytes};
 ghost use Rattle.event_log.specs.Views.{log_of};
 ghost use Rattle.protocol_board.specs.Meant.{IsSoundLog};
-ghost use Rattle.protocol_core.specs.Views.{state_of};
+ghost use Rattle.protocol_board.specs.Cores.{state_of};
 ghost use Rattle.raysim_commands.specs.Reports.{IsReportIn, account_of};
 
 use ids::ObjectId;

@@ -3,18 +3,25 @@
 
 mod checking;
 mod form;
+mod open_gate;
 mod run_command;
 mod script;
 mod serial_command;
 mod sim_command;
 mod status;
+mod thread_inputs;
+mod thread_outputs;
+mod thread_run;
+mod threads_command;
 
 pub use checking::check;
 pub use form::{Form, report};
-pub use protocol_core::Cluster;
+pub use open_gate::OpenGate;
+pub use protocol_board::Cluster;
 pub use raysim_streams::{Failure, Refusal, Sink, Source, Tracked, put_all, read_at_most};
 pub use run_command::run;
 pub use script::{MOST_BYTES, compiled_script, read_script};
 pub use serial_command::serial;
 pub use sim_command::sim;
 pub use status::exit_status;
+pub use threads_command::run_threaded;

@@ -7,9 +7,7 @@ ghost use Rattle.raysim_commands.specs.RunReports.{ExplainsRun, IsReportOf, IsRu
 
 use crate::form::{Form, report};
 use crate::script::{compiled_script, read_script};
-use driving::drive;
-use protocol_board::Board;
-use protocol_core::{Cluster, Core};
+use protocol_board::{Board, Cluster, Core, drive};
 use raysim_streams::{Refusal, Sink, Source, put_all};
 use segment::{Compiled, ScriptName};
 use sequence::Seq;

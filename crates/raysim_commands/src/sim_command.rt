@@ -9,8 +9,7 @@ ghost use Rattle.raysim_commands.specs.SimReports.{IsSimReportOf, IsStopOf, line
 use crate::form::{Form, report};
 use crate::script::{compiled_script, read_script};
 use event_files::{EventError, Line, line_numbers, parse_events};
-use protocol_board::{Replay, Stopped};
-use protocol_core::{Cluster, Core};
+use protocol_board::{Cluster, Core, Replay, Stopped};
 use raysim_streams::{Refusal, Sink, Source, put_all, read_at_most};
 use segment::{Compiled, ScriptName};
 use sequence::Seq;

@@ -4,8 +4,6 @@
 mod place;
 mod reason;
 mod shown;
-#[cfg(test)]
-mod tests;
 
 pub use place::{Place, line_at, place_of};
 pub use reason::Reason;

@@ -14,7 +14,7 @@ pub use commands::{MOST_NODES, MOST_REFUSAL, MOST_SLOTS, MOST_THREADS};
 use std::alloc::Global;
 
 /// What the program was asked to do. Texts are paths of files, as the words have them.
-#[derive(Debug, Drop)]
+#[derive(Drop)]
 pub enum Request<'a> {
     /// Check a script.
     Check(ScriptOptions<'a>),
@@ -33,7 +33,7 @@ pub enum Request<'a> {
 }
 
 /// The options of `check` and `serial`: the script, and whether a refusal's place is shown.
-#[derive(Debug, Drop)]
+#[derive(Drop)]
 pub struct ScriptOptions<'a> {
     pub script: &'a str,
     pub explain: bool,
@@ -41,7 +41,7 @@ pub struct ScriptOptions<'a> {
 
 /// The options of `sim`: the script, the list of events, how many nodes there are and how many slots each has (both from 1
 /// to 64, by default 1 and 4), whether the report is JSON, and where the run's timeline and its lineage are written.
-#[derive(Debug, Drop)]
+#[derive(Drop)]
 pub struct SimOptions<'a> {
     pub script: &'a str,
     pub events: &'a str,
@@ -55,7 +55,7 @@ pub struct SimOptions<'a> {
 /// The options of `run`: the script; whether it is run on threads, which it is where a number of threads, a plan or a history is asked for;
 /// how many they are (from 1 to 8, by default 2); nodes and slots as for `sim`; a plan of events to apply; where the events applied are
 /// recorded; whether the report is JSON; where the timeline and the lineage are written; and whether a refusal's place is shown.
-#[derive(Debug, Drop)]
+#[derive(Drop)]
 pub struct RunOptions<'a> {
     pub script: &'a str,
     pub on_threads: bool,
@@ -72,7 +72,7 @@ pub struct RunOptions<'a> {
 
 /// The options of `log`: the script, the list of events if the run isn't to be driven, nodes and slots as for `sim`, and whether the
 /// messages are told too.
-#[derive(Debug, Drop)]
+#[derive(Drop)]
 pub struct LogOptions<'a> {
     pub script: &'a str,
     pub events: Option<&'a str>,
@@ -83,7 +83,7 @@ pub struct LogOptions<'a> {
 
 /// The options of `why`: the script, the list of events, the object if it isn't main's fault that is asked for, and nodes and slots as for
 /// `sim`.
-#[derive(Debug, Drop)]
+#[derive(Drop)]
 pub struct WhyOptions<'a> {
     pub script: &'a str,
     pub events: &'a str,

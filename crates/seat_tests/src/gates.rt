@@ -1,10 +1,9 @@
 // Two jobs run at once, and the history replays.
 
-use raysim_commands::{Cluster, Form, Tracked, sim};
+use raysim_commands::{Cluster, Form, Tracked, run_threaded, sim};
 use seats::Gate;
 use std::sync::atomic::{AtomicU64, Ordering};
 use std::test::Fail;
-use thread_commands::run_threaded;
 
 /// Holds job 2 until job 3 has entered, and says whether it has.
 #[derive(Drop)]

@@ -3,7 +3,7 @@
 ghost use Rattle.std.specs.Prelude.{◌≡◌};
 ghost use Rattle.protocol_core.specs.Views.{state_of};
 ghost use Rattle.script_check.specs.Trees.{script_of};
-ghost use Rattle.turns.specs.Counted.{IsFresh};
+ghost use Rattle.seats.specs.Counted.{IsFresh};
 
 use crate::scripts::script;
 use event_files::RunPlan;

@@ -35,10 +35,10 @@ use Rattle.protocol_data.specs.contracts.message.Message as Message
 use Rattle.protocol_data.specs.contracts.node.Node as Node
 use Rattle.protocol_data.specs.contracts.tables.Worker as Worker
 use Rattle.protocol_data.specs.contracts.whole.Whole as Whole
-use Rattle.protocol_core.specs.contracts.cores.Core as Core
+use Rattle.protocol_board.specs.Cores.Core as Core
 use Rattle.protocol_board.specs.contracts.board.Board as Board
-use Rattle.turns.specs.contracts.outs.JobOut as JobOut
-use Rattle.turns.specs.contracts.turning.Turning as Turning
+use Rattle.seats.specs.contracts.outs.JobOut as JobOut
+use Rattle.seats.specs.contracts.turning.Turning as Turning
 use Rattle.seats.specs.contracts.shared.Locked as Locked
 use Rattle.seats.specs.contracts.shared.Shared as Shared
 

@@ -1,2 +1,6 @@
+pub mod Codes
+pub mod Counted
 mod Crosses
+pub mod Few
+pub mod Jobs
 mod Seats

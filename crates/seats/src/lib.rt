@@ -1,13 +1,21 @@
-//! A run that threads share, under one lock, and seats whose books add up to the totals of its log.
+//! A run that threads share, under one lock, and seats whose books add up to the totals of its log: whose turn it is beside a plan, and what each
+//! turn adds.
 #![tactic(auto)]
 
+mod choice;
+mod outs;
 mod seat;
 mod shared;
 mod tally;
 mod threads;
+mod turn;
+mod turning;
 mod working;
 
+pub use outs::JobOut;
 pub use seat::{Blanks, Seat};
 pub use shared::Shared;
 pub use threads::{Ended, run_on_threads};
+pub use turn::Turn;
+pub use turning::Turning;
 pub use working::{Gate, work};

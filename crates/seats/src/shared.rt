@@ -5,26 +5,25 @@ ghost use Rattle.event_log.specs.Books.{totals_of};
 ghost use Rattle.event_log.specs.Entries.{Claim, Commit};
 ghost use Rattle.event_log.specs.Laws.{nothing};
 ghost use Rattle.event_log.specs.Views.{event_of, log_of};
-ghost use Rattle.protocol_core.specs.Steps.{reply_of};
-ghost use Rattle.protocol_core.specs.Views.{state_of};
+ghost use Rattle.protocol_board.specs.Cores.{reply_of, state_of};
 ghost use Rattle.seats.specs.Books.{new_seats, sums, with_more};
-ghost use Rattle.turns.specs.Counted.{IsFresh, counted};
-ghost use Rattle.turns.specs.Turns.{turn_counted};
-ghost use Rattle.turns.specs.Views.{told_of};
+ghost use Rattle.seats.specs.Counted.{IsFresh, counted};
+ghost use Rattle.seats.specs.Turns.{turn_counted};
+ghost use Rattle.seats.specs.Views.{told_of};
 
 use crate::seat::{Blanks, Pot, Seat};
 use crate::tally::{tally_of, turn_tally};
+use crate::turn::Turn;
+use crate::turning::Turning;
 use event_files::RunPlan;
 use event_log::{Event, Refusal};
 use ids::WorkerId;
-use protocol_board::Board;
-use protocol_core::Reply;
+use protocol_board::{Board, Reply};
 use segment::{Done, ScriptName};
 use std::alloc::{AllocError, Global};
 use std::marker::Model;
 use std::sync::ledger::{Book, Ledger};
 use std::sync::{Mutex, Wait};
-use turns::{Turn, Turning};
 
 /// A run that threads share, each with its seat; seen as the number of the seats.
 #[derive(Drop)]

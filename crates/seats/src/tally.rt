@@ -2,16 +2,16 @@
 
 ghost use Rattle.std.specs.Prelude.{◌≡◌};
 ghost use Rattle.event_log.specs.Views.{code_of, event_of};
-ghost use Rattle.protocol_core.specs.Steps.{reply_of};
+ghost use Rattle.protocol_board.specs.Cores.{reply_of};
 ghost use Rattle.seats.specs.Tallies.{totals_in};
-ghost use Rattle.turns.specs.Counted.{counted, refused_totals, taken_totals};
-ghost use Rattle.turns.specs.Turns.{turn_counted};
-ghost use Rattle.turns.specs.Views.{told_of};
+ghost use Rattle.seats.specs.Counted.{counted, refused_totals, taken_totals};
+ghost use Rattle.seats.specs.Turns.{turn_counted};
+ghost use Rattle.seats.specs.Views.{told_of};
 
+use crate::turn::Turn;
 use event_log::{Event, Refusal};
-use protocol_core::Reply;
+use protocol_board::Reply;
 use segment::ScriptName;
-use turns::Turn;
 
 /// Four numbers for a book.
 #[derive(Clone, Copy, Debug, PartialEq, Eq)]

@@ -1,10 +1,10 @@
 // A run on threads.
 
 ghost use Rattle.std.specs.Prelude.{◌≡◌, ◌≤◌, IfOk};
-ghost use Rattle.protocol_core.specs.Views.{state_of};
+ghost use Rattle.protocol_board.specs.Cores.{state_of};
 ghost use Rattle.script_check.specs.Trees.{script_of};
 ghost use Rattle.seats.specs.Ends.{IsEnd};
-ghost use Rattle.turns.specs.Counted.{IsFresh};
+ghost use Rattle.seats.specs.Counted.{IsFresh};
 
 use crate::seat::{Blanks, Seat};
 use crate::shared::Shared;

@@ -5,8 +5,10 @@ ghost use Rattle.script_check.specs.Trees.{script_of};
 
 use crate::seat::Seat;
 use crate::shared::Shared;
+use crate::turn::Turn;
 use event_log::Refusal;
-use protocol_core::Reply;
+use kept_frames::Frames;
+use protocol_board::Reply;
 use segment::{Compiled, Job, ScriptName};
 use std::alloc::Global;
 use std::rt::Clock;
@@ -14,7 +16,6 @@ use std::sync::Wait;
 use std::sync::ledger::Ledger;
 use std::thread;
 use std::time::Duration;
-use turns::Turn;
 
 /// How many microseconds a thread sleeps before it asks again, where it must wait for another's job.
 const PAUSE: u64 = 100;
@@ -39,13 +40,14 @@ fn heed<S: ScriptName, E: Ledger, G: Ledger, C: Ledger, J: Ledger, R: Wait>(
     }
 }
 
-/// Runs the job outside the lock, and commits what was done on it.
+/// Runs the job outside the lock, from the frame of its attempt if this thread kept it, and commits what was done on it.
 fn run_job<S: ScriptName, E: Ledger, G: Ledger, C: Ledger, J: Ledger, K: Gate, R: Wait>(
     rt: &R,
     alloc: Global,
     shared: &Shared<S, E, G, C, J>,
     seat: &mut Seat<E, G, C, J>,
     script: &Compiled,
+    frames: &mut Frames<S>,
     gate: &K,
     job: Job<S>,
 )
@@ -53,7 +55,7 @@ fn run_job<S: ScriptName, E: Ledger, G: Ledger, C: Ledger, J: Ledger, K: Gate, R
     ensures { seat.new.number ≡ seat.old.number }
 {
     gate.enter(job.number());
-    match job.run(alloc, script) {
+    match frames.run(alloc, script, job) {
         Ok(done) => {
             if let Reply::Refused(refusal) = shared.commit(rt, alloc, seat, done) {
                 heed(rt, shared, refusal);
@@ -78,9 +80,10 @@ pub fn work<S: ScriptName, E: Ledger, G: Ledger, C: Ledger, J: Ledger, K: Gate, 
     ensures { result.number ≡ seat.number }
 {
     let mut seat = seat;
+    let mut frames = Frames::new(alloc);
     for _ in rt.forever() {
         match shared.turn(rt, alloc, &mut seat) {
-            Turn::Job(job) => run_job(rt, alloc, shared, &mut seat, script, gate, job),
+            Turn::Job(job) => run_job(rt, alloc, shared, &mut seat, script, &mut frames, gate, job),
             Turn::Did => {}
             Turn::Refused(refusal) => heed(rt, shared, refusal),
             Turn::Again => thread::sleep(rt, Duration::from_micros(PAUSE)),

@@ -11,7 +11,7 @@ use crate::parts::JobParts;
 use crate::script_name::ScriptName;
 use evaluation::{Compiled, Frame, PieceError};
 use ids::{AttemptId, ObjectId};
-use meaning::law::checked_scripts_are_safe;
+use script_laws::law::checked_scripts_are_safe;
 use std::alloc::Global;
 use std::marker::{Model, PhantomData};
 use task_spec::Birth;

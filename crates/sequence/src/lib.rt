@@ -98,6 +98,3 @@ impl<T: Copy + Drop> Seq<T> {
         Ok(other)
     }
 }
-
-#[cfg(test)]
-mod tests;

@@ -8,6 +8,3 @@ mod text;
 
 pub use mentions::{is_in_birth, is_same};
 pub use text::story_text;
-
-#[cfg(test)]
-mod tests;

@@ -6,6 +6,3 @@ mod same;
 
 pub use birth::{Argument, Birth, dereferenced};
 pub use same::are_same_births;
-
-#[cfg(test)]
-mod tests;

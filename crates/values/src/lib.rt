@@ -10,6 +10,3 @@ pub use content::{Content, Trap, ids_in};
 pub use fault::{Fault, FaultKind};
 pub use same::{are_same_contents, are_same_values};
 pub use value::{RunValue, add_ids};
-
-#[cfg(test)]
-mod tests;

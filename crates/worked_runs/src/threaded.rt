@@ -3,12 +3,11 @@
 ghost use Rattle.std.specs.Prelude.{◌≤◌, IfSome};
 
 use crate::case::Case;
-use raysim_commands::{Cluster, Form, Refusal, Tracked, sim};
+use raysim_commands::{Cluster, Form, OpenGate, Refusal, Tracked, run_threaded, sim};
 use std::alloc::{AllocError, Global};
 use std::rt::Clock;
 use std::sync::Wait;
 use std::thread::Threads;
-use thread_commands::{OpenGate, run_threaded};
 
 /// What a case asks of a run on threads: how many there are, and whether its history is written in front of its report.
 #[derive(Clone, Copy)]

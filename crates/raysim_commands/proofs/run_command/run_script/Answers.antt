@@ -1,7 +1,7 @@
 use Rattle.std.proofs.Common.{ap, subst, string_bytes, ◌∙◌}
 use Rattle.script_check.specs.Trees.{script_of}
-use Rattle.protocol_core.specs.Views.{state_of}
-use Rattle.driving.specs.Views.{course_of}
+use Rattle.protocol_board.specs.Cores.{state_of}
+use Rattle.protocol_board.specs.Views.{course_of}
 use Rattle.raysim_commands.specs.Reports.{IsReportIn, account_of}
 use Rattle.raysim_commands.proofs.Driven.{begins_so, run_ends, run_stops}
 use Rattle.raysim_commands.proofs.run_command.run_script.Goals as goal

@@ -1,3 +1,0 @@
-pub mod Stops
-pub mod Drives
-pub mod Views

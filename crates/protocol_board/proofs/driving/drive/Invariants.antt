@@ -1,0 +1,6 @@
+use Rattle.protocol_board.specs.Views.{course_of}
+use Rattle.protocol_board.specs.Drives.{Turns}
+use Rattle.protocol_board.proofs.driving.drive.Given as goal
+
+abbrev pub invariant-loop-turn : goal.invariant-loop-turn
+invariant-loop-turn g l = Turns g.S.ScriptName.script l.turn (course_of l.fn.board l.fn.sent) (course_of l.board l.sent)

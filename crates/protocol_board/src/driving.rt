@@ -1,0 +1,135 @@
+// Driving a run.
+
+ghost use Rattle.std.specs.Prelude.{◌≡◌, IfOk, OnOk, IfErr};
+ghost use Rattle.script_check.specs.Trees.{script_of};
+ghost use Rattle.event_log.specs.Views.{event_of};
+ghost use Rattle.event_log.specs.declared.refusal.Refusal.TheVariants.{NoMemory};
+ghost use Rattle.protocol_core.specs.Steps.{Refuses, reply_of};
+ghost use Rattle.protocol_board.specs.Drives.{BreaksAfter, BreaksOff, Commits, EndsSo, Goes, IsTaken, StopsSo, Turn};
+ghost use Rattle.protocol_board.specs.Views.{course_of};
+
+use crate::board::Board;
+use crate::unfinished::Unfinished;
+use event_log::{Event, Refusal};
+use kept_frames::Frames;
+use protocol_core::Reply;
+use segment::{Compiled, Done, Job, ScriptName};
+use sequence::Seq;
+use std::alloc::Global;
+
+/// The most turns of a drive.
+const MOST_TURNS: u32 = 100_000;
+
+/// The refusal that is told, if one is.
+fn taken<S: ScriptName>(told: Reply<S>) -> Result<(), Refusal>
+    ensures taken { OnOk result (IsTaken (reply_of told)) }
+    ensures refused { IfErr result (λ refusal. reply_of told ≡ Refuses refusal) }
+{
+    match told {
+        Reply::Job(_) => Ok(()),
+        Reply::Ok => Ok(()),
+        Reply::Refused(refusal) => Err(refusal),
+    }
+}
+
+/// One event. Where there is no room for how many messages there are behind it, it isn't applied.
+fn go<S: ScriptName>(
+    alloc: Global,
+    board: &mut Board<S>,
+    sent: &mut Seq<usize>,
+    event: Event,
+    done: Option<Done<S>>,
+) -> Result<Reply<S>, Refusal>
+    ensures goes { IfOk result (λ told. Goes (course_of board.old sent.old) (event_of event) done (course_of board.new sent.new) (reply_of told)) }
+    ensures lacks { IfErr result (λ refusal. (course_of board.new sent.new ≡ course_of board.old sent.old) × (refusal ≡ NoMemory)) }
+{
+    let place = sent.len();
+    let Ok(()) = sent.push(0) else {
+        return Err(Refusal::NoMemory);
+    };
+    let told = board.apply(alloc, event, 0, done);
+    sent.set(place, board.messages().len());
+    Ok(told)
+}
+
+/// The job is run, and what was done on it is committed.
+fn commit<S: ScriptName>(
+    alloc: Global,
+    board: &mut Board<S>,
+    sent: &mut Seq<usize>,
+    script: &Compiled,
+    frames: &mut Frames<S>,
+    job: Job<S>,
+) -> Result<(), Refusal>
+    requires { script_of script.now ≡ S.script }
+    ensures committed { OnOk result (Commits S.script (course_of board.old sent.old) job (course_of board.new sent.new)) }
+    ensures broken { IfErr result (λ refusal. BreaksAfter S.script (course_of board.old sent.old) job (course_of board.new sent.new) refusal) }
+{
+    let number = job.number();
+    let Ok(done) = frames.run(alloc, script, job) else {
+        return Err(Refusal::NoMemory);
+    };
+    match go(alloc, board, sent, Event::Commit(number), Some(done)) {
+        Ok(told) => match taken(told) {
+            Ok(()) => Ok(()),
+            Err(refusal) => Err(refusal),
+        },
+        Err(refusal) => Err(refusal),
+    }
+}
+
+/// One turn: the event is applied, and where it gives out a job, that is run, and what was done on it is committed.
+fn take_turn<S: ScriptName>(
+    alloc: Global,
+    board: &mut Board<S>,
+    sent: &mut Seq<usize>,
+    script: &Compiled,
+    frames: &mut Frames<S>,
+    event: Event,
+) -> Result<(), Refusal>
+    requires { script_of script.now ≡ S.script }
+    ensures taken { OnOk result (Turn S.script (course_of board.old sent.old) (event_of event) (course_of board.new sent.new)) }
+    ensures broken { IfErr result (λ refusal.
+        BreaksOff S.script (course_of board.old sent.old) (event_of event) (course_of board.new sent.new) refusal) }
+{
+    match go(alloc, board, sent, event, None) {
+        Ok(Reply::Job(job)) => match commit(alloc, board, sent, script, frames, job) {
+            Ok(()) => Ok(()),
+            Err(refusal) => Err(refusal),
+        },
+        Ok(Reply::Ok) => Ok(()),
+        Ok(Reply::Refused(refusal)) => Err(refusal),
+        Err(refusal) => Err(refusal),
+    }
+}
+
+/// Drives the run until the settle rule names no event: turn by turn the event that it names is applied, and where that gives out a job,
+/// the job is run, and what was done on it is committed in the same turn. An attempt that waits goes on from its frame. Behind each event,
+/// how many messages were sent so far is put at the end of `sent`.
+///
+/// It stops where an event is refused, where memory runs out while a job runs (`NoMemory`), and with `TooLong` after 100,000 turns. The
+/// log then has what was applied.
+pub fn drive<S: ScriptName>(
+    alloc: Global,
+    board: &mut Board<S>,
+    sent: &mut Seq<usize>,
+    script: &Compiled,
+) -> Result<(), Unfinished>
+    requires { script_of script.now ≡ S.script }
+    ensures ends { OnOk result (EndsSo S.script (course_of board.old sent.old) (course_of board.new sent.new)) }
+    ensures stops { IfErr result (λ unfinished. StopsSo S.script (course_of board.old sent.old) (course_of board.new sent.new) unfinished) }
+{
+    let nobody = Seq::new(alloc);
+    let mut frames = Frames::new(alloc);
+    for turn in 0..MOST_TURNS {
+        let _ = turn;
+        let Some(event) = board.next(&nobody) else {
+            return Ok(());
+        };
+        take_turn(alloc, board, sent, script, &mut frames, event)?;
+    }
+    match board.next(&nobody) {
+        Some(_) => Err(Unfinished::TooLong),
+        None => Ok(()),
+    }
+}

@@ -1,0 +1,55 @@
+// What a run on threads reads.
+
+ghost use Rattle.std.specs.Prelude.{◌≡◌, Bool, IfOk, IfErr, IfSome};
+ghost use Rattle.script_check.specs.Trees.{script_of};
+ghost use Rattle.raysim_commands.specs.Scripts.{IsScript, IsUnwritten};
+ghost use Rattle.raysim_commands.specs.ThreadReports.{ExplainsInputs, ExplainsPlan, IsPlan};
+
+use crate::script::{compiled_script, read_script};
+use event_files::{EventError, RunPlan, parse_plan};
+use raysim_streams::{Refusal, Source, read_at_most};
+use segment::Compiled;
+use std::alloc::Global;
+
+/// A checked script with its code, and the plan beside which it is run.
+#[derive(Drop)]
+pub struct Inputs {
+    pub script: Compiled,
+    pub plan: RunPlan,
+}
+
+/// The lines of a plan.
+fn read_plan<P: Source>(alloc: Global, reader: &mut P) -> Result<RunPlan, Refusal>
+    ensures read { IfOk result (λ plan. IfSome (P.left reader.old) (λ bytes. IsPlan bytes plan.lines)) }
+    ensures refused { IfErr result (λ refusal. ExplainsPlan (P.left reader.old) (P.has_failed reader.new) refusal) }
+{
+    let text = read_at_most(alloc, reader, usize::MAX)?;
+    match parse_plan(alloc, text.as_slice()) {
+        Ok(plan) => Ok(plan),
+        Err(EventError::BadLine(line)) => Err(Refusal::BadLine { line }),
+        Err(EventError::TooLong) => unreachable!(),
+        Err(EventError::NoMemory) => Err(Refusal::NoMemory),
+    }
+}
+
+/// The script, which is checked before the plan is read.
+pub fn read_inputs<A: Source, P: Source>(
+    alloc: Global,
+    reader: &mut A,
+    plan: &mut P,
+) -> Result<Inputs, Refusal>
+    ensures script { IfOk result (λ inputs. IfSome (A.left reader.old) (λ text. IsScript text (script_of inputs.script))) }
+    ensures plan { IfOk result (λ inputs. IfSome (P.left plan.old) (λ bytes. IsPlan bytes inputs.plan.lines)) }
+    ensures refused { IfErr result (λ refusal. ExplainsInputs (A.left reader.old) (P.left plan.old)
+        (A.has_failed reader.new) (P.has_failed plan.new) refusal) }
+{
+    let text = read_script(alloc, reader)?;
+    let script = match compiled_script(alloc, text.as_slice()) {
+        Ok(script) => script,
+        Err(refusal) => return Err(refusal),
+    };
+    match read_plan(alloc, plan) {
+        Ok(plan) => Ok(Inputs { script, plan }),
+        Err(refusal) => Err(refusal),
+    }
+}

@@ -1,0 +1,25 @@
+// What a run on threads writes.
+
+ghost use Rattle.std.specs.Prelude.{◌≡◌, ◌⊎◌, true, OnOk, OnErr, IfErr, string_bytes};
+ghost use Rattle.std.specs.Io.KnownBytes.{Appends};
+ghost use Rattle.raysim_commands.specs.ThreadReports.{AreBegun, IsOfWriting};
+
+use crate::thread_run::Outputs;
+use raysim_streams::{Refusal, Sink, put_all};
+
+/// Writes the history, and then the report.
+pub fn write_outputs<H: Sink, W: Sink>(
+    history: &mut H,
+    writer: &mut W,
+    out: &Outputs,
+) -> Result<(), Refusal>
+    ensures history { OnOk result (Appends (H.held history.old) (H.held history.new) (string_bytes out.now.history)) }
+    ensures report { OnOk result (Appends (W.held writer.old) (W.held writer.new) (string_bytes out.now.report)) }
+    ensures failed { IfErr result (λ refusal. IsOfWriting refusal × ((W.has_failed writer.new ≡ true) ⊎ (H.has_failed history.new ≡ true))) }
+    ensures beginning { OnErr result (AreBegun (string_bytes out.now.history) (string_bytes out.now.report)
+        (H.held history.old) (H.held history.new) (W.held writer.old) (W.held writer.new)) }
+{
+    put_all(history, out.history.as_bytes())?;
+    put_all(writer, out.report.as_bytes())?;
+    Ok(())
+}

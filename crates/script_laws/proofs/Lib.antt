@@ -1,0 +1,8 @@
+pub mod Replay
+pub mod Safety
+pub mod KeptKinds
+pub mod Ids
+pub mod Mains
+pub mod Given
+pub mod Agreeing
+pub mod Dens

@@ -1,0 +1,42 @@
+use Rattle.std.proofs.Common.{◌≡◌, ◌+◌, ◌≤◌, sym, subst}
+use Rattle.event_log.specs.Books.{totals_of}
+use Rattle.event_log.specs.Laws.{plus}
+use Rattle.event_log.specs.Views.{event_of, log_of}
+use Rattle.protocol_board.specs.Cores.{reply_of, state_of}
+use Rattle.seats.specs.Counted.{counted}
+use Rattle.seats.specs.Views.{TurnData}
+use Rattle.seats.proofs.Counted.{answers_counted}
+use Rattle.seats.proofs.Few.{commits_now, few_behind}
+use Rattle.seats.proofs.turning.Turning.apply.Goals as goal
+
+pub commits_behind-self-inside-requires : goal.commits_behind-self-inside-requires
+commits_behind-self-inside-requires g c =
+    let before = c.self.inside.board in
+    let after = c.apply-told.new.self in
+    let e = event_of c.args.event in
+    let told = reply_of c.apply-told.result in
+    let h = answers_counted (state_of before) (state_of after) e c.args.seat c.args.done told c.self.invariant.0 c.apply-told.ensures.answers in
+    subst (λ n. c.self.inside.commits + (counted e told).commits ≤ n) (sym c.entries_of-most.ensures)
+    (few_behind (totals_of (log_of before.log)) (counted e told) after.log c.self.inside.commits h.totals c.self.invariant.1)
+
+pub invariant_of-self : goal.invariant_of-self
+invariant_of-self g c =
+    let before = c.self.inside.board in
+    let after = c.apply-told.new.self in
+    let e = event_of c.args.event in
+    let told = reply_of c.apply-told.result in
+    let h = answers_counted (state_of before) (state_of after) e c.args.seat c.args.done told c.self.invariant.0 c.apply-told.ensures.answers in (
+      h.jobs,
+      commits_now (totals_of (log_of before.log)) (counted e told) after.log c.self.inside.commits c.commits_behind-self-inside.result
+          h.totals c.self.invariant.1 c.commits_behind-self-inside.ensures,
+    )
+
+pub returns-clause-counted : goal.returns-clause-counted
+returns-clause-counted g c =
+    let before = c.self.inside.board in
+    let after = c.apply-told.new.self in
+    let e = event_of c.args.event in
+    let told = reply_of c.apply-told.result in
+    let h = answers_counted (state_of before) (state_of after) e c.args.seat c.args.done told c.self.invariant.0 c.apply-told.ensures.answers in
+    let P : TurnData → Type 0 = λ r. totals_of (log_of after.log) ≡ plus (totals_of (log_of r.run.log)) (counted e told) in
+    subst P c.self.view_is h.totals

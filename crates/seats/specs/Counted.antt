@@ -1,0 +1,35 @@
+-- What an event adds to the totals of the log, by its answer.
+use Rattle.std.specs.Prelude.{◌≡◌, ℕ, [], nat_lt, false, if◌then◌else◌, length}
+use Rattle.event_log.specs.Entries.{Commit, Event}
+use Rattle.event_log.specs.Events.{claims}
+use Rattle.event_log.specs.Legal.{opening}
+use Rattle.event_log.specs.Views.{code_of}
+use Rattle.event_log.specs.Books.{Totals}
+use Rattle.event_log.specs.Laws.{nothing}
+use Rattle.protocol_board.specs.Cores.{RunState, Reply, GivesJob, Accepts, Refuses}
+
+abbrev pub one_event : Totals
+one_event = record nothing { events = 1 }
+
+-- one that is refused 38 or 39 isn't logged
+abbrev pub refused_totals : ℕ → Totals
+refused_totals code = if nat_lt code 38 then one_event else nothing
+
+-- an accepted commit also counts as that, with the number of its job
+abbrev pub taken_totals : Event → Totals
+taken_totals (Commit j) = record one_event { commits = 1; committed = j }
+taken_totals _ = one_event
+
+-- a claim that gives a job out also counts its number
+abbrev pub counted : Event → Reply → Totals
+counted e (GivesJob job) = record one_event { given = job.number }
+counted e Accepts = taken_totals e
+counted e (Refuses refusal) = refused_totals (code_of refusal)
+
+-- unless an event found no memory, each accepted claim gave out a job
+abbrev pub ClaimsGaveJobs : RunState → Type 0
+ClaimsGaveJobs r = r.is_halted ≡ false → length (claims r.log) ≡ length r.whole.jobs
+
+-- the run has begun, and there was no event yet
+abbrev pub IsFresh : RunState → Type 0
+IsFresh r = (r.log ≡ opening) × (r.whole.jobs ≡ [])

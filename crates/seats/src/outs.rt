@@ -1,0 +1,84 @@
+// The jobs that are out.
+
+ghost use Rattle.std.specs.Prelude.{◌≡◌, ◌==◌, not, IfOk, OnOk, OnErr};
+ghost use Rattle.std.specs.List.{filter};
+ghost use Rattle.event_log.specs.Views.{event_of};
+ghost use Rattle.protocol_board.specs.Cores.{reply_of};
+ghost use Rattle.seats.specs.Turns.{KeepsOut, busy, or_first, out_behind};
+
+use event_log::{Event, Refusal};
+use numbers::WorkerId;
+use protocol_board::Reply;
+use segment::ScriptName;
+use sequence::Seq;
+use std::alloc::{AllocError, Global};
+
+/// A job that was given out and whose commit wasn't accepted, and the worker that claimed it.
+#[derive(Clone, Copy, PartialEq, Eq, Debug)]
+pub struct JobOut {
+    pub job: u64,
+    pub worker: WorkerId,
+}
+
+fn take_out(out: &mut Seq<JobOut>, job: u64)
+    ensures { out.new ≡ filter (λ x. not (x.job == job)) out.old }
+{
+    out.items.retain(|x| x.job != job);
+}
+
+/// The workers that claimed them.
+pub fn busy(alloc: Global, out: &Seq<JobOut>) -> Result<Seq<WorkerId>, AllocError>
+    ensures { IfOk result (λ workers. workers ≡ busy out.now) }
+{
+    let mut workers = Seq::new(alloc);
+    for x in &out.items {
+        workers.push(x.worker)?;
+    }
+    Ok(workers)
+}
+
+/// Keeps the jobs that are out, behind an event with its answer.
+fn keep<S: ScriptName>(
+    out: &mut Seq<JobOut>,
+    event: Event,
+    told: &Reply<S>,
+) -> Result<(), AllocError>
+    ensures ok { OnOk result (out.new ≡ out_behind (event_of event) (reply_of told.now) out.old) }
+    ensures err { OnErr result (out.new ≡ out.old) }
+{
+    match (event, told) {
+        (Event::Claim(worker), Reply::Job(job)) => out.push(JobOut {
+            job: job.number(),
+            worker: WorkerId(worker.0),
+        }),
+        (Event::Commit(job), Reply::Ok) => {
+            take_out(out, job);
+            Ok(())
+        }
+        _ => Ok(()),
+    }
+}
+
+/// The refusal for which a run is given up: the first stands.
+pub fn first_refusal(given_up: Option<Refusal>, refusal: Refusal) -> Option<Refusal>
+    ensures { result ≡ or_first given_up refusal }
+{
+    match given_up {
+        Some(first) => Some(first),
+        None => Some(refusal),
+    }
+}
+
+/// Keeps the jobs that are out, or gives the run up where there is no memory for that.
+pub fn keep_or_give_up<S: ScriptName>(
+    out: &mut Seq<JobOut>,
+    given_up: &mut Option<Refusal>,
+    event: Event,
+    told: &Reply<S>,
+)
+    ensures { KeepsOut (event_of event) (reply_of told.now) out.old given_up.old out.new given_up.new }
+{
+    if keep(out, event, told).is_err() {
+        *given_up = first_refusal(*given_up, Refusal::NoMemory);
+    }
+}

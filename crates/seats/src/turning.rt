@@ -1,0 +1,230 @@
+// Runs on threads, beside a plan.
+
+ghost use Rattle.std.specs.Prelude.{◌≡◌, ◌+◌, ◌≤◌, [], None, IfOk, length, slice_get};
+ghost use Rattle.event_log.specs.Books.{totals_of};
+ghost use Rattle.event_log.specs.Laws.{nothing, plus};
+ghost use Rattle.event_log.specs.Views.{event_of, log_of};
+ghost use Rattle.protocol_board.specs.Cores.{Answers, reply_of, state_of};
+ghost use Rattle.protocol_board.specs.Meant.{IsSoundLog};
+ghost use Rattle.seats.specs.Counted.{IsFresh, counted};
+ghost use Rattle.seats.specs.Turns.{Follows, Takes, Turned, choice, due, or_first, past_line, turn_counted};
+ghost use Rattle.seats.specs.Views.{choice_of, told_of, turn_of};
+
+use crate::choice::{Choice, behind_plan, due};
+use crate::outs::{JobOut, busy, first_refusal, keep_or_give_up};
+use crate::turn::Turn;
+use event_files::{PlanLine, RunPlan};
+use event_log::{Entry, Event, Refusal};
+use protocol_board::{Board, Reply};
+use segment::{Done, ScriptName};
+use sequence::Seq;
+use std::alloc::{AllocError, Global};
+use std::marker::Model;
+
+/// A run on threads, beside a plan.
+#[derive(Drop)]
+pub struct Turning<S: ScriptName> {
+    board: Board<S>,
+    plan: Seq<PlanLine>,
+    /// How many of the plan's lines were taken.
+    taken: usize,
+    /// How many commits were accepted.
+    commits: u64,
+    out: Seq<JobOut>,
+    given_up: Option<Refusal>,
+}
+
+impl<S: ScriptName> Model for Turning<S> {
+    ghost use Rattle.std.specs.Prelude.{◌≡◌};
+    ghost use Rattle.std.specs.Coded.{codes};
+    ghost use Rattle.held.specs.Codes.{value_code, outcome_code, birth_code, id_code};
+    ghost use Rattle.numbers.specs.Codes.{attempt_code, fault_code};
+    ghost use Rattle.values.specs.contracts.value.RunValue as run_values;
+    ghost use Rattle.event_log.specs.Books.{totals_of};
+    ghost use Rattle.event_log.specs.Views.{log_of};
+    ghost use Rattle.protocol_board.specs.Cores.{state_of};
+    ghost use Rattle.seats.specs.Counted.{ClaimsGaveJobs};
+    ghost use Rattle.seats.specs.Views.{TurnData};
+
+    ghost Value = { TurnData };
+
+    ghost coded = { Prim.hlevel (codes, run_values.the_row.coded, value_code, outcome_code, birth_code, id_code, attempt_code, fault_code) };
+
+    ghost view = { λ t. record { run = t.board; plan = t.plan; taken = t.taken; out = t.out; given_up = t.given_up } };
+
+    ghost invariant = { λ t. ClaimsGaveJobs (state_of t.board) × (t.commits ≡ (totals_of (log_of t.board.log)).commits) };
+}
+
+/// How many commits were accepted, behind one event more; no more than the log has entries.
+fn commits_behind<S: ScriptName>(commits: u64, event: Event, told: &Reply<S>, most: usize) -> u64
+    requires { commits + (counted (event_of event) (reply_of told.now)).commits ≤ most }
+    ensures { result ≡ commits + (counted (event_of event) (reply_of told.now)).commits }
+{
+    match (event, told) {
+        (Event::Commit(_), Reply::Ok) => commits + 1,
+        _ => commits,
+    }
+}
+
+/// How many entries the log has.
+fn entries_of<S: ScriptName>(board: &Board<S>) -> usize
+    ensures { result ≡ length board.now.log }
+{
+    board.log().len()
+}
+
+impl<S: ScriptName> Turning<S> {
+    /// A run that begins, beside the plan.
+    pub fn new(alloc: Global, board: Board<S>, plan: RunPlan) -> Turning<S>
+        requires { IsFresh (state_of board) }
+        ensures begins { result ≡ record { run = board; plan = plan.lines; taken = 0; out = []; given_up = None } }
+        ensures totals { totals_of (log_of result.run.log) ≡ nothing }
+    {
+        Turning {
+            board,
+            plan: plan.lines,
+            taken: 0,
+            commits: 0,
+            out: Seq::new(alloc),
+            given_up: None,
+        }
+    }
+
+    /// One event: see `Board::apply`. What it adds to the totals of the log is what its answer says.
+    pub fn apply(
+        &mut self,
+        alloc: Global,
+        event: Event,
+        seat: u8,
+        done: Option<Done<S>>,
+    ) -> Reply<S>
+        ensures answers { Answers (state_of self.old.run) (event_of event) seat done (state_of self.new.run) (reply_of result) }
+        ensures counted { totals_of (log_of self.new.run.log) ≡ plus (totals_of (log_of self.old.run.log)) (counted (event_of event) (reply_of result)) }
+        ensures follows { Follows (turn_of self.old) (event_of event) (reply_of result) (turn_of self.new) }
+    {
+        let told = self.board.apply(alloc, event, seat, done);
+        let most = entries_of(&self.board);
+        self.commits = commits_behind(self.commits, event, &told, most);
+        keep_or_give_up(&mut self.out, &mut self.given_up, event, &told);
+        told
+    }
+
+    /// The plan's next line.
+    fn line(&self) -> Option<PlanLine>
+        ensures { result ≡ slice_get self.now.plan self.now.taken }
+    {
+        if self.taken < self.plan.len() {
+            return Some(*self.plan.get(self.taken));
+        }
+        None
+    }
+
+    /// Goes past the plan's next line, if there is one.
+    fn pass_line(&mut self)
+        ensures { self.new ≡ record self.old { taken = past_line self.old.plan self.old.taken } }
+    {
+        if self.taken < self.plan.len() {
+            self.taken += 1;
+        }
+    }
+
+    /// The plan's next line, if so many commits were accepted.
+    fn line_due(&self) -> Option<PlanLine>
+        ensures { result ≡ due (totals_of (log_of self.now.run.log)).commits (slice_get self.now.plan self.now.taken) }
+    {
+        due(self.commits, self.line())
+    }
+
+    /// What a turn is to do.
+    fn choose(&self, alloc: Global) -> Result<Choice, AllocError>
+        ensures { IfOk result (λ c. choice_of c ≡ choice (turn_of self.now)) }
+    {
+        let nobody = Seq::new(alloc);
+        let first = self.board.next(&nobody);
+        if let Some(Event::Deliver(message)) = first {
+            return Ok(Choice::Does(Event::Deliver(message)));
+        }
+        if let Some(line) = self.line_due() {
+            return Ok(Choice::Plans(line.event));
+        }
+        let busy = busy(alloc, &self.out)?;
+        let claim = self.board.next(&busy);
+        Ok(behind_plan(claim, first, self.line()))
+    }
+
+    /// The event that was chosen.
+    fn take(&mut self, alloc: Global, seat: u8, event: Event) -> Turn<S>
+        ensures takes { Takes (turn_of self.old) (event_of event) seat (turn_of self.new) (told_of result) }
+        ensures counted { totals_of (log_of self.new.run.log) ≡ plus (totals_of (log_of self.old.run.log)) (turn_counted (told_of result)) }
+    {
+        match self.apply(alloc, event, seat, None) {
+            Reply::Job(job) => Turn::Job(job),
+            Reply::Ok => Turn::Did,
+            Reply::Refused(refusal) => Turn::Refused(refusal),
+        }
+    }
+
+    /// One turn of a seat, which applies one event or none; see docs/protocol.md, "Turns". The least message that was never delivered is
+    /// delivered; else the plan's next line is applied, if its number of commits were accepted; else the least worker that is ready claims;
+    /// else, where a live worker's job is out, nothing is done; else the plan's next line is applied; else the run is at its end.
+    ///
+    /// Once the run is given up it is at its end too.
+    pub fn turn(&mut self, alloc: Global, seat: u8) -> Turn<S>
+        ensures turned { Turned (turn_of self.old) seat (turn_of self.new) (told_of result) }
+        ensures counted { totals_of (log_of self.new.run.log) ≡ plus (totals_of (log_of self.old.run.log)) (turn_counted (told_of result)) }
+    {
+        if self.given_up.is_some() {
+            return Turn::End;
+        }
+        let Ok(choice) = self.choose(alloc) else {
+            self.give_up(Refusal::NoMemory);
+            return Turn::End;
+        };
+        match choice {
+            Choice::Does(event) => self.take(alloc, seat, event),
+            Choice::Plans(event) => {
+                self.pass_line();
+                self.take(alloc, seat, event)
+            }
+            Choice::Waits => Turn::Again,
+            Choice::Ends => Turn::End,
+        }
+    }
+
+    /// Gives the run up; the first refusal for which it is stands.
+    pub fn give_up(&mut self, refusal: Refusal)
+        ensures { self.new ≡ record self.old { given_up = or_first self.old.given_up refusal } }
+    {
+        self.given_up = first_refusal(self.given_up, refusal);
+    }
+
+    /// The refusal for which the run was given up, if it was.
+    pub fn given_up(&self) -> Option<Refusal>
+        ensures { result ≡ self.now.given_up }
+    {
+        self.given_up
+    }
+
+    /// The entries so far, oldest first.
+    pub fn log(&self) -> &[Entry]
+        ensures log { result.now ≡ self.now.run.log }
+        ensures meant { IsSoundLog S.script self.now.run.first_nodes (log_of self.now.run.log) }
+    {
+        self.board.log()
+    }
+
+    /// The board.
+    pub fn into_board(self) -> Board<S>
+        ensures { result ≡ self.run }
+    {
+        let Turning {
+            board,
+            plan: _,
+            taken: _,
+            commits: _,
+            out: _,
+            given_up: _,
+        } = self;
+        board
+    }
+}

@@ -1,4 +1,0 @@
-pub mod Jobs
-pub mod Codes
-pub mod Counted
-pub mod Few

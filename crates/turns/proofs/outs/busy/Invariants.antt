@@ -1,6 +1,0 @@
-use Rattle.std.proofs.Common.{◌≡◌, take}
-use Rattle.turns.specs.Turns.{busy}
-use Rattle.turns.proofs.outs.busy.Given as goal
-
-abbrev pub invariant-loop-x : goal.invariant-loop-x
-invariant-loop-x l = l.workers ≡ busy (take l.x-index l.out)

@@ -9,7 +9,6 @@ use number_lists::item_at_number;
 use numbers::WorkerId;
 use protocol_data::{Halt, Happening, Job, Run, Whole};
 use std::alloc::Global;
-use table_copies::{copy_answers, copy_births, copy_prints};
 use whole_events::next_job;
 
 /// The job of that number, of the attempt.
@@ -17,9 +16,9 @@ fn job_of(alloc: Global, number: u64, run: &Run) -> Result<Job, Halt>
     ensures { IfOk result (λ job. job ≡ job_of number run.now) }
 {
     let spec = run.spec.copy(alloc)?;
-    let births = copy_births(alloc, &run.births)?;
-    let prints = copy_prints(alloc, &run.prints)?;
-    let answers = copy_answers(alloc, &run.answers)?;
+    let births = run.births.copy(alloc)?;
+    let prints = run.prints.copy(alloc)?;
+    let answers = run.answers.copy(alloc)?;
     Ok(Job {
         number,
         attempt: run.attempt,

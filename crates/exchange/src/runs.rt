@@ -1,74 +1,117 @@
 // Whether a job is the one that an attempt is given out as.
 
-ghost use Rattle.std.specs.Prelude.{◌≡◌, map, true};
+ghost use Rattle.std.specs.Prelude.{◌≡◌, IfOk, map, true};
+ghost use Rattle.std.specs.Arc.{arc_value};
 ghost use Rattle.values.specs.Values.{content_of, value_of};
 ghost use Rattle.task_spec.specs.Births.{birth_of};
 ghost use Rattle.protocol.specs.Answers.{job_of};
 ghost use Rattle.exchange.specs.Jobs.{job_in};
+ghost use Rattle.exchange.specs.Runs.{IsInPace, IsLike};
 
 use crate::across::{attempt, object};
-use held::{Content as HeldContent, Origin, Printed};
+use held::{Answers, Births, Prints};
 use protocol_data::Run;
 use segment::{Job, ScriptName};
-use sequence::Seq;
+use std::alloc::{AllocError, Global};
+use std::sync::Arc;
 use task_spec::Birth;
-use values::{Content, RunValue};
+use trail::Trail;
+use values::{Content, RunValue, are_same_contents};
 
-fn are_births(births: &[Birth], held: &Seq<Origin>) -> bool
-    ensures same { result ≡ true → map birth_of births.now ≡ held.now }
-    ensures only { map birth_of births.now ≡ held.now → result ≡ true }
+fn are_same_births(births: &[Arc<Birth>], held: &[Arc<Birth>]) -> bool
+    ensures same { result ≡ true → map birth_of (map arc_value births.now) ≡ map birth_of (map arc_value held.now) }
+    ensures only { map birth_of (map arc_value births.now) ≡ map birth_of (map arc_value held.now) → result ≡ true }
 {
     if births.len() != held.len() {
         return false;
     }
     for i in 0..births.len() {
-        if !births[i].is_same(&held.items[i].inner) {
+        if !births[i].is_same(&held[i]) {
             return false;
         }
     }
     true
 }
 
-fn are_prints(prints: &[RunValue], held: &Seq<Printed>) -> bool
-    ensures same { result ≡ true → map value_of prints.now ≡ held.now }
-    ensures only { map value_of prints.now ≡ held.now → result ≡ true }
+fn are_same_prints(prints: &[Arc<RunValue>], held: &[Arc<RunValue>]) -> bool
+    ensures same { result ≡ true → map value_of (map arc_value prints.now) ≡ map value_of (map arc_value held.now) }
+    ensures only { map value_of (map arc_value prints.now) ≡ map value_of (map arc_value held.now) → result ≡ true }
 {
     if prints.len() != held.len() {
         return false;
     }
     for i in 0..prints.len() {
-        if !prints[i].is_same(&held.items[i].inner) {
+        if !prints[i].is_same(&held[i]) {
             return false;
         }
     }
     true
 }
 
-fn are_answers(answers: &[Content], held: &Seq<HeldContent>) -> bool
+fn are_births(alloc: Global, births: &Trail<Birth>, held: &Births) -> Result<bool, AllocError>
+    ensures same { IfOk result (λ is. is ≡ true → map birth_of births.now ≡ held.now) }
+    ensures only { IfOk result (λ is. map birth_of births.now ≡ held.now → is ≡ true) }
+{
+    let these = births.items(alloc)?;
+    let those = held.inner.items(alloc)?;
+    Ok(are_same_births(&these, &those))
+}
+
+fn are_prints(alloc: Global, prints: &Trail<RunValue>, held: &Prints) -> Result<bool, AllocError>
+    ensures same { IfOk result (λ is. is ≡ true → map value_of prints.now ≡ held.now) }
+    ensures only { IfOk result (λ is. map value_of prints.now ≡ held.now → is ≡ true) }
+{
+    let these = prints.items(alloc)?;
+    let those = held.inner.items(alloc)?;
+    Ok(are_same_prints(&these, &those))
+}
+
+fn are_answers(answers: &[Content], held: &Answers) -> bool
     ensures same { result ≡ true → map content_of answers.now ≡ held.now }
     ensures only { map content_of answers.now ≡ held.now → result ≡ true }
 {
-    if answers.len() != held.len() {
-        return false;
-    }
-    for i in 0..answers.len() {
-        if !answers[i].is_same(&held.items[i].inner) {
-            return false;
-        }
-    }
-    true
+    are_same_contents(answers, &held.inner)
 }
 
-/// Whether the job is the one of that number, as the attempt is given out.
-pub fn is_job_of<S: ScriptName>(job: &Job<S>, number: u64, run: &Run) -> bool
-    ensures same { result ≡ true → job_in job.now ≡ job_of number run.now }
+/// Whether the job is the one of that number, as the attempt is given out, as far as one sees without reading what it bore and printed.
+fn is_like<S: ScriptName>(job: &Job<S>, number: u64, run: &Run) -> bool
+    ensures like { result ≡ true → IsLike job.now number run.now }
     ensures only { job_in job.now ≡ job_of number run.now → result ≡ true }
 {
     job.number() == number
         && job.attempt() == attempt(run.attempt)
         && job.base() == object(run.base)
+        && job.births().len() == run.births.len()
+        && job.printed().len() == run.prints.len()
         && job.spec().is_same(&run.spec.inner)
-        && are_births(job.births(), &run.births)
-        && are_prints(job.printed(), &run.prints)
         && are_answers(job.answers(), &run.answers)
+}
+
+/// Whether the job is the one of that number, as the attempt is given out. What it bore and printed is read, whose cost grows with it. An error
+/// is want of memory.
+pub fn is_job_of<S: ScriptName>(
+    alloc: Global,
+    job: &Job<S>,
+    number: u64,
+    run: &Run,
+) -> Result<bool, AllocError>
+    ensures same { IfOk result (λ is. is ≡ true → job_in job.now ≡ job_of number run.now) }
+    ensures only { IfOk result (λ is. job_in job.now ≡ job_of number run.now → is ≡ true) }
+{
+    if !is_like(job, number, run) || !are_births(alloc, job.births(), &run.births)? {
+        return Ok(false);
+    }
+    are_prints(alloc, job.printed(), &run.prints)
+}
+
+/// Whether the job is the one of that number, as the attempt is given out, where what the attempt bore and printed begins what its task does on
+/// its answers. So does what the job has: on the same answers, as much of it is the same, and isn't read.
+#[tactic(auto, using(crate::proofs::Pace::like_is_same))]
+pub fn is_job_in_pace<S: ScriptName>(job: &Job<S>, number: u64, run: &Run) -> bool
+    requires { IsInPace S.script run.now }
+    ensures same { result ≡ true → job_in job.now ≡ job_of number run.now }
+    ensures only { job_in job.now ≡ job_of number run.now → result ≡ true }
+{
+    job.attest();
+    is_like(job, number, run)
 }

@@ -9,7 +9,7 @@ ghost use Rattle.protocol_data.specs.declared.tables.Run.{Run};
 use crate::births::{bear_all, next_id};
 use crate::logged::log_outcomes;
 use crate::needs::need_own;
-use held::{Content, Origin, Printed};
+use held::{Births, Content, Origin, Printed, Prints};
 use numbers::{Cause, Fault, ObjectId};
 use object_store::put_primary;
 use protocol_data::{Halt, Here, Message, Outcomes, Phase, Stopped};
@@ -94,25 +94,21 @@ fn stop(alloc: Global, here: &mut Here, stop: &Stopped) -> Result<(), Halt>
 // ---- the commit
 
 /// Adds copies of the births.
-fn add_births(alloc: Global, births: &mut Seq<Origin>, more: &Seq<Origin>) -> Result<(), AllocError>
+fn add_births(alloc: Global, births: &mut Births, more: &Seq<Origin>) -> Result<(), AllocError>
     ensures { OnOk result (births.new ≡ births.old ++ more.now) }
 {
     for birth in &more.items {
-        births.push(birth.copy(alloc)?)?;
+        births.push(alloc, birth.copy(alloc)?)?;
     }
     Ok(())
 }
 
 /// Adds copies of the prints.
-fn add_prints(
-    alloc: Global,
-    prints: &mut Seq<Printed>,
-    more: &Seq<Printed>,
-) -> Result<(), AllocError>
+fn add_prints(alloc: Global, prints: &mut Prints, more: &Seq<Printed>) -> Result<(), AllocError>
     ensures { OnOk result (prints.new ≡ prints.old ++ more.now) }
 {
     for value in &more.items {
-        prints.push(value.copy(alloc)?)?;
+        prints.push(alloc, value.copy(alloc)?)?;
     }
     Ok(())
 }

@@ -25,9 +25,10 @@ use Rattle.protocol.specs.Tables.{Run, Worker}
 use Rattle.protocol.specs.Whole.{Moved, Whole, worker_at}
 use Rattle.protocol_legal.specs.Knows.{IsTask}
 use Rattle.protocol_laws.specs.Coming.{IsRight}
-use Rattle.protocol_laws.specs.Given.{IsGood, GivesGood, ClaimsGiveGoodJobs}
+use Rattle.protocol_laws.specs.Given.{IsGood, GivesGood, ClaimsGiveGoodJobs, RunsAreGood}
 use Rattle.protocol_laws.specs.Sound.{IsSound}
-use Rattle.protocol_core.specs.States.{beside}
+use Rattle.protocol_core.specs.Pace.{AreInPace}
+use Rattle.protocol_core.specs.States.{IsSoundRun, RunState, beside}
 use Rattle.protocol_core.specs.Steps.{IsHanded, IsOut, IsOutAs}
 
 -- ---- jobs that are given out
@@ -50,6 +51,12 @@ begun script d h = record {
   births = h.births;
   printed = h.prints;
 }
+
+-- what attempts of live workers bore and printed is in pace
+pub in_pace : (script : Script) (c : RunState) → IsSoundRun script c → c.is_halted ≡ false → RunsAreGood → AreInPace script c.whole
+in_pace script c kept goes_on law w x run at live is =
+    let good = law (beside script c.first_nodes []) kept.typed.checks (main_kind script kept.typed) c.log c.whole (kept.sound goes_on) 1 w x run at live is in
+    record { births = good.births; prints = good.prints }
 
 -- an event that is no claim gives out no job
 gives_none : (script : Script) (m : Moved) (b : Bool) → GivesGood script (if b then takes m None else Refuses 37)

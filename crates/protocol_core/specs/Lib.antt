@@ -3,3 +3,4 @@ pub mod States
 pub mod Views
 pub mod Steps
 pub mod Opening
+pub mod Pace

@@ -1,33 +1,59 @@
 // What is handed in with an event.
 
-ghost use Rattle.std.specs.Prelude.{◌≡◌, IfOk, IfSome, IfNone};
+ghost use Rattle.std.specs.Prelude.{◌≡◌, IfOk, IfSome, true};
 ghost use Rattle.event_log.specs.Views.{event_of};
-ghost use Rattle.protocol.specs.Tables.{Run};
+ghost use Rattle.protocol.specs.Tables.{Out};
+ghost use Rattle.exchange.specs.Jobs.{job_in};
 ghost use Rattle.segment.specs.Jobs.{IsTrueOf};
-ghost use Rattle.protocol_core.specs.Steps.{IsHanded, IsHandedFor, IsOutAs};
+ghost use Rattle.protocol_core.specs.Pace.{AreInPace};
+ghost use Rattle.protocol_core.specs.Steps.{IsHanded, IsHandedFor, IsOut};
 
 use event_log::Event;
-use exchange::{is_job_of, outcomes_of};
+use exchange::{is_job_in_pace, is_job_of, outcomes_of};
 use number_lists::item_at_number;
 use protocol_data::{Handed, Phase, Run, Whole};
 use segment::{Done, DoneParts, ScriptName};
 use std::alloc::{AllocError, Global};
 
-/// The attempt that is out as the job of that number.
-fn run_out_as(whole: &Whole, job: u64) -> Option<&Run>
-    ensures some { IfSome result (λ run. IsOutAs whole.now job run.now) }
-    ensures none { IfNone result ((run : Run) → IsOutAs whole.now job run → ⊥) }
+/// Whether the attempt is out as the job of that number.
+fn is_out_as(run: &Run, job: u64) -> bool
+    ensures out { result ≡ true → run.now.phase ≡ Out job }
+    ensures only { run.now.phase ≡ Out job → result ≡ true }
 {
-    let given = item_at_number(&whole.jobs, job)?;
-    let worker = item_at_number(&whole.workers, u64::from(given.worker.0))?;
-    let run = match &worker.run {
-        None => return None,
-        Some(run) => run,
-    };
     match run.phase {
-        Phase::Out(number) if number == job => Some(run),
-        _ => None,
+        Phase::Out(number) => number == job,
+        _ => false,
     }
+}
+
+/// Whether what was done was done on the job that is out with that number. Of a live worker's attempt what it bore and printed need not be read.
+/// An error is want of memory.
+fn is_done_on<S: ScriptName>(
+    alloc: Global,
+    whole: &Whole,
+    job: u64,
+    done: &Done<S>,
+) -> Result<bool, AllocError>
+    requires { AreInPace S.script whole.now }
+    ensures out { IfOk result (λ is. is ≡ true → IsOut whole.now job (job_in done.now.job)) }
+    ensures only { IfOk result (λ is. IsOut whole.now job (job_in done.now.job) → is ≡ true) }
+{
+    let Some(given) = item_at_number(&whole.jobs, job) else {
+        return Ok(false);
+    };
+    let Some(worker) = item_at_number(&whole.workers, u64::from(given.worker.0)) else {
+        return Ok(false);
+    };
+    let Some(run) = &worker.run else {
+        return Ok(false);
+    };
+    if !is_out_as(run, job) {
+        return Ok(false);
+    }
+    if worker.is_live {
+        return Ok(is_job_in_pace(done.job(), job, run));
+    }
+    is_job_of(alloc, done.job(), job, run)
 }
 
 /// What is handed in with the commit of the job: what was done on another job counts as nothing.
@@ -37,16 +63,14 @@ fn handed_for<S: ScriptName>(
     job: u64,
     done: Option<Done<S>>,
 ) -> Result<Handed, AllocError>
+    requires { AreInPace S.script whole.now }
     ensures handed { IfOk result (λ handed. IsHandedFor whole.now job done handed) }
     ensures is_true { IfSome done (λ d. IsTrueOf S.script d) }
 {
     let Some(done) = done else {
         return Ok(Handed::Nothing);
     };
-    let Some(run) = run_out_as(whole, job) else {
-        return Ok(Handed::OfAnother);
-    };
-    if !is_job_of(done.job(), job, run) {
+    if !is_done_on(alloc, whole, job, &done)? {
         return Ok(Handed::OfAnother);
     }
     let DoneParts {
@@ -74,6 +98,7 @@ pub fn handed_with<S: ScriptName>(
     event: Event,
     done: Option<Done<S>>,
 ) -> Result<Handed, AllocError>
+    requires { AreInPace S.script whole.now }
     ensures handed { IfOk result (λ handed. IsHanded whole.now (event_of event) done handed) }
     ensures is_true { IfSome done (λ d. IsTrueOf S.script d) }
 {

@@ -5,7 +5,7 @@ ghost use Rattle.meaning.specs.Values.{main_birth};
 ghost use Rattle.protocol.specs.Whole.{driver, first_whole, main_run, with_driver};
 ghost use Rattle.protocol_core.specs.Opening.{new_nodes};
 
-use held::Origin;
+use held::{Answers, Births, Origin, Prints};
 use numbers::{NodeId, ObjectId, WorkerId};
 use protocol_data::{Attempts, Node, Objects, Phase, Run, Whole, Worker};
 use sequence::Seq;
@@ -62,9 +62,9 @@ fn main_run(alloc: Global) -> Result<Run, AllocError>
         attempt: main_attempt(),
         spec,
         base: ObjectId { owner, serial: 1 },
-        births: Seq::new(alloc),
-        prints: Seq::new(alloc),
-        answers: Seq::new(alloc),
+        births: Births::new(alloc),
+        prints: Prints::new(alloc),
+        answers: Answers::new(alloc),
         phase: Phase::Ready,
         holds: Seq::new(alloc),
         is_over: false,

@@ -13,7 +13,7 @@ use answers::{Outcome, Reply, answer};
 use event_log::{Event, Refusal};
 use exchange::{happening_of, job_parts, logged_entries, refusal_of};
 use protocol_data::Halt;
-use protocol_laws::law::{claims_give_good_jobs, event_keeps_sound, sound_is_legal};
+use protocol_laws::law::{claims_give_good_jobs, event_keeps_sound, runs_are_good, sound_is_legal};
 use segment::{Done, Job, ScriptName};
 use std::alloc::Global;
 
@@ -42,6 +42,7 @@ fn try_step<S: ScriptName>(
 {
     event_keeps_sound();
     claims_give_good_jobs();
+    runs_are_good();
     sound_is_legal();
     let handed = handed_with(alloc, &state.whole, event, done)?;
     let happening = happening_of(event);
@@ -63,7 +64,7 @@ fn try_step<S: ScriptName>(
             Ok(Told::Ok)
         }
         Outcome::Taken(Some(job)) => {
-            let parts = job_parts(alloc, job)?;
+            let parts = job_parts(job);
             state.add(logged)?;
             Ok(Told::Job(Job::new(parts)))
         }

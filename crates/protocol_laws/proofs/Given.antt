@@ -27,7 +27,7 @@ use Rattle.protocol_legal.specs.Knows.{IsTask, KnowsRun}
 use Rattle.protocol_legal.specs.Whole.{setting_of}
 use Rattle.protocol_laws.specs.Sound.{IsSound}
 use Rattle.protocol_laws.specs.Pace.{IsInStep}
-use Rattle.protocol_laws.specs.Given.{ClaimsGiveGoodJobs, GivesGood, IsGood, IsGoodIfGiven}
+use Rattle.protocol_laws.specs.Given.{ClaimsGiveGoodJobs, GivesGood, IsGood, IsGoodIfGiven, RunsAreGood}
 use Rattle.protocol_laws.proofs.Pace.{attempts_keep_pace}
 use Rattle.protocol_laws.proofs.Tests.{live_worker, or_none, ready_run, unless_none}
 
@@ -89,3 +89,6 @@ module _ (s : Setting) (checks : ScriptChecks s.script s.script) (main : IsBirth
 
 pub claims_give_good_jobs : ClaimsGiveGoodJobs
 claims_give_good_jobs s checks main log c sound w handed = gives_good s checks main log c sound w handed (refusal c (Claim w) handed) refl
+
+pub runs_are_good : RunsAreGood
+runs_are_good s checks main log c sound number w x run at live is = run_is_good s checks main log c sound number w x run at live is

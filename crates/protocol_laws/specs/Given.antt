@@ -1,5 +1,5 @@
 -- The jobs that claims give out.
-use Rattle.std.specs.Prelude.{List, None, Option, Some, ℕ}
+use Rattle.std.specs.Prelude.{◌≡◌, List, None, Option, Some, true, ℕ}
 use Rattle.event_log.specs.Entries.{Claim, Entry}
 use Rattle.event_log.specs.Rules.{Setting}
 use Rattle.kind_laws.specs.Law.{HasKind}
@@ -8,9 +8,10 @@ use Rattle.meaning.specs.Lists.{IsFirst}
 use Rattle.meaning.specs.Meaning.{replay, run_birth}
 use Rattle.meaning.specs.Syntax.{Number, Script}
 use Rattle.meaning.specs.Values.{main_birth}
-use Rattle.protocol.specs.Answers.{Answer, Refuses, Takes, answer}
+use Rattle.protocol.specs.Answers.{Answer, Refuses, Takes, answer, job_of}
 use Rattle.protocol.specs.Jobs.{Handed, Job}
-use Rattle.protocol.specs.Whole.{Whole}
+use Rattle.protocol.specs.Tables.{Run, Worker}
+use Rattle.protocol.specs.Whole.{Whole, worker_at}
 use Rattle.protocol_legal.specs.Knows.{IsTask}
 use Rattle.protocol_laws.specs.Sound.{IsSound}
 
@@ -39,3 +40,11 @@ abbrev pub ClaimsGiveGoodJobs : Type 0
 ClaimsGiveGoodJobs =
     (s : Setting) → ScriptChecks s.script s.script → IsBirthOf s.script main_birth Number →
     (log : List Entry) (c : Whole) → IsSound s log c → (w : ℕ) (handed : Handed) → GivesGood s.script (answer c (Claim w) handed)
+
+-- each attempt of a live worker of a sound run is one whose job may be run, whatever its number, where the script's functions are allowed, and
+-- main has no parameters and gives a number
+abbrev pub RunsAreGood : Type 0
+RunsAreGood =
+    (s : Setting) → ScriptChecks s.script s.script → IsBirthOf s.script main_birth Number →
+    (log : List Entry) (c : Whole) → IsSound s log c → (number w : ℕ) (x : Worker) (run : Run) → worker_at c w ≡ Some x → x.is_live ≡ true →
+    x.run ≡ Some run → IsGood s.script (job_of number run)

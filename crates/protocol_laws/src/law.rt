@@ -1,6 +1,6 @@
 // The laws of the whole protocol.
 
-ghost use Rattle.protocol_laws.specs.Given.{ClaimsGiveGoodJobs};
+ghost use Rattle.protocol_laws.specs.Given.{ClaimsGiveGoodJobs, RunsAreGood};
 ghost use Rattle.protocol_laws.specs.Pace.{KeepsPace};
 ghost use Rattle.protocol_laws.specs.Law.{EventsKeepSound, NothingHeldIsReleased, OpeningIsSound, ProtocolStaysLegal, SoundIsLegal};
 
@@ -35,6 +35,12 @@ pub fn nothing_held_is_released()
 /// script's functions are allowed.
 pub fn attempts_keep_pace()
     ensures { KeepsPace }
+{}
+
+/// Each attempt of a live worker is one whose job may be run: its answers are of the kinds asked for, and what it bore and printed so far begins what
+/// the task does on them.
+pub fn runs_are_good()
+    ensures { RunsAreGood }
 {}
 
 /// Each job that a claim gives out is one that may be run: its answers are of the kinds asked for, and what it bore and printed so far

@@ -8,7 +8,7 @@ data_of p = record {
   attempt = p.attempt;
   spec = p.spec;
   base = p.base;
-  births = p.births.items;
-  printed = p.printed.items;
+  births = p.births;
+  printed = p.printed;
   answers = p.answers.items;
 }

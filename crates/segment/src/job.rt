@@ -15,6 +15,7 @@ use script_laws::law::checked_scripts_are_safe;
 use std::alloc::Global;
 use std::marker::{Model, PhantomData};
 use task_spec::Birth;
+use trail::Trail;
 use values::{Content, RunValue};
 
 /// Memory, or the numbers of objects, ran out.
@@ -107,14 +108,14 @@ impl<S: ScriptName> Job<S> {
     }
 
     /// What the attempt bore so far.
-    pub fn births(&self) -> &[Birth]
+    pub fn births(&self) -> &Trail<Birth>
         ensures { result.now ≡ self.now.births }
     {
         &self.parts.births
     }
 
     /// What the attempt printed so far.
-    pub fn printed(&self) -> &[RunValue]
+    pub fn printed(&self) -> &Trail<RunValue>
         ensures { result.now ≡ self.now.printed }
     {
         &self.parts.printed

@@ -14,6 +14,7 @@ use evaluation::{Compiled, Frame, Piece, PieceError, go_on, run_piece};
 use ids::{AttemptId, ObjectId};
 use std::alloc::{AllocError, Global};
 use task_spec::Birth;
+use trail::Trail;
 use values::{Content, RunValue};
 
 /// The parts of a job.
@@ -28,9 +29,9 @@ pub struct JobParts {
     /// The id of the attempt's first own birth. Each further birth has the next serial.
     pub base: ObjectId,
     /// What the attempt bore so far.
-    pub births: Vec<Birth>,
+    pub births: Trail<Birth>,
     /// What the attempt printed so far.
-    pub printed: Vec<RunValue>,
+    pub printed: Trail<RunValue>,
     /// The contents that the attempt was answered so far, those of its dereferenced arguments first.
     pub answers: Vec<Content>,
 }

@@ -3,4 +3,4 @@
 
 mod copies;
 
-pub use copies::{copy_answers, copy_births, copy_node, copy_prints, copy_worker};
+pub use copies::{copy_node, copy_worker};

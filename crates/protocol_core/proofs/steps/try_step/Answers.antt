@@ -8,8 +8,13 @@ use Rattle.protocol_core.specs.Steps.{Accepts, GivesJob}
 use Rattle.protocol_core.specs.Steps as told
 use Rattle.protocol_core.specs.Views.{data_of, state_of}
 use Rattle.exchange.specs.Refusals.{HasUnknown}
+use Rattle.protocol_core.proofs.Jobs.{in_pace}
 use Rattle.protocol_core.proofs.Kept.{came, applies, kept_behind, begun_behind, known_code, known_entries, tells_refused, tells_job}
 use Rattle.protocol_core.proofs.steps.try_step.Goals as goal
+
+pub handed_with-requires : goal.handed_with-requires
+handed_with-requires g c =
+    in_pace g.S.ScriptName.script (state_of (data_of c.args.state.now)) c.requires.kept c.requires.goes_on c.runs_are_good.ensures
 
 pub returns-in-Refused-clause-applied : goal.returns-in-Refused-clause-applied
 returns-in-Refused-clause-applied g c =
@@ -58,8 +63,8 @@ new-requires g c =
     let h = came script before after e (entries.event_of c.happening_of-happening.result) c.args.seat c.args.done c.in_ok-handed.handed c.in_ok-reply.reply (map entry_of c.in-Some.logged.items)
     c.happening_of-happening.ensures c.in_ok-handed.ensures.handed c.handed_with.ensures.is_true c.in_ok-reply.ensures.reply known
     c.in_ok-add-in-Taken-Some.ensures.ok (c.add-in-Taken-Some.ensures.whole ∙ c.in_ok-reply.ensures.whole) c.add-in-Taken-Some.ensures.nodes (c.add-in-Taken-Some.ensures.halted ∙ c.requires.goes_on) in
-    let job = parts.data_of c.in_ok-parts-in-Taken-Some.parts in
-    let gives = c.in-Taken-Some.is ∙ ap (λ x. Taken x) (c.in-Taken-Some.field-0-is ∙ ap (λ x. Some x) (sym c.in_ok-parts-in-Taken-Some.ensures)) in
+    let job = parts.data_of c.job_parts-parts.result in
+    let gives = c.in-Taken-Some.is ∙ ap (λ x. Taken x) (c.in-Taken-Some.field-0-is ∙ ap (λ x. Some x) (sym c.job_parts-parts.ensures)) in
     begun_behind script before after e c.args.seat c.args.done c.in_ok-reply.reply.outcome c.requires.kept c.requires.goes_on c.claims_give_good_jobs.ensures h job gives
 
 pub returns-clause-applied : goal.returns-clause-applied
@@ -72,8 +77,8 @@ returns-clause-applied g c =
     let h = came script before after e (entries.event_of c.happening_of-happening.result) c.args.seat c.args.done c.in_ok-handed.handed c.in_ok-reply.reply (map entry_of c.in-Some.logged.items)
     c.happening_of-happening.ensures c.in_ok-handed.ensures.handed c.handed_with.ensures.is_true c.in_ok-reply.ensures.reply known
     c.in_ok-add-in-Taken-Some.ensures.ok (c.add-in-Taken-Some.ensures.whole ∙ c.in_ok-reply.ensures.whole) c.add-in-Taken-Some.ensures.nodes (c.add-in-Taken-Some.ensures.halted ∙ c.requires.goes_on) in
-    let job = parts.data_of c.in_ok-parts-in-Taken-Some.parts in
-    let gives = c.in-Taken-Some.is ∙ ap (λ x. Taken x) (c.in-Taken-Some.field-0-is ∙ ap (λ x. Some x) (sym c.in_ok-parts-in-Taken-Some.ensures)) in
+    let job = parts.data_of c.job_parts-parts.result in
+    let gives = c.in-Taken-Some.is ∙ ap (λ x. Taken x) (c.in-Taken-Some.field-0-is ∙ ap (λ x. Some x) (sym c.job_parts-parts.ensures)) in
     let tells = tells_job _ job (sym h.outcome_is ∙ gives) in
     applies script before after e c.args.seat c.args.done c.in_ok-reply.reply.outcome (GivesJob c.new.result) h (subst (λ j. told.Tells (answer before.whole e h.handed) (GivesJob j)) (sym c.new.ensures) tells)
 

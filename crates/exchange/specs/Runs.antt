@@ -1,0 +1,25 @@
+-- Jobs beside attempts as they stand.
+use Rattle.std.specs.Prelude.{◌≡◌, ℕ, length, map}
+use Rattle.meaning.specs.Lists.{IsFirst}
+use Rattle.meaning.specs.Meaning.{replay}
+use Rattle.meaning.specs.Syntax.{Script}
+use Rattle.values.specs.Values.{content_of, id_of}
+use Rattle.task_spec.specs.Births.{birth_of}
+use Rattle.event_log.specs.Views.{attempt_of}
+use Rattle.segment.specs.Jobs.{JobData}
+use Rattle.protocol.specs.Tables.{Run}
+
+-- what the attempt bore and printed begins what its task does on its answers
+pub record IsInPace (script : Script) (run : Run) : Type 0 where
+  pub births : IsFirst run.births (replay script run.spec run.base run.answers).births
+  pub prints : IsFirst run.prints (replay script run.spec run.base run.answers).prints
+
+-- the job has the number, the attempt, its task, base and answers, and as many births and prints
+pub record IsLike (j : JobData) (n : ℕ) (run : Run) : Type 0 where
+  pub number : j.number ≡ n
+  pub attempt : attempt_of j.attempt ≡ run.attempt
+  pub spec : birth_of j.spec ≡ run.spec
+  pub base : id_of j.base ≡ run.base
+  pub answers : map content_of j.answers ≡ run.answers
+  pub births : length j.births ≡ length run.births
+  pub prints : length j.printed ≡ length run.prints

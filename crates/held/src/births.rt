@@ -1,0 +1,61 @@
+// What an attempt bore, which contracts see as births.
+
+ghost use Rattle.std.specs.Prelude.{◌≡◌, ◌∷◌, ◌++◌, [], IfOk, OnOk, length};
+
+use crate::origin::Origin;
+use std::alloc::{AllocError, Global};
+use std::marker::Model;
+use task_spec::Birth;
+use trail::Trail;
+
+/// Births in order, which contracts see as they are. Copies share them.
+#[derive(Drop)]
+pub struct Births {
+    pub inner: Trail<Birth>,
+}
+
+impl Model for Births {
+    ghost use Rattle.std.specs.Prelude.{List, map};
+    ghost use Rattle.std.specs.Coded.{codes};
+    ghost use Rattle.meaning.specs.Values.{Birth};
+    ghost use Rattle.held.specs.Codes.{birth_code};
+    ghost use Rattle.task_spec.specs.Births.{birth_of};
+
+    ghost Value = { List Birth };
+
+    ghost coded = { Prim.hlevel (codes, birth_code) };
+
+    ghost view = { λ b. map birth_of b.inner };
+}
+
+impl Births {
+    /// None yet.
+    pub fn new(alloc: Global) -> Births
+        ensures { result ≡ [] }
+    {
+        Births {
+            inner: Trail::new(alloc),
+        }
+    }
+
+    pub fn len(&self) -> usize
+        ensures { result ≡ length self.now }
+    {
+        self.inner.len()
+    }
+
+    /// Adds a birth at the end. After an error, which is want of memory, there are none.
+    pub fn push(&mut self, alloc: Global, birth: Origin) -> Result<(), AllocError>
+        ensures { OnOk result (self.new ≡ self.old ++ birth ∷ []) }
+    {
+        self.inner.push(alloc, birth.inner)
+    }
+
+    /// Equal births, the same in memory.
+    pub fn copy(&self, alloc: Global) -> Result<Births, AllocError>
+        ensures { IfOk result (λ b. b ≡ self.now) }
+    {
+        let inner = self.inner.copy(alloc)?;
+        Ok(Births { inner })
+    }
+}

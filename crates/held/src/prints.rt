@@ -1,0 +1,61 @@
+// What an attempt printed, which contracts see as the definitions' values.
+
+ghost use Rattle.std.specs.Prelude.{◌≡◌, ◌∷◌, ◌++◌, [], IfOk, OnOk, length};
+
+use crate::printed::Printed;
+use std::alloc::{AllocError, Global};
+use std::marker::Model;
+use trail::Trail;
+use values::RunValue;
+
+/// Values in order, which contracts see as they are. Copies share them.
+#[derive(Drop)]
+pub struct Prints {
+    pub inner: Trail<RunValue>,
+}
+
+impl Model for Prints {
+    ghost use Rattle.std.specs.Prelude.{List, map};
+    ghost use Rattle.std.specs.Coded.{codes};
+    ghost use Rattle.meaning.specs.Values.{Value as AnyValue};
+    ghost use Rattle.held.specs.Codes.{value_code};
+    ghost use Rattle.values.specs.Values.{value_of};
+
+    ghost Value = { List AnyValue };
+
+    ghost coded = { Prim.hlevel (codes, value_code) };
+
+    ghost view = { λ p. map value_of p.inner };
+}
+
+impl Prints {
+    /// None yet.
+    pub fn new(alloc: Global) -> Prints
+        ensures { result ≡ [] }
+    {
+        Prints {
+            inner: Trail::new(alloc),
+        }
+    }
+
+    pub fn len(&self) -> usize
+        ensures { result ≡ length self.now }
+    {
+        self.inner.len()
+    }
+
+    /// Adds a value at the end. After an error, which is want of memory, there are none.
+    pub fn push(&mut self, alloc: Global, value: Printed) -> Result<(), AllocError>
+        ensures { OnOk result (self.new ≡ self.old ++ value ∷ []) }
+    {
+        self.inner.push(alloc, value.inner)
+    }
+
+    /// Equal values, the same in memory.
+    pub fn copy(&self, alloc: Global) -> Result<Prints, AllocError>
+        ensures { IfOk result (λ p. p ≡ self.now) }
+    {
+        let inner = self.inner.copy(alloc)?;
+        Ok(Prints { inner })
+    }
+}

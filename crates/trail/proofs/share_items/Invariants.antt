@@ -1,0 +1,6 @@
+use Rattle.std.proofs.Common.{◌≡◌, ◌++◌, map, take}
+use Rattle.std.specs.Arc.{arc_value}
+use Rattle.trail.proofs.share_items.Given as goal
+
+abbrev pub invariant-loop-item : goal.invariant-loop-item
+invariant-loop-item g l = map arc_value l.shared.items ≡ map arc_value l.fn.shared.items ++ map arc_value (take l.item-index l.items)

@@ -1,0 +1,14 @@
+-- The items of chunks.
+use Rattle.std.specs.Prelude.{List, map}
+use Rattle.std.specs.List.{flat_map}
+use Rattle.std.specs.Arc.{arc_value}
+use Rattle.std.specs.declared.sync.Arc.{Arc}
+use Rattle.std.specs.declared.vec.Vec.{Vec}
+
+-- the items of a chunk
+abbrev pub items_of : {T A B C : Type 0} → Arc (Vec (Arc T A) B) C → List T
+items_of c = map arc_value (arc_value c).items
+
+-- the items of all chunks, in order
+abbrev pub items_in : {T A B C : Type 0} → List (Arc (Vec (Arc T A) B) C) → List T
+items_in cs = flat_map items_of cs

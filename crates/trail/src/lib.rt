@@ -1,0 +1,135 @@
+//! A list that grows at its end, and whose copies share its items.
+#![tactic(auto)]
+
+ghost use Rattle.std.specs.Prelude.{◌≡◌, ◌∷◌, ◌++◌, [], IfOk, OnOk, OnErr, length, map};
+ghost use Rattle.std.specs.Arc.{arc_value};
+ghost use Rattle.trail.specs.Chunks.{items_in, items_of};
+
+use std::alloc::{AllocError, Global};
+use std::marker::Model;
+use std::mem;
+use std::sync::Arc;
+
+/// So many items share a chunk.
+const ITEMS_OF_A_CHUNK: usize = 64;
+
+/// A list that contracts see as a list. Copies share its items, in chunks: one costs as much as a number for each 64 items, whatever they
+/// are, and for each of those behind the last full chunk. The list and its copies may stand in different threads.
+#[derive(Drop)]
+pub struct Trail<T> {
+    full: Vec<Arc<Vec<Arc<T>>>>,
+    last: Vec<Arc<T>>,
+    count: usize,
+}
+
+impl<T> Model for Trail<T> {
+    ghost use Rattle.std.specs.Prelude.{◌≡◌, ◌++◌, List, length, map};
+    ghost use Rattle.std.specs.Arc.{arc_value};
+    ghost use Rattle.trail.specs.Chunks.{items_in};
+
+    ghost Value = { List T };
+
+    ghost view = { λ t. items_in t.full.items ++ map arc_value t.last.items };
+
+    ghost invariant = { λ t. t.count ≡ length (items_in t.full.items ++ map arc_value t.last.items) };
+}
+
+/// The same chunks.
+fn share_chunks<T: Drop>(
+    alloc: Global,
+    chunks: &[Arc<Vec<Arc<T>>>],
+) -> Result<Vec<Arc<Vec<Arc<T>>>>, AllocError>
+    ensures { IfOk result (λ cs. items_in cs.items ≡ items_in chunks.now) }
+{
+    let mut shared = Vec::new(alloc);
+    for chunk in chunks {
+        shared.push(Arc::try_clone(chunk)?)?;
+    }
+    Ok(shared)
+}
+
+/// Adds the items, which are shared from then on.
+#[tactic(auto, using(crate::proofs::Shared::added))]
+fn share_items<T: Drop>(shared: &mut Vec<Arc<T>>, items: &[Arc<T>]) -> Result<(), AllocError>
+    ensures { OnOk result (map arc_value shared.new.items ≡ map arc_value shared.old.items ++ map arc_value items.now) }
+{
+    for item in items {
+        shared.push(Arc::try_clone(item)?)?;
+    }
+    Ok(())
+}
+
+impl<T> Trail<T> {
+    /// The empty list.
+    pub fn new(alloc: Global) -> Trail<T>
+        ensures { result ≡ [] }
+    {
+        Trail {
+            full: Vec::new(alloc),
+            last: Vec::new(alloc),
+            count: 0,
+        }
+    }
+
+    pub fn len(&self) -> usize
+        ensures { result ≡ length self.now }
+    {
+        self.count
+    }
+}
+
+impl<T: Drop> Trail<T> {
+    /// The list, with an item at its end.
+    fn with(self, alloc: Global, item: T) -> Result<Trail<T>, AllocError>
+        ensures { IfOk result (λ more. more ≡ self ++ item ∷ []) }
+    {
+        let Trail { full, last, count } = self;
+        let Some(count) = count.checked_add(1) else {
+            return Err(AllocError);
+        };
+        let mut full = full;
+        let mut last = last;
+        if last.len() >= ITEMS_OF_A_CHUNK {
+            full.push(Arc::new(alloc, last)?)?;
+            last = Vec::new(alloc);
+        }
+        last.push(Arc::new(alloc, item)?)?;
+        Ok(Trail { full, last, count })
+    }
+
+    /// Adds an item at the end. After an error, which is want of memory, the list is empty.
+    pub fn push(&mut self, alloc: Global, item: T) -> Result<(), AllocError>
+        ensures ok { OnOk result (self.new ≡ self.old ++ item ∷ []) }
+        ensures err { OnErr result (self.new ≡ []) }
+    {
+        let list = mem::replace(self, Trail::new(alloc));
+        *self = list.with(alloc, item)?;
+        Ok(())
+    }
+
+    /// An equal list, which shares all items. An error is want of memory.
+    pub fn copy(&self, alloc: Global) -> Result<Trail<T>, AllocError>
+        ensures { IfOk result (λ other. other ≡ self.now) }
+    {
+        let full = share_chunks(alloc, &self.full)?;
+        let mut last = Vec::new(alloc);
+        share_items(&mut last, &self.last)?;
+        Ok(Trail {
+            full,
+            last,
+            count: self.count,
+        })
+    }
+
+    /// The items, in order. An error is want of memory.
+    pub fn items(&self, alloc: Global) -> Result<Vec<Arc<T>>, AllocError>
+        ensures { IfOk result (λ items. map arc_value items.items ≡ self.now) }
+    {
+        let mut items = Vec::new(alloc);
+        for chunk in &self.full {
+            share_items(&mut items, chunk)?;
+        }
+        share_items(&mut items, &self.last)?;
+        Ok(items)
+    }
+}

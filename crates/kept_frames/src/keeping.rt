@@ -8,22 +8,23 @@ ghost use Rattle.kept_frames.specs.Views.{data_of};
 
 use crate::known::{Known, known_after};
 use crate::waiting::{Ready, Waiting};
-use ids::AttemptId;
+use ids::ObjectId;
 use segment::{Compiled, Done, Job, NoMemory, ScriptName};
 use std::alloc::Global;
 
-/// How many frames are kept at most.
-const PLACES: u64 = 64;
+/// How many frames are kept at most: as many as a run has workers.
+const PLACES: u32 = 1024;
 
-/// Frames of attempts of the script `S` that wait for an answer, at most 64. An attempt's place is its task's number by 64; the last frame
-/// of a place stays.
+/// Frames of attempts of the script `S` that wait for an answer, at most 1,024. An attempt's place is its worker's number by 1,024; the last
+/// frame of a place stays. A worker runs one attempt at a time, so an attempt that goes on keeps its frame.
 #[derive(Drop)]
 pub struct Frames<S: ScriptName> {
     waiting: Vec<Option<Waiting<S>>>,
 }
 
-fn place_of(attempt: AttemptId) -> usize {
-    (attempt.object.serial % PLACES) as usize
+/// The place of an attempt by the id of its first own birth, whose owner is its worker.
+fn place_of(base: ObjectId) -> usize {
+    (base.owner.0 % PLACES) as usize
 }
 
 impl<S: ScriptName> Frames<S> {
@@ -39,7 +40,7 @@ impl<S: ScriptName> Frames<S> {
         ensures job { result.job ≡ job }
         ensures known { IfSome result.known (λ known. IsNext (data_of known) job) }
     {
-        let place = place_of(job.attempt());
+        let place = place_of(job.base());
         if place >= self.waiting.len() {
             return Ready { job, known: None };
         }
@@ -73,7 +74,7 @@ impl<S: ScriptName> Frames<S> {
         let Some(frame) = done.take_frame() else {
             return;
         };
-        let place = place_of(done.job().attempt());
+        let place = place_of(done.job().base());
         if let Ok(known) = known_after(alloc, known, done) {
             self.put(place, Waiting::new(known, frame));
         }

@@ -1,20 +1,23 @@
 // What an attempt was answered, which contracts see as outcomes.
 
-ghost use Rattle.std.specs.Prelude.{◌≡◌, ◌∷◌, ◌++◌, [], IfOk, OnOk};
+ghost use Rattle.std.specs.Prelude.{◌≡◌, ◌∷◌, ◌++◌, [], IfOk, OnOk, map};
+ghost use Rattle.values.specs.Values.{content_of};
 
 use crate::content::Content;
 use std::alloc::{AllocError, Global};
 use std::marker::Model;
+use std::sync::Arc;
 
-/// Contents in order, which contracts see as the outcomes that they are.
+/// Contents in order, which contracts see as the outcomes that they are. Copies share them.
 #[derive(Drop)]
 pub struct Answers {
-    pub inner: Vec<values::Content>,
+    pub inner: Arc<Vec<values::Content>>,
 }
 
 impl Model for Answers {
     ghost use Rattle.std.specs.Prelude.{List, map};
     ghost use Rattle.std.specs.Coded.{codes};
+    ghost use Rattle.std.specs.Arc.{arc_value};
     ghost use Rattle.meaning.specs.Values.{Outcome};
     ghost use Rattle.held.specs.Codes.{outcome_code};
     ghost use Rattle.values.specs.Values.{content_of};
@@ -23,35 +26,52 @@ impl Model for Answers {
 
     ghost coded = { Prim.hlevel (codes, outcome_code) };
 
-    ghost view = { λ a. map content_of a.inner.items };
+    ghost view = { λ a. map content_of (arc_value a.inner).items };
+}
+
+/// Equal contents.
+fn copy_contents(
+    alloc: Global,
+    contents: &[values::Content],
+) -> Result<Vec<values::Content>, AllocError>
+    ensures { IfOk result (λ same. map content_of same.items ≡ map content_of contents.now) }
+{
+    let mut same = Vec::with_capacity(alloc, contents.len())?;
+    for content in contents {
+        same.push(content.copy(alloc)?)?;
+    }
+    Ok(same)
 }
 
 impl Answers {
-    /// None yet.
-    pub fn new(alloc: Global) -> Answers
-        ensures { result ≡ [] }
+    /// None yet. An error is want of memory.
+    pub fn new(alloc: Global) -> Result<Answers, AllocError>
+        ensures { IfOk result (λ a. a ≡ []) }
     {
-        Answers {
-            inner: Vec::new(alloc),
-        }
+        let inner = Arc::new(alloc, Vec::new(alloc))?;
+        Ok(Answers { inner })
     }
 
-    /// Adds a content at the end. After an error, which is want of memory, they are as they were.
-    pub fn push(&mut self, content: Content) -> Result<(), AllocError>
+    /// Adds a content at the end; those before it are copied where a copy shares them. After an error, which is want of memory, they are as
+    /// they were.
+    pub fn push(&mut self, alloc: Global, content: Content) -> Result<(), AllocError>
         ensures { OnOk result (self.new ≡ self.old ++ content ∷ []) }
     {
-        self.inner.push(content.inner)?;
+        if let Some(contents) = Arc::get_mut(&mut self.inner) {
+            contents.push(content.inner)?;
+            return Ok(());
+        }
+        let mut contents = copy_contents(alloc, &self.inner)?;
+        contents.push(content.inner)?;
+        self.inner = Arc::new(alloc, contents)?;
         Ok(())
     }
 
-    /// Equal contents. An error is want of memory.
+    /// Equal contents, which are shared. An error is want of memory.
     pub fn copy(&self, alloc: Global) -> Result<Answers, AllocError>
         ensures { IfOk result (λ a. a ≡ self.now) }
     {
-        let mut inner = Vec::with_capacity(alloc, self.inner.len())?;
-        for content in &self.inner {
-            inner.push(content.copy(alloc)?)?;
-        }
+        let inner = Arc::try_clone(&self.inner)?;
         Ok(Answers { inner })
     }
 }

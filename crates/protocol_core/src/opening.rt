@@ -57,6 +57,7 @@ fn main_run(alloc: Global) -> Result<Run, AllocError>
     ensures { IfOk result (λ run. run ≡ main_run) }
 {
     let spec = main_task(alloc)?;
+    let answers = Answers::new(alloc)?;
     let owner = WorkerId(1);
     Ok(Run {
         attempt: main_attempt(),
@@ -64,7 +65,7 @@ fn main_run(alloc: Global) -> Result<Run, AllocError>
         base: ObjectId { owner, serial: 1 },
         births: Births::new(alloc),
         prints: Prints::new(alloc),
-        answers: Answers::new(alloc),
+        answers,
         phase: Phase::Ready,
         holds: Seq::new(alloc),
         is_over: false,

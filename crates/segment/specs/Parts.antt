@@ -1,4 +1,5 @@
 -- The parts of a job, as contracts see them.
+use Rattle.std.specs.Arc.{arc_value}
 use Rattle.segment.specs.declared.parts.JobParts.{JobParts}
 use Rattle.segment.specs.Jobs.{JobData}
 
@@ -10,5 +11,5 @@ data_of p = record {
   base = p.base;
   births = p.births;
   printed = p.printed;
-  answers = p.answers.items;
+  answers = (arc_value p.answers).items;
 }

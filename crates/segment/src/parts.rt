@@ -13,6 +13,7 @@ ghost use Rattle.segment.specs.Pieces.{done_of};
 use evaluation::{Compiled, Frame, Piece, PieceError, go_on, run_piece};
 use ids::{AttemptId, ObjectId};
 use std::alloc::{AllocError, Global};
+use std::sync::Arc;
 use task_spec::Birth;
 use trail::Trail;
 use values::{Content, RunValue};
@@ -33,7 +34,7 @@ pub struct JobParts {
     /// What the attempt printed so far.
     pub printed: Trail<RunValue>,
     /// The contents that the attempt was answered so far, those of its dereferenced arguments first.
-    pub answers: Vec<Content>,
+    pub answers: Arc<Vec<Content>>,
 }
 
 /// The items after the first `count`, moved.

@@ -35,7 +35,7 @@ returns-clause-whole c =
     let script = script_of c.args.script.now in
     let rest = c.in-Some-split_last.field-0-1.now in
     let answer = c.in-Some-split_last.answer.now in
-    let last : j.answers ≡ rest ++ answer ∷ [] = sym c.deref.ensures ∙ c.in-Some-split_last.ensures.cases.0 in
+    let last : j.answers ≡ rest ++ answer ∷ [] = sym (c.deref-2.ensures.value ∙ ap (λ v. v.items) c.deref.ensures) ∙ c.in-Some-split_last.ensures.cases.0 in
     let fits : Fits script j c.in-Some.frame = subst (λ f. IfSome f (Fits script j)) c.in-Some.is c.requires.fits in
     let waits : IsWaiting script (birth_of j.spec) (id_of j.base) (past_of (before_of j rest)) c.in-Some.frame =
     subst (λ cs. IsWaiting script (birth_of j.spec) (id_of j.base) (past_of (before_of j cs)) c.in-Some.frame)
@@ -51,7 +51,7 @@ returns-clause-broken c =
     let script = script_of c.args.script.now in
     let rest = c.in-Some-split_last.field-0-1.now in
     let answer = c.in-Some-split_last.answer.now in
-    let last : j.answers ≡ rest ++ answer ∷ [] = sym c.deref.ensures ∙ c.in-Some-split_last.ensures.cases.0 in
+    let last : j.answers ≡ rest ++ answer ∷ [] = sym (c.deref-2.ensures.value ∙ ap (λ v. v.items) c.deref.ensures) ∙ c.in-Some-split_last.ensures.cases.0 in
     let fits : Fits script j c.in-Some.frame = subst (λ f. IfSome f (Fits script j)) c.in-Some.is c.requires.fits in
     let waits : IsWaiting script (birth_of j.spec) (id_of j.base) (past_of (before_of j rest)) c.in-Some.frame =
     subst (λ cs. IsWaiting script (birth_of j.spec) (id_of j.base) (past_of (before_of j cs)) c.in-Some.frame)
@@ -67,7 +67,7 @@ returns-clause-waits c =
     let script = script_of c.args.script.now in
     let rest = c.in-Some-split_last.field-0-1.now in
     let answer = c.in-Some-split_last.answer.now in
-    let last : j.answers ≡ rest ++ answer ∷ [] = sym c.deref.ensures ∙ c.in-Some-split_last.ensures.cases.0 in
+    let last : j.answers ≡ rest ++ answer ∷ [] = sym (c.deref-2.ensures.value ∙ ap (λ v. v.items) c.deref.ensures) ∙ c.in-Some-split_last.ensures.cases.0 in
     let fits : Fits script j c.in-Some.frame = subst (λ f. IfSome f (Fits script j)) c.in-Some.is c.requires.fits in
     let waits : IsWaiting script (birth_of j.spec) (id_of j.base) (past_of (before_of j rest)) c.in-Some.frame =
     subst (λ cs. IsWaiting script (birth_of j.spec) (id_of j.base) (past_of (before_of j cs)) c.in-Some.frame)
@@ -85,7 +85,7 @@ returns-clause-counts c =
     let script = script_of c.args.script.now in
     let rest = c.in-Some-split_last.field-0-1.now in
     let answer = c.in-Some-split_last.answer.now in
-    let last : j.answers ≡ rest ++ answer ∷ [] = sym c.deref.ensures ∙ c.in-Some-split_last.ensures.cases.0 in
+    let last : j.answers ≡ rest ++ answer ∷ [] = sym (c.deref-2.ensures.value ∙ ap (λ v. v.items) c.deref.ensures) ∙ c.in-Some-split_last.ensures.cases.0 in
     let fits : Fits script j c.in-Some.frame = subst (λ f. IfSome f (Fits script j)) c.in-Some.is c.requires.fits in
     let waits : IsWaiting script (birth_of j.spec) (id_of j.base) (past_of (before_of j rest)) c.in-Some.frame =
     subst (λ cs. IsWaiting script (birth_of j.spec) (id_of j.base) (past_of (before_of j cs)) c.in-Some.frame)

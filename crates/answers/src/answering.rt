@@ -7,9 +7,9 @@ ghost use Rattle.protocol_data.specs.Entries.{event_of};
 
 use crate::given::given_out;
 use crate::reply::{Reply, refused, taken};
-use protocol_data::{Halt, Handed, Happening, Whole};
+use protocol_data::{Handed, Happening, Whole};
 use refusals::refusal;
-use std::alloc::Global;
+use std::alloc::{AllocError, Global};
 use whole_events::happen;
 
 /// One event of the whole run, with the seat from which it came and what is handed in. It is refused, and nothing changes; or it is taken.
@@ -20,7 +20,7 @@ pub fn answer(
     event: &Happening,
     seat: u8,
     handed: Handed,
-) -> Result<Reply, Halt>
+) -> Result<Reply, AllocError>
     ensures whole { OnOk result (whole.new ≡ whole_after whole.old (answer whole.old (event_of event.now) handed)) }
     ensures reply { IfOk result (λ reply. reply ≡ reply_of (event_of event.now) seat (answer whole.old (event_of event.now) handed)) }
 {

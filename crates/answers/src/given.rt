@@ -7,12 +7,12 @@ ghost use Rattle.protocol_data.specs.Entries.{event_of};
 
 use number_lists::item_at_number;
 use numbers::WorkerId;
-use protocol_data::{Halt, Happening, Job, Run, Whole};
-use std::alloc::Global;
+use protocol_data::{Happening, Job, Run, Whole};
+use std::alloc::{AllocError, Global};
 use whole_events::next_job;
 
 /// The job of that number, of the attempt.
-fn job_of(alloc: Global, number: u64, run: &Run) -> Result<Job, Halt>
+fn job_of(alloc: Global, number: u64, run: &Run) -> Result<Job, AllocError>
     ensures { IfOk result (λ job. job ≡ job_of number run.now) }
 {
     let spec = run.spec.copy(alloc)?;
@@ -31,7 +31,12 @@ fn job_of(alloc: Global, number: u64, run: &Run) -> Result<Job, Halt>
 }
 
 /// The job of that number, of the worker's attempt.
-fn job_at(alloc: Global, whole: &Whole, number: u64, worker: WorkerId) -> Result<Option<Job>, Halt>
+fn job_at(
+    alloc: Global,
+    whole: &Whole,
+    number: u64,
+    worker: WorkerId,
+) -> Result<Option<Job>, AllocError>
     ensures { IfOk result (λ job. job ≡ job_at number (worker_at whole.now worker)) }
 {
     let Some(found) = item_at_number(&whole.workers, u64::from(worker.0)) else {
@@ -44,7 +49,7 @@ fn job_at(alloc: Global, whole: &Whole, number: u64, worker: WorkerId) -> Result
 }
 
 /// The job that the event gives out, if it is a claim.
-pub fn given_out(alloc: Global, whole: &Whole, event: &Happening) -> Result<Option<Job>, Halt>
+pub fn given_out(alloc: Global, whole: &Whole, event: &Happening) -> Result<Option<Job>, AllocError>
     ensures { IfOk result (λ job. job ≡ given_out whole.now (event_of event.now)) }
 {
     match event {

@@ -6,9 +6,9 @@ ghost use Rattle.answers.specs.Replies.{reply_of, taken_reply};
 ghost use Rattle.protocol.specs.Answers.{Refuses};
 ghost use Rattle.protocol_data.specs.Entries.{event_of};
 
-use protocol_data::{Halt, Happening, Job, LogEntry, Said};
+use protocol_data::{Happening, Job, LogEntry, Said};
 use sequence::Seq;
-use std::alloc::Global;
+use std::alloc::{AllocError, Global};
 
 /// What an event came to.
 #[derive(Drop)]
@@ -33,7 +33,7 @@ fn with_event(
     event: &Happening,
     seat: u8,
     more: Seq<LogEntry>,
-) -> Result<Seq<LogEntry>, Halt>
+) -> Result<Seq<LogEntry>, AllocError>
     ensures { IfOk result (λ entries. entries ≡ In (event_of event.now) seat ∷ more) }
 {
     let mut entries = Seq::new(alloc);
@@ -44,7 +44,7 @@ fn with_event(
 }
 
 /// The event was refused.
-pub fn refused(alloc: Global, event: &Happening, seat: u8, code: u8) -> Result<Reply, Halt>
+pub fn refused(alloc: Global, event: &Happening, seat: u8, code: u8) -> Result<Reply, AllocError>
     ensures { IfOk result (λ reply. reply ≡ reply_of (event_of event.now) seat (Refuses code)) }
 {
     let mut more = Seq::new(alloc);
@@ -62,7 +62,7 @@ pub fn taken(
     seat: u8,
     more: Seq<LogEntry>,
     given: Option<Job>,
-) -> Result<Reply, Halt>
+) -> Result<Reply, AllocError>
     ensures { IfOk result (λ reply. reply ≡ taken_reply (event_of event.now) seat more given) }
 {
     let entries = with_event(alloc, event, seat, more)?;

@@ -12,13 +12,13 @@ use lease::next_in_circle;
 use lineage::may_try_again;
 use number_lists::{has_node, item_at_number};
 use numbers::{AttemptId, Cause, Fault, NodeId, ObjectId, WorkerId};
-use protocol_data::{Halt, Here, Maker, Message, Object, Objects, OwnTask, Progress, Said, Worker};
-use std::alloc::Global;
+use protocol_data::{Here, Maker, Message, Object, Objects, OwnTask, Progress, Said, Worker};
+use std::alloc::{AllocError, Global};
 use worker_steps::{ask_at, is_own, knows_dead, log, request, resolve, say};
 
 /// The present attempt of the pending task that makes the object is broken: its worker or its node is dead. While there are retries left the
 /// next attempt is asked for, at the own node; else the object is resolved by RetriesUsed, and whoever waits for it is answered.
-pub fn break_attempt(alloc: Global, here: &mut Here, object: ObjectId) -> Result<(), Halt>
+pub fn break_attempt(alloc: Global, here: &mut Here, object: ObjectId) -> Result<(), AllocError>
     ensures { (task : OwnTask) → task_of (item_at here.old.worker.objects object.serial) ≡ Some task
         → OnOk result (here.new ≡ breaks here.old object task) }
 {
@@ -31,7 +31,7 @@ pub fn break_attempt(alloc: Global, here: &mut Here, object: ObjectId) -> Result
     let number = task.number;
     if may_try_again(task) {
         if number == u32::MAX {
-            return Err(Halt::NoNumber);
+            return Err(AllocError);
         }
         return request(here, object, number + 1);
     }
@@ -42,7 +42,7 @@ pub fn break_attempt(alloc: Global, here: &mut Here, object: ObjectId) -> Result
 }
 
 /// The task's present attempt runs on the worker.
-fn set_begun(object: &mut Object, worker: WorkerId, node: NodeId) -> Result<(), Halt>
+fn set_begun(object: &mut Object, worker: WorkerId, node: NodeId) -> Result<(), AllocError>
     ensures { (task : OwnTask) → task_of (Some object.old) ≡ Some task
         → OnOk result (object.new ≡ with_task (with_begun task worker node) object.old) }
 {
@@ -60,7 +60,7 @@ fn set_begun_at(
     serial: u64,
     worker: WorkerId,
     node: NodeId,
-) -> Result<(), Halt>
+) -> Result<(), AllocError>
     ensures { (task : OwnTask) → task_of (item_at objects.old serial) ≡ Some task
         → OnOk result (objects.new ≡ changed_at objects.old serial (with_task (with_begun task worker node))) }
 {
@@ -83,7 +83,7 @@ fn push(
     object: ObjectId,
     worker: WorkerId,
     node: NodeId,
-) -> Result<(), Halt>
+) -> Result<(), AllocError>
     ensures { (task : OwnTask) → task_of (item_at here.old.worker.objects object.serial) ≡ Some task
         → OnOk result (here.new ≡ pushes here.old object (with_begun task worker node) worker) }
 {
@@ -110,7 +110,7 @@ fn push_in_vain(
     object: ObjectId,
     worker: WorkerId,
     node: NodeId,
-) -> Result<(), Halt>
+) -> Result<(), AllocError>
     ensures { (task : OwnTask) → task_of (item_at here.old.worker.objects object.serial) ≡ Some task
         → OnOk result (here.new ≡ breaks (pushes here.old object (with_begun task worker node) worker) object (with_begun task worker node)) }
 {
@@ -125,7 +125,7 @@ fn begin(
     object: ObjectId,
     worker: WorkerId,
     node: NodeId,
-) -> Result<(), Halt>
+) -> Result<(), AllocError>
     ensures { (task : OwnTask) → task_of (item_at here.old.worker.objects object.serial) ≡ Some task
         → OnOk result (here.new ≡ begins here.old object task worker node) }
 {
@@ -158,7 +158,7 @@ pub fn given_reached(
     attempt: AttemptId,
     t: u32,
     worker: WorkerId,
-) -> Result<(), Halt>
+) -> Result<(), AllocError>
     ensures { OnOk result (here.new ≡ given_reached here.old node attempt t worker) }
 {
     if !is_own(here, attempt.object) {
@@ -178,7 +178,7 @@ pub fn given_reached(
 
 /// The first node from that one on, in the circle of numbers, that isn't known dead.
 #[tactic(auto, using(crate::proofs::Circles::live_here, crate::proofs::Circles::dead_here, crate::proofs::Circles::none_left))]
-pub fn first_live(worker: &Worker, count: u64, node: NodeId) -> Result<NodeId, Halt>
+pub fn first_live(worker: &Worker, count: u64, node: NodeId) -> Result<NodeId, AllocError>
     ensures { IfOk result (λ n. n ≡ first_live worker.now count count node) }
 {
     let mut next = node;
@@ -199,19 +199,19 @@ pub fn ask_next(
     number: u32,
     t: u32,
     node: NodeId,
-) -> Result<(), Halt>
+) -> Result<(), AllocError>
     ensures { (task : OwnTask) → task_of (item_at here.old.worker.objects object.serial) ≡ Some task
         → OnOk result (here.new ≡ asks_next here.old object (record task { number = number }) t node) }
 {
     if t == u32::MAX {
-        return Err(Halt::NoNumber);
+        return Err(AllocError);
     }
     let next = first_live(&here.worker, here.there.nodes, node)?;
     ask_at(here, object, number, t + 1, next)
 }
 
 /// The present attempt is asked for on from the node.
-fn ask_on(here: &mut Here, object: ObjectId, t: u32, node: NodeId) -> Result<(), Halt>
+fn ask_on(here: &mut Here, object: ObjectId, t: u32, node: NodeId) -> Result<(), AllocError>
     ensures { (task : OwnTask) → task_of (item_at here.old.worker.objects object.serial) ≡ Some task
         → OnOk result (here.new ≡ asks_next here.old object task t node) }
 {
@@ -232,7 +232,7 @@ pub fn elsewhere_reached(
     attempt: AttemptId,
     t: u32,
     node: NodeId,
-) -> Result<(), Halt>
+) -> Result<(), AllocError>
     ensures { OnOk result (here.new ≡ elsewhere_reached here.old attempt t node) }
 {
     if !is_own(here, attempt.object) {

@@ -8,9 +8,9 @@ ghost use Rattle.protocol_data.specs.declared.tables.Object.{Object};
 use crate::faulted::clear_askers;
 use crate::needs::{need_own_if_waiting, settled_number};
 use numbers::{NodeId, ObjectId, WorkerId};
-use protocol_data::{Halt, Here, Message};
+use protocol_data::{Here, Message};
 use sequence::Seq;
-use std::alloc::Global;
+use std::alloc::{AllocError, Global};
 use worker_steps::{object_at, say};
 
 /// A worker is told where the content is.
@@ -21,7 +21,7 @@ fn tell_place(
     object: ObjectId,
     number: u32,
     places: &Seq<NodeId>,
-) -> Result<(), Halt>
+) -> Result<(), AllocError>
     ensures { (x : Object) → settled_number x ≡ number → x.places ≡ places.now
         → OnOk result (here.new ≡ tells_places here.old (worker ∷ []) object x) }
 {
@@ -37,7 +37,7 @@ fn tell_places(
     object: ObjectId,
     number: u32,
     places: &Seq<NodeId>,
-) -> Result<(), Halt>
+) -> Result<(), AllocError>
     ensures { (x : Object) → settled_number x ≡ number → x.places ≡ places.now → OnOk result (here.new ≡ tells_places here.old workers.now object x) }
 {
     for worker in &workers.items {
@@ -48,7 +48,7 @@ fn tell_places(
 
 /// Whoever waits for the own object, whose content is there now, is answered: each asker is told the places, in order of asking, and none of
 /// them waits any more; the own attempt, if it waits for the object, looks for it.
-pub fn answer_settled(alloc: Global, here: &mut Here, object: ObjectId) -> Result<(), Halt>
+pub fn answer_settled(alloc: Global, here: &mut Here, object: ObjectId) -> Result<(), AllocError>
     ensures { OnOk result (here.new ≡ answers_settled here.old object) }
 {
     let Some(found) = object_at(here, object) else {

@@ -11,12 +11,12 @@ use crate::recovery::recover;
 use lineage::{has_content, is_lost};
 use number_lists::add_worker;
 use numbers::{NodeId, ObjectId, WorkerId};
-use protocol_data::{Halt, Here, Message, Object, Objects, Party};
-use std::alloc::Global;
+use protocol_data::{Here, Message, Object, Objects, Party};
+use std::alloc::{AllocError, Global};
 use worker_steps::{find_none, is_own, is_present, is_waiting_for, object_at, report_missing, say};
 
 /// The worker waits for the object of that serial.
-fn add_asker_at(objects: &mut Objects, serial: u64, worker: WorkerId) -> Result<(), Halt>
+fn add_asker_at(objects: &mut Objects, serial: u64, worker: WorkerId) -> Result<(), AllocError>
     ensures { OnOk result (objects.new ≡ changed_at objects.old serial (with_asker worker)) }
 {
     if serial == 0 {
@@ -32,7 +32,7 @@ fn add_asker_at(objects: &mut Objects, serial: u64, worker: WorkerId) -> Result<
 }
 
 /// The worker waits for the own object.
-fn add_asker(here: &mut Here, object: ObjectId, worker: WorkerId) -> Result<(), Halt>
+fn add_asker(here: &mut Here, object: ObjectId, worker: WorkerId) -> Result<(), AllocError>
     ensures { OnOk result (here.new ≡ changes here.old object (with_asker worker)) }
 {
     add_asker_at(&mut here.worker.objects, object.serial, worker)
@@ -45,7 +45,7 @@ pub fn where_reached(
     here: &mut Here,
     worker: WorkerId,
     object: ObjectId,
-) -> Result<(), Halt>
+) -> Result<(), AllocError>
     ensures { OnOk result (here.new ≡ where_reached here.old worker object) }
 {
     let Some(found) = object_at(here, object) else {
@@ -76,7 +76,7 @@ fn take_place(
     object: ObjectId,
     number: u32,
     node: NodeId,
-) -> Result<(), Halt>
+) -> Result<(), AllocError>
     ensures { OnOk result (here.new ≡ takes_place here.old object number node) }
 {
     let Some(found) = object_at(here, object) else {
@@ -89,7 +89,12 @@ fn take_place(
 }
 
 /// The owner is told of it, by the waiting attempt or in its place.
-fn hand_missing_on(here: &mut Here, object: ObjectId, number: u32, node: NodeId) -> Result<(), Halt>
+fn hand_missing_on(
+    here: &mut Here,
+    object: ObjectId,
+    number: u32,
+    node: NodeId,
+) -> Result<(), AllocError>
     ensures { OnOk result (here.new ≡ hands_missing_on here.old object number node) }
 {
     if is_waiting_for(&here.worker, object) {
@@ -104,7 +109,7 @@ fn missing_from(
     here: &mut Here,
     sender: &Party,
     object: ObjectId,
-) -> Result<(), Halt>
+) -> Result<(), AllocError>
     ensures { OnOk result (here.new ≡ missing_from here.old sender.now object) }
 {
     match sender {
@@ -122,7 +127,7 @@ pub fn missing_reached(
     object: ObjectId,
     number: u32,
     node: NodeId,
-) -> Result<(), Halt>
+) -> Result<(), AllocError>
     ensures { OnOk result (here.new ≡ missing_reached here.old sender.now object number node) }
 {
     if !is_own(here, object) {

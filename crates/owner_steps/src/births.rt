@@ -12,7 +12,7 @@ use crate::birth_ids::ids_in_birth;
 use held::{Content, Origin};
 use numbers::{AttemptId, NodeId, ObjectId};
 use object_store::put_primary;
-use protocol_data::{Halt, Here, Maker, Message, Object, Objects, OwnTask, Progress};
+use protocol_data::{Here, Maker, Message, Object, Objects, OwnTask, Progress};
 use sequence::Seq;
 use std::alloc::{AllocError, Global};
 use task_spec::Birth;
@@ -20,13 +20,13 @@ use values::RunValue;
 use worker_steps::{hold_ids, say_to_node};
 
 /// The id of the worker's next object.
-pub fn next_id(here: &Here) -> Result<ObjectId, Halt>
+pub fn next_id(here: &Here) -> Result<ObjectId, AllocError>
     ensures id { IfOk result (λ o. o ≡ next_id_here here.now) }
     ensures bound { IfOk result (λ o. o.serial ≤ 2 ^ 63) }
 {
     let before = here.worker.objects.len() as u64;
     if before > 1000000 {
-        return Err(Halt::NoNumber);
+        return Err(AllocError);
     }
     let owner = here.me;
     Ok(ObjectId {
@@ -36,7 +36,7 @@ pub fn next_id(here: &Here) -> Result<ObjectId, Halt>
 }
 
 /// One more own object.
-fn add_own(here: &mut Here, object: Object) -> Result<(), Halt>
+fn add_own(here: &mut Here, object: Object) -> Result<(), AllocError>
     ensures { OnOk result (here.new ≡ with_object here.old object) }
 {
     here.worker.objects.push(object)?;
@@ -116,7 +116,7 @@ fn bear_put(
     object: ObjectId,
     value: &RunValue,
     ids: &Seq<ObjectId>,
-) -> Result<(), Halt>
+) -> Result<(), AllocError>
     ensures { OnOk result (here.new ≡ bears_put here.old bearer object (value_of value.now) ids.now) }
 {
     let content = content_put(alloc, value)?;
@@ -149,7 +149,7 @@ fn request_first(
     here: &mut Here,
     object: ObjectId,
     spec: &Origin,
-) -> Result<(), Halt>
+) -> Result<(), AllocError>
     ensures { OnOk result (here.new ≡ requests here.old object (new_task spec.now)) }
 {
     let node = here.worker.node;
@@ -172,7 +172,7 @@ fn bear_task(
     object: ObjectId,
     spec: &Origin,
     ids: &Seq<ObjectId>,
-) -> Result<(), Halt>
+) -> Result<(), AllocError>
     ensures { OnOk result (here.new ≡ bears_task here.old bearer object spec.now ids.now) }
 {
     let kept = ids.copy(alloc)?;
@@ -183,7 +183,7 @@ fn bear_task(
 }
 
 /// One birth.
-fn bear(alloc: Global, here: &mut Here, bearer: AttemptId, spec: &Origin) -> Result<(), Halt>
+fn bear(alloc: Global, here: &mut Here, bearer: AttemptId, spec: &Origin) -> Result<(), AllocError>
     ensures { OnOk result (here.new ≡ bears here.old bearer spec.now) }
 {
     let object = next_id(here)?;
@@ -200,7 +200,7 @@ pub fn bear_all(
     here: &mut Here,
     bearer: AttemptId,
     births: &Seq<Origin>,
-) -> Result<(), Halt>
+) -> Result<(), AllocError>
     ensures { OnOk result (here.new ≡ bears_all here.old bearer births.now) }
 {
     for birth in &births.items {

@@ -12,7 +12,7 @@ use crate::needs::need_own;
 use held::{Births, Content, Origin, Printed, Prints};
 use numbers::{Cause, Fault, ObjectId};
 use object_store::put_primary;
-use protocol_data::{Halt, Here, Message, Outcomes, Phase, Stopped};
+use protocol_data::{Here, Message, Outcomes, Phase, Stopped};
 use sequence::Seq;
 use std::alloc::{AllocError, Global};
 use worker_steps::{
@@ -23,7 +23,7 @@ use worker_steps::{
 // ---- stops
 
 /// The place of the object is looked for.
-fn ask_where(alloc: Global, here: &mut Here, object: ObjectId) -> Result<(), Halt>
+fn ask_where(alloc: Global, here: &mut Here, object: ObjectId) -> Result<(), AllocError>
     ensures { OnOk result (here.new ≡ asks_where here.old object) }
 {
     if is_own(here, object) {
@@ -37,7 +37,7 @@ fn ask_where(alloc: Global, here: &mut Here, object: ObjectId) -> Result<(), Hal
 }
 
 /// Unless it was answered at once, the attempt gives its slot back.
-fn rest_if_waiting(alloc: Global, here: &mut Here, object: ObjectId) -> Result<(), Halt>
+fn rest_if_waiting(alloc: Global, here: &mut Here, object: ObjectId) -> Result<(), AllocError>
     ensures { OnOk result (here.new ≡ rests_if_waiting here.old object) }
 {
     if is_waiting_for(&here.worker, object) {
@@ -47,7 +47,7 @@ fn rest_if_waiting(alloc: Global, here: &mut Here, object: ObjectId) -> Result<(
 }
 
 /// The attempt needs an object: it waits, unless it is answered at once.
-fn need(alloc: Global, here: &mut Here, object: ObjectId) -> Result<(), Halt>
+fn need(alloc: Global, here: &mut Here, object: ObjectId) -> Result<(), AllocError>
     ensures { (run : Run) → here.old.worker.run ≡ Some run → OnOk result (here.new ≡ needs here.old run object) }
 {
     set_phase(here, Phase::Waits(object, None));
@@ -56,7 +56,7 @@ fn need(alloc: Global, here: &mut Here, object: ObjectId) -> Result<(), Halt>
 }
 
 /// The attempt ends with a content.
-fn end(alloc: Global, here: &mut Here, content: &Content) -> Result<(), Halt>
+fn end(alloc: Global, here: &mut Here, content: &Content) -> Result<(), AllocError>
     ensures { (run : Run) → here.old.worker.run ≡ Some run → OnOk result (here.new ≡ ends here.old run content.now) }
 {
     let Some(run) = &here.worker.run else {
@@ -79,7 +79,7 @@ fn end(alloc: Global, here: &mut Here, content: &Content) -> Result<(), Halt>
 }
 
 /// The attempt stops there.
-fn stop(alloc: Global, here: &mut Here, stop: &Stopped) -> Result<(), Halt>
+fn stop(alloc: Global, here: &mut Here, stop: &Stopped) -> Result<(), AllocError>
     ensures { OnOk result (here.new ≡ stops here.old stop.now) }
 {
     if here.worker.run.is_none() {
@@ -114,7 +114,7 @@ fn add_prints(alloc: Global, prints: &mut Prints, more: &Seq<Printed>) -> Result
 }
 
 /// What was done is added to what the attempt did.
-fn add_outcomes(alloc: Global, here: &mut Here, outcomes: &Outcomes) -> Result<(), Halt>
+fn add_outcomes(alloc: Global, here: &mut Here, outcomes: &Outcomes) -> Result<(), AllocError>
     ensures { (run : Run) → here.old.worker.run ≡ Some run → OnOk result (here.new ≡ with_run here.old (with_outcomes run outcomes.now)) }
 {
     if let Some(run) = &mut here.worker.run {
@@ -128,7 +128,7 @@ fn add_outcomes(alloc: Global, here: &mut Here, outcomes: &Outcomes) -> Result<(
 
 /// What was done on the attempt's job is committed. Its births, prints and end are logged; each birth enters the table, holds the ids in it, and
 /// is stored or asked for; then the attempt waits for what it needs, unless it is answered at once, or stores the content with which it ends.
-pub fn commit_step(alloc: Global, here: &mut Here, outcomes: &Outcomes) -> Result<(), Halt>
+pub fn commit_step(alloc: Global, here: &mut Here, outcomes: &Outcomes) -> Result<(), AllocError>
     ensures { OnOk result (here.new ≡ commit_step here.old outcomes.now) }
 {
     let Some(run) = &here.worker.run else {

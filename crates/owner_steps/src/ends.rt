@@ -12,9 +12,9 @@ use crate::answers::answer_settled;
 use crate::faulted::answer_faulted;
 use number_lists::{add_objects, item_at_number};
 use numbers::{AttemptId, Fault, NodeId, ObjectId, WorkerId};
-use protocol_data::{Halt, Here, Maker, Message, Object, Objects, OwnTask, Progress, Said};
+use protocol_data::{Here, Maker, Message, Object, Objects, OwnTask, Progress, Said};
 use sequence::Seq;
-use std::alloc::Global;
+use std::alloc::{AllocError, Global};
 use worker_steps::{is_own, log, resolve, say, set_progress_at};
 
 /// Whether it is the present attempt of a pending task.
@@ -29,7 +29,7 @@ fn is_present_attempt(attempt: AttemptId, task: &OwnTask) -> bool
 }
 
 /// The worker is told that its owner has heard how the attempt stopped.
-fn hear_of_end(here: &mut Here, worker: WorkerId, attempt: AttemptId) -> Result<(), Halt>
+fn hear_of_end(here: &mut Here, worker: WorkerId, attempt: AttemptId) -> Result<(), AllocError>
     ensures { OnOk result (here.new ≡ hears_of_end here.old worker attempt) }
 {
     say(here, worker, Message::FinishedAck(attempt))
@@ -56,7 +56,7 @@ fn set_content_at(
     number: u32,
     node: NodeId,
     ids: &Seq<ObjectId>,
-) -> Result<(), Halt>
+) -> Result<(), AllocError>
     ensures { OnOk result (objects.new ≡ changed_at objects.old serial (with_content number node ids.now)) }
 {
     if serial == 0 {
@@ -82,7 +82,7 @@ fn accept(
     attempt: AttemptId,
     node: NodeId,
     ids: &Seq<ObjectId>,
-) -> Result<(), Halt>
+) -> Result<(), AllocError>
     ensures { (task : OwnTask) → task_of (item_at here.old.worker.objects attempt.object.serial) ≡ Some task → task.number ≡ attempt.number
         → OnOk result (here.new ≡ accepts here.old attempt task node ids.now) }
 {
@@ -108,7 +108,7 @@ pub fn finished_reached(
     attempt: AttemptId,
     node: NodeId,
     ids: &Seq<ObjectId>,
-) -> Result<(), Halt>
+) -> Result<(), AllocError>
     ensures { OnOk result (here.new ≡ finished_reached here.old worker attempt node ids.now) }
 {
     if !is_own(here, attempt.object) {
@@ -136,7 +136,7 @@ pub fn failed_reached(
     worker: WorkerId,
     attempt: AttemptId,
     why: Fault,
-) -> Result<(), Halt>
+) -> Result<(), AllocError>
     ensures { OnOk result (here.new ≡ failed_reached here.old worker attempt why) }
 {
     if !is_own(here, attempt.object) {

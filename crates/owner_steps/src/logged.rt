@@ -9,9 +9,9 @@ ghost use Rattle.owner_steps.specs.Logged.{born, ended};
 
 use held::{Origin, Printed};
 use numbers::{AttemptId, ObjectId};
-use protocol_data::{Halt, Here, Outcomes, Said, Stopped};
+use protocol_data::{Here, Outcomes, Said, Stopped};
 use sequence::Seq;
-use std::alloc::Global;
+use std::alloc::{AllocError, Global};
 use worker_steps::log;
 
 /// Logs the births, which take ids from `first` on.
@@ -22,7 +22,7 @@ fn log_births(
     attempt: AttemptId,
     first: ObjectId,
     births: &[Origin],
-) -> Result<(), Halt>
+) -> Result<(), AllocError>
     requires { first.serial ≤ 2 ^ 63 }
     ensures { OnOk result (here.new ≡ logs_all here.old (born attempt first births.now)) }
 {
@@ -39,7 +39,7 @@ fn log_births(
 
 /// Logs the prints.
 #[tactic(auto, using(crate::proofs::LogLaws::one_logged, crate::proofs::LogLaws::none_logged))]
-fn log_prints(alloc: Global, here: &mut Here, prints: &[Printed]) -> Result<(), Halt>
+fn log_prints(alloc: Global, here: &mut Here, prints: &[Printed]) -> Result<(), AllocError>
     ensures { OnOk result (here.new ≡ logs_all here.old (map logged.Printed prints.now)) }
 {
     for value in prints {
@@ -51,7 +51,12 @@ fn log_prints(alloc: Global, here: &mut Here, prints: &[Printed]) -> Result<(), 
 
 /// Logs the end, if there is one.
 #[tactic(auto, using(crate::proofs::LogLaws::none_logged))]
-fn log_end(alloc: Global, here: &mut Here, attempt: AttemptId, stop: &Stopped) -> Result<(), Halt>
+fn log_end(
+    alloc: Global,
+    here: &mut Here,
+    attempt: AttemptId,
+    stop: &Stopped,
+) -> Result<(), AllocError>
     ensures { OnOk result (here.new ≡ logs_all here.old (ended attempt stop.now)) }
 {
     match stop {
@@ -71,7 +76,7 @@ pub fn log_outcomes(
     attempt: AttemptId,
     first: ObjectId,
     outcomes: &Outcomes,
-) -> Result<(), Halt>
+) -> Result<(), AllocError>
     requires { first.serial ≤ 2 ^ 63 }
     ensures { OnOk result (here.new ≡ logs_all here.old (commit_entries attempt first outcomes.now.births outcomes.now.prints (stop_of outcomes.now.stop))) }
 {

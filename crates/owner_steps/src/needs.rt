@@ -14,9 +14,9 @@ use lineage::{has_content, is_lost};
 use number_lists::{has_node, remove_node};
 use numbers::{NodeId, ObjectId};
 use object_store::get as get_copy;
-use protocol_data::{Halt, Here, Object, Objects, Worker};
+use protocol_data::{Here, Object, Objects, Worker};
 use sequence::Seq;
-use std::alloc::Global;
+use std::alloc::{AllocError, Global};
 use worker_steps::{fault, fetch, get, is_waiting_for, live_place, object_at, set_fetching};
 
 /// The number of the attempt whose content it has, 0 for what was put.
@@ -32,7 +32,7 @@ fn remove_place_at(
     objects: &mut Objects,
     serial: u64,
     node: NodeId,
-) -> Result<(), Halt>
+) -> Result<(), AllocError>
     ensures { OnOk result (objects.new ≡ changed_at objects.old serial (without_place node)) }
 {
     if serial == 0 {
@@ -53,7 +53,7 @@ pub fn remove_place(
     here: &mut Here,
     object: ObjectId,
     node: NodeId,
-) -> Result<(), Halt>
+) -> Result<(), AllocError>
     ensures { OnOk result (here.new ≡ changes here.old object (without_place node)) }
 {
     remove_place_at(alloc, &mut here.worker.objects, object.serial, node)
@@ -88,7 +88,7 @@ fn look_elsewhere(
     object: ObjectId,
     number: u32,
     places: &Seq<NodeId>,
-) -> Result<(), Halt>
+) -> Result<(), AllocError>
     ensures { (x : Object) → settled_number x ≡ number → x.places ≡ places.now → OnOk result (here.new ≡ looks_elsewhere here.old object x) }
 {
     if let Some(node) = live_place(&here.worker, places) {
@@ -105,7 +105,7 @@ fn look_past(
     object: ObjectId,
     number: u32,
     places: &Seq<NodeId>,
-) -> Result<(), Halt>
+) -> Result<(), AllocError>
     ensures { (x : Object) → settled_number x ≡ number → x.places ≡ places.now → OnOk result (here.new ≡ looks_here_by here.old object x None) }
 {
     let node = here.worker.node;
@@ -122,7 +122,7 @@ fn look_here(
     object: ObjectId,
     number: u32,
     places: &Seq<NodeId>,
-) -> Result<(), Halt>
+) -> Result<(), AllocError>
     ensures { (x : Object) → settled_number x ≡ number → x.places ≡ places.now
         → OnOk result (here.new ≡ looks_here_by here.old object x (copy_in here.old.there.node.store object (settled_number x))) }
 {
@@ -139,7 +139,7 @@ fn look_for(
     object: ObjectId,
     number: u32,
     places: &Seq<NodeId>,
-) -> Result<(), Halt>
+) -> Result<(), AllocError>
     ensures { (x : Object) → settled_number x ≡ number → x.places ≡ places.now → OnOk result (here.new ≡ looks_for here.old object x) }
 {
     if has_node(places, here.worker.node) {
@@ -150,7 +150,7 @@ fn look_for(
 
 /// The worker's attempt needs an own object. A resolved one answers with its fault; a copy on the own node answers at once; else it is fetched
 /// from the first place that isn't known dead. Where no place is left the object is made again. For a pending one the attempt waits.
-pub fn need_own(alloc: Global, here: &mut Here, object: ObjectId) -> Result<(), Halt>
+pub fn need_own(alloc: Global, here: &mut Here, object: ObjectId) -> Result<(), AllocError>
     ensures { OnOk result (here.new ≡ needs_own here.old object) }
 {
     set_fetching(here, None);
@@ -172,7 +172,11 @@ pub fn need_own(alloc: Global, here: &mut Here, object: ObjectId) -> Result<(), 
 }
 
 /// The same, if it waits for the object.
-pub fn need_own_if_waiting(alloc: Global, here: &mut Here, object: ObjectId) -> Result<(), Halt>
+pub fn need_own_if_waiting(
+    alloc: Global,
+    here: &mut Here,
+    object: ObjectId,
+) -> Result<(), AllocError>
     ensures { OnOk result (here.new ≡ needs_own_if_waiting here.old object) }
 {
     if is_waiting_for(&here.worker, object) {

@@ -9,13 +9,13 @@ use crate::faulted::answer_faulted;
 use lineage::{Recovery, plan};
 use number_lists::item_at_number;
 use numbers::{Fault, ObjectId};
-use protocol_data::{Halt, Here, Maker};
+use protocol_data::{Here, Maker};
 use sequence::Seq;
-use std::alloc::Global;
+use std::alloc::{AllocError, Global};
 use worker_steps::{request, resolve};
 
 /// The object of that serial is asked for again, if a task makes it.
-fn remake(here: &mut Here, serial: u64) -> Result<(), Halt>
+fn remake(here: &mut Here, serial: u64) -> Result<(), AllocError>
     ensures { OnOk result (here.new ≡ remakes_by here.old serial (task_of (own_object here.old serial))) }
 {
     let Some(found) = item_at_number(here.worker.objects.rows(), serial) else {
@@ -25,7 +25,7 @@ fn remake(here: &mut Here, serial: u64) -> Result<(), Halt>
         return Ok(());
     };
     if task.number == u32::MAX {
-        return Err(Halt::NoNumber);
+        return Err(AllocError);
     }
     let number = task.number + 1;
     let owner = here.me;
@@ -33,7 +33,7 @@ fn remake(here: &mut Here, serial: u64) -> Result<(), Halt>
 }
 
 /// These are asked for again.
-fn remake_all(here: &mut Here, serials: &Seq<u64>) -> Result<(), Halt>
+fn remake_all(here: &mut Here, serials: &Seq<u64>) -> Result<(), AllocError>
     ensures { OnOk result (here.new ≡ remakes here.old serials.now) }
 {
     for serial in &serials.items {
@@ -43,7 +43,7 @@ fn remake_all(here: &mut Here, serials: &Seq<u64>) -> Result<(), Halt>
 }
 
 /// The object that stops the plan is resolved, and the one asked for to the same fault.
-fn give_up(alloc: Global, here: &mut Here, object: ObjectId, why: Fault) -> Result<(), Halt>
+fn give_up(alloc: Global, here: &mut Here, object: ObjectId, why: Fault) -> Result<(), AllocError>
     ensures { OnOk result (here.new ≡ gives_up here.old object why) }
 {
     if why.object.is(object) {
@@ -59,7 +59,7 @@ fn give_up(alloc: Global, here: &mut Here, object: ObjectId, why: Fault) -> Resu
 /// The lost own object is made again, with the lost objects that it is made from: in birth order the next attempt of each is asked for. If one of
 /// them can't be made again the first such one is resolved, the object asked for to the same fault, and whoever waits for them is answered.
 #[tactic(auto, using(crate::proofs::Plans::remade, crate::proofs::Plans::stopped))]
-pub fn recover(alloc: Global, here: &mut Here, object: ObjectId) -> Result<(), Halt>
+pub fn recover(alloc: Global, here: &mut Here, object: ObjectId) -> Result<(), AllocError>
     ensures { OnOk result (here.new ≡ recovers here.old object) }
 {
     match plan(alloc, here, object.serial)? {

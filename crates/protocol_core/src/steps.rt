@@ -12,10 +12,9 @@ use crate::state::State;
 use answers::{Outcome, Reply, answer};
 use event_log::{Event, Refusal};
 use exchange::{happening_of, job_parts, logged_entries, refusal_of};
-use protocol_data::Halt;
 use protocol_laws::law::{claims_give_good_jobs, event_keeps_sound, runs_are_good, sound_is_legal};
 use segment::{Done, Job, ScriptName};
-use std::alloc::Global;
+use std::alloc::{AllocError, Global};
 
 /// An event that found no memory.
 fn run_out<S: ScriptName>(state: &mut State) -> Told<S>
@@ -32,7 +31,7 @@ fn try_step<S: ScriptName>(
     event: Event,
     seat: u8,
     done: Option<Done<S>>,
-) -> Result<Told<S>, Halt>
+) -> Result<Told<S>, AllocError>
     requires kept { IsSoundRun S.script (state_of (data_of state.old)) }
     requires goes_on { state.old.is_halted ≡ false }
     ensures applied { IfOk result (λ told. Applies (state_of (data_of state.old)) (event_of event) seat done (state_of (data_of state.new)) (reply_of told)) }

@@ -9,9 +9,9 @@ ghost use Rattle.whole_events.specs.Kept.{IsKept, IsLeft, put_into};
 
 use crate::counting::{fits, nothing};
 use numbers::{NodeId, WorkerId};
-use protocol_data::{Halt, Here, LogEntry, Node, Whole, Worker};
+use protocol_data::{Here, LogEntry, Node, Whole, Worker};
 use sequence::Seq;
-use std::alloc::Global;
+use std::alloc::{AllocError, Global};
 use table_copies::{copy_node, copy_worker};
 use whole_steps::{node_place, put_worker, take_worker, worker_place};
 use worker_acts::{Act, take_part};
@@ -22,7 +22,7 @@ pub fn act(
     whole: &mut Whole,
     number: WorkerId,
     what: &Act,
-) -> Result<Seq<LogEntry>, Halt>
+) -> Result<Seq<LogEntry>, AllocError>
     ensures whole { OnOk result (whole.new ≡ (worker_does whole.old number (act_step what.now)).whole) }
     ensures entries { IfOk result (λ entries. entries ≡ (worker_does whole.old number (act_step what.now)).out.entries) }
 {
@@ -46,7 +46,7 @@ pub struct Kept {
 }
 
 /// The worker and its node are kept.
-fn keep(alloc: Global, whole: &Whole, place: usize, node_place: usize) -> Result<Kept, Halt>
+fn keep(alloc: Global, whole: &Whole, place: usize, node_place: usize) -> Result<Kept, AllocError>
     requires worker { place < length whole.now.workers }
     requires node { node_place < length whole.now.nodes }
     ensures { IfOk result (λ kept. IsKept kept whole.now place node_place) }
@@ -77,7 +77,7 @@ fn put_within(
     here: Here,
     kept: Kept,
     made: u64,
-) -> Result<Option<Seq<LogEntry>>, Halt>
+) -> Result<Option<Seq<LogEntry>>, AllocError>
     requires place_in { place < length whole.old.workers }
     requires number { number ≡ 1 + place }
     requires node_place_in { node_place < length whole.old.nodes }
@@ -101,7 +101,7 @@ pub fn act_or_restore(
     number: WorkerId,
     what: &Act,
     made: u64,
-) -> Result<Option<Seq<LogEntry>>, Halt>
+) -> Result<Option<Seq<LogEntry>>, AllocError>
     ensures whole { OnOk result (whole.new ≡ whole_within made whole.old (worker_does whole.old number (act_step what.now))) }
     ensures entries { IfOk result (λ given. given ≡ entries_within made (worker_does whole.old number (act_step what.now))) }
 {

@@ -9,9 +9,9 @@ ghost use Rattle.limit_laws.specs.Opens.{asked_opens, death_opens, fits, opened_
 use lease::{has_free_slot, reply_to};
 use number_lists::{has_worker, item_at_number, remove_worker};
 use numbers::{NodeId, WorkerId};
-use protocol_data::{AskKey, Halt, LogEntry, Message, Party, Scheduler, Whole};
+use protocol_data::{AskKey, LogEntry, Message, Party, Scheduler, Whole};
 use sequence::Seq;
-use std::alloc::Global;
+use std::alloc::{AllocError, Global};
 
 /// An ask reaches the node.
 fn asked_opens(scheduler: &Scheduler, key: &AskKey) -> bool
@@ -53,7 +53,11 @@ pub fn opened_at(whole: &Whole, node: NodeId, sender: &Party, message: &Message)
 }
 
 /// These workers but for one.
-fn without(alloc: Global, workers: &Seq<WorkerId>, worker: WorkerId) -> Result<Seq<WorkerId>, Halt>
+fn without(
+    alloc: Global,
+    workers: &Seq<WorkerId>,
+    worker: WorkerId,
+) -> Result<Seq<WorkerId>, AllocError>
     ensures { IfOk result (λ others. others ≡ without_number workers.now worker) }
 {
     let mut others = workers.copy(alloc)?;
@@ -62,7 +66,7 @@ fn without(alloc: Global, workers: &Seq<WorkerId>, worker: WorkerId) -> Result<S
 }
 
 /// A worker of the node dies.
-fn death_opens(alloc: Global, scheduler: &Scheduler, worker: WorkerId) -> Result<bool, Halt>
+fn death_opens(alloc: Global, scheduler: &Scheduler, worker: WorkerId) -> Result<bool, AllocError>
     ensures { IfOk result (λ opens. opens ≡ death_opens scheduler.now worker) }
 {
     if !has_worker(&scheduler.holders, worker) {
@@ -82,7 +86,7 @@ pub fn opened_by_death(
     whole: &Whole,
     node: NodeId,
     worker: WorkerId,
-) -> Result<u64, Halt>
+) -> Result<u64, AllocError>
     ensures { IfOk result (λ opened. opened ≡ opened_by_death (node_at whole.now node) worker) }
 {
     let Some(found) = item_at_number(&whole.nodes, u64::from(node.0)) else {

@@ -7,9 +7,9 @@ ghost use Rattle.protocol.specs.Numbered.{changed_at};
 
 use crate::counting::{fits, nothing, opened_by_death};
 use numbers::{NodeId, WorkerId};
-use protocol_data::{Halt, LogEntry, Whole, Worker};
+use protocol_data::{LogEntry, Whole, Worker};
 use sequence::Seq;
-use std::alloc::Global;
+use std::alloc::{AllocError, Global};
 use std::mem;
 use whole_steps::{forget_at_node, new_node, node_place, worker_place};
 
@@ -29,7 +29,7 @@ pub fn kill(
     alloc: Global,
     whole: &mut Whole,
     number: WorkerId,
-) -> Result<Option<Seq<LogEntry>>, Halt>
+) -> Result<Option<Seq<LogEntry>>, AllocError>
     ensures whole { OnOk result (whole.new ≡ whole_limited whole.old (killed whole.old number)) }
     ensures entries { IfOk result (λ given. given ≡ entries_limited (killed whole.old number)) }
 {
@@ -58,7 +58,11 @@ fn die_with(worker: Worker, node: NodeId) -> Worker
 }
 
 /// These workers, of which those of the node are dead.
-fn all_die_with(alloc: Global, workers: Seq<Worker>, node: NodeId) -> Result<Seq<Worker>, Halt>
+fn all_die_with(
+    alloc: Global,
+    workers: Seq<Worker>,
+    node: NodeId,
+) -> Result<Seq<Worker>, AllocError>
     ensures { IfOk result (λ xs. xs ≡ map (dies_with node) workers) }
 {
     let mut others = Seq::new(alloc);
@@ -69,7 +73,7 @@ fn all_die_with(alloc: Global, workers: Seq<Worker>, node: NodeId) -> Result<Seq
 }
 
 /// The workers of the node die.
-fn workers_die(alloc: Global, whole: &mut Whole, node: NodeId) -> Result<(), Halt>
+fn workers_die(alloc: Global, whole: &mut Whole, node: NodeId) -> Result<(), AllocError>
     ensures { OnOk result (whole.new ≡ record whole.old { workers = map (dies_with node) whole.old.workers }) }
 {
     let workers = mem::replace(&mut whole.workers, Seq::new(alloc));
@@ -103,7 +107,7 @@ pub fn kill_node(
     alloc: Global,
     whole: &mut Whole,
     number: NodeId,
-) -> Result<Option<Seq<LogEntry>>, Halt>
+) -> Result<Option<Seq<LogEntry>>, AllocError>
     ensures whole { OnOk result (whole.new ≡ whole_limited whole.old (node_killed whole.old number)) }
     ensures entries { IfOk result (λ given. given ≡ entries_limited (node_killed whole.old number)) }
 {
@@ -116,7 +120,7 @@ pub fn kill_node(
 }
 
 /// A node with the next number comes.
-pub fn join(alloc: Global, whole: &mut Whole) -> Result<Option<Seq<LogEntry>>, Halt>
+pub fn join(alloc: Global, whole: &mut Whole) -> Result<Option<Seq<LogEntry>>, AllocError>
     ensures whole { OnOk result (whole.new ≡ whole_limited whole.old (joined whole.old)) }
     ensures entries { IfOk result (λ given. given ≡ entries_limited (joined whole.old)) }
 {

@@ -9,14 +9,14 @@ use crate::counting::nothing;
 use crate::node_events::deliver_to_node_within;
 use crate::within_limits::let_act;
 use number_lists::{item_at_number, place_of};
-use protocol_data::{Halt, Letter, LogEntry, Message, Party, Whole};
+use protocol_data::{Letter, LogEntry, Message, Party, Whole};
 use refusals::{is_live_node, is_live_worker};
 use sequence::Seq;
-use std::alloc::Global;
+use std::alloc::{AllocError, Global};
 use worker_acts::Act;
 
 /// An equal letter.
-fn copy_letter(alloc: Global, letter: &Letter) -> Result<Letter, Halt>
+fn copy_letter(alloc: Global, letter: &Letter) -> Result<Letter, AllocError>
     ensures { IfOk result (λ l. l ≡ letter.now) }
 {
     let message = letter.message.copy(alloc)?;
@@ -43,7 +43,7 @@ fn hand_over(
     alloc: Global,
     whole: &mut Whole,
     letter: Letter,
-) -> Result<Option<Seq<LogEntry>>, Halt>
+) -> Result<Option<Seq<LogEntry>>, AllocError>
     ensures whole { OnOk result (whole.new ≡ whole_limited whole.old (delivered_to whole.old letter letter.receiver)) }
     ensures entries { IfOk result (λ given. given ≡ entries_limited (delivered_to whole.old letter letter.receiver)) }
 {
@@ -80,7 +80,11 @@ fn mark(whole: &mut Whole, place: usize)
 }
 
 /// The message of that number reaches its receiver, once more if it did before.
-pub fn deliver(alloc: Global, whole: &mut Whole, number: u64) -> Result<Option<Seq<LogEntry>>, Halt>
+pub fn deliver(
+    alloc: Global,
+    whole: &mut Whole,
+    number: u64,
+) -> Result<Option<Seq<LogEntry>>, AllocError>
     ensures whole { OnOk result (whole.new ≡ whole_limited whole.old (delivered whole.old number)) }
     ensures entries { IfOk result (λ given. given ≡ entries_limited (delivered whole.old number)) }
 {

@@ -10,9 +10,9 @@ use crate::deliveries::deliver;
 use crate::jobs::{claim, commit};
 use crate::stores::{evict_at, lose_at};
 use crate::within_limits::let_worker_act;
-use protocol_data::{Halt, Handed, Happening, LogEntry, Whole};
+use protocol_data::{Handed, Happening, LogEntry, Whole};
 use sequence::Seq;
-use std::alloc::Global;
+use std::alloc::{AllocError, Global};
 use worker_acts::Act;
 
 /// What the event makes of the whole, with what is handed in. The entries that it adds behind its own are given back; none where a limit would
@@ -22,7 +22,7 @@ pub fn happen(
     whole: &mut Whole,
     event: &Happening,
     handed: Handed,
-) -> Result<Option<Seq<LogEntry>>, Halt>
+) -> Result<Option<Seq<LogEntry>>, AllocError>
     ensures whole { OnOk result (whole.new ≡ whole_limited whole.old (happens whole.old (event_of event.now) handed)) }
     ensures entries { IfOk result (λ given. given ≡ entries_limited (happens whole.old (event_of event.now) handed)) }
 {

@@ -11,24 +11,24 @@ use crate::counting::nothing;
 use crate::within_limits::let_act;
 use number_lists::place_of;
 use numbers::WorkerId;
-use protocol_data::{Given, Halt, Handed, LogEntry, Outcomes, Whole};
+use protocol_data::{Given, Handed, LogEntry, Outcomes, Whole};
 use sequence::Seq;
-use std::alloc::Global;
+use std::alloc::{AllocError, Global};
 use worker_acts::Act;
 
 /// The number of the next job.
-pub fn next_job(whole: &Whole) -> Result<u64, Halt>
+pub fn next_job(whole: &Whole) -> Result<u64, AllocError>
     ensures { IfOk result (λ job. job ≡ length whole.now.jobs + 1) }
 {
     let count = whole.jobs.len() as u64;
     if count == u64::MAX {
-        return Err(Halt::NoNumber);
+        return Err(AllocError);
     }
     Ok(count + 1)
 }
 
 /// The next job is the worker's.
-fn add_job(whole: &mut Whole, worker: WorkerId) -> Result<(), Halt>
+fn add_job(whole: &mut Whole, worker: WorkerId) -> Result<(), AllocError>
     ensures { OnOk result (whole.new ≡ record whole.old { jobs = whole.old.jobs ++ record { worker = worker; is_committed = false } ∷ [] }) }
 {
     whole.jobs.push(Given {
@@ -43,7 +43,7 @@ pub fn claim(
     alloc: Global,
     whole: &mut Whole,
     worker: WorkerId,
-) -> Result<Option<Seq<LogEntry>>, Halt>
+) -> Result<Option<Seq<LogEntry>>, AllocError>
     ensures whole { OnOk result (whole.new ≡ whole_limited whole.old (claimed whole.old worker)) }
     ensures entries { IfOk result (λ given. given ≡ entries_limited (claimed whole.old worker)) }
 {
@@ -74,7 +74,7 @@ fn commit_outcomes(
     whole: &mut Whole,
     job: u64,
     outcomes: Outcomes,
-) -> Result<Option<Seq<LogEntry>>, Halt>
+) -> Result<Option<Seq<LogEntry>>, AllocError>
     ensures whole { OnOk result (whole.new ≡ whole_limited whole.old (committed whole.old job (OfJob outcomes))) }
     ensures entries { IfOk result (λ given. given ≡ entries_limited (committed whole.old job (OfJob outcomes))) }
 {
@@ -98,7 +98,7 @@ pub fn commit(
     whole: &mut Whole,
     job: u64,
     handed: Handed,
-) -> Result<Option<Seq<LogEntry>>, Halt>
+) -> Result<Option<Seq<LogEntry>>, AllocError>
     ensures whole { OnOk result (whole.new ≡ whole_limited whole.old (committed whole.old job handed)) }
     ensures entries { IfOk result (λ given. given ≡ entries_limited (committed whole.old job handed)) }
 {

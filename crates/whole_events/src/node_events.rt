@@ -7,9 +7,9 @@ ghost use Rattle.protocol.specs.Whole.{node_does};
 
 use crate::counting::{fits, opened_at};
 use numbers::NodeId;
-use protocol_data::{Halt, LogEntry, Message, Party, Whole};
+use protocol_data::{LogEntry, Message, Party, Whole};
 use sequence::Seq;
-use std::alloc::Global;
+use std::alloc::{AllocError, Global};
 use whole_steps::deliver_to_node;
 
 /// A message reaches the node of that number. The entries that it adds are given back; none where a limit would be passed, and nothing is
@@ -20,7 +20,7 @@ pub fn deliver_to_node_within(
     number: NodeId,
     sender: Party,
     message: &Message,
-) -> Result<Option<Seq<LogEntry>>, Halt>
+) -> Result<Option<Seq<LogEntry>>, AllocError>
     ensures whole { OnOk result (whole.new ≡ whole_within whole.old.made whole.old (node_does whole.old number (λ h. node_reached h sender message.now))) }
     ensures entries { IfOk result (λ given. given ≡ entries_within whole.old.made (node_does whole.old number (λ h. node_reached h sender message.now))) }
 {

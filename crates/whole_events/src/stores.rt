@@ -9,9 +9,9 @@ ghost use Rattle.protocol.specs.Stores.{evicted, without_copies};
 use crate::counting::{fits, nothing};
 use numbers::{NodeId, ObjectId};
 use object_store::{remove_copies, remove_secondaries};
-use protocol_data::{Halt, LogEntry, Whole};
+use protocol_data::{LogEntry, Whole};
 use sequence::Seq;
-use std::alloc::Global;
+use std::alloc::{AllocError, Global};
 use whole_steps::node_place;
 
 /// The secondary copies of the object go at the node of that place.
@@ -31,7 +31,7 @@ pub fn evict_at(
     whole: &mut Whole,
     number: NodeId,
     object: ObjectId,
-) -> Result<Option<Seq<LogEntry>>, Halt>
+) -> Result<Option<Seq<LogEntry>>, AllocError>
     ensures whole { OnOk result (whole.new ≡ whole_limited whole.old (store_does whole.old number (λ s. evicted s object))) }
     ensures entries { IfOk result (λ given. given ≡ entries_limited (store_does whole.old number (λ s. evicted s object))) }
 {
@@ -62,7 +62,7 @@ pub fn lose_at(
     whole: &mut Whole,
     number: NodeId,
     object: ObjectId,
-) -> Result<Option<Seq<LogEntry>>, Halt>
+) -> Result<Option<Seq<LogEntry>>, AllocError>
     ensures whole { OnOk result (whole.new ≡ whole_limited whole.old (store_does whole.old number (λ s. without_copies s object))) }
     ensures entries { IfOk result (λ given. given ≡ entries_limited (store_does whole.old number (λ s. without_copies s object))) }
 {

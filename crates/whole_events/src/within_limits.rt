@@ -8,9 +8,9 @@ ghost use Rattle.worker_acts.specs.Acts.{act_step};
 use crate::acting::{act, act_or_restore};
 use crate::counting::fits;
 use numbers::WorkerId;
-use protocol_data::{Halt, LogEntry, Whole};
+use protocol_data::{LogEntry, Whole};
 use sequence::Seq;
-use std::alloc::Global;
+use std::alloc::{AllocError, Global};
 use worker_acts::Act;
 
 /// The worker of that number does its part in an event, after which there are so many objects. The entries that this adds are given back;
@@ -22,7 +22,7 @@ pub fn let_act(
     number: WorkerId,
     what: &Act,
     made: u64,
-) -> Result<Option<Seq<LogEntry>>, Halt>
+) -> Result<Option<Seq<LogEntry>>, AllocError>
     ensures whole { OnOk result (whole.new ≡ whole_within made whole.old (worker_does whole.old number (act_step what.now))) }
     ensures entries { IfOk result (λ given. given ≡ entries_within made (worker_does whole.old number (act_step what.now))) }
 {
@@ -42,7 +42,7 @@ pub fn let_worker_act(
     whole: &mut Whole,
     number: WorkerId,
     what: &Act,
-) -> Result<Option<Seq<LogEntry>>, Halt>
+) -> Result<Option<Seq<LogEntry>>, AllocError>
     ensures whole { OnOk result (whole.new ≡ whole_limited whole.old (worker_does whole.old number (act_step what.now))) }
     ensures entries { IfOk result (λ given. given ≡ entries_limited (worker_does whole.old number (act_step what.now))) }
 {

@@ -8,12 +8,12 @@ use crate::runs_on::break_where;
 use crate::worker_deaths::{add_dead_worker, drop_holds, drop_stop, lose_owner};
 use number_lists::has_node;
 use numbers::{NodeId, WorkerId};
-use protocol_data::{Halt, Here, Party};
-use std::alloc::Global;
+use protocol_data::{Here, Party};
+use std::alloc::{AllocError, Global};
 use worker_steps::knows_dead;
 
 /// What a worker's death ends.
-fn hear_of_worker(alloc: Global, here: &mut Here, worker: WorkerId) -> Result<(), Halt>
+fn hear_of_worker(alloc: Global, here: &mut Here, worker: WorkerId) -> Result<(), AllocError>
     ensures { OnOk result (here.new ≡ hears_of_worker here.old worker) }
 {
     add_dead_worker(here, worker)?;
@@ -24,7 +24,7 @@ fn hear_of_worker(alloc: Global, here: &mut Here, worker: WorkerId) -> Result<()
 }
 
 /// The worker is told that the other is dead. What it knows already changes nothing.
-pub fn notice_step(alloc: Global, here: &mut Here, worker: WorkerId) -> Result<(), Halt>
+pub fn notice_step(alloc: Global, here: &mut Here, worker: WorkerId) -> Result<(), AllocError>
     ensures { OnOk result (here.new ≡ notice_step here.old worker) }
 {
     if knows_dead(&here.worker, worker) {
@@ -34,7 +34,7 @@ pub fn notice_step(alloc: Global, here: &mut Here, worker: WorkerId) -> Result<(
 }
 
 /// What a node's death ends.
-fn hear_of_node(alloc: Global, here: &mut Here, node: NodeId) -> Result<(), Halt>
+fn hear_of_node(alloc: Global, here: &mut Here, node: NodeId) -> Result<(), AllocError>
     ensures { OnOk result (here.new ≡ hears_of_node here.old node) }
 {
     add_dead_node(here, node)?;
@@ -45,7 +45,7 @@ fn hear_of_node(alloc: Global, here: &mut Here, node: NodeId) -> Result<(), Halt
 }
 
 /// The worker is told that the node is dead. What it knows already changes nothing.
-pub fn notice_node_step(alloc: Global, here: &mut Here, node: NodeId) -> Result<(), Halt>
+pub fn notice_node_step(alloc: Global, here: &mut Here, node: NodeId) -> Result<(), AllocError>
     ensures { OnOk result (here.new ≡ notice_node_step here.old node) }
 {
     if has_node(&here.worker.dead_nodes, node) {

@@ -8,8 +8,8 @@ use owner_steps::{
     elsewhere_reached, failed_reached, finished_reached, given_reached, missing_reached,
     where_reached,
 };
-use protocol_data::{Halt, Here, Message, Party};
-use std::alloc::Global;
+use protocol_data::{Here, Message, Party};
+use std::alloc::{AllocError, Global};
 use worker_steps::{
     at_reached, copy_reached, finished_ack_reached, gone_reached, hold_ack_reached, hold_reached,
     push_reached, unhold_reached,
@@ -21,7 +21,7 @@ fn reached_from_worker(
     here: &mut Here,
     worker: WorkerId,
     message: &Message,
-) -> Result<(), Halt>
+) -> Result<(), AllocError>
     ensures { OnOk result (here.new ≡ reached_from_worker here.old worker message.now) }
 {
     match message {
@@ -63,7 +63,7 @@ fn reached_from_node(
     here: &mut Here,
     node: NodeId,
     message: &Message,
-) -> Result<(), Halt>
+) -> Result<(), AllocError>
     ensures { OnOk result (here.new ≡ reached_from_node here.old node message.now) }
 {
     match message {
@@ -100,7 +100,7 @@ pub fn reached(
     here: &mut Here,
     sender: &Party,
     message: &Message,
-) -> Result<(), Halt>
+) -> Result<(), AllocError>
     ensures { OnOk result (here.new ≡ reached here.old sender.now message.now) }
 {
     match sender {

@@ -8,13 +8,13 @@ ghost use Rattle.protocol.specs.Notices.{loses_fetch, loses_places, moves_ask, m
 use number_lists::{item_at_number, remove_node};
 use numbers::{NodeId, ObjectId};
 use owner_steps::{ask_next, missing_reached};
-use protocol_data::{Halt, Here, Maker, Object, Objects, Party, Phase, Progress};
+use protocol_data::{Here, Maker, Object, Objects, Party, Phase, Progress};
 use sequence::Seq;
-use std::alloc::Global;
+use std::alloc::{AllocError, Global};
 use std::mem;
 
 /// The worker knows that the node is dead.
-pub fn add_dead_node(here: &mut Here, node: NodeId) -> Result<(), Halt>
+pub fn add_dead_node(here: &mut Here, node: NodeId) -> Result<(), AllocError>
     ensures { OnOk result (here.new ≡ with_dead_node here.old node) }
 {
     here.worker.dead_nodes.push(node)?;
@@ -22,7 +22,7 @@ pub fn add_dead_node(here: &mut Here, node: NodeId) -> Result<(), Halt>
 }
 
 /// The object has no copy at the node.
-fn without_place(alloc: Global, object: Object, node: NodeId) -> Result<Object, Halt>
+fn without_place(alloc: Global, object: Object, node: NodeId) -> Result<Object, AllocError>
     ensures { IfOk result (λ x. x ≡ without_place node object) }
 {
     let mut object = object;
@@ -31,7 +31,11 @@ fn without_place(alloc: Global, object: Object, node: NodeId) -> Result<Object, 
 }
 
 /// None of the objects has a copy at the node.
-fn without_places_at(alloc: Global, objects: Seq<Object>, node: NodeId) -> Result<Seq<Object>, Halt>
+fn without_places_at(
+    alloc: Global,
+    objects: Seq<Object>,
+    node: NodeId,
+) -> Result<Seq<Object>, AllocError>
     ensures { IfOk result (λ xs. xs ≡ map (without_place node) objects) }
 {
     let mut others = Seq::new(alloc);
@@ -42,7 +46,7 @@ fn without_places_at(alloc: Global, objects: Seq<Object>, node: NodeId) -> Resul
 }
 
 /// No copy is known at the node any more.
-pub fn lose_places(alloc: Global, here: &mut Here, node: NodeId) -> Result<(), Halt>
+pub fn lose_places(alloc: Global, here: &mut Here, node: NodeId) -> Result<(), AllocError>
     ensures { OnOk result (here.new ≡ loses_places here.old node) }
 {
     let objects = mem::replace(&mut here.worker.objects, Objects::new(alloc));
@@ -52,7 +56,7 @@ pub fn lose_places(alloc: Global, here: &mut Here, node: NodeId) -> Result<(), H
 }
 
 /// The ask for that task, if it stands at the node, goes to the next node.
-fn move_ask(here: &mut Here, node: NodeId, serial: u64) -> Result<(), Halt>
+fn move_ask(here: &mut Here, node: NodeId, serial: u64) -> Result<(), AllocError>
     ensures { OnOk result (here.new ≡ moves_ask here.old node serial (task_of (own_object here.old serial))) }
 {
     let Some(found) = item_at_number(here.worker.objects.rows(), serial) else {
@@ -75,7 +79,7 @@ fn move_ask(here: &mut Here, node: NodeId, serial: u64) -> Result<(), Halt>
 
 /// The asks that stand at the node go to the next node.
 #[tactic(auto, using(worker_steps::proofs::EachLaws::each_step, worker_steps::proofs::EachLaws::each_last))]
-pub fn move_asks(here: &mut Here, node: NodeId) -> Result<(), Halt>
+pub fn move_asks(here: &mut Here, node: NodeId) -> Result<(), AllocError>
     ensures { OnOk result (here.new ≡ moves_asks here.old node) }
 {
     let count = here.worker.objects.len() as u64;
@@ -86,7 +90,7 @@ pub fn move_asks(here: &mut Here, node: NodeId) -> Result<(), Halt>
 }
 
 /// A Fetch under way to the node finds no copy.
-pub fn lose_fetch(alloc: Global, here: &mut Here, node: NodeId) -> Result<(), Halt>
+pub fn lose_fetch(alloc: Global, here: &mut Here, node: NodeId) -> Result<(), AllocError>
     ensures { OnOk result (here.new ≡ loses_fetch here.old node) }
 {
     let Some(run) = &here.worker.run else {

@@ -9,8 +9,8 @@ use crate::messages::reached;
 use crate::ticks::tick_step;
 use numbers::{NodeId, WorkerId};
 use owner_steps::{claim_step, commit_step};
-use protocol_data::{Halt, Here, Message, Outcomes, Party};
-use std::alloc::Global;
+use protocol_data::{Here, Message, Outcomes, Party};
+use std::alloc::{AllocError, Global};
 use worker_steps::release_all;
 
 /// What a worker does in an event.
@@ -29,7 +29,7 @@ pub enum Act {
 }
 
 /// The worker's step alone.
-fn step(alloc: Global, here: &mut Here, act: &Act) -> Result<(), Halt>
+fn step(alloc: Global, here: &mut Here, act: &Act) -> Result<(), AllocError>
     ensures { OnOk result (here.new ≡ act_step act.now here.old) }
 {
     match act {
@@ -46,7 +46,7 @@ fn step(alloc: Global, here: &mut Here, act: &Act) -> Result<(), Halt>
 }
 
 /// The worker does its step, and then releases what no one can reach any more. After an error nothing is said of its tables.
-pub fn take_part(alloc: Global, here: &mut Here, act: &Act) -> Result<(), Halt>
+pub fn take_part(alloc: Global, here: &mut Here, act: &Act) -> Result<(), AllocError>
     ensures { OnOk result (here.new ≡ release_step (act_step act.now here.old)) }
 {
     step(alloc, here, act)?;

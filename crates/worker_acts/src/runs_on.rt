@@ -9,8 +9,8 @@ ghost use Rattle.worker_acts.specs.Dead.{runs_on};
 use number_lists::item_at_number;
 use numbers::{NodeId, ObjectId, WorkerId};
 use owner_steps::break_attempt;
-use protocol_data::{Halt, Here, Maker, Party, Progress};
-use std::alloc::Global;
+use protocol_data::{Here, Maker, Party, Progress};
+use std::alloc::{AllocError, Global};
 
 /// Whether the present attempt runs on the worker.
 fn runs_on_worker(worker: WorkerId, progress: &Progress) -> bool
@@ -45,7 +45,7 @@ fn runs_on(dead: &Party, progress: &Progress) -> bool
 }
 
 /// The present attempt of that task is broken, if it runs there.
-fn break_if(alloc: Global, here: &mut Here, dead: &Party, serial: u64) -> Result<(), Halt>
+fn break_if(alloc: Global, here: &mut Here, dead: &Party, serial: u64) -> Result<(), AllocError>
     ensures { OnOk result (here.new ≡ breaks_if (runs_on dead.now) here.old serial (task_of (own_object here.old serial))) }
 {
     let Some(found) = item_at_number(here.worker.objects.rows(), serial) else {
@@ -63,7 +63,7 @@ fn break_if(alloc: Global, here: &mut Here, dead: &Party, serial: u64) -> Result
 
 /// The present attempts that run there are broken, in birth order.
 #[tactic(auto, using(worker_steps::proofs::EachLaws::each_step, worker_steps::proofs::EachLaws::each_last))]
-pub fn break_where(alloc: Global, here: &mut Here, dead: &Party) -> Result<(), Halt>
+pub fn break_where(alloc: Global, here: &mut Here, dead: &Party) -> Result<(), AllocError>
     ensures { OnOk result (here.new ≡ breaks_where (runs_on dead.now) here.old) }
 {
     let count = here.worker.objects.len() as u64;

@@ -9,13 +9,13 @@ ghost use Rattle.protocol_data.specs.declared.tables.Run.{Run};
 use crate::worker_deaths::is_unheard;
 use number_lists::item_at_number;
 use numbers::{AttemptId, ObjectId};
-use protocol_data::{Halt, Here, Holding, Maker, Message, Phase, Progress};
+use protocol_data::{Here, Holding, Maker, Message, Phase, Progress};
 use sequence::Seq;
-use std::alloc::Global;
+use std::alloc::{AllocError, Global};
 use worker_steps::{is_own, say, say_to_node, tell_stop};
 
 /// Of a pending task, its Ask or its Push is sent again.
-fn send_task(alloc: Global, here: &mut Here, serial: u64) -> Result<(), Halt>
+fn send_task(alloc: Global, here: &mut Here, serial: u64) -> Result<(), AllocError>
     ensures { OnOk result (here.new ≡ sends_task here.old serial (task_of (own_object here.old serial))) }
 {
     let Some(found) = item_at_number(here.worker.objects.rows(), serial) else {
@@ -45,7 +45,7 @@ fn send_task(alloc: Global, here: &mut Here, serial: u64) -> Result<(), Halt>
 
 /// Of each pending task, in birth order.
 #[tactic(auto, using(worker_steps::proofs::EachLaws::each_step, worker_steps::proofs::EachLaws::each_last))]
-fn send_tasks(alloc: Global, here: &mut Here) -> Result<(), Halt>
+fn send_tasks(alloc: Global, here: &mut Here) -> Result<(), AllocError>
     ensures { OnOk result (here.new ≡ sends_tasks here.old) }
 {
     let count = here.worker.objects.len() as u64;
@@ -56,7 +56,7 @@ fn send_tasks(alloc: Global, here: &mut Here) -> Result<(), Halt>
 }
 
 /// What the own attempt asked for is asked for again.
-fn ask_again(here: &mut Here) -> Result<(), Halt>
+fn ask_again(here: &mut Here) -> Result<(), AllocError>
     ensures { (run : Run) → here.old.worker.run ≡ Some run → OnOk result (here.new ≡ asks_again here.old run.phase) }
 {
     let Some(run) = &here.worker.run else {
@@ -78,7 +78,7 @@ fn ask_again(here: &mut Here) -> Result<(), Halt>
 }
 
 /// The Holds that wait are sent again.
-fn send_holds(here: &mut Here, holds: &Seq<Holding>) -> Result<(), Halt>
+fn send_holds(here: &mut Here, holds: &Seq<Holding>) -> Result<(), AllocError>
     ensures { OnOk result (here.new ≡ sends_holds here.old holds.now) }
 {
     for hold in &holds.items {
@@ -90,7 +90,7 @@ fn send_holds(here: &mut Here, holds: &Seq<Holding>) -> Result<(), Halt>
 }
 
 /// How the attempt stopped is told again, where that wasn't heard.
-fn send_stop(alloc: Global, here: &mut Here) -> Result<(), Halt>
+fn send_stop(alloc: Global, here: &mut Here) -> Result<(), AllocError>
     ensures { (run : Run) → here.old.worker.run ≡ Some run → OnOk result (here.new ≡ sends_stop here.old run) }
 {
     let Some(run) = &here.worker.run else {
@@ -103,7 +103,7 @@ fn send_stop(alloc: Global, here: &mut Here) -> Result<(), Halt>
 }
 
 /// The own attempt's Holds that wait are sent again.
-fn send_own_holds(alloc: Global, here: &mut Here) -> Result<(), Halt>
+fn send_own_holds(alloc: Global, here: &mut Here) -> Result<(), AllocError>
     ensures { (run : Run) → here.old.worker.run ≡ Some run → OnOk result (here.new ≡ sends_holds here.old run.holds) }
 {
     let Some(run) = &here.worker.run else {
@@ -114,7 +114,7 @@ fn send_own_holds(alloc: Global, here: &mut Here) -> Result<(), Halt>
 }
 
 /// Of the own attempt, all that it waits for, and how it stopped.
-fn send_own(alloc: Global, here: &mut Here) -> Result<(), Halt>
+fn send_own(alloc: Global, here: &mut Here) -> Result<(), AllocError>
     ensures { (run : Run) → here.old.worker.run ≡ Some run → OnOk result (here.new ≡ sends_run here.old (Some run)) }
 {
     ask_again(here)?;
@@ -123,7 +123,7 @@ fn send_own(alloc: Global, here: &mut Here) -> Result<(), Halt>
 }
 
 /// The same, if there is one.
-fn send_run(alloc: Global, here: &mut Here) -> Result<(), Halt>
+fn send_run(alloc: Global, here: &mut Here) -> Result<(), AllocError>
     ensures { OnOk result (here.new ≡ sends_run here.old here.old.worker.run) }
 {
     match &here.worker.run {
@@ -134,7 +134,7 @@ fn send_run(alloc: Global, here: &mut Here) -> Result<(), Halt>
 
 /// The worker sends again what it waits for: Asks and Pushes of its tasks, what its own attempt asked for, its Holds, and how its attempt
 /// stopped.
-pub fn tick_step(alloc: Global, here: &mut Here) -> Result<(), Halt>
+pub fn tick_step(alloc: Global, here: &mut Here) -> Result<(), AllocError>
     ensures { OnOk result (here.new ≡ tick_step here.old) }
 {
     send_tasks(alloc, here)?;

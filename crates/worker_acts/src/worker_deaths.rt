@@ -7,13 +7,13 @@ ghost use Rattle.protocol.specs.Notices.{drops_holds, drops_holds_by, drops_stop
 ghost use Rattle.protocol_data.specs.declared.tables.Run.{Run};
 
 use numbers::{Cause, Fault, WorkerId};
-use protocol_data::{Halt, Here, Holding, Phase, Run};
+use protocol_data::{Here, Holding, Phase, Run};
 use sequence::Seq;
-use std::alloc::Global;
+use std::alloc::{AllocError, Global};
 use worker_steps::{fault, leave_if_free, note_heard};
 
 /// The worker knows that the other is dead.
-pub fn add_dead_worker(here: &mut Here, worker: WorkerId) -> Result<(), Halt>
+pub fn add_dead_worker(here: &mut Here, worker: WorkerId) -> Result<(), AllocError>
     ensures { OnOk result (here.new ≡ with_dead_worker here.old worker) }
 {
     here.worker.dead_workers.push(worker)?;
@@ -21,7 +21,7 @@ pub fn add_dead_worker(here: &mut Here, worker: WorkerId) -> Result<(), Halt>
 }
 
 /// The own attempt, if it needs an object of the dead, is answered by a fault.
-pub fn lose_owner(alloc: Global, here: &mut Here, worker: WorkerId) -> Result<(), Halt>
+pub fn lose_owner(alloc: Global, here: &mut Here, worker: WorkerId) -> Result<(), AllocError>
     ensures { OnOk result (here.new ≡ loses_owner here.old worker) }
 {
     let Some(run) = &here.worker.run else {
@@ -43,7 +43,7 @@ fn holds_of_others(
     alloc: Global,
     holds: &Seq<Holding>,
     worker: WorkerId,
-) -> Result<Seq<Holding>, Halt>
+) -> Result<Seq<Holding>, AllocError>
     ensures { IfOk result (λ others. others ≡ filter (λ k. not (k.object.owner == worker)) holds.now) }
 {
     let mut others = Seq::new(alloc);
@@ -56,7 +56,7 @@ fn holds_of_others(
 }
 
 /// The own attempt waits for no Hold to the dead.
-fn keep_holds_of_others(alloc: Global, here: &mut Here, worker: WorkerId) -> Result<(), Halt>
+fn keep_holds_of_others(alloc: Global, here: &mut Here, worker: WorkerId) -> Result<(), AllocError>
     ensures { (run : Run) → here.old.worker.run ≡ Some run →
         OnOk result (here.new ≡ with_run here.old (record run { holds = filter (λ k. not (k.object.owner == worker)) run.holds })) }
 {
@@ -69,7 +69,7 @@ fn keep_holds_of_others(alloc: Global, here: &mut Here, worker: WorkerId) -> Res
 }
 
 /// Holds to the dead count as acknowledged, and a stopped attempt that waited for them alone is over.
-fn drop_own_holds(alloc: Global, here: &mut Here, worker: WorkerId) -> Result<(), Halt>
+fn drop_own_holds(alloc: Global, here: &mut Here, worker: WorkerId) -> Result<(), AllocError>
     ensures { (run : Run) → here.old.worker.run ≡ Some run → OnOk result (here.new ≡ drops_holds_by here.old worker (Some run)) }
 {
     keep_holds_of_others(alloc, here, worker)?;
@@ -77,7 +77,7 @@ fn drop_own_holds(alloc: Global, here: &mut Here, worker: WorkerId) -> Result<()
 }
 
 /// Holds to the dead count as acknowledged.
-pub fn drop_holds(alloc: Global, here: &mut Here, worker: WorkerId) -> Result<(), Halt>
+pub fn drop_holds(alloc: Global, here: &mut Here, worker: WorkerId) -> Result<(), AllocError>
     ensures { OnOk result (here.new ≡ drops_holds here.old worker) }
 {
     match &here.worker.run {
@@ -94,7 +94,7 @@ pub fn is_unheard(run: &Run) -> bool
 }
 
 /// The end of an attempt of the dead counts as heard.
-pub fn drop_stop(here: &mut Here, worker: WorkerId) -> Result<(), Halt>
+pub fn drop_stop(here: &mut Here, worker: WorkerId) -> Result<(), AllocError>
     ensures { OnOk result (here.new ≡ drops_stop here.old worker) }
 {
     let Some(run) = &here.worker.run else {

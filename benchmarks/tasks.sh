@@ -1,6 +1,7 @@
 #!/usr/bin/env bash
 # Times `raysim run` on scripts of N remote calls, and prints microseconds of processor time a task: the mean of 20 whole processes
-# less that of an empty script, by N. The shapes: calls that need nothing of one another, of which main gets the last (apart) or each
+# less that of an empty script, by N. With --instructions it counts one process's instructions by valgrind (Debian's package), which come
+# out the same on a busy machine. The shapes: calls that need nothing of one another, of which main gets the last (apart) or each
 # in turn (got); calls that each need the one before (chain); and a task that calls two, which call two each, and so on (tree).
 # RAYSIM names another program. First build the proved program: (cd crates/raysim && rt run)
 set -euo pipefail
@@ -40,14 +41,22 @@ microseconds() {
     awk '{ printf "%d\n", ($1 + $2) * 50000 }' <<< "$spent"
 }
 
+# Instructions of one run of the script $1.
+instructions() {
+    valgrind --tool=callgrind --callgrind-out-file=/dev/null --log-file="$folder/counted" "$raysim" run "$1" > "$folder/report"
+    awk '/Collected/ { print $4 }' "$folder/counted"
+}
+
+unit=microseconds
+[ "${1:-}" != --instructions ] || unit=instructions
 empty > "$folder/empty.ray"
-base=$(microseconds "$folder/empty.ray")
-echo "an empty script: $base microseconds"
+base=$($unit "$folder/empty.ray")
+echo "an empty script: $base $unit"
 for shape in apart got chain tree; do
     for tasks in 100 300 500 900; do
         $shape "$tasks" > "$folder/script.ray"
-        whole=$(microseconds "$folder/script.ray")
+        whole=$($unit "$folder/script.ray")
         grep -qx "main value $tasks" "$folder/report" || { echo "$shape $tasks: main ends otherwise"; exit 1; }
-        echo "$shape $tasks: $(((whole - base) / tasks)) microseconds a task"
+        echo "$shape $tasks: $(((whole - base) / tasks)) $unit a task"
     done
 done

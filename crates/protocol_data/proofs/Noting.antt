@@ -1,5 +1,5 @@
 -- What was surely never noted isn't among the asks, and an ask that is found is the only one of its key.
-use Rattle.std.proofs.Common.{◌≡◌, ℕ, zero, suc, ◌<◌, ◌∷◌, ◌++◌, [], Bool, true, false, List, Some, None, refl, sym, ap, ◌∙◌, arith, cond, length, subst}
+use Rattle.std.proofs.Common.{◌≡◌, ℕ, zero, suc, ◌+◌, ◌<◌, ◌≤◌, ◌⊎◌, inl, inr, ◌∷◌, ◌++◌, [], Bool, true, false, List, Some, None, refl, sym, ap, ◌∙◌, arith, cond, length, subst}
 use Rattle.std.proofs.lemmas.Bool.Decides.{nat_tests}
 use Rattle.std.specs.Prelude.{not, ◌||◌, ◌==◌, slice_get, remove}
 use Rattle.std.specs.List.{filter, find, list_any}
@@ -179,6 +179,39 @@ is_within xs i k f = within xs i f.0 f.1
 pub none_anywhere : (xs : List Asked) (k : AskKey) → ((i : ℕ) (x : Asked) → slice_get xs i ≡ Some x → is_that_ask k x ≡ false) → list_any (is_that_ask k) xs ≡ false
 none_anywhere [] k f = refl
 none_anywhere (x ∷ xs) k f = neither (is_that_ask k x) (list_any (is_that_ask k) xs) (f 0 x refl) (none_anywhere xs k (λ i y e. f (suc i) y e))
+
+-- one more of them isn't that ask
+pub none_before : (xs : List Asked) (k : AskKey) (n : ℕ) (y : Asked) → ((i : ℕ) (x : Asked) → i < n → slice_get xs i ≡ Some x → is_that_ask k x ≡ false) →
+    slice_get xs n ≡ Some y → is_that_ask k y ≡ false → (i : ℕ) (x : Asked) → i < n + 1 → slice_get xs i ≡ Some x → is_that_ask k x ≡ false
+none_before xs k n y p g h i x less e =
+    elim (here i n less) [ inl l ↦ p i x l e | inr s ↦ ap (is_that_ask k) (sym (the_same y x (sym g ∙ ap (slice_get xs) (sym s) ∙ e))) ∙ h ]
+  where
+    here : (i n : ℕ) → i < n + 1 → (i < n) ⊎ (i ≡ n)
+    here zero zero l = inr refl
+    here zero (suc q) l = inl (omega arith)
+    here (suc j) zero l = absurd (omega (arith, l))
+    here (suc j) (suc q) l = elim (here j q (omega (arith, l))) [ inl m ↦ inl (omega (arith, m)) | inr s ↦ inr (ap suc s) ]
+
+pub none_behind : (xs : List Asked) (k : AskKey) (n m : ℕ) (y : Asked) → ((i : ℕ) (x : Asked) → m ≤ i → slice_get xs i ≡ Some x → is_that_ask k x ≡ false) →
+    m ≤ n + 1 → slice_get xs n ≡ Some y → is_that_ask k y ≡ false → (i : ℕ) (x : Asked) → n ≤ i → slice_get xs i ≡ Some x → is_that_ask k x ≡ false
+none_behind xs k n m y p q g h i x low e =
+    elim (here i n low) [ inl l ↦ p i x (omega (arith, q, l)) e | inr s ↦ ap (is_that_ask k) (sym (the_same y x (sym g ∙ ap (slice_get xs) (sym s) ∙ e))) ∙ h ]
+  where
+    here : (i n : ℕ) → n ≤ i → (n + 1 ≤ i) ⊎ (i ≡ n)
+    here zero zero l = inr refl
+    here zero (suc q) l = absurd (omega (arith, l))
+    here (suc j) zero l = inl (omega arith)
+    here (suc j) (suc q) l = elim (here j q (omega (arith, l))) [ inl m ↦ inl (omega (arith, m)) | inr s ↦ inr (ap suc s) ]
+
+-- that is all of them, where the two meet
+pub none_in_all : (xs : List Asked) (k : AskKey) (n m : ℕ) → ((i : ℕ) (x : Asked) → i < n → slice_get xs i ≡ Some x → is_that_ask k x ≡ false) →
+    ((i : ℕ) (x : Asked) → m ≤ i → slice_get xs i ≡ Some x → is_that_ask k x ≡ false) → m ≤ n → list_any (is_that_ask k) xs ≡ false
+none_in_all xs k n m p q l = none_anywhere xs k (λ i x e. elim (split i n) [ inl r ↦ p i x r e | inr r ↦ q i x (omega (arith, l, r)) e ])
+  where
+    split : (i k : ℕ) → (i < k) ⊎ (k ≤ i)
+    split i zero = inr (omega arith)
+    split zero (suc k) = inl (omega arith)
+    split (suc i) (suc k) = elim (split i k) [ inl m ↦ inl (omega (arith, m)) | inr m ↦ inr (omega (arith, m)) ]
 
 pub no_reply : (xs : List Asked) (k : AskKey) → list_any (is_that_ask k) xs ≡ false → option_map (λ r. r.reply) (find (is_that_ask k) xs) ≡ None
 no_reply xs k h = ap (option_map (λ r. r.reply)) (none_found (is_that_ask k) xs h)

@@ -26,6 +26,21 @@ one_kept xs from place own b y p g k i x low less e =
     here (suc j) zero l = absurd (omega (arith, l))
     here (suc j) (suc q) l = elim (here j q (omega (arith, l))) [ inl m ↦ inl (omega (arith, m)) | inr s ↦ inr (ap suc s) ]
 
+-- the same from the other end
+pub one_more_kept : (xs : List Object) (place to own : ℕ) (b : Option Attempt) (y : Object) → AreKept xs (place + 1) to b own → slice_get xs place ≡ Some y →
+    is_kept b own place y ≡ true → AreKept xs place to b own
+one_more_kept xs place to own b y p g k i x low less e =
+    elim (here i place low) [
+      | inl l ↦ p i x l less e
+      | inr s ↦ let same : y ≡ x = some_is y x (sym g ∙ ap (slice_get xs) (sym s) ∙ e) in ap (is_kept b own i) (sym same) ∙ ap (λ j. is_kept b own j y) s ∙ k
+    ]
+  where
+    here : (i place : ℕ) → place ≤ i → (place + 1 ≤ i) ⊎ (i ≡ place)
+    here zero zero l = inr refl
+    here zero (suc q) l = absurd (omega (arith, l))
+    here (suc j) zero l = inl (omega arith)
+    here (suc j) (suc q) l = elim (here j q (omega (arith, l))) [ inl m ↦ inl (omega (arith, m)) | inr s ↦ inr (ap suc s) ]
+
 below : (own i : ℕ) → i < own → nat_lt i own ≡ true
 below own i l = grind (arith, nat_tests, l)
 
@@ -98,20 +113,23 @@ kept_for_none own own' i x k = by_cases (is_unneeded x) (nat_lt i own) (nat_lt i
     by_cases true false m h = absurd cc
 
 -- what was looked at counts as seen
-pub settled : (xs : List Object) (seen from to seen' from' own own' : ℕ) (b : Option Attempt) → IsSearched xs seen from to b own → AreKept xs from from' b own →
-    AreKept xs seen seen' b own → (own' ≡ own) ⊎ (b ≡ None) → IsSearched xs seen' from' to b own'
-settled xs seen from to seen' from' own own' b p q r o i x less out e = moved b o (looked_at out)
+pub settled : (xs : List Object) (seen from to seen' from' to' own own' : ℕ) (b : Option Attempt) → IsSearched xs seen from to b own → AreKept xs from from' b own →
+    AreKept xs to' to b own → AreKept xs seen seen' b own → (own' ≡ own) ⊎ (b ≡ None) → IsSearched xs seen' from' to' b own'
+settled xs seen from to seen' from' to' own own' b p q f r o i x less out e = moved b o (looked_at out)
   where
     split : (i k : ℕ) → (i < k) ⊎ (k ≤ i)
     split i zero = inr (omega arith)
     split zero (suc k) = inl (omega arith)
     split (suc i) (suc k) = elim (split i k) [ inl m ↦ inl (omega (arith, m)) | inr m ↦ inr (omega (arith, m)) ]
 
-    looked_at : (i < from') ⊎ (to ≤ i) → is_kept b own i x ≡ true
-    looked_at out = elim (split i seen) [
-      | inr late ↦ r i x late less e
-      | inl early ↦ elim out [ inr far ↦ p i x early (inr far) e | inl near ↦ elim (split i from) [ inl k ↦ p i x early (inl k) e | inr k ↦ q i x k near e ] ]
-    ]
+    before : i < seen → i < from' → is_kept b own i x ≡ true
+    before early near = elim (split i from) [ inl k ↦ p i x early (inl k) e | inr k ↦ q i x k near e ]
+
+    behind : i < seen → to' ≤ i → is_kept b own i x ≡ true
+    behind early far = elim (split i to) [ inl k ↦ f i x far k e | inr k ↦ p i x early (inr k) e ]
+
+    looked_at : (i < from') ⊎ (to' ≤ i) → is_kept b own i x ≡ true
+    looked_at out = elim (split i seen) [ inr late ↦ r i x late less e | inl early ↦ elim out [ inl near ↦ before early near | inr far ↦ behind early far ] ]
 
     moved : (b : Option Attempt) → (own' ≡ own) ⊎ (b ≡ None) → is_kept b own i x ≡ true → is_kept b own' i x ≡ true
     moved b (inl s) k = ap (λ n. is_kept b n i x) s ∙ k

@@ -85,16 +85,23 @@ fn is_that_ask(key: &AskKey, asked: &Asked) -> bool
     asked.key.attempt.is(key.attempt) && asked.key.t == key.t
 }
 
-/// The place of that ask, looked for from the newest back.
-fn place_from_end(rows: &Seq<Asked>, key: &AskKey) -> Option<usize>
+/// The place of that ask, looked for from both ends.
+fn place_of(rows: &Seq<Asked>, key: &AskKey) -> Option<usize>
     ensures found { IfSome result (λ p. (x : Asked) × (slice_get rows.now p ≡ Some x) × (is_that_ask key.now x ≡ true)) }
     ensures none { IfNone result (list_any (is_that_ask key.now) rows.now ≡ false) }
 {
     let count = rows.len();
-    for back in 0..count {
-        let place = count - 1 - back;
-        if is_that_ask(key, rows.get(place)) {
-            return Some(place);
+    for step in 0..count {
+        let back = count - 1 - step;
+        if back < step {
+            return None;
+        }
+        // An ask that comes again is among the newest; one that waited, among the oldest.
+        if is_that_ask(key, rows.get(back)) {
+            return Some(back);
+        }
+        if is_that_ask(key, rows.get(step)) {
+            return Some(step);
         }
     }
     None
@@ -110,7 +117,7 @@ fn reply_in(rows: &Seq<Asked>, bounds: &Seq<u64>, key: &AskKey) -> Option<Reply>
     if !may_be_noted(bounds, object) {
         return None;
     }
-    let Some(place) = place_from_end(rows, key) else {
+    let Some(place) = place_of(rows, key) else {
         return None;
     };
     Some(rows.get(place).reply)
@@ -133,7 +140,7 @@ fn take_out(rows: &mut Seq<Asked>, bounds: &Seq<u64>, key: &AskKey)
     if !may_be_noted(bounds, object) {
         return;
     }
-    let Some(place) = place_from_end(rows, key) else {
+    let Some(place) = place_of(rows, key) else {
         return;
     };
     take_at(rows, place);
@@ -142,7 +149,7 @@ fn take_out(rows: &mut Seq<Asked>, bounds: &Seq<u64>, key: &AskKey)
 /// The asks that were answered, each once, with the answers that stand. Contracts see the list, in order of answering.
 ///
 /// Beside it stands of each owner a serial that none of its objects among them passes: what passes it is asked for anew, and any other is looked
-/// for from the newest back.
+/// for from both ends.
 #[derive(Drop, Debug)]
 pub struct Asks {
     rows: Seq<Asked>,

@@ -95,6 +95,29 @@ fn kept_until(
     to
 }
 
+/// The place behind the last one, from the one on and before the other, of an object that may be released; else the one.
+#[tactic(auto, using(crate::proofs::Searches::one_more_kept))]
+fn kept_behind(
+    rows: &Seq<Object>,
+    from: usize,
+    to: usize,
+    bearer: &Option<AttemptId>,
+    own: usize,
+) -> usize
+    ensures { AreKept rows.now result to bearer.now own }
+{
+    for step in from..to {
+        let place = to - 1 - (step - from);
+        if place >= rows.len() {
+            return place + 1;
+        }
+        if !is_kept(bearer, own, place, rows.get(place)) {
+            return place + 1;
+        }
+    }
+    from
+}
+
 fn is_same_bearer(bearer: &Option<AttemptId>, other: &Option<AttemptId>) -> bool
     ensures { result ≡ is_same_bearer bearer.now other.now }
 {
@@ -310,6 +333,13 @@ impl Objects {
             &self.bearer,
             self.own_from,
         );
+        let to = kept_behind(
+            &self.rows,
+            from,
+            self.changed_to,
+            &self.bearer,
+            self.own_from,
+        );
         let seen = kept_until(
             &self.rows,
             self.seen,
@@ -318,6 +348,7 @@ impl Objects {
             self.own_from,
         );
         self.changed_from = from;
+        self.changed_to = to;
         self.seen = seen;
         self.own_from = own_behind(&self.bearer, self.own_from, seen);
     }

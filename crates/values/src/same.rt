@@ -69,6 +69,27 @@ impl Content {
     }
 }
 
+/// Whether both are the same number.
+fn are_same_numbers(a: &Content, b: &Content) -> bool
+    ensures { result ≡ true → content_of a.now ≡ content_of b.now }
+{
+    match a {
+        Content::Value(RunValue::Int(one)) => match b {
+            Content::Value(RunValue::Int(other)) => *one == *other,
+            _ => false,
+        },
+        _ => false,
+    }
+}
+
+/// Whether the two are the same. Most are numbers, which are compared with no call.
+fn is_same_content(a: &Content, b: &Content) -> bool
+    ensures same { result ≡ true → content_of a.now ≡ content_of b.now }
+    ensures only { content_of a.now ≡ content_of b.now → result ≡ true }
+{
+    are_same_numbers(a, b) || a.is_same(b)
+}
+
 /// Whether the two are as long, and have the same content at each place.
 pub fn are_same_contents(a: &[Content], b: &[Content]) -> bool
     ensures same { result ≡ true → map content_of a.now ≡ map content_of b.now }
@@ -78,7 +99,7 @@ pub fn are_same_contents(a: &[Content], b: &[Content]) -> bool
         return false;
     }
     for i in 0..a.len() {
-        if !a[i].is_same(&b[i]) {
+        if !is_same_content(&a[i], &b[i]) {
             return false;
         }
     }

@@ -1,6 +1,6 @@
 #!/usr/bin/env bash
 # Times `raysim sim` on scripts that a settle line runs to their ends, and prints microseconds of processor time an event, by the number of
-# events: the mean of some whole processes less that of an empty script. The shapes: rounds of 100 calls that need nothing of one another,
+# events: the least of some whole processes less that of an empty script. The shapes: rounds of 100 calls that need nothing of one another,
 # of which main gets the last (apart); calls whose values main gets each in turn (got); rounds of 100 calls that each need the one before
 # (chain); trees of 100 tasks, one after the other (tree); and rounds of 30 calls on 16 nodes (nodes). The numbers of events are those of
 # the settle rule: with B rounds 1,002 B - 1 (apart), 1,399 B + 2 (chain), 1,192 B + 2 (tree) and 472 B + 2 (nodes), with N gets 11 N + 2.
@@ -55,16 +55,14 @@ tree() {
 }"
 }
 
-# Processor time of one simulation of the script $1 on $2 nodes, in microseconds: the mean of $3 of them.
+# Processor time of one simulation of the script $1 on $2 nodes, in microseconds: the least of $3 of them.
 microseconds() {
-    local TIMEFORMAT='%U %S' spent
-    spent=$({ time for ((turn = 0; turn < $3; turn++)); do
-        "$raysim" sim "$1" "$folder/settle.ev" --nodes "$2" --slots 4 > "$folder/report"
-    done; } 2>&1)
-    awk -v turns="$3" '{ printf "%d\n", ($1 + $2) * 1000000 / turns }' <<< "$spent"
+    local simulation=("$raysim" sim "$1" "$folder/settle.ev" --nodes "$2" --slots 4)
+    "${simulation[@]}" > "$folder/report"
+    ./least.py "$3" "${simulation[@]}"
 }
 
-# The shape $1 on $2 nodes with $3 rounds, which make $4 events and main's value $5: mean of $6 simulations.
+# The shape $1 on $2 nodes with $3 rounds, which make $4 events and main's value $5: the least of $6 simulations.
 row() {
     "$1" "$3" > "$folder/script.ray"
     local whole
@@ -76,19 +74,19 @@ row() {
 
 echo settle > "$folder/settle.ev"
 empty > "$folder/empty.ray"
-base=$(microseconds "$folder/empty.ray" 1 20)
-row apart 1 1 1001 100 20
-row apart 1 10 10019 1000 5
-row apart 1 99 99197 9900 1
-row got 1 90 992 90 20
-row got 1 900 9902 900 5
-row got 1 9000 99002 9000 1
-row chain 1 1 1401 100 20
-row chain 1 7 9795 700 5
-row chain 1 71 99331 7100 1
-row tree 1 1 1194 100 20
-row tree 1 8 9538 800 5
-row tree 1 83 98938 8300 1
-row nodes 16 2 946 60 20
-row nodes 16 21 9914 630 5
-row nodes 16 211 99594 6330 1
+base=$(microseconds "$folder/empty.ray" 1 40)
+row apart 1 1 1001 100 40
+row apart 1 10 10019 1000 20
+row apart 1 99 99197 9900 8
+row got 1 90 992 90 40
+row got 1 900 9902 900 20
+row got 1 9000 99002 9000 8
+row chain 1 1 1401 100 40
+row chain 1 7 9795 700 20
+row chain 1 71 99331 7100 8
+row tree 1 1 1194 100 40
+row tree 1 8 9538 800 20
+row tree 1 83 98938 8300 8
+row nodes 16 2 946 60 40
+row nodes 16 21 9914 630 20
+row nodes 16 211 99594 6330 8

@@ -1,5 +1,5 @@
 #!/usr/bin/env bash
-# Times `raysim run` on scripts of N remote calls, and prints microseconds of processor time a task: the mean of 20 whole processes
+# Times `raysim run` on scripts of N remote calls, and prints microseconds of processor time a task: the least of 60 whole processes
 # less that of an empty script, by N. With --instructions it counts one process's instructions by valgrind (Debian's package), which come
 # out the same on a busy machine. The shapes: calls that need nothing of one another, of which main gets the last (apart) or each
 # in turn (got); calls that each need the one before (chain); and a task that calls two, which call two each, and so on (tree).
@@ -34,11 +34,10 @@ tree() {
     echo "fn main() -> int { return get remote tree($1); }"
 }
 
-# Processor time of one run of the script $1, in microseconds: the mean of 20 runs.
+# Processor time of one run of the script $1, in microseconds: the least of 60.
 microseconds() {
-    local TIMEFORMAT='%U %S' spent
-    spent=$({ time for turn in {1..20}; do "$raysim" run "$1" > "$folder/report"; done; } 2>&1)
-    awk '{ printf "%d\n", ($1 + $2) * 50000 }' <<< "$spent"
+    "$raysim" run "$1" > "$folder/report"
+    ./least.py 60 "$raysim" run "$1"
 }
 
 # Instructions of one run of the script $1.
@@ -57,6 +56,7 @@ for shape in apart got chain tree; do
         $shape "$tasks" > "$folder/script.ray"
         whole=$($unit "$folder/script.ray")
         grep -qx "main value $tasks" "$folder/report" || { echo "$shape $tasks: main ends otherwise"; exit 1; }
-        echo "$shape $tasks: $(((whole - base) / tasks)) $unit a task"
+        awk -v spent=$((whole - base)) -v tasks="$tasks" -v what="$shape $tasks" -v unit=$unit \
+            'BEGIN { printf "%s: %.1f %s a task\n", what, spent / tasks, unit }'
     done
 done

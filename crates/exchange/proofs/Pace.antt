@@ -14,7 +14,7 @@ use Rattle.protocol.specs.Answers.{job_of}
 use Rattle.protocol.specs.Jobs.{Job}
 use Rattle.protocol.specs.Tables.{Run}
 use Rattle.exchange.specs.Jobs.{job_in}
-use Rattle.exchange.specs.Runs.{IsInPace, IsLike}
+use Rattle.exchange.specs.Runs.{HasItsAnswers, IsInPace, IsLike, IsShaped}
 
 -- two beginnings of one list that are as long are the same
 beginnings_same : {X : Type 0} (xs ys zs : List X) → IsFirst xs zs → IsFirst ys zs → length xs ≡ length ys → xs ≡ ys
@@ -48,3 +48,18 @@ like_is_same script j number run pace begun is =
     (beginnings_same (map value_of j.printed) run.prints (replay script run.spec run.base run.answers).prints (subst (λ r. IsFirst (map value_of j.printed) r.prints) whole begun.printed)
     pace.prints (length-map j.printed value_of ∙ is.prints))
     is.answers
+
+-- so is one of that shape, where as many of its answers are the attempt's
+pub shaped_is_same : (script : Script) (j : JobData) (number : ℕ) (run : Run) → IsInPace script run → HasItsAnswers j run → IsBegun script j → IsShaped j number run →
+    job_in j ≡ job_of number run
+shaped_is_same script j number run pace answers begun is =
+    like_is_same script j number run pace begun
+    (record {
+      number = is.number;
+      attempt = is.attempt;
+      spec = is.spec;
+      base = is.base;
+      answers = answers is.attempt is.answers;
+      births = is.births;
+      prints = is.prints;
+    })

@@ -23,3 +23,17 @@ pub record IsLike (j : JobData) (n : ℕ) (run : Run) : Type 0 where
   pub answers : map content_of j.answers ≡ run.answers
   pub births : length j.births ≡ length run.births
   pub prints : length j.printed ≡ length run.prints
+
+-- the job has the number, the attempt, its task and base, and as many births, prints and answers
+pub record IsShaped (j : JobData) (n : ℕ) (run : Run) : Type 0 where
+  pub number : j.number ≡ n
+  pub attempt : attempt_of j.attempt ≡ run.attempt
+  pub spec : birth_of j.spec ≡ run.spec
+  pub base : id_of j.base ≡ run.base
+  pub births : length j.births ≡ length run.births
+  pub prints : length j.printed ≡ length run.prints
+  pub answers : length j.answers ≡ length run.answers
+
+-- as many answers of the job are the attempt's, where the job is of that attempt
+abbrev pub HasItsAnswers : JobData → Run → Type 0
+HasItsAnswers j run = attempt_of j.attempt ≡ run.attempt → length j.answers ≡ length run.answers → map content_of j.answers ≡ run.answers

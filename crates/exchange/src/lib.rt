@@ -14,4 +14,4 @@ pub use events::{event_out, happening_of};
 pub use jobs::job_parts;
 pub use outcomes::outcomes_of;
 pub use refusals::refusal_of;
-pub use runs::{is_job_in_pace, is_job_of};
+pub use runs::{is_job_in_pace, is_job_of, is_own_job};

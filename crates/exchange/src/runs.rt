@@ -1,12 +1,12 @@
 // Whether a job is the one that an attempt is given out as.
 
-ghost use Rattle.std.specs.Prelude.{◌≡◌, IfOk, map, true};
+ghost use Rattle.std.specs.Prelude.{◌≡◌, IfOk, length, map, true};
 ghost use Rattle.std.specs.Arc.{arc_value};
 ghost use Rattle.values.specs.Values.{content_of, value_of};
 ghost use Rattle.task_spec.specs.Births.{birth_of};
 ghost use Rattle.protocol.specs.Answers.{job_of};
 ghost use Rattle.exchange.specs.Jobs.{job_in};
-ghost use Rattle.exchange.specs.Runs.{IsInPace, IsLike};
+ghost use Rattle.exchange.specs.Runs.{HasItsAnswers, IsInPace, IsLike, IsShaped};
 
 use crate::across::{attempt, object};
 use held::{Answers, Births, Prints};
@@ -73,9 +73,16 @@ fn are_answers(answers: &[Content], held: &Answers) -> bool
     are_same_contents(answers, &held.inner)
 }
 
-/// Whether the job is the one of that number, as the attempt is given out, as far as one sees without reading what it bore and printed.
-fn is_like<S: ScriptName>(job: &Job<S>, number: u64, run: &Run) -> bool
-    ensures like { result ≡ true → IsLike job.now number run.now }
+fn are_as_many(answers: &[Content], held: &Answers) -> bool
+    ensures same { result ≡ true → length answers.now ≡ length held.now }
+    ensures only { map content_of answers.now ≡ held.now → result ≡ true }
+{
+    answers.len() == held.inner.len()
+}
+
+/// Whether the job is the one of that number, as the attempt is given out, as far as one sees without reading what it bore, printed and was answered.
+fn is_shaped<S: ScriptName>(job: &Job<S>, number: u64, run: &Run) -> bool
+    ensures shaped { result ≡ true → IsShaped job.now number run.now }
     ensures only { job_in job.now ≡ job_of number run.now → result ≡ true }
 {
     job.number() == number
@@ -83,8 +90,16 @@ fn is_like<S: ScriptName>(job: &Job<S>, number: u64, run: &Run) -> bool
         && job.base() == object(run.base)
         && job.births().len() == run.births.len()
         && job.printed().len() == run.prints.len()
+        && are_as_many(job.answers(), &run.answers)
         && job.spec().is_same(&run.spec.inner)
-        && are_answers(job.answers(), &run.answers)
+}
+
+/// Whether the job is the one of that number, as the attempt is given out, as far as one sees without reading what it bore and printed.
+fn is_like<S: ScriptName>(job: &Job<S>, number: u64, run: &Run) -> bool
+    ensures like { result ≡ true → IsLike job.now number run.now }
+    ensures only { job_in job.now ≡ job_of number run.now → result ≡ true }
+{
+    is_shaped(job, number, run) && are_answers(job.answers(), &run.answers)
 }
 
 /// Whether the job is the one of that number, as the attempt is given out. What it bore and printed is read, whose cost grows with it. An error
@@ -114,4 +129,17 @@ pub fn is_job_in_pace<S: ScriptName>(job: &Job<S>, number: u64, run: &Run) -> bo
 {
     job.attest();
     is_like(job, number, run)
+}
+
+/// Whether the job is the one of that number, as the attempt is given out, where what the attempt bore and printed begins what its task does on
+/// its answers, and as many answers of the job are the attempt's. Nothing of these is read, so the cost doesn't grow with them.
+#[tactic(auto, using(crate::proofs::Pace::shaped_is_same))]
+pub fn is_own_job<S: ScriptName>(job: &Job<S>, number: u64, run: &Run) -> bool
+    requires pace { IsInPace S.script run.now }
+    requires answers { HasItsAnswers job.now run.now }
+    ensures same { result ≡ true → job_in job.now ≡ job_of number run.now }
+    ensures only { job_in job.now ≡ job_of number run.now → result ≡ true }
+{
+    job.attest();
+    is_shaped(job, number, run)
 }

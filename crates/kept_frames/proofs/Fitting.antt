@@ -14,7 +14,7 @@ use Rattle.frames.specs.Frames.{IsWaiting}
 use Rattle.frames.specs.declared.frame.Frame.{Frame}
 use Rattle.segment.specs.Frames.{Fits, WaitsAfter}
 use Rattle.segment.specs.Jobs.{Done, IsBegun, JobData, replay_of, whole_of}
-use Rattle.kept_frames.specs.Known.{IsAfter, IsNext, KnownData, WaitsFor}
+use Rattle.kept_frames.specs.Known.{Agrees, IsAfter, IsNext, IsShaped, KnownData, WaitsFor}
 
 head_same : {X : Type 0} (x y : X) (xs ys : List X) → x ∷ xs ≡ y ∷ ys → x ≡ y
 head_same x y xs ys e = cc
@@ -98,3 +98,26 @@ module _ (script : Script) (k : KnownData) (f : Frame) where
         (subst (λ x. IsWaiting script (birth_of d.job.spec) x (past (map content_of k.answers) (whole_of d).births (whole_of d).prints) f) (sym (ap id_of is.base))
         (subst (λ x. IsWaiting script (birth_of d.job.spec) (id_of d.job.base) (past x (whole_of d).births (whole_of d).prints) f) (sym is.answers) waits));
   }
+
+-- ---- the job of a known attempt, told by how many answers it has
+
+first_of : {X : Type 0} (xs ys more : List X) → IsFirst xs (ys ++ more) → length xs ≡ length ys → xs ≡ ys
+first_of xs ys more h e = beginnings_same xs ys (ys ++ more) more h refl e
+
+-- a job of that shape is the attempt's next, where its answers go on from those known
+pub next_so : (k : KnownData) (j : JobData) (earlier : List Content) (answer : Content) → j.answers ≡ earlier ++ answer ∷ [] → IsShaped k j earlier → Agrees k j → IsNext k j
+next_so k j earlier answer ends is agrees =
+    let one_more : length k.answers + 1 ≡ length j.answers = ap (λ m. m + 1) is.answers ∙ sym (ap length ends ∙ length-append earlier (answer ∷ [])) in
+    let first = subst (IsFirst (map content_of k.answers)) (ap (map content_of) ends ∙ map_last content_of earlier answer) (agrees is.attempt one_more) in
+    record {
+      earlier = earlier;
+      answer = answer;
+      ends = ends;
+      attempt = is.attempt;
+      base = is.base;
+      spec = is.spec;
+      births = is.births;
+      prints = is.prints;
+      answers = first_of (map content_of k.answers) (map content_of earlier) (content_of answer ∷ []) first
+          (length-map k.answers content_of ∙ is.answers ∙ sym (length-map earlier content_of));
+    }

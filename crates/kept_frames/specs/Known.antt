@@ -1,7 +1,9 @@
 -- What is known of an attempt that goes on.
-use Rattle.std.specs.Prelude.{◌≡◌, ℕ, ◌+◌, List, [], ◌∷◌, ◌++◌, length, map}
+use Rattle.std.specs.Prelude.{◌≡◌, ◌⊎◌, ℕ, ◌+◌, List, [], ◌∷◌, ◌++◌, length, map, slice_get, Option, Some}
 use Rattle.meaning.specs.Syntax.{Script}
 use Rattle.meaning.specs.Values as meant
+use Rattle.meaning.specs.Lists.{IsFirst}
+use Rattle.ids.specs.declared.attempt.AttemptId.{AttemptId}
 use Rattle.ids.specs.declared.object.ObjectId.{ObjectId}
 use Rattle.values.specs.declared.content.Content.{Content}
 use Rattle.values.specs.Values.{content_of, id_of}
@@ -11,8 +13,9 @@ use Rattle.frames.specs.Frames.{IsWaiting}
 use Rattle.frames.specs.declared.frame.Frame.{Frame}
 use Rattle.segment.specs.Jobs.{Done, JobData}
 
--- an attempt's task, the id of its first birth, how many births and prints it made, and its answers
+-- an attempt, its task, the id of its first birth, how many births and prints it made, and its answers
 pub record KnownData : Type 0 where
+  pub attempt : AttemptId
   pub spec : Birth
   pub base : ObjectId
   pub births : ℕ
@@ -32,14 +35,25 @@ pub record IsNext (k : KnownData) (j : JobData) : Type 0 where
   pub earlier : List Content
   pub answer : Content
   pub ends : j.answers ≡ earlier ++ answer ∷ []
+  pub attempt : k.attempt ≡ j.attempt
   pub base : k.base ≡ j.base
   pub spec : birth_of k.spec ≡ birth_of j.spec
   pub births : k.births ≡ length j.births
   pub prints : k.prints ≡ length j.printed
   pub answers : map content_of k.answers ≡ map content_of earlier
 
+-- the job's attempt, with as many births, prints and answers as before its last one
+pub record IsShaped (k : KnownData) (j : JobData) (earlier : List Content) : Type 0 where
+  pub attempt : k.attempt ≡ j.attempt
+  pub base : k.base ≡ j.base
+  pub spec : birth_of k.spec ≡ birth_of j.spec
+  pub births : k.births ≡ length j.births
+  pub prints : k.prints ≡ length j.printed
+  pub answers : length k.answers ≡ length earlier
+
 -- the job's attempt
 pub record IsAt (k : KnownData) (j : JobData) : Type 0 where
+  pub attempt : k.attempt ≡ j.attempt
   pub base : k.base ≡ j.base
   pub spec : birth_of k.spec ≡ birth_of j.spec
   pub births : k.births ≡ length j.births
@@ -48,8 +62,34 @@ pub record IsAt (k : KnownData) (j : JobData) : Type 0 where
 
 -- the job's attempt, once the job was run
 pub record IsAfter (k : KnownData) (d : Done) : Type 0 where
+  pub attempt : k.attempt ≡ d.job.attempt
   pub base : k.base ≡ d.job.base
   pub spec : birth_of k.spec ≡ birth_of d.job.spec
   pub births : k.births ≡ length d.job.births + length d.births
   pub prints : k.prints ≡ length d.job.printed + length d.prints
   pub answers : map content_of k.answers ≡ map content_of d.job.answers
+
+-- where the job is of the attempt, with one answer more, its answers go on from those known
+abbrev pub Agrees : KnownData → JobData → Type 0
+Agrees k j = k.attempt ≡ j.attempt → length k.answers + 1 ≡ length j.answers → IsFirst (map content_of k.answers) (map content_of j.answers)
+
+-- so it is with each attempt that is kept
+abbrev pub AllAgree : List (Option KnownData) → JobData → Type 0
+AllAgree kept j = (place : ℕ) (k : KnownData) → slice_get kept place ≡ Some (Some k) → Agrees k j
+
+-- the job's attempt, with the job's answers
+pub record IsOfJob (k : KnownData) (j : JobData) : Type 0 where
+  pub attempt : k.attempt ≡ j.attempt
+  pub answers : map content_of k.answers ≡ map content_of j.answers
+
+-- what is kept was kept before, or is the job's attempt with the job's answers
+abbrev pub KeepsWith : JobData → List (Option KnownData) → List (Option KnownData) → Type 0
+KeepsWith j before after = (place : ℕ) (k : KnownData) → slice_get after place ≡ Some (Some k) → (slice_get before place ≡ Some (Some k)) ⊎ IsOfJob k j
+
+-- what is kept was kept before
+abbrev pub KeepsOnly : List (Option KnownData) → List (Option KnownData) → Type 0
+KeepsOnly before after = (place : ℕ) (k : KnownData) → slice_get after place ≡ Some (Some k) → slice_get before place ≡ Some (Some k)
+
+-- what is kept was kept before, or is this
+abbrev pub KeepsOr : KnownData → List (Option KnownData) → List (Option KnownData) → Type 0
+KeepsOr new before after = (place : ℕ) (k : KnownData) → slice_get after place ≡ Some (Some k) → (slice_get before place ≡ Some (Some k)) ⊎ (k ≡ new)

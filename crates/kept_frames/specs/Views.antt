@@ -3,4 +3,4 @@ use Rattle.kept_frames.specs.declared.known.Known.{Known}
 use Rattle.kept_frames.specs.Known.{KnownData}
 
 abbrev pub data_of : Known → KnownData
-data_of k = record { spec = k.spec; base = k.base; births = k.births; prints = k.prints; answers = k.answers.items }
+data_of k = record { attempt = k.attempt; spec = k.spec; base = k.base; births = k.births; prints = k.prints; answers = k.answers.items }

@@ -1,9 +1,9 @@
 // The frames that are kept.
 
-ghost use Rattle.std.specs.Prelude.{◌≡◌, IfOk, IfSome};
+ghost use Rattle.std.specs.Prelude.{◌≡◌, [], true, IfOk, IfSome};
 ghost use Rattle.script_check.specs.Trees.{script_of};
 ghost use Rattle.segment.specs.Jobs.{IsTrueOf};
-ghost use Rattle.kept_frames.specs.Known.{IsNext};
+ghost use Rattle.kept_frames.specs.Known.{AllAgree, IsNext, KeepsOnly, KeepsOr, KeepsWith};
 ghost use Rattle.kept_frames.specs.Views.{data_of};
 
 use crate::known::{Known, known_after};
@@ -11,6 +11,8 @@ use crate::waiting::{Ready, Waiting};
 use ids::ObjectId;
 use segment::{Compiled, Done, Job, NoMemory, ScriptName};
 use std::alloc::Global;
+use std::marker::Model;
+use std::mem;
 
 /// How many frames are kept at most: as many as a run has workers.
 const PLACES: u32 = 1024;
@@ -22,6 +24,19 @@ pub struct Frames<S: ScriptName> {
     waiting: Vec<Option<Waiting<S>>>,
 }
 
+impl<S: ScriptName> Model for Frames<S> {
+    ghost use Rattle.std.specs.Prelude.{List, Option};
+    ghost use Rattle.std.specs.Coded.{codes};
+    ghost use Rattle.values.specs.contracts.value.RunValue as run_values;
+    ghost use Rattle.kept_frames.specs.Known.{KnownData};
+
+    ghost Value = { List (Option KnownData) };
+
+    ghost coded = { Prim.hlevel (codes, run_values.the_row.coded) };
+
+    ghost view = { λ f. f.waiting.items };
+}
+
 /// The place of an attempt by the id of its first own birth, whose owner is its worker.
 fn place_of(base: ObjectId) -> usize {
     (base.owner.0 % PLACES) as usize
@@ -29,29 +44,35 @@ fn place_of(base: ObjectId) -> usize {
 
 impl<S: ScriptName> Frames<S> {
     /// None yet.
-    pub fn new(alloc: Global) -> Frames<S> {
+    pub fn new(alloc: Global) -> Frames<S>
+        ensures { result ≡ [] }
+    {
         Frames {
             waiting: Vec::new(alloc),
         }
     }
 
-    /// Hands the job the frame of its attempt, if that is kept.
-    fn hand(&mut self, job: Job<S>) -> Ready<S>
+    /// Hands the job the frame of its attempt, if that is kept. With `is_own` as many answers that are known are the job's.
+    fn hand(&mut self, job: Job<S>, is_own: bool) -> Ready<S>
+        requires { is_own ≡ true → AllAgree self.old job }
         ensures job { result.job ≡ job }
         ensures known { IfSome result.known (λ known. IsNext (data_of known) job) }
+        ensures kept { KeepsWith job self.old self.new }
     {
         let place = place_of(job.base());
         if place >= self.waiting.len() {
             return Ready { job, known: None };
         }
         match self.waiting[place].take() {
-            Some(waiting) => waiting.hand(job),
+            Some(waiting) => waiting.hand(job, is_own),
             None => Ready { job, known: None },
         }
     }
 
-    /// Keeps the attempt at its place. Where there is no memory for it, it isn't kept.
-    fn put(&mut self, place: usize, waiting: Waiting<S>) {
+    /// Makes room for the place, where there is memory for it.
+    fn make_room(&mut self, place: usize)
+        ensures { KeepsOnly self.old self.new }
+    {
         for _ in 0..PLACES {
             if self.waiting.len() > place {
                 break;
@@ -60,16 +81,33 @@ impl<S: ScriptName> Frames<S> {
                 return;
             }
         }
-        if place < self.waiting.len() {
-            self.waiting[place] = Some(waiting);
+    }
+
+    /// Keeps the attempt at its place, if there is room, and gives back what isn't kept any more.
+    #[tactic(auto, using(crate::proofs::Places::put_so))]
+    fn fill(&mut self, place: usize, waiting: Waiting<S>) -> Option<Waiting<S>>
+        ensures { KeepsOr waiting self.old self.new }
+    {
+        if place >= self.waiting.len() {
+            return Some(waiting);
         }
+        mem::replace(&mut self.waiting[place], Some(waiting))
+    }
+
+    /// Keeps the attempt at its place. Where there is no memory for it, it isn't kept.
+    fn put(&mut self, place: usize, waiting: Waiting<S>)
+        ensures { KeepsOr waiting self.old self.new }
+    {
+        self.make_room(place);
+        let _ = self.fill(place, waiting);
     }
 
     #[tactic(auto, using(crate::proofs::Fitting::waits_after))]
     /// Keeps the frame of what was done, if it has one.
     fn keep(&mut self, alloc: Global, known: Option<Known>, done: &mut Done<S>)
         requires { IfSome known (λ known. IsNext (data_of known) done.old.job) }
-        ensures { done.new ≡ done.old }
+        ensures done { done.new ≡ done.old }
+        ensures kept { KeepsWith done.old.job self.old self.new }
     {
         let Some(frame) = done.take_frame() else {
             return;
@@ -80,8 +118,29 @@ impl<S: ScriptName> Frames<S> {
         }
     }
 
+    /// Runs the job, from where its attempt waits if that is known, and keeps where it waits next. With `is_own` as many answers that are known
+    /// are the job's.
+    fn go(
+        &mut self,
+        alloc: Global,
+        script: &Compiled,
+        job: Job<S>,
+        is_own: bool,
+    ) -> Result<Done<S>, NoMemory>
+        requires script { script_of script.now ≡ S.script }
+        requires own { is_own ≡ true → AllAgree self.old job }
+        ensures own { IfOk result (λ d. d.job ≡ job) }
+        ensures is_true { IfOk result (λ d. IsTrueOf S.script d) }
+        ensures kept { KeepsWith job self.old self.new }
+    {
+        let Ready { job, known } = self.hand(job, is_own);
+        let mut done = job.run(alloc, script)?;
+        self.keep(alloc, known, &mut done);
+        Ok(done)
+    }
+
     /// Runs the job, from where its attempt waits if that is known, and keeps where it waits next. Takes no lock. On `NoMemory` the job is
-    /// given up.
+    /// given up. The job's answers are compared with those that are known of its attempt.
     pub fn run(
         &mut self,
         alloc: Global,
@@ -91,10 +150,25 @@ impl<S: ScriptName> Frames<S> {
         requires { script_of script.now ≡ S.script }
         ensures own { IfOk result (λ d. d.job ≡ job) }
         ensures is_true { IfOk result (λ d. IsTrueOf S.script d) }
+        ensures kept { KeepsWith job self.old self.new }
     {
-        let Ready { job, known } = self.hand(job);
-        let mut done = job.run(alloc, script)?;
-        self.keep(alloc, known, &mut done);
-        Ok(done)
+        self.go(alloc, script, job, false)
+    }
+
+    /// Runs the job, as `run` does, where its answers go on from those that are known of its attempt, as they do if both are of one run. They
+    /// aren't read: the cost doesn't grow with them.
+    pub fn run_own(
+        &mut self,
+        alloc: Global,
+        script: &Compiled,
+        job: Job<S>,
+    ) -> Result<Done<S>, NoMemory>
+        requires script { script_of script.now ≡ S.script }
+        requires own { AllAgree self.old job }
+        ensures own { IfOk result (λ d. d.job ≡ job) }
+        ensures is_true { IfOk result (λ d. IsTrueOf S.script d) }
+        ensures kept { KeepsWith job self.old self.new }
+    {
+        self.go(alloc, script, job, true)
     }
 }

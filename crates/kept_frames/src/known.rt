@@ -5,7 +5,7 @@ ghost use Rattle.values.specs.Values.{content_of};
 ghost use Rattle.kept_frames.specs.Known.{IsAfter, IsAt, IsNext};
 ghost use Rattle.kept_frames.specs.Views.{data_of};
 
-use ids::ObjectId;
+use ids::{AttemptId, ObjectId};
 use segment::{Done, Job, ScriptName};
 use std::alloc::{AllocError, Global};
 use task_spec::Birth;
@@ -14,6 +14,7 @@ use values::Content;
 /// An attempt, and how far it came. What it bore and printed follows from its answers and how much that was.
 #[derive(Drop)]
 pub(crate) struct Known {
+    pub attempt: AttemptId,
     pub spec: Birth,
     /// The id of its first own birth.
     pub base: ObjectId,
@@ -42,6 +43,7 @@ fn read<S: ScriptName>(alloc: Global, job: &Job<S>) -> Result<Known, AllocError>
     let mut answers = Vec::new(alloc);
     add_answers(alloc, &mut answers, job.answers())?;
     Ok(Known {
+        attempt: job.attempt(),
         spec,
         base: job.base(),
         births: job.births().len(),
@@ -81,6 +83,7 @@ pub(crate) fn known_after<S: ScriptName>(
 {
     let known = known_at(alloc, known, done.job())?;
     let Known {
+        attempt,
         spec,
         base,
         births,
@@ -94,6 +97,7 @@ pub(crate) fn known_after<S: ScriptName>(
         return Err(AllocError);
     };
     Ok(Known {
+        attempt,
         spec,
         base,
         births,

@@ -1,13 +1,13 @@
 // An attempt that waits for an answer.
 
 ghost use Rattle.std.specs.Prelude.{◌≡◌, true, IfSome};
-ghost use Rattle.kept_frames.specs.Known.{IsNext, WaitsFor};
+ghost use Rattle.kept_frames.specs.Known.{Agrees, IsNext, IsShaped, WaitsFor};
 ghost use Rattle.kept_frames.specs.Views.{data_of};
 
 use crate::known::Known;
 use segment::{Frame, Job, ScriptName};
 use std::marker::{Model, PhantomData};
-use values::are_same_contents;
+use values::{Content, are_same_contents};
 
 /// An attempt of the script `S` that waits for its next answer, with its frame.
 #[derive(Drop)]
@@ -39,18 +39,31 @@ pub(crate) struct Ready<S: ScriptName> {
     pub known: Option<Known>,
 }
 
-/// Whether the job's attempt is the known one, with one answer more. With the same answers, as many births and prints are the same.
-fn is_next<S: ScriptName>(known: &Known, job: &Job<S>) -> bool
+/// Whether the job's attempt is the known one, as far as one sees without reading the answers.
+fn is_shaped<S: ScriptName>(known: &Known, job: &Job<S>, earlier: &[Content]) -> bool
+    ensures { result ≡ true → IsShaped (data_of known.now) job.now earlier.now }
+{
+    known.attempt == job.attempt()
+        && known.base == job.base()
+        && known.births == job.births().len()
+        && known.prints == job.printed().len()
+        && known.answers.len() == earlier.len()
+        && known.spec.is_same(job.spec())
+}
+
+/// Whether the job's attempt is the known one, with one answer more. With the same answers, as many births and prints are the same. With `is_own`
+/// as many answers are the same too.
+fn is_next<S: ScriptName>(known: &Known, job: &Job<S>, is_own: bool) -> bool
+    requires { is_own ≡ true → Agrees (data_of known.now) job.now }
     ensures { result ≡ true → IsNext (data_of known.now) job.now }
 {
     let Some((_, earlier)) = job.answers().split_last() else {
         return false;
     };
-    known.base == job.base()
-        && known.births == job.births().len()
-        && known.prints == job.printed().len()
-        && known.spec.is_same(job.spec())
-        && are_same_contents(&known.answers, earlier)
+    if !is_shaped(known, job, earlier) {
+        return false;
+    }
+    is_own || are_same_contents(&known.answers, earlier)
 }
 
 impl<S: ScriptName> Waiting<S> {
@@ -65,8 +78,9 @@ impl<S: ScriptName> Waiting<S> {
         }
     }
 
-    /// Hands the frame to the job, if it is one of this attempt, with one answer more.
-    pub(crate) fn hand(self, job: Job<S>) -> Ready<S>
+    /// Hands the frame to the job, if it is one of this attempt, with one answer more. With `is_own` as many answers of the two are the same.
+    pub(crate) fn hand(self, job: Job<S>, is_own: bool) -> Ready<S>
+        requires { is_own ≡ true → Agrees self job }
         ensures job { result.job ≡ job }
         ensures known { IfSome result.known (λ known. IsNext (data_of known) job) }
     {
@@ -75,7 +89,7 @@ impl<S: ScriptName> Waiting<S> {
             frame,
             script: _,
         } = self;
-        if !is_next(&known, &job) {
+        if !is_next(&known, &job, is_own) {
             return Ready { job, known: None };
         }
         job.attest();

@@ -1,4 +1,5 @@
 mod Jobs
 mod Meant
+mod Own
 mod Playing
 mod Turning

@@ -5,3 +5,4 @@ pub mod Replays
 pub mod Reports
 pub mod Stops
 pub mod Views
+pub mod Own

@@ -4,6 +4,7 @@ ghost use Rattle.std.specs.Prelude.{◌≡◌, IfOk, string_bytes};
 ghost use Rattle.std.specs.Option.{option_map};
 ghost use Rattle.event_log.specs.Views.{event_of, log_of};
 ghost use Rattle.protocol.specs.Settling.{next};
+ghost use Rattle.protocol_core.specs.Own.{GivesOwn, IsOwn};
 ghost use Rattle.protocol_core.specs.Steps.{Answers, reply_of};
 ghost use Rattle.protocol_core.specs.Views.{state_of};
 ghost use Rattle.history.specs.Main.{status_of};
@@ -74,6 +75,24 @@ impl<S: ScriptName> Board<S> {
         legal_logs_read_as_serial();
         main_begins_the_serial_run();
         self.core.apply(alloc, event, seat, done)
+    }
+
+    /// One event, as `apply` takes it, where what was done is done on a job of this run: see `Core::apply_own`.
+    pub fn apply_own(
+        &mut self,
+        alloc: Global,
+        event: Event,
+        seat: u8,
+        done: Option<Done<S>>,
+    ) -> Reply<S>
+        requires { IsOwn (log_of self.old.log) done }
+        ensures answers { Answers (state_of self.old) (event_of event) seat done (state_of self.new) (reply_of result) }
+        ensures own { GivesOwn (log_of self.new.log) (reply_of result) }
+        ensures meant { IsSoundLog S.script self.new.first_nodes (log_of self.new.log) }
+    {
+        legal_logs_read_as_serial();
+        main_begins_the_serial_run();
+        self.core.apply_own(alloc, event, seat, done)
     }
 
     /// The next event where nothing else is asked for: see `Core::next`.

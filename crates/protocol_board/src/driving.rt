@@ -2,10 +2,14 @@
 
 ghost use Rattle.std.specs.Prelude.{◌≡◌, IfOk, OnOk, IfErr};
 ghost use Rattle.script_check.specs.Trees.{script_of};
-ghost use Rattle.event_log.specs.Views.{event_of};
+ghost use Rattle.event_log.specs.Views.{event_of, log_of};
 ghost use Rattle.event_log.specs.declared.refusal.Refusal.TheVariants.{NoMemory};
+ghost use Rattle.exchange.specs.Jobs.{job_in};
+ghost use Rattle.protocol_laws.specs.Given.{IsOfLog};
+ghost use Rattle.protocol_core.specs.Own.{GivesOwn, IsOwn};
 ghost use Rattle.protocol_core.specs.Steps.{Refuses, reply_of};
 ghost use Rattle.protocol_board.specs.Drives.{BreaksAfter, BreaksOff, Commits, EndsSo, Goes, IsTaken, StopsSo, Turn};
+ghost use Rattle.protocol_board.specs.Own.{FramesAreOwn};
 ghost use Rattle.protocol_board.specs.Views.{course_of};
 
 use crate::board::Board;
@@ -32,7 +36,7 @@ fn taken<S: ScriptName>(told: Reply<S>) -> Result<(), Refusal>
     }
 }
 
-/// One event. Where there is no room for how many messages there are behind it, it isn't applied.
+/// One event, with what was done on a job of this run. Where there is no room for how many messages there are behind it, it isn't applied.
 fn go<S: ScriptName>(
     alloc: Global,
     board: &mut Board<S>,
@@ -40,6 +44,8 @@ fn go<S: ScriptName>(
     event: Event,
     done: Option<Done<S>>,
 ) -> Result<Reply<S>, Refusal>
+    requires { IsOwn (log_of board.old.log) done }
+    ensures own { IfOk result (λ told. GivesOwn (log_of board.new.log) (reply_of told)) }
     ensures goes { IfOk result (λ told. Goes (course_of board.old sent.old) (event_of event) done (course_of board.new sent.new) (reply_of told)) }
     ensures lacks { IfErr result (λ refusal. (course_of board.new sent.new ≡ course_of board.old sent.old) × (refusal ≡ NoMemory)) }
 {
@@ -47,7 +53,7 @@ fn go<S: ScriptName>(
     let Ok(()) = sent.push(0) else {
         return Err(Refusal::NoMemory);
     };
-    let told = board.apply(alloc, event, 0, done);
+    let told = board.apply_own(alloc, event, 0, done);
     sent.set(place, board.messages().len());
     Ok(told)
 }
@@ -61,12 +67,15 @@ fn commit<S: ScriptName>(
     frames: &mut Frames<S>,
     job: Job<S>,
 ) -> Result<(), Refusal>
-    requires { script_of script.now ≡ S.script }
+    requires script { script_of script.now ≡ S.script }
+    requires own { IsOfLog (log_of board.old.log) (job_in job) }
+    requires frames { FramesAreOwn (log_of board.old.log) frames.old }
+    ensures frames { OnOk result (FramesAreOwn (log_of board.new.log) frames.new) }
     ensures committed { OnOk result (Commits S.script (course_of board.old sent.old) job (course_of board.new sent.new)) }
     ensures broken { IfErr result (λ refusal. BreaksAfter S.script (course_of board.old sent.old) job (course_of board.new sent.new) refusal) }
 {
     let number = job.number();
-    let Ok(done) = frames.run(alloc, script, job) else {
+    let Ok(done) = frames.run_own(alloc, script, job) else {
         return Err(Refusal::NoMemory);
     };
     match go(alloc, board, sent, Event::Commit(number), Some(done)) {
@@ -87,7 +96,9 @@ fn take_turn<S: ScriptName>(
     frames: &mut Frames<S>,
     event: Event,
 ) -> Result<(), Refusal>
-    requires { script_of script.now ≡ S.script }
+    requires script { script_of script.now ≡ S.script }
+    requires frames { FramesAreOwn (log_of board.old.log) frames.old }
+    ensures frames { OnOk result (FramesAreOwn (log_of board.new.log) frames.new) }
     ensures taken { OnOk result (Turn S.script (course_of board.old sent.old) (event_of event) (course_of board.new sent.new)) }
     ensures broken { IfErr result (λ refusal.
         BreaksOff S.script (course_of board.old sent.old) (event_of event) (course_of board.new sent.new) refusal) }

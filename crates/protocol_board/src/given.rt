@@ -1,9 +1,10 @@
 // The jobs that were given out and not handed in yet.
 
-ghost use Rattle.std.specs.Prelude.{◌≡◌, false, IfOk, OnOk, IfErr};
+ghost use Rattle.std.specs.Prelude.{◌≡◌, false, IfOk, OnOk, OnErr, IfErr};
 ghost use Rattle.script_check.specs.Trees.{script_of};
 ghost use Rattle.event_log.specs.Views.{event_of};
 ghost use Rattle.protocol_core.specs.Steps.{reply_of};
+ghost use Rattle.protocol_board.specs.Own.{JobAgrees, KeepsWithJob};
 ghost use Rattle.protocol_board.specs.Replays.{IsDoneOn, found_no_memory, handed_in, is_no_memory, job_at, job_for, left_by, with_given};
 ghost use Rattle.protocol_board.specs.declared.stopped.Stopped.TheVariants.{NoMemory};
 
@@ -40,21 +41,23 @@ pub fn hand_in<S: ScriptName>(jobs: &mut Seq<Option<Job<S>>>, event: Event) -> O
     }
 }
 
-/// Runs the job, if there is one, from its frame where that is kept.
+/// Runs the job, if there is one, from its frame where that is kept. The job goes on from what is known of its attempt.
 pub fn run_job<S: ScriptName>(
     alloc: Global,
     script: &Compiled,
     frames: &mut Frames<S>,
     job: Option<Job<S>>,
 ) -> Result<Option<Done<S>>, Stopped>
-    requires { script_of script.now ≡ S.script }
+    requires script { script_of script.now ≡ S.script }
+    requires own { JobAgrees job frames.old }
     ensures done { IfOk result (λ done. IsDoneOn S.script job done) }
+    ensures kept { KeepsWithJob job frames.old frames.new }
     ensures stopped { IfErr result (λ stopped. stopped ≡ NoMemory) }
 {
     let Some(job) = job else {
         return Ok(None);
     };
-    match frames.run(alloc, script, job) {
+    match frames.run_own(alloc, script, job) {
         Ok(done) => Ok(Some(done)),
         Err(_) => Err(Stopped::NoMemory),
     }
@@ -70,6 +73,7 @@ fn is_no_memory(refusal: Refusal) -> bool
 pub fn keep<S: ScriptName>(jobs: &mut Seq<Option<Job<S>>>, told: Reply<S>) -> Result<(), Stopped>
     ensures jobs { OnOk result (jobs.new ≡ with_given (reply_of told) jobs.old) }
     ensures goes_on { OnOk result (found_no_memory (reply_of told) ≡ false) }
+    ensures same { OnErr result (jobs.new ≡ jobs.old) }
     ensures stopped { IfErr result (λ stopped. stopped ≡ NoMemory) }
 {
     match told {

@@ -51,7 +51,12 @@ impl<S: ScriptName> Model for Replay<S> {
 
     ghost coded = { Prim.hlevel (codes, run_values.the_row.coded, value_code, outcome_code, birth_code, id_code, attempt_code, fault_code) };
 
+    ghost use Rattle.event_log.specs.Views.{log_of};
+    ghost use Rattle.protocol_board.specs.Own.{FramesAreOwn, JobsAreOwn};
+
     ghost view = { λ r. record { run = r.board; jobs = r.jobs; applied = r.applied; sent = r.sent; begun = r.begun; lines = r.lines } };
+
+    ghost invariant = { λ r. JobsAreOwn (log_of r.board.log) r.jobs × FramesAreOwn (log_of r.board.log) r.frames };
 }
 
 /// The workers of a settle, as a run takes them.
@@ -126,7 +131,7 @@ impl<S: ScriptName> Replay<S> {
         let job = hand_in(&mut self.jobs, event);
         let done = run_job(alloc, script, &mut self.frames, job)?;
         self.applied += 1;
-        let told = self.board.apply(alloc, event, 0, done);
+        let told = self.board.apply_own(alloc, event, 0, done);
         keep(&mut self.jobs, told)?;
         self.note()?;
         Ok(())

@@ -1,5 +1,7 @@
 -- Jobs that are given out, and what is handed in as done on them.
-use Rattle.std.proofs.Common.{◌≡◌, ℕ, Bool, true, false, List, [], ◌++◌, map, Option, Some, None, IfSome, refl, sym, ap, ◌∙◌, subst, inl, inr, if◌then◌else◌}
+use Rattle.std.proofs.Common.{◌≡◌, ℕ, Bool, true, false, List, [], ◌∷◌, ◌++◌, map, length, arith, Option, Some, None, IfSome, refl, sym, ap, ◌∙◌, subst, inl, inr, if◌then◌else◌}
+use Rattle.std.proofs.lemmas.List.{length-map}
+use Rattle.meaning.specs.Lists.{IsFirst}
 use Rattle.meaning.specs.Values as meant
 use Rattle.meaning.specs.Values.{Put, Task, main_birth}
 use Rattle.meaning.specs.Syntax.{Number, Parameter, Script}
@@ -7,13 +9,14 @@ use Rattle.meaning.specs.Kinds.{IsBirthOf, MarkedOf}
 use Rattle.meaning.specs.Meaning.{replay}
 use Rattle.kind_laws.specs.Law.{HasKind}
 use Rattle.script_check.specs.Scripts.{IsWellTyped}
-use Rattle.values.specs.Values.{value_of}
+use Rattle.values.specs.Values.{content_of, value_of}
 use Rattle.task_spec.specs.Births.{birth_of}
 use Rattle.evaluation.specs.declared.piece.Stop.{Stop}
 use Rattle.evaluation.specs.declared.piece.Stop.TheVariants as stops
 use Rattle.evaluation.specs.Pieces as pieces
 use Rattle.segment.specs.Jobs.{JobData, Done, IsTaskOf, IsBegun, IsTrueOf}
 use Rattle.event_log.specs.Entries.{Entry, Event, Claim, Commit, Deliver, Tick, Notice, NoticeNode, Evict, Lose, Kill, KillNode, Join}
+use Rattle.event_log.specs.Words.{answers_of}
 use Rattle.exchange.specs.Jobs.{job_in, stopped_of, work_of}
 use Rattle.protocol.specs.Answers.{Refuses, answer, decided, given_out, job_of, limited, takes}
 use Rattle.protocol.specs.Events.{happens}
@@ -25,8 +28,9 @@ use Rattle.protocol.specs.Tables.{Run, Worker}
 use Rattle.protocol.specs.Whole.{Moved, Whole, worker_at}
 use Rattle.protocol_legal.specs.Knows.{IsTask}
 use Rattle.protocol_laws.specs.Coming.{IsRight}
-use Rattle.protocol_laws.specs.Given.{IsGood, GivesGood, ClaimsGiveGoodJobs, RunsAreGood}
+use Rattle.protocol_laws.specs.Given.{ClaimsGiveGoodJobs, ClaimsGiveJobsOfTheLog, GivesGood, GivesOfLog, IsGood, IsOfLog, RunsAreGood, RunsHaveTheLogsAnswers}
 use Rattle.protocol_laws.specs.Sound.{IsSound}
+use Rattle.protocol_core.specs.Own.{HasAnswersIn, HaveAnswersIn, IsOwn}
 use Rattle.protocol_core.specs.Pace.{AreInPace}
 use Rattle.protocol_core.specs.States.{IsSoundRun, RunState, beside}
 use Rattle.protocol_core.specs.Steps.{IsHanded, IsOut, IsOutAs}
@@ -83,6 +87,51 @@ gives_good script typed law nodes log c sound (Lose n o) handed = no_job script 
 gives_good script typed law nodes log c sound (Kill w) handed = no_job script c (Kill w) handed refl (refusal c (Kill w) handed)
 gives_good script typed law nodes log c sound (KillNode n) handed = no_job script c (KillNode n) handed refl (refusal c (KillNode n) handed)
 gives_good script typed law nodes log c sound Join handed = no_job script c Join handed refl (refusal c Join handed)
+
+-- ---- the answers of jobs that are given out
+
+gives_no_own : (log : List Entry) (m : Moved) (b : Bool) → GivesOfLog log (if b then takes m None else Refuses 37)
+gives_no_own log m true = tt
+gives_no_own log m false = tt
+
+no_own : (log : List Entry) (c : Whole) (e : Event) (handed : Handed) → given_out c e ≡ None → (o : Option ℕ) → GivesOfLog log (decided c e handed o)
+no_own log c e handed none (Some code) = tt
+no_own log c e handed none None =
+    let m : Moved = happens c e handed in
+    subst (λ g. GivesOfLog log (limited m g)) (sym none) (gives_no_own log m (is_within_limits m.whole))
+
+-- the log has those of each job that is given out
+pub gives_own : (script : Script) → ClaimsGiveJobsOfTheLog → (nodes : ℕ) (log : List Entry) (c : Whole) → IsSound (beside script nodes []) log c →
+    (e : Event) (handed : Handed) → GivesOfLog log (answer c e handed)
+gives_own script law nodes log c sound (Claim w) handed = law (beside script nodes []) log c sound w handed
+gives_own script law nodes log c sound (Commit j) handed = no_own log c (Commit j) handed refl (refusal c (Commit j) handed)
+gives_own script law nodes log c sound (Deliver k) handed = no_own log c (Deliver k) handed refl (refusal c (Deliver k) handed)
+gives_own script law nodes log c sound (Tick w) handed = no_own log c (Tick w) handed refl (refusal c (Tick w) handed)
+gives_own script law nodes log c sound (Notice w v) handed = no_own log c (Notice w v) handed refl (refusal c (Notice w v) handed)
+gives_own script law nodes log c sound (NoticeNode w n) handed = no_own log c (NoticeNode w n) handed refl (refusal c (NoticeNode w n) handed)
+gives_own script law nodes log c sound (Evict n o) handed = no_own log c (Evict n o) handed refl (refusal c (Evict n o) handed)
+gives_own script law nodes log c sound (Lose n o) handed = no_own log c (Lose n o) handed refl (refusal c (Lose n o) handed)
+gives_own script law nodes log c sound (Kill w) handed = no_own log c (Kill w) handed refl (refusal c (Kill w) handed)
+gives_own script law nodes log c sound (KillNode n) handed = no_own log c (KillNode n) handed refl (refusal c (KillNode n) handed)
+gives_own script law nodes log c sound Join handed = no_own log c Join handed refl (refusal c Join handed)
+
+-- a beginning that is as long is the whole
+whole_first : {X : Type 0} (xs ys : List X) → IsFirst xs ys → length xs ≡ length ys → xs ≡ ys
+whole_first [] [] h e = refl
+whole_first [] (y ∷ ys) h e = absurd (omega (arith, e))
+whole_first (x ∷ xs) [] h e = absurd h
+whole_first (x ∷ xs) (y ∷ ys) h e = ap (λ v. v ∷ xs) (sym h.0) ∙ ap (λ vs. y ∷ vs) (whole_first xs ys h.1 (omega (arith, e)))
+
+-- as many answers of a job of the log are those of each live worker's attempt that it is of
+has_answers : (script : Script) (c : RunState) → IsSoundRun script c → c.is_halted ≡ false → RunsHaveTheLogsAnswers → (j : JobData) → IsOfLog c.log (job_in j) → HasAnswersIn c.whole j
+has_answers script c kept goes_on law j own w x run at live is same as_many =
+    let there : answers_of run.attempt c.log ≡ run.answers = law (beside script c.first_nodes []) c.log c.whole (kept.sound goes_on) w x run at live is in
+    whole_first (map content_of j.answers) run.answers
+    (subst (IsFirst (map content_of j.answers)) (ap (λ a. answers_of a c.log) same ∙ there) own) (length-map j.answers content_of ∙ as_many)
+
+pub have_answers : (script : Script) (c : RunState) → IsSoundRun script c → c.is_halted ≡ false → RunsHaveTheLogsAnswers → (d : Option Done) → IsOwn c.log d → HaveAnswersIn c.whole d
+have_answers script c kept goes_on law None own = tt
+have_answers script c kept goes_on law (Some d) own = has_answers script c kept goes_on law d.job own
 
 -- ---- what is handed in
 

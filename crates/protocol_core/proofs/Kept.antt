@@ -15,7 +15,7 @@ use Rattle.answers.specs.declared.reply.Outcome.TheVariants.{Taken, Refused}
 use Rattle.exchange.specs.Jobs.{job_in}
 use Rattle.protocol.specs.Answers.{Answer, Takes, Refuses, answer, logged, whole_after}
 use Rattle.protocol.specs.Jobs.{Handed, Job}
-use Rattle.protocol_laws.specs.Given.{IsGood, IsGoodIfGiven, GivesGood, ClaimsGiveGoodJobs}
+use Rattle.protocol_laws.specs.Given.{ClaimsGiveGoodJobs, ClaimsGiveJobsOfTheLog, GivesGood, GivesOfLog, IsGood, IsGoodIfGiven, IsOfLog, IsOfLogIfGiven, JobsStayOfTheLog}
 use Rattle.protocol_laws.specs.Law.{EventsKeepSound, OpeningIsSound, SoundIsLegal}
 use Rattle.protocol_laws.specs.Sound.{IsSound}
 use Rattle.protocol_legal.specs.Whole.{setting_of}
@@ -23,7 +23,7 @@ use Rattle.exchange.specs.Refusals.{HasUnknown, IsNoCode}
 use Rattle.protocol_core.specs.States.{RunState, IsLegal, IsSoundRun, beside, first_state}
 use Rattle.protocol_core.specs.Steps.{Accepts, GivesJob, GivesThat, IsHanded, IsApplied, Applies, RunsOut, Tells}
 use Rattle.protocol_core.specs.Steps as told
-use Rattle.protocol_core.proofs.Jobs.{begun, gives_good, right}
+use Rattle.protocol_core.proofs.Jobs.{begun, gives_good, gives_own, right}
 use Rattle.protocol_core.proofs.Known.{IsKnown, known_behind, none_unknown, refused_for_cause}
 
 -- ---- what is kept
@@ -94,6 +94,21 @@ module _ (script : Script) (before after : RunState) (e : Event) (seat : ℕ) (w
       is_good : (script : Script) (a : Answer) (j : Job) → GivesGood script a → outcome_of a ≡ Taken (Some j) → IsGood script j
       is_good script (Takes s) j good e = subst (λ o. IsGoodIfGiven script o) (ap given_in e) good
       is_good script (Refuses code) j good e = absurd (none_some j (ap given_in e))
+
+  -- the log before it has that job's answers
+  pub job_own : ClaimsGiveJobsOfTheLog → (job : JobData) → outcome_of (answer before.whole e handed) ≡ Taken (Some (job_in job)) → IsOfLog before.log (job_in job)
+  job_own law job gives = is_own (answer before.whole e handed) (job_in job) (gives_own script law before.first_nodes before.log before.whole sound_before e handed) gives
+    where
+      given_in : Outcome → Option Job
+      given_in (Taken g) = g
+      given_in (Refused code) = None
+
+      none_some : {X : Type 0} (x : X) → None ≡ Some x → ⊥
+      none_some x e = cc
+
+      is_own : (a : Answer) (j : Job) → GivesOfLog before.log a → outcome_of a ≡ Taken (Some j) → IsOfLog before.log j
+      is_own (Takes s) j own e = subst (λ o. IsOfLogIfGiven before.log o) (ap given_in e) own
+      is_own (Refuses code) j own e = absurd (none_some j (ap given_in e))
 
 -- ---- what is told
 
@@ -168,6 +183,13 @@ pub begun_behind : (script : Script) (before after : RunState) (e : Event) (seat
     ClaimsGiveGoodJobs → Came script before after e seat work outcome → (job : JobData) → outcome ≡ Taken (Some (job_in job)) → IsBegun script job
 begun_behind script before after e seat work outcome kept goes_on law h job gives =
     job_begun script before after e seat work h.handed kept goes_on h.is_handed h.is_true law job (sym h.outcome_is ∙ gives)
+
+pub own_behind : (script : Script) (before after : RunState) (e : Event) (seat : ℕ) (work : Option Done) (outcome : Outcome) → IsSoundRun script before → before.is_halted ≡ false →
+    ClaimsGiveJobsOfTheLog → JobsStayOfTheLog → Came script before after e seat work outcome → (job : JobData) → outcome ≡ Taken (Some (job_in job)) → IsOfLog after.log (job_in job)
+own_behind script before after e seat work outcome kept goes_on law stay h job gives =
+    let a : Answer = answer before.whole e h.handed in
+    let own = job_own script before after e seat work h.handed kept goes_on h.is_handed h.is_true law job (sym h.outcome_is ∙ gives) in
+    subst (λ log. IsOfLog log (job_in job)) (sym h.log) (stay before.log (logged e seat a) (job_in job) own)
 
 -- ---- what can't come: an entry of a number that none has, a refusal of such a number
 

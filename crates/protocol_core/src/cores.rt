@@ -1,10 +1,11 @@
 // Runs.
 
-ghost use Rattle.std.specs.Prelude.{◌≡◌, IfOk};
+ghost use Rattle.std.specs.Prelude.{◌≡◌, true, IfOk};
 ghost use Rattle.std.specs.Option.{option_map};
 ghost use Rattle.script_check.specs.Trees.{script_of};
 ghost use Rattle.event_log.specs.Views.{event_of, log_of};
 ghost use Rattle.protocol.specs.Settling.{next};
+ghost use Rattle.protocol_core.specs.Own.{GivesOwn, IsOwn};
 ghost use Rattle.protocol_core.specs.States.{IsLegal, first_state};
 ghost use Rattle.protocol_core.specs.Steps.{Answers, reply_of};
 ghost use Rattle.protocol_core.specs.Views.{state_of};
@@ -98,6 +99,28 @@ impl<S: ScriptName> Core<S> {
         }
     }
 
+    /// One event; with `is_own` what was done is done on a job of this run.
+    fn take(
+        &mut self,
+        alloc: Global,
+        event: Event,
+        seat: u8,
+        done: Option<Done<S>>,
+        is_own: bool,
+    ) -> Reply<S>
+        requires { is_own ≡ true → IsOwn (log_of self.old.log) done }
+        ensures answers { Answers (state_of self.old) (event_of event) seat done (state_of self.new) (reply_of result) }
+        ensures own { GivesOwn (log_of self.new.log) (reply_of result) }
+        ensures legal { IsLegal S.script self.new.first_nodes (log_of self.new.log) }
+    {
+        if self.state.is_halted {
+            return Reply::Refused(Refusal::Halted);
+        }
+        let told = step(alloc, &mut self.state, event, seat, done, is_own);
+        self.cursor = cursor_behind(&self.state, self.cursor);
+        told
+    }
+
     /// One event, with the seat from which it comes. With a commit comes what was done on its job, if anything was.
     ///
     /// A claim answers the job that is given out, any other event `Ok`. Refused are the events of docs/protocol.md, which change nothing
@@ -111,13 +134,26 @@ impl<S: ScriptName> Core<S> {
         done: Option<Done<S>>,
     ) -> Reply<S>
         ensures answers { Answers (state_of self.old) (event_of event) seat done (state_of self.new) (reply_of result) }
+        ensures own { GivesOwn (log_of self.new.log) (reply_of result) }
         ensures legal { IsLegal S.script self.new.first_nodes (log_of self.new.log) }
     {
-        if self.state.is_halted {
-            return Reply::Refused(Refusal::Halted);
-        }
-        let told = step(alloc, &mut self.state, event, seat, done);
-        self.cursor = cursor_behind(&self.state, self.cursor);
-        told
+        self.take(alloc, event, seat, done, false)
+    }
+
+    /// One event, as `apply` takes it, where what was done is done on a job whose answers begin what the log has of answers to its attempt. So
+    /// are all that this run gave out. The answers aren't read: the cost of a commit doesn't grow with them.
+    pub fn apply_own(
+        &mut self,
+        alloc: Global,
+        event: Event,
+        seat: u8,
+        done: Option<Done<S>>,
+    ) -> Reply<S>
+        requires { IsOwn (log_of self.old.log) done }
+        ensures answers { Answers (state_of self.old) (event_of event) seat done (state_of self.new) (reply_of result) }
+        ensures own { GivesOwn (log_of self.new.log) (reply_of result) }
+        ensures legal { IsLegal S.script self.new.first_nodes (log_of self.new.log) }
+    {
+        self.take(alloc, event, seat, done, true)
     }
 }

@@ -5,11 +5,12 @@ ghost use Rattle.event_log.specs.Views.{event_of};
 ghost use Rattle.protocol.specs.Tables.{Out};
 ghost use Rattle.exchange.specs.Jobs.{job_in};
 ghost use Rattle.segment.specs.Jobs.{IsTrueOf};
+ghost use Rattle.protocol_core.specs.Own.{HasAnswersIn, HaveAnswersIn};
 ghost use Rattle.protocol_core.specs.Pace.{AreInPace};
 ghost use Rattle.protocol_core.specs.Steps.{IsHanded, IsHandedFor, IsOut};
 
 use event_log::Event;
-use exchange::{is_job_in_pace, is_job_of, outcomes_of};
+use exchange::{is_job_in_pace, is_job_of, is_own_job, outcomes_of};
 use number_lists::item_at_number;
 use protocol_data::{Handed, Phase, Run, Whole};
 use segment::{Done, DoneParts, ScriptName};
@@ -26,15 +27,17 @@ fn is_out_as(run: &Run, job: u64) -> bool
     }
 }
 
-/// Whether what was done was done on the job that is out with that number. Of a live worker's attempt what it bore and printed need not be read.
-/// An error is want of memory.
+/// Whether what was done was done on the job that is out with that number. Of a live worker's attempt what it bore and printed need not be read,
+/// nor, where the job is one of this run's own, what it was answered. An error is want of memory.
 fn is_done_on<S: ScriptName>(
     alloc: Global,
     whole: &Whole,
     job: u64,
     done: &Done<S>,
+    is_own: bool,
 ) -> Result<bool, AllocError>
-    requires { AreInPace S.script whole.now }
+    requires pace { AreInPace S.script whole.now }
+    requires own { is_own ≡ true → HasAnswersIn whole.now done.now.job }
     ensures out { IfOk result (λ is. is ≡ true → IsOut whole.now job (job_in done.now.job)) }
     ensures only { IfOk result (λ is. IsOut whole.now job (job_in done.now.job) → is ≡ true) }
 {
@@ -50,10 +53,13 @@ fn is_done_on<S: ScriptName>(
     if !is_out_as(run, job) {
         return Ok(false);
     }
-    if worker.is_live {
-        return Ok(is_job_in_pace(done.job(), job, run));
+    if !worker.is_live {
+        return is_job_of(alloc, done.job(), job, run);
     }
-    is_job_of(alloc, done.job(), job, run)
+    if is_own {
+        return Ok(is_own_job(done.job(), job, run));
+    }
+    Ok(is_job_in_pace(done.job(), job, run))
 }
 
 /// What is handed in with the commit of the job: what was done on another job counts as nothing.
@@ -62,15 +68,17 @@ fn handed_for<S: ScriptName>(
     whole: &Whole,
     job: u64,
     done: Option<Done<S>>,
+    is_own: bool,
 ) -> Result<Handed, AllocError>
-    requires { AreInPace S.script whole.now }
+    requires pace { AreInPace S.script whole.now }
+    requires own { is_own ≡ true → HaveAnswersIn whole.now done }
     ensures handed { IfOk result (λ handed. IsHandedFor whole.now job done handed) }
     ensures is_true { IfSome done (λ d. IsTrueOf S.script d) }
 {
     let Some(done) = done else {
         return Ok(Handed::Nothing);
     };
-    if !is_done_on(alloc, whole, job, &done)? {
+    if !is_done_on(alloc, whole, job, &done, is_own)? {
         return Ok(Handed::OfAnother);
     }
     let DoneParts {
@@ -91,19 +99,21 @@ fn discard<S: ScriptName>(done: Option<Done<S>>)
     }
 }
 
-/// What is handed in with the event.
+/// What is handed in with the event. With `is_own` what was done is done on a job of this run.
 pub fn handed_with<S: ScriptName>(
     alloc: Global,
     whole: &Whole,
     event: Event,
     done: Option<Done<S>>,
+    is_own: bool,
 ) -> Result<Handed, AllocError>
-    requires { AreInPace S.script whole.now }
+    requires pace { AreInPace S.script whole.now }
+    requires own { is_own ≡ true → HaveAnswersIn whole.now done }
     ensures handed { IfOk result (λ handed. IsHanded whole.now (event_of event) done handed) }
     ensures is_true { IfSome done (λ d. IsTrueOf S.script d) }
 {
     match event {
-        Event::Commit(job) => handed_for(alloc, whole, job, done),
+        Event::Commit(job) => handed_for(alloc, whole, job, done, is_own),
         _ => {
             discard(done);
             Ok(Handed::Nothing)

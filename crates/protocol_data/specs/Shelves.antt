@@ -12,6 +12,10 @@ abbrev pub is_sought : Id → Option ℕ → Copy → Bool
 is_sought o None x = same_id x.object o
 is_sought o (Some n) x = same_id x.object o && (x.number == n)
 
+-- the copies but those that are sought
+abbrev pub without : Id → Option ℕ → List Copy → List Copy
+without o n xs = filter (λ x. not (is_sought o n x)) xs
+
 -- the object is within the bounds
 abbrev pub IsWithin : Span → Id → Type 0
 IsWithin s o = (s.first_owner ≤ o.owner) × (o.owner ≤ s.last_owner) × (s.first_serial ≤ o.serial) × (o.serial ≤ s.last_serial)
@@ -33,4 +37,4 @@ copies_on (s ∷ rest) = s.rows ++ copies_on rest
 
 -- none of them is on a shelf before the place
 abbrev pub HaveNoneBefore : Id → Option ℕ → ℕ → List Shelf → Type 0
-HaveNoneBefore o n place shelves = (i : ℕ) (s : Shelf) → i < place → slice_get shelves i ≡ Some s → filter (λ x. not (is_sought o n x)) s.rows ≡ s.rows
+HaveNoneBefore o n place shelves = (i : ℕ) (s : Shelf) → i < place → slice_get shelves i ≡ Some s → without o n s.rows ≡ s.rows

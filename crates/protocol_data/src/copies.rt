@@ -1,8 +1,8 @@
 // The primary copies at a node, on shelves, so that a search passes over the shelves that surely have none of the object.
 
-ghost use Rattle.std.specs.Prelude.{◌≡◌, ◌<◌, ◌+◌, ◌++◌, ◌∷◌, [], IfOk, OnOk, MatchOption, Some, None, length, nat_lt, not, ℕ};
-ghost use Rattle.std.specs.List.{filter, find};
-ghost use Rattle.protocol_data.specs.Shelves.{AreShelved, AreWithin, HaveNoneBefore, copies_on, is_sought};
+ghost use Rattle.std.specs.Prelude.{◌≡◌, ◌<◌, ◌+◌, ◌++◌, ◌∷◌, [], IfOk, OnOk, MatchOption, Some, None, length, nat_lt, ℕ};
+ghost use Rattle.std.specs.List.{find};
+ghost use Rattle.protocol_data.specs.Shelves.{AreShelved, AreWithin, HaveNoneBefore, copies_on, is_sought, without};
 
 use crate::spans::{Span, is_outside, no_span, widened};
 use crate::store::Copy;
@@ -68,13 +68,13 @@ fn find_on(shelves: &Seq<Shelf>, object: ObjectId, number: Option<u32>) -> Optio
 }
 
 fn take_rows(copies: &mut Seq<Copy>, object: ObjectId, number: Option<u32>)
-    ensures { copies.new ≡ filter (λ x. not (is_sought object number x)) copies.old }
+    ensures { copies.new ≡ without object number copies.old }
 {
     copies.items.retain(|x| !is_sought(x, object, number));
 }
 
 fn take_here(shelf: &mut Shelf, object: ObjectId, number: Option<u32>)
-    ensures rows { AreWithin shelf.old.span shelf.old.rows → shelf.new.rows ≡ filter (λ x. not (is_sought object number x)) shelf.old.rows }
+    ensures rows { AreWithin shelf.old.span shelf.old.rows → shelf.new.rows ≡ without object number shelf.old.rows }
     ensures span { shelf.new.span ≡ shelf.old.span }
 {
     if is_outside(&shelf.span, object) {
@@ -90,7 +90,7 @@ fn take_at(shelves: &mut Seq<Shelf>, place: usize, object: ObjectId, number: Opt
     ensures shelved { AreShelved shelves.new }
     ensures length { length shelves.new ≡ length shelves.old }
     ensures none { (n : ℕ) → n ≡ place → HaveNoneBefore object number n shelves.old → HaveNoneBefore object number (n + 1) shelves.new }
-    ensures others { filter (λ x. not (is_sought object number x)) (copies_on shelves.new) ≡ filter (λ x. not (is_sought object number x)) (copies_on shelves.old) }
+    ensures others { without object number (copies_on shelves.new) ≡ without object number (copies_on shelves.old) }
 {
     let shelf = &mut shelves.items[place];
     take_here(shelf, object, number);
@@ -98,7 +98,7 @@ fn take_at(shelves: &mut Seq<Shelf>, place: usize, object: ObjectId, number: Opt
 
 fn take_on(shelves: &mut Seq<Shelf>, object: ObjectId, number: Option<u32>)
     requires { AreShelved shelves.old }
-    ensures rows { copies_on shelves.new ≡ filter (λ x. not (is_sought object number x)) (copies_on shelves.old) }
+    ensures rows { copies_on shelves.new ≡ without object number (copies_on shelves.old) }
     ensures shelved { AreShelved shelves.new }
 {
     for place in 0..shelves.len() {
@@ -232,7 +232,7 @@ impl Copies {
 
     /// Takes out the copies of the object, and of the attempt of that number where one is named.
     pub fn take_out(&mut self, object: ObjectId, number: Option<u32>)
-        ensures { self.new ≡ filter (λ x. not (is_sought object number x)) self.old }
+        ensures { self.new ≡ without object number self.old }
     {
         take_on(&mut self.shelves, object, number);
         take_here(&mut self.last, object, number);

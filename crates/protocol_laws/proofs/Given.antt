@@ -3,15 +3,16 @@ use Rattle.std.proofs.Common.{◌≡◌, ℕ, ◌+◌, true, List, [], ◌∷◌
 use Rattle.std.specs.Prelude.{◌&&◌, if◌then◌else◌, slice_get}
 use Rattle.std.proofs.lemmas.Option.{same_Some}
 use Rattle.std.proofs.lemmas.Bool.{and_parts}
-use Rattle.meaning.specs.Values.{Birth, Id, main_birth}
+use Rattle.std.proofs.lemmas.List.Concat.{flat_map-append}
+use Rattle.meaning.specs.Values.{Birth, Id, Outcome, main_birth}
 use Rattle.meaning.specs.Syntax.{Number}
 use Rattle.meaning.specs.Births.{birth_at, same_id}
 use Rattle.meaning.specs.Kinds.{AnswersFit, IsBirthOf, ScriptChecks}
 use Rattle.meaning.specs.Lists.{IsFirst}
 use Rattle.meaning.specs.Meaning.{replay, run_birth}
 use Rattle.meaning.proofs.BirthLaws.{at_test, same_id-refl, same_id-true}
-use Rattle.event_log.specs.Entries.{Claim, Entry, Begun, main_attempt}
-use Rattle.event_log.specs.Words.{answers_of, births, run_in, runs_of}
+use Rattle.event_log.specs.Entries.{Attempt, Claim, Entry, Begun, main_attempt}
+use Rattle.event_log.specs.Words.{answers_of, births, got_in, run_in, runs_of}
 use Rattle.event_log.specs.Rules.{Setting, Allowed}
 use Rattle.event_log.specs.Legal.{Whole as WholeLog, opening}
 use Rattle.event_log.proofs.Extending.{births-more}
@@ -27,7 +28,18 @@ use Rattle.protocol_legal.specs.Knows.{IsTask, KnowsRun}
 use Rattle.protocol_legal.specs.Whole.{setting_of}
 use Rattle.protocol_laws.specs.Sound.{IsSound}
 use Rattle.protocol_laws.specs.Pace.{IsInStep}
-use Rattle.protocol_laws.specs.Given.{ClaimsGiveGoodJobs, GivesGood, IsGood, IsGoodIfGiven, RunsAreGood}
+use Rattle.protocol_laws.specs.Given.{
+  ClaimsGiveGoodJobs,
+  ClaimsGiveJobsOfTheLog,
+  GivesGood,
+  GivesOfLog,
+  IsGood,
+  IsGoodIfGiven,
+  IsOfLogIfGiven,
+  JobsStayOfTheLog,
+  RunsAreGood,
+  RunsHaveTheLogsAnswers,
+}
 use Rattle.protocol_laws.proofs.Pace.{attempts_keep_pace}
 use Rattle.protocol_laws.proofs.Tests.{live_worker, or_none, ready_run, unless_none}
 
@@ -56,6 +68,32 @@ task_first o k w e =
 
 -- ---- the job
 
+-- a live worker's attempt, whose job a claim gives out
+record GivenRun (c : Whole) (w : ℕ) : Type 0 where
+  worker : Worker
+  run : Run
+  at : worker_at c w ≡ Some worker
+  lives : worker.is_live ≡ true
+  runs : worker.run ≡ Some run
+  given : given_out c (Claim w) ≡ Some (job_of (length c.jobs + 1) run)
+
+given_run : (c : Whole) (w : ℕ) (handed : Handed) → refusal c (Claim w) handed ≡ None → GivenRun c w
+given_run c w handed r =
+    let parts = or_none (no_worker c w) (unless (is_ready_on c w (worker_at c w)) 31) r in
+    let l = live_worker c w (unless_none (is_live_worker (worker_at c w)) 30 parts.0) in
+    let ready : is_ready_on c w (Some l.worker) ≡ true = ap (is_ready_on c w) (sym l.at) ∙ unless_none (is_ready_on c w (worker_at c w)) 31 parts.1 in
+    let two = and_parts (l.worker.is_live && is_ready_run l.worker.run) (has_slot w (node_at c l.worker.node)) ready in
+    let run = ready_run l.worker.run (and_parts l.worker.is_live (is_ready_run l.worker.run) two.0).1 in
+    let number = length c.jobs + 1 in
+    record {
+      worker = l.worker;
+      run = run.0;
+      at = l.at;
+      lives = l.lives;
+      runs = run.1;
+      given = ap (job_at number) l.at ∙ ap (job_by number) run.1;
+    }
+
 module _ (s : Setting) (checks : ScriptChecks s.script s.script) (main : IsBirthOf s.script main_birth Number) (log : List Entry) (c : Whole) (sound : IsSound s log c) where
   run_is_good : (number w : ℕ) (x : Worker) (run : Run) → worker_at c w ≡ Some x → x.is_live ≡ true → x.run ≡ Some run → IsGood s.script (job_of number run)
   run_is_good number w x run at live is =
@@ -74,13 +112,8 @@ module _ (s : Setting) (checks : ScriptChecks s.script s.script) (main : IsBirth
 
   given_is_good : (w : ℕ) (handed : Handed) → refusal c (Claim w) handed ≡ None → IsGoodIfGiven s.script (given_out c (Claim w))
   given_is_good w handed r =
-      let parts = or_none (no_worker c w) (unless (is_ready_on c w (worker_at c w)) 31) r in
-      let l = live_worker c w (unless_none (is_live_worker (worker_at c w)) 30 parts.0) in
-      let ready : is_ready_on c w (Some l.worker) ≡ true = ap (is_ready_on c w) (sym l.at) ∙ unless_none (is_ready_on c w (worker_at c w)) 31 parts.1 in
-      let two = and_parts (l.worker.is_live && is_ready_run l.worker.run) (has_slot w (node_at c l.worker.node)) ready in
-      let run = ready_run l.worker.run (and_parts l.worker.is_live (is_ready_run l.worker.run) two.0).1 in
-      let number = length c.jobs + 1 in
-      subst (IsGoodIfGiven s.script) (sym (ap (job_at number) l.at ∙ ap (job_by number) run.1)) (run_is_good number w l.worker run.0 l.at l.lives run.1)
+      let g = given_run c w handed r in
+      subst (IsGoodIfGiven s.script) (sym g.given) (run_is_good (length c.jobs + 1) w g.worker g.run g.at g.lives g.runs)
 
   gives_good : (w : ℕ) (handed : Handed) → (o : Option ℕ) → refusal c (Claim w) handed ≡ o → GivesGood s.script (decided c (Claim w) handed o)
   gives_good w handed (Some code) r = tt
@@ -92,3 +125,41 @@ claims_give_good_jobs s checks main log c sound w handed = gives_good s checks m
 
 pub runs_are_good : RunsAreGood
 runs_are_good s checks main log c sound number w x run at live is = run_is_good s checks main log c sound number w x run at live is
+
+-- ---- the job's answers
+
+begins_itself : {X : Type 0} (xs : List X) → IsFirst xs xs
+begins_itself [] = tt
+begins_itself (x ∷ xs) = (refl, begins_itself xs)
+
+begins_more : {X : Type 0} (xs ys more : List X) → IsFirst xs ys → IsFirst xs (ys ++ more)
+begins_more [] ys more h = tt
+begins_more (x ∷ xs) [] more h = absurd h
+begins_more (x ∷ xs) (y ∷ ys) more h = (h.0, begins_more xs ys more h.1)
+
+module _ (s : Setting) (log : List Entry) (c : Whole) (sound : IsSound s log c) where
+  has_answers : (w : ℕ) (x : Worker) (run : Run) → worker_at c w ≡ Some x → x.is_live ≡ true → x.run ≡ Some run → answers_of run.attempt log ≡ run.answers
+  has_answers w x run at live is = let k : KnowsRun (setting_of s c) log w x run = (sound.between.knows.workers w x at live).run run is in k.answers
+
+  given_of_log : (w : ℕ) (handed : Handed) → refusal c (Claim w) handed ≡ None → IsOfLogIfGiven log (given_out c (Claim w))
+  given_of_log w handed r =
+      let g = given_run c w handed r in
+      subst (IsOfLogIfGiven log) (sym g.given) (subst (IsFirst g.run.answers) (sym (has_answers w g.worker g.run g.at g.lives g.runs)) (begins_itself g.run.answers))
+
+  gives_of_log : (w : ℕ) (handed : Handed) → (o : Option ℕ) → refusal c (Claim w) handed ≡ o → GivesOfLog log (decided c (Claim w) handed o)
+  gives_of_log w handed (Some code) r = tt
+  gives_of_log w handed None r = at_test (λ i. GivesOfLog log (if i then takes (happens c (Claim w) handed) (given_out c (Claim w)) else Refuses 37)) (is_within_limits (happens c (Claim w) handed).whole)
+      (λ i. given_of_log w handed r) (λ i. tt)
+
+pub claims_give_jobs_of_the_log : ClaimsGiveJobsOfTheLog
+claims_give_jobs_of_the_log s log c sound w handed = gives_of_log s log c sound w handed (refusal c (Claim w) handed) refl
+
+pub runs_have_the_logs_answers : RunsHaveTheLogsAnswers
+runs_have_the_logs_answers s log c sound w x run at live is = has_answers s log c sound w x run at live is
+
+-- what begins the answers to an attempt that a log has, begins those of a longer log
+pub begins_longer : (cs : List Outcome) (a : Attempt) (log more : List Entry) → IsFirst cs (answers_of a log) → IsFirst cs (answers_of a (log ++ more))
+begins_longer cs a log more h = subst (IsFirst cs) (sym (flat_map-append (got_in a) log more)) (begins_more cs (answers_of a log) (answers_of a more) h)
+
+pub jobs_stay_of_the_log : JobsStayOfTheLog
+jobs_stay_of_the_log log more job h = begins_longer job.answers job.attempt log more h

@@ -1,7 +1,8 @@
 -- The jobs that claims give out.
-use Rattle.std.specs.Prelude.{◌≡◌, List, None, Option, Some, true, ℕ}
+use Rattle.std.specs.Prelude.{◌≡◌, ◌++◌, List, None, Option, Some, true, ℕ}
 use Rattle.event_log.specs.Entries.{Claim, Entry}
 use Rattle.event_log.specs.Rules.{Setting}
+use Rattle.event_log.specs.Words.{answers_of}
 use Rattle.kind_laws.specs.Law.{HasKind}
 use Rattle.meaning.specs.Kinds.{AnswersFit, IsBirthOf, ScriptChecks}
 use Rattle.meaning.specs.Lists.{IsFirst}
@@ -48,3 +49,29 @@ RunsAreGood =
     (s : Setting) → ScriptChecks s.script s.script → IsBirthOf s.script main_birth Number →
     (log : List Entry) (c : Whole) → IsSound s log c → (number w : ℕ) (x : Worker) (run : Run) → worker_at c w ≡ Some x → x.is_live ≡ true →
     x.run ≡ Some run → IsGood s.script (job_of number run)
+
+-- the job's answers begin what the log has of answers to its attempt
+abbrev pub IsOfLog : List Entry → Job → Type 0
+IsOfLog log job = IsFirst job.answers (answers_of job.attempt log)
+
+abbrev pub IsOfLogIfGiven : List Entry → Option Job → Type 0
+IsOfLogIfGiven log None = Unit {0}
+IsOfLogIfGiven log (Some job) = IsOfLog log job
+
+abbrev pub GivesOfLog : List Entry → Answer → Type 0
+GivesOfLog log (Takes step) = IsOfLogIfGiven log step.given
+GivesOfLog log (Refuses code) = Unit {0}
+
+-- each claim of a sound run gives a job whose answers the log has
+abbrev pub ClaimsGiveJobsOfTheLog : Type 0
+ClaimsGiveJobsOfTheLog = (s : Setting) (log : List Entry) (c : Whole) → IsSound s log c → (w : ℕ) (handed : Handed) → GivesOfLog log (answer c (Claim w) handed)
+
+-- each attempt of a live worker of a sound run has the answers that the log has of answers to it
+abbrev pub RunsHaveTheLogsAnswers : Type 0
+RunsHaveTheLogsAnswers =
+    (s : Setting) (log : List Entry) (c : Whole) → IsSound s log c → (w : ℕ) (x : Worker) (run : Run) → worker_at c w ≡ Some x → x.is_live ≡ true →
+    x.run ≡ Some run → answers_of run.attempt log ≡ run.answers
+
+-- a job whose answers the log has is such a job when the log has grown
+abbrev pub JobsStayOfTheLog : Type 0
+JobsStayOfTheLog = (log more : List Entry) (job : Job) → IsOfLog log job → IsOfLog (log ++ more) job

@@ -1,6 +1,6 @@
 // The laws of the whole protocol.
 
-ghost use Rattle.protocol_laws.specs.Given.{ClaimsGiveGoodJobs, RunsAreGood};
+ghost use Rattle.protocol_laws.specs.Given.{ClaimsGiveGoodJobs, ClaimsGiveJobsOfTheLog, JobsStayOfTheLog, RunsAreGood, RunsHaveTheLogsAnswers};
 ghost use Rattle.protocol_laws.specs.Pace.{KeepsPace};
 ghost use Rattle.protocol_laws.specs.Law.{EventsKeepSound, NothingHeldIsReleased, OpeningIsSound, ProtocolStaysLegal, SoundIsLegal};
 
@@ -47,4 +47,19 @@ pub fn runs_are_good()
 /// begins what its task does on them.
 pub fn claims_give_good_jobs()
     ensures { ClaimsGiveGoodJobs }
+{}
+
+/// The answers of each job that a claim gives out begin what the log has of answers to its attempt.
+pub fn claims_give_jobs_of_the_log()
+    ensures { ClaimsGiveJobsOfTheLog }
+{}
+
+/// Each attempt of a live worker has the answers that the log has of answers to it.
+pub fn runs_have_the_logs_answers()
+    ensures { RunsHaveTheLogsAnswers }
+{}
+
+/// A job whose answers begin what the log has of answers to its attempt is such a job of every longer log too.
+pub fn jobs_stay_of_the_log()
+    ensures { JobsStayOfTheLog }
 {}

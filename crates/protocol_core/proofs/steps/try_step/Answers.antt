@@ -4,17 +4,22 @@ use Rattle.segment.specs.Parts as parts
 use Rattle.protocol.specs.Answers.{answer}
 use Rattle.protocol_data.specs.Entries as entries
 use Rattle.answers.specs.declared.reply.Outcome.TheVariants.{Taken}
+use Rattle.protocol_core.specs.Own.{GivesOwn}
 use Rattle.protocol_core.specs.Steps.{Accepts, GivesJob}
 use Rattle.protocol_core.specs.Steps as told
 use Rattle.protocol_core.specs.Views.{data_of, state_of}
 use Rattle.exchange.specs.Refusals.{HasUnknown}
-use Rattle.protocol_core.proofs.Jobs.{in_pace}
-use Rattle.protocol_core.proofs.Kept.{came, applies, kept_behind, begun_behind, known_code, known_entries, tells_refused, tells_job}
+use Rattle.protocol_core.proofs.Jobs.{have_answers, in_pace}
+use Rattle.protocol_core.proofs.Kept.{came, applies, kept_behind, begun_behind, known_code, known_entries, own_behind, tells_refused, tells_job}
 use Rattle.protocol_core.proofs.steps.try_step.Goals as goal
 
-pub handed_with-requires : goal.handed_with-requires
-handed_with-requires g c =
+pub handed_with-requires-clause-pace : goal.handed_with-requires-clause-pace
+handed_with-requires-clause-pace g c =
     in_pace g.S.ScriptName.script (state_of (data_of c.args.state.now)) c.requires.kept c.requires.goes_on c.runs_are_good.ensures
+
+pub handed_with-requires-clause-own : goal.handed_with-requires-clause-own
+handed_with-requires-clause-own g c is_own =
+    have_answers g.S.ScriptName.script (state_of (data_of c.args.state.now)) c.requires.kept c.requires.goes_on c.runs_have_the_logs_answers.ensures c.args.done (c.requires.own is_own)
 
 pub returns-in-Refused-clause-applied : goal.returns-in-Refused-clause-applied
 returns-in-Refused-clause-applied g c =
@@ -81,6 +86,22 @@ returns-clause-applied g c =
     let gives = c.in-Taken-Some.is ∙ ap (λ x. Taken x) (c.in-Taken-Some.field-0-is ∙ ap (λ x. Some x) (sym c.job_parts-parts.ensures)) in
     let tells = tells_job _ job (sym h.outcome_is ∙ gives) in
     applies script before after e c.args.seat c.args.done c.in_ok-reply.reply.outcome (GivesJob c.new.result) h (subst (λ j. told.Tells (answer before.whole e h.handed) (GivesJob j)) (sym c.new.ensures) tells)
+
+pub returns-clause-own : goal.returns-clause-own
+returns-clause-own g c =
+    let script = g.S.ScriptName.script in
+    let before = state_of (data_of c.args.state.now) in
+    let after = state_of (data_of c.add-in-Taken-Some.new.self) in
+    let e = event_of c.args.event in
+    let known = subst (λ o. IfSome o (λ es. map entry_of es.items ≡ c.in_ok-reply.reply.entries)) c.in-Some.is c.in_ok-logged.ensures.known in
+    let h = came script before after e (entries.event_of c.happening_of-happening.result) c.args.seat c.args.done c.in_ok-handed.handed c.in_ok-reply.reply (map entry_of c.in-Some.logged.items)
+    c.happening_of-happening.ensures c.in_ok-handed.ensures.handed c.handed_with.ensures.is_true c.in_ok-reply.ensures.reply known
+    c.in_ok-add-in-Taken-Some.ensures.ok (c.add-in-Taken-Some.ensures.whole ∙ c.in_ok-reply.ensures.whole) c.add-in-Taken-Some.ensures.nodes (c.add-in-Taken-Some.ensures.halted ∙ c.requires.goes_on) in
+    let job = parts.data_of c.job_parts-parts.result in
+    let gives = c.in-Taken-Some.is ∙ ap (λ x. Taken x) (c.in-Taken-Some.field-0-is ∙ ap (λ x. Some x) (sym c.job_parts-parts.ensures)) in
+    let own = own_behind script before after e c.args.seat c.args.done c.in_ok-reply.reply.outcome c.requires.kept c.requires.goes_on
+    c.claims_give_jobs_of_the_log.ensures c.jobs_stay_of_the_log.ensures h job gives in
+    subst (λ j. GivesOwn after.log (GivesJob j)) (sym c.new.ensures) own
 
 pub returns-clause-kept : goal.returns-clause-kept
 returns-clause-kept g c =

@@ -1,7 +1,5 @@
 use Rattle.std.proofs.Common.{◌≡◌, length}
-use Rattle.std.specs.Prelude.{not}
-use Rattle.std.specs.List.{filter}
-use Rattle.protocol_data.specs.Shelves.{AreShelved, HaveNoneBefore, copies_on, is_sought}
+use Rattle.protocol_data.specs.Shelves.{AreShelved, HaveNoneBefore, copies_on, without}
 use Rattle.protocol_data.proofs.copies.take_on.Given as goal
 
 abbrev pub invariant-loop-place : goal.invariant-loop-place
@@ -9,4 +7,4 @@ invariant-loop-place l =
     AreShelved l.shelves
     × (length l.shelves ≡ length l.initial.shelves)
     × HaveNoneBefore l.object l.number l.place l.shelves
-    × (filter (λ x. not (is_sought l.object l.number x)) (copies_on l.shelves) ≡ filter (λ x. not (is_sought l.object l.number x)) (copies_on l.initial.shelves))
+    × (without l.object l.number (copies_on l.shelves) ≡ without l.object l.number (copies_on l.initial.shelves))

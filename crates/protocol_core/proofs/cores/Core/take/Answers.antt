@@ -2,7 +2,7 @@ use Rattle.event_log.specs.Views.{event_of}
 use Rattle.protocol_core.specs.Steps.{reply_of}
 use Rattle.protocol_core.specs.Views.{data_of, state_of}
 use Rattle.protocol_core.proofs.Cursors.{past_behind}
-use Rattle.protocol_core.proofs.cores.Core.apply.Goals as goal
+use Rattle.protocol_core.proofs.cores.Core.take.Goals as goal
 
 pub cursor_behind-self-inside-requires : goal.cursor_behind-self-inside-requires
 cursor_behind-self-inside-requires g c =

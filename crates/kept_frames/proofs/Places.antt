@@ -1,6 +1,6 @@
 -- Which attempts are kept.
-use Rattle.std.proofs.Common.{◌≡◌, ◌⊎◌, ℕ, zero, suc, ◌<◌, List, [], ◌∷◌, ◌++◌, length, Option, Some, None, inl, inr, refl, sym, ap, ◌∙◌, subst, arith}
-use Rattle.std.specs.Prelude.{slice_get, slice_set}
+use Rattle.std.proofs.Common.{◌≡◌, ℕ, zero, suc, List, [], ◌∷◌, Option, Some, None, inl, inr, sym, subst}
+use Rattle.std.specs.Prelude.{slice_set}
 use Rattle.segment.specs.Jobs.{Done, JobData}
 use Rattle.kept_frames.specs.Known.{IsAfter, IsOfJob, KeepsOnly, KeepsOr, KeepsWith, KnownData}
 
@@ -12,13 +12,6 @@ some_of x y e = cc
 
 none_some : {X : Type 0} (x : X) → None ≡ Some x → ⊥
 none_some x e = cc
-
--- an empty place behind the others
-pub empty_behind : (ks : Kept) → KeepsOnly ks (ks ++ None ∷ [])
-empty_behind [] zero k at = absurd (none_some k (some_of None (Some k) at))
-empty_behind [] (suc i) k at = absurd (none_some (Some k) at)
-empty_behind (x ∷ ks) zero k at = at
-empty_behind (x ∷ ks) (suc i) k at = empty_behind ks i k at
 
 -- a place that is set
 pub set_so : (ks : Kept) (i : ℕ) (new : KnownData) → KeepsOr new ks (slice_set ks i (Some new))
@@ -42,23 +35,13 @@ only_so j before after h place k at = inl (h place k at)
 pub or_so : (j : JobData) (new : KnownData) (before after : Kept) → IsOfJob new j → KeepsOr new before after → KeepsWith j before after
 or_so j new before after is h place k at = elim (h place k at) [ inl old ↦ inl old | inr e ↦ inr (subst (λ x. IsOfJob x j) (sym e) is) ]
 
-pub only_both : (a b c : Kept) → KeepsOnly a b → KeepsOnly b c → KeepsOnly a c
-only_both a b c f g place k at = f place k (g place k at)
-
 pub only_or : (new : KnownData) (a b c : Kept) → KeepsOnly a b → KeepsOr new b c → KeepsOr new a c
 only_or new a b c f g place k at = elim (g place k at) [ inl old ↦ inl (f place k old) | inr e ↦ inr e ]
-
-pub with_both : (j : JobData) (a b c : Kept) → KeepsWith j a b → KeepsWith j b c → KeepsWith j a c
-with_both j a b c f g place k at = elim (g place k at) [ inl old ↦ f place k old | inr e ↦ inr e ]
 
 -- what stood at a place is taken
 pub taken_so : (j : JobData) (before inside : Kept) (i : ℕ) (left : Option KnownData) → inside ≡ before → left ≡ None → KeepsWith j before (slice_set inside i left)
 taken_so j before inside i left same none =
     subst (λ ks. KeepsWith j ks (slice_set inside i left)) same (subst (λ o. KeepsWith j inside (slice_set inside i o)) (sym none) (only_so j inside (slice_set inside i None) (emptied inside i)))
-
--- what is kept was kept
-pub none_new : (ks : Kept) → KeepsOnly ks ks
-none_new ks place k at = at
 
 -- a place that is filled
 pub put_so : (new : KnownData) (before inside : Kept) (i : ℕ) → inside ≡ before → KeepsOr new before (slice_set inside i (Some new))

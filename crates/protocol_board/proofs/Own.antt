@@ -20,7 +20,7 @@ use Rattle.protocol_core.specs.Own.{GivesOwn, IsOwn}
 use Rattle.protocol_core.specs.States.{RunState}
 use Rattle.protocol_core.specs.Steps.{Accepts, Answers, Follows, GivesJob, Refuses, Reply}
 use Rattle.protocol_board.specs.Own.{FramesAreOwn, IsOwnAttempt, IsOwnJob, JobAgrees, JobsAreOwn, KeepsWithJob}
-use Rattle.protocol_board.specs.Replays.{IsDoneOn, handed_in, job_at, job_for, left_by, with_given}
+use Rattle.protocol_board.specs.Replays.{IsDoneOn, job_at, job_for, left_by, with_given}
 
 some_of : {X : Type 0} (x y : X) → Some x ≡ Some y → x ≡ y
 some_of x y e = cc

@@ -1,0 +1,4 @@
+pub mod Faultless
+pub mod Named
+pub mod Rows
+pub mod Stops

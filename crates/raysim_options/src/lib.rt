@@ -1,10 +1,10 @@
 //! The words of the command line, read with `clap`.
 #![tactic(auto)]
 
-ghost use Rattle.std.specs.Prelude.{IfOk, map, string_bytes};
-ghost use Rattle.clap.specs.Words.{subcommand_of};
+ghost use Rattle.std.specs.Prelude.{IfErr, IfOk, map, string_bytes};
+ghost use Rattle.clap.specs.Words.{FailsBy, fault_of, subcommand_of};
 ghost use Rattle.raysim_options.specs.App.{raysim_app};
-ghost use Rattle.raysim_options.specs.Reads.{Asks, HasCluster};
+ghost use Rattle.raysim_options.specs.Reads.{Asks, HasCluster, Refuses};
 
 mod commands;
 mod read;
@@ -99,11 +99,15 @@ pub fn options<'a>(alloc: Global, words: &'a [String]) -> Result<Request<'a>, Er
     ensures asked { IfOk result (Asks (subcommand_of raysim_app (map string_bytes words.entry.now))) }
     // A run that is asked for has from 1 to 64 nodes, with from 1 to 64 slots each, and on threads from 1 to 8 of them.
     ensures cluster { IfOk result HasCluster }
+    // Words that the command takes are refused for want of memory alone.
+    ensures refused { IfErr result (Refuses (map string_bytes words.entry.now)) }
+    // An error says what is at fault first in the words, or that memory ran out, and words at fault are refused.
+    ensures kinds { FailsBy (fault_of raysim_app (map string_bytes words.entry.now)) result }
 {
     let command = commands::raysim(alloc)?;
     let matches = command.try_get_matches_from(words)?;
     match matches.subcommand() {
-        Some((name, found)) => read::read(alloc, name, found),
-        None => read::missing(alloc),
+        Some((name, found)) => Ok(read::read(name, found)),
+        None => unreachable!(),
     }
 }

@@ -3,8 +3,8 @@
 ghost use Rattle.std.specs.Prelude.{◌≡◌, ◌≤◌, IfOk, IfErr, string_bytes};
 ghost use Rattle.event_log.specs.Views.{log_of};
 ghost use Rattle.script_check.specs.Trees.{script_of};
-ghost use Rattle.seats.specs.Ends.{AddsUp};
-ghost use Rattle.raysim_commands.specs.ThreadReports.{IsRunOn, IsStop};
+ghost use Rattle.seats.specs.Ends.{WasLimited};
+ghost use Rattle.raysim_commands.specs.ThreadReports.{AreOutputs, IsRunOn, IsStop};
 
 use crate::form::{Form, report};
 use event_files::RunPlan;
@@ -33,10 +33,8 @@ fn outputs_of<S: ScriptName>(
     alloc: Global,
     board: &Board<S>,
     form: Form,
-    threads: u8,
 ) -> Result<Outputs, AllocError>
-    requires { AddsUp threads (log_of board.now.log) }
-    ensures { IfOk result (λ out. IsRunOn S.script threads form (string_bytes out.report) (string_bytes out.history) out.status) }
+    ensures { IfOk result (λ out. AreOutputs S.script board.now form (string_bytes out.report) (string_bytes out.history) out.status) }
 {
     let history = history(alloc, board.log())?;
     let unknown = Seq::new(alloc);
@@ -49,7 +47,18 @@ fn outputs_of<S: ScriptName>(
     })
 }
 
-/// Runs a script on this cluster.
+/// The refusal of a run that is at a limit.
+fn at_limit<S: ScriptName>(board: &Board<S>) -> Refusal
+    requires { WasLimited (log_of board.now.log) }
+    ensures { IsStop S.script board.now.first_nodes result }
+{
+    let _ = board.log();
+    Refusal::Stopped {
+        code: EventRefusal::Limit.number(),
+    }
+}
+
+/// Runs a script on this cluster beside the plan.
 pub fn run_script<S: ScriptName + Send + Sync, K: Gate + Sync, R: Threads + Wait + Clock + Sync>(
     rt: &R,
     alloc: Global,
@@ -62,16 +71,15 @@ pub fn run_script<S: ScriptName + Send + Sync, K: Gate + Sync, R: Threads + Wait
 ) -> Result<Outputs, Refusal>
     requires some { (1 ≤ threads) × (threads ≤ 8) }
     requires script { script_of script.now ≡ S.script }
-    ensures run { IfOk result (λ out. IsRunOn S.script threads form (string_bytes out.report) (string_bytes out.history) out.status) }
-    ensures stopped { IfErr result IsStop }
+    ensures run { IfOk result (λ out.
+        IsRunOn S.script plan.lines cluster threads form (string_bytes out.report) (string_bytes out.history) out.status) }
+    ensures stopped { IfErr result (IsStop S.script cluster.nodes) }
 {
     let core = Core::<S>::new(alloc, script.script(), cluster)?;
     let board = Board::new(core);
     match run_on_threads(rt, alloc, board, plan, threads, script, gate)? {
-        Ended::Over(board) => Ok(outputs_of(alloc, &board, form, threads)?),
-        Ended::GivenUp(EventRefusal::NoMemory) => Err(Refusal::NoMemory),
-        Ended::GivenUp(refusal) => Err(Refusal::Stopped {
-            code: refusal.number(),
-        }),
+        Ended::Over(board) => Ok(outputs_of(alloc, &board, form)?),
+        Ended::AtLimit(board) => Err(at_limit(&board)),
+        Ended::NoMemory => Err(Refusal::NoMemory),
     }
 }

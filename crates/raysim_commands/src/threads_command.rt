@@ -47,13 +47,13 @@ pub fn run_threaded<
     writer: &mut W,
 ) -> Result<u8, Refusal>
     requires some { (1 ≤ threads) × (threads ≤ 8) }
-    ensures reported { IfOk result (λ status. IfBoth (A.left reader.old) (P.left plan.old) (λ text bytes. AreWritten threads form text bytes status
+    ensures reported { IfOk result (λ status. IfBoth (A.left reader.old) (P.left plan.old) (λ text bytes. AreWritten cluster threads form text bytes status
         (H.held history.old) (H.held history.new) (W.held writer.old) (W.held writer.new))) }
-    ensures refused { IfErr result (λ refusal. ExplainsThreads (A.left reader.old) (P.left plan.old)
+    ensures refused { IfErr result (λ refusal. ExplainsThreads cluster (A.left reader.old) (P.left plan.old)
         (A.has_failed reader.new) (P.has_failed plan.new) (H.has_failed history.new) (W.has_failed writer.new) refusal) }
     ensures unwritten { IfErr result (λ refusal. IsUnwritten refusal →
         AreUnwritten (H.held history.old) (H.held history.new) (W.held writer.old) (W.held writer.new)) }
-    ensures beginning { IfErr result (λ refusal. IfBoth (A.left reader.old) (P.left plan.old) (λ text bytes. IsBegun threads form text bytes
+    ensures beginning { IfErr result (λ refusal. IfBoth (A.left reader.old) (P.left plan.old) (λ text bytes. IsBegun cluster threads form text bytes
         (H.held history.old) (H.held history.new) (W.held writer.old) (W.held writer.new))) }
 {
     let Inputs {

@@ -1,6 +1,6 @@
 // A run whose events come from two seats, one by one.
 
-ghost use Rattle.std.specs.Prelude.{◌≡◌};
+ghost use Rattle.std.specs.Prelude.{◌≡◌, []};
 ghost use Rattle.protocol_core.specs.Views.{state_of};
 ghost use Rattle.script_check.specs.Trees.{script_of};
 ghost use Rattle.seats.specs.Counted.{IsFresh};
@@ -11,7 +11,7 @@ use event_log::Event;
 use ids::WorkerId;
 use protocol_board::Board;
 use protocol_core::{Cluster, Core, Reply};
-use seats::{Blanks, Seat, Shared};
+use seats::{Blanks, RunName, Seat, Shared};
 use segment::{Compiled, ScriptName};
 use sequence::Seq;
 use std::alloc::Global;
@@ -21,11 +21,11 @@ use std::sync::ledger::Ledger;
 use std::test::Fail;
 
 /// Main's first job, claimed and committed; whether that was accepted.
-fn begin<S: ScriptName, E: Ledger, G: Ledger, C: Ledger, J: Ledger, R: Wait>(
+fn begin<S: ScriptName, P: RunName, E: Ledger, G: Ledger, C: Ledger, J: Ledger, R: Wait>(
     rt: &R,
     alloc: Global,
     script: &Compiled,
-    shared: &Shared<S, E, G, C, J>,
+    shared: &Shared<S, P, E, G, C, J>,
     seat: &mut Seat<E, G, C, J>,
 ) -> bool
     requires { script_of script.now ≡ S.script }
@@ -40,10 +40,10 @@ fn begin<S: ScriptName, E: Ledger, G: Ledger, C: Ledger, J: Ledger, R: Wait>(
 }
 
 /// The events with which nothing is handed in; whether all were accepted.
-fn go_on<S: ScriptName, E: Ledger, G: Ledger, C: Ledger, J: Ledger, R: Wait>(
+fn go_on<S: ScriptName, P: RunName, E: Ledger, G: Ledger, C: Ledger, J: Ledger, R: Wait>(
     rt: &R,
     alloc: Global,
-    shared: &Shared<S, E, G, C, J>,
+    shared: &Shared<S, P, E, G, C, J>,
     seat: &mut Seat<E, G, C, J>,
 ) -> bool {
     let events = [
@@ -66,13 +66,14 @@ fn go_on<S: ScriptName, E: Ledger, G: Ledger, C: Ledger, J: Ledger, R: Wait>(
 }
 
 /// The report of a run of the script, with the events of two seats.
-fn report_of<S: ScriptName, E: Ledger, G: Ledger, C: Ledger, J: Ledger, R: Wait>(
+fn report_of<S: ScriptName, P: RunName, E: Ledger, G: Ledger, C: Ledger, J: Ledger, R: Wait>(
     rt: &R,
     alloc: Global,
     script: &Compiled,
     blanks: Blanks,
 ) -> Result<String, Fail>
     requires script { script_of script.now ≡ S.script }
+    requires named { (P.plan ≡ []) × (P.size ≡ record { nodes = 1; slots = 4 }) }
     requires events { (blanks.events.name ≡ E.name) × (blanks.events.parts ≡ E.parts) × (E.parts ≡ 2) }
     requires given { (blanks.given.name ≡ G.name) × (blanks.given.parts ≡ G.parts) × (G.parts ≡ 2) }
     requires commits { (blanks.commits.name ≡ C.name) × (blanks.commits.parts ≡ C.parts) × (C.parts ≡ 2) }
@@ -83,7 +84,7 @@ fn report_of<S: ScriptName, E: Ledger, G: Ledger, C: Ledger, J: Ledger, R: Wait>
     let plan = RunPlan {
         lines: Seq::new(alloc),
     };
-    let (shared, mut seats) = Shared::<S, E, G, C, J>::new(alloc, blanks, board, plan, 2)?;
+    let (shared, mut seats) = Shared::<S, P, E, G, C, J>::new(alloc, blanks, board, plan, 2)?;
     let begun = begin(rt, alloc, script, &shared, &mut seats[0]);
     let went_on = go_on(rt, alloc, &shared, &mut seats[1]);
     let Ok(board) = shared.close(seats) else {
@@ -100,7 +101,7 @@ fn a_run_by_claim_commit_and_step(rt: HostRuntime) -> Result<(), Fail> {
     let alloc = rt.alloc();
     let text = "fn one() -> int { return 1; }\nfn main() -> int { return get remote(0) one(); }\n";
     let script = script(alloc, text)?;
-    let report = report_of::<Brand, Brand, Brand, Brand, Brand, HostRuntime>(
+    let report = report_of::<Brand, Brand, Brand, Brand, Brand, Brand, HostRuntime>(
         &rt,
         alloc,
         &script,

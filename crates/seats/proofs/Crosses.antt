@@ -38,6 +38,7 @@ use Rattle.protocol_data.specs.contracts.whole.Whole as Whole
 use Rattle.protocol_board.specs.Cores.Core as Core
 use Rattle.protocol_board.specs.contracts.board.Board as Board
 use Rattle.seats.specs.contracts.outs.JobOut as JobOut
+use Rattle.seats.specs.declared.run_name.RunName as run_name
 use Rattle.seats.specs.contracts.turning.Turning as Turning
 use Rattle.seats.specs.contracts.shared.Locked as Locked
 use Rattle.seats.specs.contracts.shared.Shared as Shared
@@ -113,15 +114,16 @@ module _ (S : RattleType) (n : script_name.Ghosts S.Denot) (s : IsSend S) where
   board_send : IsSend (Board.the_row S n)
   board_send = search (core_send, crosses, sendable) depth 60 fits 20000
 
-  turning_send : IsSend (Turning.the_row S n)
-  turning_send = search (board_send, lines_send, outs_send, crosses, sendable) depth 60 fits 20000
+  module _ (P : RattleType) (m : run_name.Ghosts P.Denot) (p : IsSend P) where
+    turning_send : IsSend (Turning.the_row S P n m)
+    turning_send = search (board_send, lines_send, outs_send, phantom.the_field_send, crosses, sendable) depth 60 fits 20000
 
-  module _ (E G C J : RattleType) (e : ledger.Ghosts E.Denot) (g : ledger.Ghosts G.Denot) (c : ledger.Ghosts C.Denot) (j : ledger.Ghosts J.Denot) where
-    locked_send : IsSend (Locked.the_row S E G C J n e g c j)
-    locked_send = declared_send (Locked.the_type S E G C J n e g c j) (
-      as_row_send (Turning.the_field S n) turning_send,
-      (book.the_send E e, (book.the_send G g, (book.the_send C c, (book.the_send J j, tt)))),
-    )
+    module _ (E G C J : RattleType) (e : ledger.Ghosts E.Denot) (g : ledger.Ghosts G.Denot) (c : ledger.Ghosts C.Denot) (j : ledger.Ghosts J.Denot) where
+      locked_send : IsSend (Locked.the_row S P E G C J n m e g c j)
+      locked_send = declared_send (Locked.the_type S P E G C J n m e g c j) (
+        as_row_send (Turning.the_field S P n m) turning_send,
+        (book.the_send E e, (book.the_send G g, (book.the_send C c, (book.the_send J j, tt)))),
+      )
 
-    pub shared_sync : IsSync (Shared.the_row S E G C J n e g c j)
-    shared_sync = search (locked_send, crosses, sendable) depth 60 fits 20000
+      pub shared_sync : IsSync (Shared.the_row S P E G C J n m e g c j)
+      shared_sync = search (locked_send, crosses, sendable) depth 60 fits 20000

@@ -1,5 +1,5 @@
 -- What seats hold.
-use Rattle.std.specs.Prelude.{ℕ, zero, suc, ◌+◌, List, [], ◌∷◌, sum_by}
+use Rattle.std.specs.Prelude.{◌≡◌, ℕ, zero, suc, ◌+◌, List, [], ◌∷◌, sum_by}
 use Rattle.event_log.specs.Books.{Totals}
 use Rattle.event_log.specs.Laws.{nothing, plus}
 
@@ -30,3 +30,7 @@ sums seats =
       commits = sum_by (λ s. s.book.commits) seats;
       committed = sum_by (λ s. s.book.committed) seats;
     }
+
+-- the four ledgers have so many parts each
+abbrev pub AreParts : ℕ → ℕ → ℕ → ℕ → ℕ → Type 0
+AreParts n events given commits committed = (n ≡ events) × (n ≡ given) × (n ≡ commits) × (n ≡ committed)

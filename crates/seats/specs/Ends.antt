@@ -1,17 +1,81 @@
--- How a run on threads ends.
-use Rattle.std.specs.Prelude.{◌≡◌, ℕ, List, length}
+-- How a run on threads ends, and what is known of it on the way.
+use Rattle.std.specs.Prelude.{◌≡◌, ℕ, List, [], ◌∷◌, ◌++◌, length, map, take, Option, Some, None, IfSome}
+use Rattle.event_files.specs.declared.plan.PlanLine.{PlanLine}
 use Rattle.event_log.specs.Books.{totals_of}
-use Rattle.event_log.specs.Entries.{Entry}
-use Rattle.event_log.specs.Views.{log_of}
+use Rattle.event_log.specs.Breaks.{Among}
+use Rattle.event_log.specs.Entries.{Entry, Event, In, Refused}
+use Rattle.event_log.specs.Views.{event_of, log_of}
+use Rattle.event_log.specs.declared.refusal.Refusal.{Refusal}
+use Rattle.event_log.specs.declared.refusal.Refusal.TheVariants as refusals
+use Rattle.protocol.specs.Settling.{next}
+use Rattle.protocol.specs.Whole.{Whole}
+use Rattle.protocol_board.specs.Cores.{RunState, Size, state_of}
 use Rattle.seats.specs.Books.{SeatOf, sums}
-use Rattle.seats.specs.declared.threads.Ended.{Ended}
-use Rattle.seats.specs.declared.threads.Ended.TheVariants as ends
+use Rattle.seats.specs.declared.end.Ended.{Ended}
+use Rattle.seats.specs.declared.end.Ended.TheVariants as ends
 
 -- the books of so many seats add up to the totals of the log
 abbrev pub AddsUp : ℕ → List Entry → Type 0
 AddsUp n log = (seats : List SeatOf) × (length seats ≡ n) × (totals_of log ≡ sums seats)
 
--- where the run is over, the books of its seats add up
-abbrev pub IsEnd : {X : Type 0} → ℕ → Ended X → Type 0
-IsEnd n (ends.Over board) = AddsUp n (log_of board.log)
-IsEnd n (ends.GivenUp refusal) = Unit {0}
+-- an event of the log was refused since it would have made an object, worker or node past its limit
+abbrev pub WasLimited : List Entry → Type 0
+WasLimited log = Among (Refused 37) log
+
+-- the events stand in the log in their order, whatever stands between them
+unfoldable pub AreIn : List Event → List Entry → Type 0
+AreIn [] log = Unit {0}
+AreIn (e ∷ es) log = (before : List Entry) × (seat : ℕ) × (after : List Entry) × (log ≡ before ++ In e seat ∷ after) × AreIn es after
+
+-- the events of a plan's lines
+abbrev pub events_of : List PlanLine → List Event
+events_of lines = map (λ l. event_of l.event) lines
+
+-- the cluster on which a run began
+abbrev pub size_of : RunState → Size
+size_of r = record { nodes = r.first_nodes; slots = r.whole.slots }
+
+-- a run beside the plan on such a cluster is over: the settle rule names no event, and the plan's stand in the log
+pub record IsOver (plan : List PlanLine) (size : Size) (r : RunState) : Type 0 where
+  pub settled : next r.whole [] ≡ None
+  pub planned : AreIn (events_of plan) r.log
+  pub on_cluster : size_of r ≡ size
+
+-- a run on so many nodes at first is at a limit: an event was refused for that
+pub record IsAtLimit (nodes : ℕ) (r : RunState) : Type 0 where
+  pub limited : WasLimited r.log
+  pub on_nodes : r.first_nodes ≡ nodes
+
+-- how a run beside the plan on such a cluster ends
+abbrev pub HasEnded : {X : Type 0} → List PlanLine → Size → Ended X → Type 0
+HasEnded plan size (ends.Over board) = IsOver plan size (state_of board)
+HasEnded plan size (ends.AtLimit board) = IsAtLimit size.nodes (state_of board)
+HasEnded plan size ends.NoMemory = Unit {0}
+
+-- the log of a run that ended, unless there was no memory
+abbrev pub log_at : {X : Type 0} → Ended X → Option (List Entry)
+log_at (ends.Over board) = Some (log_of board.log)
+log_at (ends.AtLimit board) = Some (log_of board.log)
+log_at ends.NoMemory = None
+
+-- and the books of its seats add up
+abbrev pub IsEnd : {X : Type 0} → ℕ → List PlanLine → Size → Ended X → Type 0
+IsEnd seats plan size end = HasEnded plan size end × IfSome (log_at end) (AddsUp seats)
+
+-- what a log has of a plan's events that were taken, and of why the run is given up, if it is: an event of it was refused at a limit, or there was no
+-- memory
+abbrev pub Stands : List Event → List Entry → Option Refusal → Type 0
+Stands es log None = AreIn es log
+Stands es log (Some refusals.Limit) = WasLimited log
+Stands es log (Some refusals.Halted) = Unit {0}
+Stands es log (Some refusals.NoMemory) = Unit {0}
+Stands es log (Some refusal) = ⊥
+
+-- a node has so many slots, unless the run is given up
+abbrev pub HasSlots : ℕ → Whole → Option Refusal → Type 0
+HasSlots slots c None = c.slots ≡ slots
+HasSlots slots c (Some refusal) = Unit {0}
+
+-- the events of the first lines
+abbrev pub first_events : ℕ → List PlanLine → List Event
+first_events n plan = events_of (take n plan)

@@ -97,10 +97,18 @@ abbrev pub or_first : Option Refusal → Refusal → Option Refusal
 or_first None refusal = Some refusal
 or_first (Some first) refusal = Some first
 
+-- an event that is refused 37, 38 or 39 gives the run up
+abbrev pub given_up_by : Reply → Option Refusal → Option Refusal
+given_up_by (Refuses refusals.Limit) given_up = or_first given_up refusals.Limit
+given_up_by (Refuses refusals.Halted) given_up = or_first given_up refusals.Halted
+given_up_by (Refuses refusals.NoMemory) given_up = or_first given_up refusals.NoMemory
+given_up_by told given_up = given_up
+
 -- the jobs that are out, and why the run is given up, before and behind an answer: where there is no memory to keep that a job is out, it is given up
 abbrev pub KeepsOut : Event → Reply → List JobOut → Option Refusal → List JobOut → Option Refusal → Type 0
 KeepsOut e told out given_up out_now given_up_now =
-    ((out_now ≡ out_behind e told out) × (given_up_now ≡ given_up)) ⊎ ((out_now ≡ out) × (given_up_now ≡ or_first given_up refusals.NoMemory))
+    ((out_now ≡ out_behind e told out) × (given_up_now ≡ given_up_by told given_up))
+    ⊎ ((out_now ≡ out) × (given_up_now ≡ or_first (given_up_by told given_up) refusals.NoMemory))
 
 -- the run behind an event with its answer
 pub record Follows (before : TurnState) (e : Event) (told : Reply) (after : TurnState) : Type 0 where

@@ -3,7 +3,9 @@
 #![tactic(auto)]
 
 mod choice;
+mod end;
 mod outs;
+mod run_name;
 mod seat;
 mod shared;
 mod tally;
@@ -12,10 +14,12 @@ mod turn;
 mod turning;
 mod working;
 
+pub use end::Ended;
 pub use outs::JobOut;
+pub use run_name::RunName;
 pub use seat::{Blanks, Seat};
 pub use shared::Shared;
-pub use threads::{Ended, run_on_threads};
+pub use threads::run_on_threads;
 pub use turn::Turn;
 pub use turning::Turning;
 pub use working::{Gate, work};

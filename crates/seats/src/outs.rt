@@ -4,7 +4,7 @@ ghost use Rattle.std.specs.Prelude.{◌≡◌, ◌==◌, not, IfOk, OnOk, OnErr}
 ghost use Rattle.std.specs.List.{filter};
 ghost use Rattle.event_log.specs.Views.{event_of};
 ghost use Rattle.protocol_board.specs.Cores.{reply_of};
-ghost use Rattle.seats.specs.Turns.{KeepsOut, busy, or_first, out_behind};
+ghost use Rattle.seats.specs.Turns.{KeepsOut, busy, given_up_by, or_first, out_behind};
 
 use event_log::{Event, Refusal};
 use numbers::WorkerId;
@@ -69,7 +69,21 @@ pub fn first_refusal(given_up: Option<Refusal>, refusal: Refusal) -> Option<Refu
     }
 }
 
-/// Keeps the jobs that are out, or gives the run up where there is no memory for that.
+/// Why the run is given up behind an answer: an event that is refused 37, 38 or 39 gives it up.
+fn given_up_by<S: ScriptName>(told: &Reply<S>, given_up: Option<Refusal>) -> Option<Refusal>
+    ensures { result ≡ given_up_by (reply_of told.now) given_up }
+{
+    let Reply::Refused(refusal) = told else {
+        return given_up;
+    };
+    match refusal {
+        Refusal::Limit | Refusal::Halted | Refusal::NoMemory => first_refusal(given_up, *refusal),
+        _ => given_up,
+    }
+}
+
+/// Keeps the jobs that are out, behind an event with its answer, and why the run is given up: for the answer, or where there is no memory to keep
+/// that a job is out.
 pub fn keep_or_give_up<S: ScriptName>(
     out: &mut Seq<JobOut>,
     given_up: &mut Option<Refusal>,
@@ -78,6 +92,7 @@ pub fn keep_or_give_up<S: ScriptName>(
 )
     ensures { KeepsOut (event_of event) (reply_of told.now) out.old given_up.old out.new given_up.new }
 {
+    *given_up = given_up_by(told, *given_up);
     if keep(out, event, told).is_err() {
         *given_up = first_refusal(*given_up, Refusal::NoMemory);
     }

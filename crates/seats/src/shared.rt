@@ -6,17 +6,20 @@ ghost use Rattle.event_log.specs.Entries.{Claim, Commit};
 ghost use Rattle.event_log.specs.Laws.{nothing};
 ghost use Rattle.event_log.specs.Views.{event_of, log_of};
 ghost use Rattle.protocol_board.specs.Cores.{reply_of, state_of};
-ghost use Rattle.seats.specs.Books.{new_seats, sums, with_more};
+ghost use Rattle.seats.specs.Books.{AreParts, new_seats, sums, with_more};
 ghost use Rattle.seats.specs.Counted.{IsFresh, counted};
+ghost use Rattle.seats.specs.Ends.{IsEnd, size_of};
 ghost use Rattle.seats.specs.Turns.{turn_counted};
 ghost use Rattle.seats.specs.Views.{told_of};
 
+use crate::end::Ended;
+use crate::run_name::RunName;
 use crate::seat::{Blanks, Pot, Seat};
 use crate::tally::{tally_of, turn_tally};
 use crate::turn::Turn;
 use crate::turning::Turning;
 use event_files::RunPlan;
-use event_log::{Event, Refusal};
+use event_log::Event;
 use ids::WorkerId;
 use protocol_board::{Board, Reply};
 use segment::{Done, ScriptName};
@@ -25,27 +28,29 @@ use std::marker::Model;
 use std::sync::ledger::{Book, Ledger};
 use std::sync::{Mutex, Wait};
 
-/// A run that threads share, each with its seat; seen as the number of the seats.
+/// The run `P`, which threads share, each with its seat; seen as the number of the seats.
 #[derive(Drop)]
-pub struct Shared<S: ScriptName, E: Ledger, G: Ledger, C: Ledger, J: Ledger> {
-    locked: Mutex<Locked<S, E, G, C, J>>,
+pub struct Shared<S: ScriptName, P: RunName, E: Ledger, G: Ledger, C: Ledger, J: Ledger> {
+    locked: Mutex<Locked<S, P, E, G, C, J>>,
     seats: usize,
 }
 
-impl<S: ScriptName, E: Ledger, G: Ledger, C: Ledger, J: Ledger> Model for Shared<S, E, G, C, J> {
-    ghost use Rattle.std.specs.Prelude.{◌≡◌, ◌≤◌, ℕ};
+impl<S: ScriptName, P: RunName, E: Ledger, G: Ledger, C: Ledger, J: Ledger> Model
+    for Shared<S, P, E, G, C, J> {
+    ghost use Rattle.std.specs.Prelude.{◌≤◌, ℕ};
+    ghost use Rattle.seats.specs.Books.{AreParts};
 
     ghost Value = { ℕ };
 
     ghost view = { λ s. s.seats };
 
-    ghost invariant = { λ s. (1 ≤ s.seats) × (s.seats ≡ E.parts) × (s.seats ≡ G.parts) × (s.seats ≡ C.parts) × (s.seats ≡ J.parts) };
+    ghost invariant = { λ s. (1 ≤ s.seats) × AreParts s.seats E.parts G.parts C.parts J.parts };
 }
 
 /// The run, and the totals of its log.
 #[derive(Drop)]
-struct Locked<S: ScriptName, E: Ledger, G: Ledger, C: Ledger, J: Ledger> {
-    turning: Turning<S>,
+struct Locked<S: ScriptName, P: RunName, E: Ledger, G: Ledger, C: Ledger, J: Ledger> {
+    turning: Turning<S, P>,
     events: Book<E>,
     given: Book<G>,
     commits: Book<C>,
@@ -56,7 +61,14 @@ struct Locked<S: ScriptName, E: Ledger, G: Ledger, C: Ledger, J: Ledger> {
     ghost committed_add_up: { (totals_of (log_of turning.run.log)).committed ≡ committed.total },
 }
 
-impl<S: ScriptName, E: Ledger, G: Ledger, C: Ledger, J: Ledger> Locked<S, E, G, C, J> {
+impl<S: ScriptName, P: RunName, E: Ledger, G: Ledger, C: Ledger, J: Ledger> Locked<
+    S,
+    P,
+    E,
+    G,
+    C,
+    J,
+> {
     fn apply(
         &mut self,
         alloc: Global,
@@ -102,17 +114,18 @@ impl<S: ScriptName, E: Ledger, G: Ledger, C: Ledger, J: Ledger> Locked<S, E, G, 
         told
     }
 
-    fn give_up(&mut self, refusal: Refusal) {
-        self.turning.give_up(refusal);
+    fn give_up(&mut self) {
+        self.turning.give_up();
     }
 
-    /// The run's board, whose totals are what all seats hold together.
-    fn audited(self, pot: Pot<E, G, C, J>) -> Board<S>
+    /// The run, the totals of whose log are what all seats hold together.
+    fn audited(self, pot: Pot<E, G, C, J>) -> Turning<S, P>
         requires { (pot.events.parts ≡ E.parts) × (pot.given.parts ≡ G.parts) × (pot.commits.parts ≡ C.parts) × (pot.committed.parts ≡ J.parts) }
-        ensures events { (totals_of (log_of result.log)).events ≡ pot.events.amount }
-        ensures given { (totals_of (log_of result.log)).given ≡ pot.given.amount }
-        ensures commits { (totals_of (log_of result.log)).commits ≡ pot.commits.amount }
-        ensures committed { (totals_of (log_of result.log)).committed ≡ pot.committed.amount }
+        ensures events { (totals_of (log_of result.run.log)).events ≡ pot.events.amount }
+        ensures given { (totals_of (log_of result.run.log)).given ≡ pot.given.amount }
+        ensures commits { (totals_of (log_of result.run.log)).commits ≡ pot.commits.amount }
+        ensures committed { (totals_of (log_of result.run.log)).committed ≡ pot.committed.amount }
+        ensures same { result ≡ self.turning }
     {
         let mut pot = pot;
         let Locked {
@@ -126,17 +139,29 @@ impl<S: ScriptName, E: Ledger, G: Ledger, C: Ledger, J: Ledger> Locked<S, E, G, 
         given.audit(&mut pot.given);
         commits.audit(&mut pot.commits);
         committed.audit(&mut pot.committed);
-        turning.into_board()
+        turning
+    }
+
+    /// The run, where all seats are back: their books add up, number by number, to the totals of its log.
+    fn gathered(self, seats: Vec<Seat<E, G, C, J>>) -> Turning<S, P>
+        requires some { 0 < length seats.items }
+        requires parts { AreParts (length seats.items) E.parts G.parts C.parts J.parts }
+        ensures same { result ≡ self.turning }
+        ensures adds_up { totals_of (log_of result.run.log) ≡ sums seats.items }
+    {
+        let pot = Pot::gather(seats).unwrap();
+        self.audited(pot)
     }
 }
 
-fn open<S: ScriptName, E: Ledger, G: Ledger, C: Ledger, J: Ledger>(
+fn open<S: ScriptName, P: RunName, E: Ledger, G: Ledger, C: Ledger, J: Ledger>(
     alloc: Global,
     blanks: Blanks,
     board: Board<S>,
     plan: RunPlan,
-) -> (Locked<S, E, G, C, J>, Pot<E, G, C, J>)
+) -> (Locked<S, P, E, G, C, J>, Pot<E, G, C, J>)
     requires fresh { IsFresh (state_of board) }
+    requires named { (plan.lines ≡ P.plan) × (size_of (state_of board) ≡ P.size) }
     requires events { (blanks.events.name ≡ E.name) × (blanks.events.parts ≡ E.parts) }
     requires given { (blanks.given.name ≡ G.name) × (blanks.given.parts ≡ G.parts) }
     requires commits { (blanks.commits.name ≡ C.name) × (blanks.commits.parts ≡ C.parts) }
@@ -192,7 +217,14 @@ fn split_all<E: Ledger, G: Ledger, C: Ledger, J: Ledger>(
     Ok(seats)
 }
 
-impl<S: ScriptName, E: Ledger, G: Ledger, C: Ledger, J: Ledger> Shared<S, E, G, C, J> {
+impl<S: ScriptName, P: RunName, E: Ledger, G: Ledger, C: Ledger, J: Ledger> Shared<
+    S,
+    P,
+    E,
+    G,
+    C,
+    J,
+> {
     /// Shares a run that begins, beside a plan, among `n` seats, numbered from 1, whose books are empty. On want of memory the run is dropped.
     pub fn new(
         alloc: Global,
@@ -203,6 +235,7 @@ impl<S: ScriptName, E: Ledger, G: Ledger, C: Ledger, J: Ledger> Shared<S, E, G, 
     ) -> Result<(Self, Vec<Seat<E, G, C, J>>), AllocError>
         requires some { (1 ≤ n) × (n ≤ 8) }
         requires fresh { IsFresh (state_of board) }
+        requires named { (plan.lines ≡ P.plan) × (size_of (state_of board) ≡ P.size) }
         requires events { (blanks.events.name ≡ E.name) × (blanks.events.parts ≡ E.parts) × (E.parts ≡ n) }
         requires given { (blanks.given.name ≡ G.name) × (blanks.given.parts ≡ G.parts) × (G.parts ≡ n) }
         requires commits { (blanks.commits.name ≡ C.name) × (blanks.commits.parts ≡ C.parts) × (C.parts ≡ n) }
@@ -210,7 +243,7 @@ impl<S: ScriptName, E: Ledger, G: Ledger, C: Ledger, J: Ledger> Shared<S, E, G, 
         ensures shared { IfOk result (λ r. r.0 ≡ n) }
         ensures seats { IfOk result (λ r. r.1.items ≡ new_seats 1 n) }
     {
-        let (locked, pot) = open::<S, E, G, C, J>(alloc, blanks, board, plan);
+        let (locked, pot) = open::<S, P, E, G, C, J>(alloc, blanks, board, plan);
         let seats = split_all(alloc, pot, n)?;
         let shared = Shared {
             locked: Mutex::new(locked),
@@ -233,9 +266,32 @@ impl<S: ScriptName, E: Ledger, G: Ledger, C: Ledger, J: Ledger> Shared<S, E, G, 
             return Err((self, seats));
         }
         let Shared { locked, seats: _ } = self;
+        Ok(locked.into_inner().gathered(seats).into_board())
+    }
+
+    /// How the run ended, where all seats are there and it is at its end; else both are handed back. The seats' books add up, number by number, to
+    /// the totals of the log.
+    pub fn end(
+        self,
+        alloc: Global,
+        seats: Vec<Seat<E, G, C, J>>,
+    ) -> Result<Ended<S>, (Self, Vec<Seat<E, G, C, J>>)>
+        ensures ended { IfOk result (IsEnd self P.plan P.size) }
+        ensures back { IfErr result (λ e. (e.0 ≡ self) × (e.1 ≡ seats)) }
+    {
+        if seats.len() != self.seats {
+            return Err((self, seats));
+        }
+        let Shared { locked, seats: n } = self;
         let locked = locked.into_inner();
-        let pot = Pot::gather(seats).unwrap();
-        Ok(locked.audited(pot))
+        if !locked.turning.is_at_end(alloc) {
+            let shared = Shared {
+                locked: Mutex::new(locked),
+                seats: n,
+            };
+            return Err((shared, seats));
+        }
+        Ok(locked.gathered(seats).into_end())
     }
 
     /// Applies one event from the seat, with nothing done on a job, under the lock, and counts it in the seat's book. The log names the seat.
@@ -258,14 +314,9 @@ impl<S: ScriptName, E: Ledger, G: Ledger, C: Ledger, J: Ledger> Shared<S, E, G, 
         self.locked.lock(rt).turn(alloc, seat)
     }
 
-    /// Gives the run up: each later turn is at its end. The first refusal for which it is given up stands.
-    pub fn give_up<R: Wait>(&self, rt: &R, refusal: Refusal) {
-        self.locked.lock(rt).give_up(refusal);
-    }
-
-    /// The refusal for which the run was given up, if it was.
-    pub fn given_up<R: Wait>(&self, rt: &R) -> Option<Refusal> {
-        self.locked.lock(rt).turning.given_up()
+    /// Gives the run up for want of memory: each later turn is at its end.
+    pub fn give_up<R: Wait>(&self, rt: &R) {
+        self.locked.lock(rt).give_up();
     }
 
     /// Claims the worker's next part of its task.

@@ -3,14 +3,15 @@
 ghost use Rattle.std.specs.Prelude.{◌≡◌, ◌≤◌, IfOk};
 ghost use Rattle.protocol_board.specs.Cores.{state_of};
 ghost use Rattle.script_check.specs.Trees.{script_of};
-ghost use Rattle.seats.specs.Ends.{IsEnd};
+ghost use Rattle.seats.specs.Ends.{IsEnd, size_of};
 ghost use Rattle.seats.specs.Counted.{IsFresh};
 
+use crate::end::Ended;
+use crate::run_name::RunName;
 use crate::seat::{Blanks, Seat};
 use crate::shared::Shared;
 use crate::working::{Gate, work};
 use event_files::RunPlan;
-use event_log::Refusal;
 use protocol_board::Board;
 use segment::{Compiled, ScriptName};
 use std::alloc::{AllocError, Global};
@@ -21,18 +22,39 @@ use std::sync::ledger::Ledger;
 use std::thread;
 use std::thread::Threads;
 
-/// How a run on threads ended.
-#[derive(Drop)]
-pub enum Ended<S: ScriptName> {
-    /// Nothing was left to do.
-    Over(Board<S>),
-    /// The run was given up for the refusal.
-    GivenUp(Refusal),
+/// Each seat on a thread of its own, until its loop ends.
+fn sit<
+    S: ScriptName + Send + Sync,
+    P: RunName + Send + Sync,
+    E: Ledger + Send + Sync,
+    G: Ledger + Send + Sync,
+    C: Ledger + Send + Sync,
+    J: Ledger + Send + Sync,
+    K: Gate + Sync,
+    R: Threads + Wait + Clock + Sync,
+>(
+    rt: &R,
+    alloc: Global,
+    shared: &Shared<S, P, E, G, C, J>,
+    seats: Vec<Seat<E, G, C, J>>,
+    script: &Compiled,
+    gate: &K,
+) -> Result<Vec<Seat<E, G, C, J>>, AllocError>
+    requires { script_of script.now ≡ S.script }
+{
+    thread::map_vec(
+        rt,
+        seats,
+        &|seat| -> Seat<E, G, C, J>
+            requires { script_of script.now ≡ S.script }
+        { work(rt, alloc, shared, seat, script, gate) },
+    )
 }
 
-#[tactic(auto, using(crate::proofs::Seats::so_many))]
+/// A run is over once no seat finds anything to do; where one left before, all sit down again.
 fn run_shared<
     S: ScriptName + Send + Sync,
+    P: RunName + Send + Sync,
     E: Ledger + Send + Sync,
     G: Ledger + Send + Sync,
     C: Ledger + Send + Sync,
@@ -51,29 +73,26 @@ fn run_shared<
 ) -> Result<Ended<S>, AllocError>
     requires some { (1 ≤ n) × (n ≤ 8) }
     requires fresh { IsFresh (state_of board) }
+    requires named { (plan.lines ≡ P.plan) × (size_of (state_of board) ≡ P.size) }
     requires script { script_of script.now ≡ S.script }
     requires events { (blanks.events.name ≡ E.name) × (blanks.events.parts ≡ E.parts) × (E.parts ≡ n) }
     requires given { (blanks.given.name ≡ G.name) × (blanks.given.parts ≡ G.parts) × (G.parts ≡ n) }
     requires commits { (blanks.commits.name ≡ C.name) × (blanks.commits.parts ≡ C.parts) × (C.parts ≡ n) }
     requires committed { (blanks.committed.name ≡ J.name) × (blanks.committed.parts ≡ J.parts) × (J.parts ≡ n) }
-    ensures { IfOk result (λ end. IsEnd n end) }
+    ensures { IfOk result (IsEnd n P.plan P.size) }
 {
-    let (shared, seats) = Shared::<S, E, G, C, J>::new(alloc, blanks, board, plan, n)?;
-    let lent = &shared;
-    let back = thread::map_vec(
-        rt,
-        seats,
-        &|seat| -> Seat<E, G, C, J>
-            requires { script_of script.now ≡ S.script }
-        { work(rt, alloc, lent, seat, script, gate) },
-    )?;
-    if let Some(refusal) = shared.given_up(rt) {
-        return Ok(Ended::GivenUp(refusal));
+    let (mut shared, mut seats) = Shared::<S, P, E, G, C, J>::new(alloc, blanks, board, plan, n)?;
+    for _ in rt.forever() {
+        let back = sit(rt, alloc, &shared, seats, script, gate)?;
+        match shared.end(alloc, back) {
+            Ok(end) => return Ok(end),
+            Err((again, left)) => {
+                shared = again;
+                seats = left;
+            }
+        }
     }
-    let Ok(board) = shared.close(back) else {
-        unreachable!();
-    };
-    Ok(Ended::Over(board))
+    unreachable!()
 }
 
 /// Runs a script on `n` threads, 1 to 8, beside a plan: each has a seat, takes its turns and runs the jobs that it is given side by side with
@@ -95,10 +114,10 @@ pub fn run_on_threads<
     requires some { (1 ≤ n) × (n ≤ 8) }
     requires fresh { IsFresh (state_of board) }
     requires script { script_of script.now ≡ S.script }
-    ensures { IfOk result (λ end. IsEnd n end) }
+    ensures { IfOk result (IsEnd n plan.lines (size_of (state_of board))) }
 {
     let blanks = Blanks::new(u64::from(n));
-    run_shared::<S, Brand, Brand, Brand, Brand, K, R>(
+    run_shared::<S, Brand, Brand, Brand, Brand, Brand, K, R>(
         rt, alloc, blanks, board, plan, n, script, gate,
     )
 }

@@ -1,17 +1,21 @@
 // Runs on threads, beside a plan.
 
-ghost use Rattle.std.specs.Prelude.{◌≡◌, ◌+◌, ◌≤◌, [], None, IfOk, length, slice_get};
+ghost use Rattle.std.specs.Prelude.{◌≡◌, ◌+◌, ◌≤◌, [], None, true, IfOk, IfSome, length, slice_get};
 ghost use Rattle.event_log.specs.Books.{totals_of};
 ghost use Rattle.event_log.specs.Laws.{nothing, plus};
 ghost use Rattle.event_log.specs.Views.{event_of, log_of};
+ghost use Rattle.event_log.specs.declared.refusal.Refusal.TheVariants.{NoMemory};
 ghost use Rattle.protocol_board.specs.Cores.{Answers, reply_of, state_of};
 ghost use Rattle.protocol_board.specs.Meant.{IsSoundLog};
 ghost use Rattle.seats.specs.Counted.{IsFresh, counted};
+ghost use Rattle.seats.specs.Ends.{HasEnded, IsOver, Stands, first_events, log_at, size_of};
 ghost use Rattle.seats.specs.Turns.{Follows, Takes, Turned, choice, due, or_first, past_line, turn_counted};
 ghost use Rattle.seats.specs.Views.{choice_of, told_of, turn_of};
 
 use crate::choice::{Choice, behind_plan, due};
+use crate::end::Ended;
 use crate::outs::{JobOut, busy, first_refusal, keep_or_give_up};
+use crate::run_name::RunName;
 use crate::turn::Turn;
 use event_files::{PlanLine, RunPlan};
 use event_log::{Entry, Event, Refusal};
@@ -19,11 +23,11 @@ use protocol_board::{Board, Reply};
 use segment::{Done, ScriptName};
 use sequence::Seq;
 use std::alloc::{AllocError, Global};
-use std::marker::Model;
+use std::marker::{Model, PhantomData};
 
-/// A run on threads, beside a plan.
+/// The run `P` on threads, of the script `S`, beside its plan.
 #[derive(Drop)]
-pub struct Turning<S: ScriptName> {
+pub struct Turning<S: ScriptName, P: RunName> {
     board: Board<S>,
     plan: Seq<PlanLine>,
     /// How many of the plan's lines were taken.
@@ -32,9 +36,10 @@ pub struct Turning<S: ScriptName> {
     commits: u64,
     out: Seq<JobOut>,
     given_up: Option<Refusal>,
+    name: PhantomData<P>,
 }
 
-impl<S: ScriptName> Model for Turning<S> {
+impl<S: ScriptName, P: RunName> Model for Turning<S, P> {
     ghost use Rattle.std.specs.Prelude.{◌≡◌};
     ghost use Rattle.std.specs.Coded.{codes};
     ghost use Rattle.held.specs.Codes.{value_code, outcome_code, birth_code, id_code};
@@ -44,6 +49,7 @@ impl<S: ScriptName> Model for Turning<S> {
     ghost use Rattle.event_log.specs.Views.{log_of};
     ghost use Rattle.protocol_board.specs.Cores.{state_of};
     ghost use Rattle.seats.specs.Counted.{ClaimsGaveJobs};
+    ghost use Rattle.seats.specs.Ends.{HasSlots, Stands, first_events};
     ghost use Rattle.seats.specs.Views.{TurnData};
 
     ghost Value = { TurnData };
@@ -52,7 +58,9 @@ impl<S: ScriptName> Model for Turning<S> {
 
     ghost view = { λ t. record { run = t.board; plan = t.plan; taken = t.taken; out = t.out; given_up = t.given_up } };
 
-    ghost invariant = { λ t. ClaimsGaveJobs (state_of t.board) × (t.commits ≡ (totals_of (log_of t.board.log)).commits) };
+    ghost invariant = { λ t. ClaimsGaveJobs (state_of t.board) × (t.commits ≡ (totals_of (log_of t.board.log)).commits)
+        × (t.plan ≡ P.plan) × (t.board.first_nodes ≡ P.size.nodes) × HasSlots P.size.slots t.board.whole t.given_up
+        × Stands (first_events t.taken t.plan) (log_of t.board.log) t.given_up };
 }
 
 /// How many commits were accepted, behind one event more; no more than the log has entries.
@@ -73,10 +81,11 @@ fn entries_of<S: ScriptName>(board: &Board<S>) -> usize
     board.log().len()
 }
 
-impl<S: ScriptName> Turning<S> {
+impl<S: ScriptName, P: RunName> Turning<S, P> {
     /// A run that begins, beside the plan.
-    pub fn new(alloc: Global, board: Board<S>, plan: RunPlan) -> Turning<S>
-        requires { IsFresh (state_of board) }
+    pub fn new(alloc: Global, board: Board<S>, plan: RunPlan) -> Turning<S, P>
+        requires fresh { IsFresh (state_of board) }
+        requires named { (plan.lines ≡ P.plan) × (size_of (state_of board) ≡ P.size) }
         ensures begins { result ≡ record { run = board; plan = plan.lines; taken = 0; out = []; given_up = None } }
         ensures totals { totals_of (log_of result.run.log) ≡ nothing }
     {
@@ -87,6 +96,7 @@ impl<S: ScriptName> Turning<S> {
             commits: 0,
             out: Seq::new(alloc),
             given_up: None,
+            name: PhantomData,
         }
     }
 
@@ -119,8 +129,9 @@ impl<S: ScriptName> Turning<S> {
         None
     }
 
-    /// Goes past the plan's next line, if there is one.
+    /// Goes past the plan's next line, if there is one, whose event was applied.
     fn pass_line(&mut self)
+        requires { Stands (first_events (past_line self.old.plan self.old.taken) self.old.plan) (log_of self.old.run.log) self.old.given_up }
         ensures { self.new ≡ record self.old { taken = past_line self.old.plan self.old.taken } }
     {
         if self.taken < self.plan.len() {
@@ -168,7 +179,7 @@ impl<S: ScriptName> Turning<S> {
     /// delivered; else the plan's next line is applied, if its number of commits were accepted; else the least worker that is ready claims;
     /// else, where a live worker's job is out, nothing is done; else the plan's next line is applied; else the run is at its end.
     ///
-    /// Once the run is given up it is at its end too.
+    /// Once the run is given up it is at its end too: behind an event that was refused 37, 38 or 39, or where there was no memory.
     pub fn turn(&mut self, alloc: Global, seat: u8) -> Turn<S>
         ensures turned { Turned (turn_of self.old) seat (turn_of self.new) (told_of result) }
         ensures counted { totals_of (log_of self.new.run.log) ≡ plus (totals_of (log_of self.old.run.log)) (turn_counted (told_of result)) }
@@ -177,32 +188,55 @@ impl<S: ScriptName> Turning<S> {
             return Turn::End;
         }
         let Ok(choice) = self.choose(alloc) else {
-            self.give_up(Refusal::NoMemory);
+            self.give_up();
             return Turn::End;
         };
         match choice {
             Choice::Does(event) => self.take(alloc, seat, event),
             Choice::Plans(event) => {
+                let told = self.take(alloc, seat, event);
                 self.pass_line();
-                self.take(alloc, seat, event)
+                told
             }
             Choice::Waits => Turn::Again,
             Choice::Ends => Turn::End,
         }
     }
 
-    /// Gives the run up; the first refusal for which it is stands.
-    pub fn give_up(&mut self, refusal: Refusal)
-        ensures { self.new ≡ record self.old { given_up = or_first self.old.given_up refusal } }
+    /// Gives the run up for want of memory, unless it was given up before.
+    pub fn give_up(&mut self)
+        ensures { self.new ≡ record self.old { given_up = or_first self.old.given_up NoMemory } }
     {
-        self.given_up = first_refusal(self.given_up, refusal);
+        self.given_up = first_refusal(self.given_up, Refusal::NoMemory);
     }
 
-    /// The refusal for which the run was given up, if it was.
-    pub fn given_up(&self) -> Option<Refusal>
-        ensures { result ≡ self.now.given_up }
+    /// Whether the run is at its end: it was given up, or nothing is left to do.
+    pub fn is_at_end(&self, alloc: Global) -> bool
+        ensures { result ≡ true → self.now.given_up ≡ None → IsOver P.plan P.size (state_of self.now.run) }
     {
-        self.given_up
+        if self.given_up.is_some() {
+            return true;
+        }
+        if self.taken < self.plan.len() {
+            return false;
+        }
+        let nobody = Seq::new(alloc);
+        self.board.next(&nobody).is_none()
+    }
+
+    /// How the run ended.
+    pub fn into_end(self) -> Ended<S>
+        requires { self.given_up ≡ None → IsOver P.plan P.size (state_of self.run) }
+        ensures ended { HasEnded P.plan P.size result }
+        ensures log { IfSome (log_at result) (λ log. log ≡ log_of self.run.log) }
+    {
+        let given_up = self.given_up;
+        let board = self.into_board();
+        match given_up {
+            None => Ended::Over(board),
+            Some(Refusal::Limit) => Ended::AtLimit(board),
+            Some(_) => Ended::NoMemory,
+        }
     }
 
     /// The entries so far, oldest first.
@@ -224,6 +258,7 @@ impl<S: ScriptName> Turning<S> {
             commits: _,
             out: _,
             given_up: _,
+            name: _,
         } = self;
         board
     }

@@ -3,12 +3,11 @@
 ghost use Rattle.std.specs.Prelude.{◌≡◌};
 ghost use Rattle.script_check.specs.Trees.{script_of};
 
+use crate::run_name::RunName;
 use crate::seat::Seat;
 use crate::shared::Shared;
 use crate::turn::Turn;
-use event_log::Refusal;
 use kept_frames::Frames;
-use protocol_board::Reply;
 use segment::{Compiled, Job, ScriptName};
 use std::alloc::Global;
 use std::rt::Clock;
@@ -26,25 +25,11 @@ pub trait Gate {
     fn enter(&self, job: u64);
 }
 
-/// Gives the run up for a refusal 37, 38 or 39.
-fn heed<S: ScriptName, E: Ledger, G: Ledger, C: Ledger, J: Ledger, R: Wait>(
-    rt: &R,
-    shared: &Shared<S, E, G, C, J>,
-    refusal: Refusal,
-) {
-    if matches!(
-        refusal,
-        Refusal::Limit | Refusal::Halted | Refusal::NoMemory
-    ) {
-        shared.give_up(rt, refusal);
-    }
-}
-
 /// Runs the job outside the lock, from the frame of its attempt if this thread kept it, and commits what was done on it.
-fn run_job<S: ScriptName, E: Ledger, G: Ledger, C: Ledger, J: Ledger, K: Gate, R: Wait>(
+fn run_job<S: ScriptName, P: RunName, E: Ledger, G: Ledger, C: Ledger, J: Ledger, K: Gate, R: Wait>(
     rt: &R,
     alloc: Global,
-    shared: &Shared<S, E, G, C, J>,
+    shared: &Shared<S, P, E, G, C, J>,
     seat: &mut Seat<E, G, C, J>,
     script: &Compiled,
     frames: &mut Frames<S>,
@@ -57,21 +42,28 @@ fn run_job<S: ScriptName, E: Ledger, G: Ledger, C: Ledger, J: Ledger, K: Gate, R
     gate.enter(job.number());
     match frames.run(alloc, script, job) {
         Ok(done) => {
-            if let Reply::Refused(refusal) = shared.commit(rt, alloc, seat, done) {
-                heed(rt, shared, refusal);
-            }
+            shared.commit(rt, alloc, seat, done);
         }
-        Err(_) => shared.give_up(rt, Refusal::NoMemory),
+        Err(_) => shared.give_up(rt),
     }
 }
 
 /// One thread's loop, over the turns of its seat: given a job, it tells the gate, runs the job outside the lock and commits it. Where it must
-/// wait for another's job it sleeps for a tenth of a millisecond, and asks again. It ends with the run: it gives the run up where a job finds
-/// no memory, or an event of its own is refused 37, 38 or 39.
-pub fn work<S: ScriptName, E: Ledger, G: Ledger, C: Ledger, J: Ledger, K: Gate, R: Wait + Clock>(
+/// wait for another's job it sleeps for a tenth of a millisecond, and asks again. It ends with the run, which it gives up where a job finds no
+/// memory.
+pub fn work<
+    S: ScriptName,
+    P: RunName,
+    E: Ledger,
+    G: Ledger,
+    C: Ledger,
+    J: Ledger,
+    K: Gate,
+    R: Wait + Clock,
+>(
     rt: &R,
     alloc: Global,
-    shared: &Shared<S, E, G, C, J>,
+    shared: &Shared<S, P, E, G, C, J>,
     seat: Seat<E, G, C, J>,
     script: &Compiled,
     gate: &K,
@@ -84,8 +76,7 @@ pub fn work<S: ScriptName, E: Ledger, G: Ledger, C: Ledger, J: Ledger, K: Gate, 
     for _ in rt.forever() {
         match shared.turn(rt, alloc, &mut seat) {
             Turn::Job(job) => run_job(rt, alloc, shared, &mut seat, script, &mut frames, gate, job),
-            Turn::Did => {}
-            Turn::Refused(refusal) => heed(rt, shared, refusal),
+            Turn::Did | Turn::Refused(_) => {}
             Turn::Again => thread::sleep(rt, Duration::from_micros(PAUSE)),
             Turn::End => break,
         }

@@ -1,8 +1,12 @@
+use Rattle.std.proofs.Common.{[]}
 use Rattle.script_check.specs.Trees.{script_of}
 use Rattle.seat_tests.proofs.steps.a_run_by_claim_commit_and_step.Given as goal
 
 abbrev pub ghosts-report_of-S-ScriptName : goal.ghosts-report_of-S-ScriptName
 ghosts-report_of-S-ScriptName g a = record { script = script_of a.script.now }
+
+abbrev pub ghosts-report_of-P-RunName : goal.ghosts-report_of-P-RunName
+ghosts-report_of-P-RunName g a = record { plan = []; size = record { nodes = 1; slots = 4 } }
 
 abbrev pub ghosts-report_of-E-Ledger : goal.ghosts-report_of-E-Ledger
 ghosts-report_of-E-Ledger g a = record { name = a.blanks.events.name; parts = a.blanks.events.parts }

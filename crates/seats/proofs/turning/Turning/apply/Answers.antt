@@ -1,12 +1,15 @@
-use Rattle.std.proofs.Common.{◌≡◌, ◌+◌, ◌≤◌, sym, subst}
+use Rattle.std.proofs.Common.{◌≡◌, ◌+◌, ◌≤◌, ◌∙◌, sym, subst}
 use Rattle.event_log.specs.Books.{totals_of}
 use Rattle.event_log.specs.Laws.{plus}
 use Rattle.event_log.specs.Views.{event_of, log_of}
 use Rattle.protocol_board.specs.Cores.{reply_of, state_of}
 use Rattle.seats.specs.Counted.{counted}
+use Rattle.seats.specs.Ends.{first_events}
 use Rattle.seats.specs.Views.{TurnData}
 use Rattle.seats.proofs.Counted.{answers_counted}
 use Rattle.seats.proofs.Few.{commits_now, few_behind}
+use Rattle.seats.proofs.Sizes.{same_nodes, slots_behind, slots_kept}
+use Rattle.seats.proofs.Standing.{stands_behind, stands_kept}
 use Rattle.seats.proofs.turning.Turning.apply.Goals as goal
 
 pub commits_behind-self-inside-requires : goal.commits_behind-self-inside-requires
@@ -25,10 +28,20 @@ invariant_of-self g c =
     let after = c.apply-told.new.self in
     let e = event_of c.args.event in
     let told = reply_of c.apply-told.result in
+    let es = first_events c.self.inside.taken c.self.inside.plan in
     let h = answers_counted (state_of before) (state_of after) e c.args.seat c.args.done told c.self.invariant.0 c.apply-told.ensures.answers in (
       h.jobs,
       commits_now (totals_of (log_of before.log)) (counted e told) after.log c.self.inside.commits c.commits_behind-self-inside.result
           h.totals c.self.invariant.1 c.commits_behind-self-inside.ensures,
+      c.self.invariant.2,
+      same_nodes (state_of before) (state_of after) e c.args.seat c.args.done told c.apply-told.ensures.answers ∙ c.self.invariant.3,
+      slots_kept g.P.RunName.size.slots after.whole e told c.self.inside.out c.self.inside.given_up c.keep_or_give_up.new.out c.keep_or_give_up.new.given_up
+          (slots_behind g.P.RunName.size.slots (state_of before) (state_of after) e c.args.seat c.args.done told c.self.inside.given_up c.apply-told.ensures.answers
+          c.self.invariant.4)
+          c.keep_or_give_up.ensures,
+      stands_kept es (log_of after.log) e told c.self.inside.out c.self.inside.given_up c.keep_or_give_up.new.out c.keep_or_give_up.new.given_up
+          (stands_behind es (state_of before) (state_of after) e c.args.seat c.args.done told c.self.inside.given_up c.apply-told.ensures.answers c.self.invariant.5)
+          c.keep_or_give_up.ensures,
     )
 
 pub returns-clause-counted : goal.returns-clause-counted

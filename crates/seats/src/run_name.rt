@@ -1,0 +1,23 @@
+// Names of runs.
+
+ghost use Rattle.std.specs.Prelude.{List};
+ghost use Rattle.event_files.specs.declared.plan.PlanLine.{PlanLine};
+ghost use Rattle.protocol_board.specs.Cores.{Size};
+
+use std::marker::Brand;
+
+/// A type that stands for one run on threads in contracts: the plan beside it, and the cluster on which it begins. Of a run under a lock nothing
+/// is known but what its type says.
+pub trait RunName {
+    ghost plan: { List PlanLine };
+
+    ghost size: { Size };
+}
+
+impl RunName for Brand {
+    ghost use Rattle.std.specs.Prelude.{[]};
+
+    ghost plan = { [] };
+
+    ghost size = { record { nodes = 1; slots = 1 } };
+}

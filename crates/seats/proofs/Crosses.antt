@@ -11,7 +11,6 @@ use Rattle.sequence.specs.contracts.Seq as Seq
 use Rattle.values.proofs.value.RunValue.TheLaws.TheKnot as value
 use Rattle.held.specs.contracts.content.Content as Content
 use Rattle.held.specs.contracts.origin.Origin as Origin
-use Rattle.held.specs.contracts.printed.Printed as Printed
 use Rattle.numbers.specs.contracts.NodeId as NodeId
 use Rattle.numbers.specs.contracts.ObjectId as ObjectId
 use Rattle.numbers.proofs.AttemptId.TheSendSync as attempt
@@ -62,14 +61,11 @@ content_send = search (value.crosses, crosses, sendable) depth 60 fits 20000
 origin_send : IsSend Origin.the_row
 origin_send = search (value.crosses, crosses, sendable) depth 60 fits 20000
 
-printed_send : IsSend Printed.the_row
-printed_send = search (value.crosses, crosses, sendable) depth 60 fits 20000
-
 node_send : IsSend Node.the_field.row
 node_send = search (content_send, value.crosses, crosses, sendable) depth 60 fits 20000
 
 worker_send : IsSend Worker.the_field.row
-worker_send = search (content_send, origin_send, printed_send, value.crosses, crosses, sendable) depth 60 fits 20000
+worker_send = search (content_send, origin_send, value.crosses, crosses, sendable) depth 60 fits 20000
 
 objects_send : IsSend (Seq.the_row ObjectId.the_row)
 objects_send = search (object.the_send, crosses, sendable) depth 60 fits 20000

@@ -9,7 +9,7 @@ ghost use Rattle.protocol_board.specs.Cores.{Answers, reply_of, state_of};
 ghost use Rattle.protocol_board.specs.Meant.{IsSoundLog};
 ghost use Rattle.seats.specs.Counted.{IsFresh, counted};
 ghost use Rattle.seats.specs.Ends.{HasEnded, IsOver, Stands, first_events, log_at, size_of};
-ghost use Rattle.seats.specs.Turns.{Follows, Takes, Turned, choice, due, or_first, past_line, turn_counted};
+ghost use Rattle.seats.specs.Turns.{Follows, Takes, Turned, choice, due, is_at_end, or_first, past_line, turn_counted};
 ghost use Rattle.seats.specs.Views.{choice_of, told_of, turn_of};
 
 use crate::choice::{Choice, behind_plan, due};
@@ -210,9 +210,10 @@ impl<S: ScriptName, P: RunName> Turning<S, P> {
         self.given_up = first_refusal(self.given_up, Refusal::NoMemory);
     }
 
-    /// Whether the run is at its end: it was given up, or nothing is left to do.
+    /// Whether the run is at its end: it was given up, or nothing is left to do, nor of the plan.
     pub fn is_at_end(&self, alloc: Global) -> bool
-        ensures { result ≡ true → self.now.given_up ≡ None → IsOver P.plan P.size (state_of self.now.run) }
+        ensures at_end { result ≡ is_at_end (turn_of self.now) }
+        ensures over { result ≡ true → self.now.given_up ≡ None → IsOver P.plan P.size (state_of self.now.run) }
     {
         if self.given_up.is_some() {
             return true;

@@ -210,6 +210,13 @@ impl<S: ScriptName, P: RunName> Turning<S, P> {
         self.given_up = first_refusal(self.given_up, Refusal::NoMemory);
     }
 
+    /// The refusal for which the run was given up, if it was.
+    pub fn given_up(&self) -> Option<Refusal>
+        ensures { result ≡ self.now.given_up }
+    {
+        self.given_up
+    }
+
     /// Whether the run is at its end: it was given up, or nothing is left to do, nor of the plan.
     pub fn is_at_end(&self, alloc: Global) -> bool
         ensures at_end { result ≡ is_at_end (turn_of self.now) }

@@ -1,14 +1,13 @@
 -- Which objects are held, and so are not released.
-use Rattle.std.specs.Prelude.{ℕ, Bool, false, ◌&&◌, ◌||◌, if◌then◌else◌, List, [], ◌∷◌, ◌++◌, Option, Some, None, not}
+use Rattle.std.specs.Prelude.{◌≡◌, ℕ, Bool, true, false, ◌&&◌, ◌||◌, if◌then◌else◌, List, [], ◌∷◌, ◌++◌, Option, Some, None, not}
 use Rattle.std.specs.List.{list_any}
-use Rattle.meaning.specs.Values.{Outcome, Argument, Birth, Put, Task, Id}
-use Rattle.meaning.specs.Births.{same_id, Bearing, birth_at}
+use Rattle.meaning.specs.Values.{Value, Outcome, Val, Argument, Birth, Put, Task, Id}
+use Rattle.meaning.specs.Births.{same_id, birth_at}
 use Rattle.values.specs.Listed.{ids_listed, ids_in_outcome}
-use Rattle.event_log.specs.Entries.{Attempt, Entry, main_object}
-use Rattle.event_log.specs.Words.{births, own_births, Lineage, lines, worker_of, Running, begun, answers_of, ends_of, Ending, endings, faults_of}
-use Rattle.event_log.specs.Words.{accepts_of, releases_of}
+use Rattle.event_log.specs.Entries.{Attempt, Entry, Begun, Born, Got, Ended, main_object}
+use Rattle.event_log.specs.Words.{attempt, births, Lineage, lines, worker_of, ends_of, faults_of, accepts_of, releases_of}
 use Rattle.event_log.specs.Events.{is_live}
-use Rattle.event_log.specs.Breaks.{is_some}
+use Rattle.event_log.specs.Breaks.{Among, is_some}
 
 unfoldable pub is_one_of : List Id → Id → Bool
 is_one_of os z = list_any (λ o. same_id o z) os
@@ -39,21 +38,28 @@ abbrev pub ids_of_birth : Birth → List Id
 ids_of_birth (Put v) = ids_listed v
 ids_of_birth (Task g args depth retries) = ids_of_arguments args
 
-abbrev pub ids_of_outcomes : List Outcome → List Id
-ids_of_outcomes [] = []
-ids_of_outcomes (c ∷ cs) = ids_in_outcome c ++ ids_of_outcomes cs
+-- the object's put value or arguments have the id, or a content with which an attempt of it ended
+pub data HasId (log : List Entry) (e z : Id) : Type 0 where
+  InBirth : (birth : Birth) → birth_at (births log) e ≡ Some birth → Among z (ids_of_birth birth) → HasId log e z
+  InContent : (number : ℕ) (c : Outcome) → Among c (ends_of (attempt e number) log) → Among z (ids_in_outcome c) → HasId log e z
 
-abbrev pub objects_of : List Bearing → List Id
-objects_of [] = []
-objects_of (x ∷ xs) = x.object ∷ objects_of xs
+-- ---- safe ids
 
-abbrev pub ids_given_to : Option Birth → List Id
-ids_given_to None = []
-ids_given_to (Some b) = ids_of_birth b
+-- the attempt made that content of the object: it put it, or ended with it
+pub data Makes (log : List Entry) (b : Attempt) (y : Id) : Outcome → Type 0 where
+  ByPut : (v : Value) → Among (Born y b (Put v)) log → Makes log b y (Val v)
+  ByEnd : (c : Outcome) → b.object ≡ y → Among (Ended b c) log → Makes log b y c
 
--- the ids that the attempt knows: those in its arguments, of the objects that it bore, and in the contents that it got
-abbrev pub known_to : Attempt → List Entry → List Id
-known_to a log = ids_given_to (birth_at (births log) a.object) ++ (objects_of (own_births a log) ++ ids_of_outcomes (answers_of a log))
+-- an id is safe in an attempt where the owners of all objects by which it came there live
+pub data Safe (log : List Entry) : Attempt → Id → Type 0 where
+  -- the attempt bore it
+  Bore : (a : Attempt) (z : Id) (birth : Birth) → Among (Born z a birth) log → Safe log a z
+  -- it stands in the arguments, the owner of the attempt's object lives, and it is safe in the attempt that bore that object
+  Given : (a b : Attempt) (z : Id) (birth : Birth) → Among (Born a.object b birth) log → Among z (ids_of_birth birth) → is_live a.object.owner log ≡ true →
+      Safe log b z → Safe log a z
+  -- it stands in a content of y that the attempt got, y is safe there, its owner lives, and it is safe in the attempt that made that content
+  Gained : (a b : Attempt) (y z : Id) (c : Outcome) → Among (Got a y c) log → Among z (ids_in_outcome c) → Safe log a y → is_live y.owner log ≡ true →
+      Makes log b y c → Safe log b z → Safe log a z
 
 -- ---- held objects
 
@@ -64,25 +70,22 @@ is_released o log = is_some (releases_of o log)
 abbrev pub is_open : Attempt → List Entry → Bool
 is_open a log = not (is_some (ends_of a log)) && not (is_some (faults_of a log))
 
--- by an open attempt of an anchored object, on a live worker, that knows it
-abbrev pub holds_as_attempt : Id → List Entry → Running → Bool
-holds_as_attempt z log r = (is_anchored r.attempt.object log && is_live r.worker log) && (is_open r.attempt log && is_one_of (known_to r.attempt log) z)
-
--- by an anchored object that isn't released and has it in its arguments or put value
-abbrev pub holds_as_birth : Id → List Entry → Bearing → Bool
-holds_as_birth z log x = (is_anchored x.object log && not (is_released x.object log)) && is_one_of (ids_of_birth x.birth) z
-
 abbrev pub lives_on : Option ℕ → List Entry → Bool
 lives_on None log = false
 lives_on (Some w) log = is_live w log
 
--- by an anchored object that isn't released, an attempt of which ended with a content that has it, and was accepted or its
--- worker lives
-abbrev pub holds_as_content : Id → List Entry → Ending → Bool
-holds_as_content z log x =
-    (is_anchored x.attempt.object log && not (is_released x.attempt.object log))
-    && ((is_some (accepts_of x.attempt log) || lives_on (worker_of x.attempt log) log) && is_one_of (ids_in_outcome x.content) z)
+-- the attempt was accepted, or its worker lives
+abbrev pub may_count : Attempt → List Entry → Bool
+may_count a log = is_some (accepts_of a log) || lives_on (worker_of a log) log
 
-unfoldable pub is_held : Id → List Entry → Bool
-is_held z log =
-    list_any (holds_as_attempt z log) (begun log) || (list_any (holds_as_birth z log) (births log) || list_any (holds_as_content z log) (endings log))
+pub data IsHeld (z : Id) (log : List Entry) : Type 0 where
+  -- by an open attempt of an anchored object, on a live worker, in which it is safe
+  ByAttempt : (a : Attempt) (w : ℕ) → Among (Begun a w) log → is_anchored a.object log ≡ true → is_live w log ≡ true → is_open a log ≡ true →
+      Safe log a z → IsHeld z log
+  -- by an anchored object that isn't released and has it in its arguments or put value, where it is safe in the attempt that bore that object
+  ByBirth : (e : Id) (b : Attempt) (birth : Birth) → Among (Born e b birth) log → is_anchored e log ≡ true → is_released e log ≡ false →
+      Among z (ids_of_birth birth) → Safe log b z → IsHeld z log
+  -- by an anchored object that isn't released, an attempt of which ended with a content that has it, where it is safe in that attempt, which
+  -- was accepted or its worker lives
+  ByContent : (a : Attempt) (c : Outcome) → Among (Ended a c) log → is_anchored a.object log ≡ true → is_released a.object log ≡ false →
+      may_count a log ≡ true → Among z (ids_in_outcome c) → Safe log a z → IsHeld z log

@@ -11,9 +11,9 @@ use Rattle.event_log.specs.Entries.{In, Refused, Opened, Begun, Born, Got, Print
 use Rattle.event_log.specs.Entries.{main_attempt}
 use Rattle.event_log.specs.Words.{attempt, births, next_serial, own_births, bearers_of, runs_of, worker_of, answers_of, printed_by, ends_of, Lack}
 use Rattle.event_log.specs.Words.{faults_of, accepts_of, resolves_of, releases_of, opened}
-use Rattle.event_log.specs.Events.{under_way, worker_of_job, node_lives, node_of, is_live, was_told}
+use Rattle.event_log.specs.Events.{under_way, worker_of_job, node_lives, node_of, is_killed, is_live, was_told}
 use Rattle.event_log.specs.Breaks.{Among, Broken, AllBroken, Cause}
-use Rattle.event_log.specs.Holding.{is_held}
+use Rattle.event_log.specs.Holding.{HasId, IsHeld}
 pub use Rattle.event_log.specs.Settings.{Receiver, ToWorker, ToNode, Setting}
 use Rattle.event_log.specs.Causes.{MayRefuse}
 
@@ -157,10 +157,19 @@ pub record MayAccept (s : Setting) (before : List Entry) (a : Attempt) : Type 0 
   pub unresolved : resolves_of a.object before ≡ []
   pub once : accepts_of a before ≡ []
 
--- why a get of the object is answered with the fault: the object is resolved to it, or the worker was told that its owner
--- is dead
+-- the object was released, and the fault is OwnerDied of an object of a dead owner that had its id
+pub record DiedAbove (before : List Entry) (y : Id) (f : Fault) : Type 0 where
+  pub released : Among y (releases_of y before)
+  pub above : Id
+  pub fault : f ≡ record { kind = OwnerDied; object = above }
+  pub dead : is_killed above.owner before ≡ true
+  pub had : HasId before above y
+
+-- why a get of the object is answered with the fault: the object is resolved to it, the worker was told that its owner is
+-- dead, or it was released and an object of a dead owner had it
 abbrev pub IsFaultOf : List Entry → ℕ → Id → Fault → Type 0
-IsFaultOf before w y f = Among f (resolves_of y before) ⊎ ((f ≡ record { kind = OwnerDied; object = y }) × (was_told w y.owner before ≡ true))
+IsFaultOf before w y f =
+    Among f (resolves_of y before) ⊎ ((f ≡ record { kind = OwnerDied; object = y }) × (was_told w y.owner before ≡ true)) ⊎ DiedAbove before y f
 
 -- in an own event of the attempt's worker, the attempt needs the object, which has the fault; and the fault has its cause
 pub record MayFault (s : Setting) (before : List Entry) (a : Attempt) (y : Id) (f : Fault) : Type 0 where
@@ -216,7 +225,7 @@ pub record MayRelease (s : Setting) (before : List Entry) (o : Id) : Type 0 wher
   pub bearer : Attempt
   pub bore : Among bearer (bearers_of o before)
   pub over : ((c : Outcome) × Among c (ends_of bearer before)) ⊎ ((x : Lack) × Among x (faults_of bearer before))
-  pub unheld : is_held o before ≡ false
+  pub unheld : IsHeld o before → ⊥
 
 -- the entry may stand behind those before; for an event see below
 abbrev pub Allowed : Setting → List Entry → Entry → Type 0

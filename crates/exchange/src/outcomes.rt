@@ -34,12 +34,12 @@ fn printed(alloc: Global, values: Vec<RunValue>) -> Result<Seq<Printed>, AllocEr
     Ok(all)
 }
 
-fn stopped(stop: Stop) -> Stopped
-    ensures { result ≡ stopped_of stop }
+fn stopped(alloc: Global, stop: Stop) -> Result<Stopped, AllocError>
+    ensures { IfOk result (λ s. s ≡ stopped_of stop) }
 {
     match stop {
-        Stop::Needs(object) => Stopped::AtGet(object_in(object)),
-        Stop::Ends(inner) => Stopped::AtEnd(Content { inner }),
+        Stop::Needs(object) => Ok(Stopped::AtGet(object_in(object))),
+        Stop::Ends(content) => Ok(Stopped::AtEnd(Content::new(alloc, content)?)),
     }
 }
 
@@ -54,7 +54,7 @@ pub fn outcomes_of(
 {
     let births = origins(alloc, births)?;
     let prints = printed(alloc, prints)?;
-    let stop = stopped(stop);
+    let stop = stopped(alloc, stop)?;
     Ok(Outcomes {
         births,
         prints,

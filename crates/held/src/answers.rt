@@ -52,17 +52,18 @@ impl Answers {
         Ok(Answers { inner })
     }
 
-    /// Adds a content at the end; those before it are copied where a copy shares them. After an error, which is want of memory, they are as
-    /// they were.
-    pub fn push(&mut self, alloc: Global, content: Content) -> Result<(), AllocError>
-        ensures { OnOk result (self.new ≡ self.old ++ content ∷ []) }
+    /// Adds a copy of a content at the end; those before it are copied too where a copy shares them. After an error, which is want of
+    /// memory, they are as they were.
+    pub fn push(&mut self, alloc: Global, content: &Content) -> Result<(), AllocError>
+        ensures { OnOk result (self.new ≡ self.old ++ content.now ∷ []) }
     {
+        let content = content.inner.copy(alloc)?;
         if let Some(contents) = Arc::get_mut(&mut self.inner) {
-            contents.push(content.inner)?;
+            contents.push(content)?;
             return Ok(());
         }
         let mut contents = copy_contents(alloc, &self.inner)?;
-        contents.push(content.inner)?;
+        contents.push(content)?;
         self.inner = Arc::new(alloc, contents)?;
         Ok(())
     }

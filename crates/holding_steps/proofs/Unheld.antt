@@ -3,12 +3,12 @@ use Rattle.std.proofs.Common.{◌≡◌, ℕ, zero, suc, ◌+◌, Bool, true, fa
 use Rattle.std.specs.Prelude.{if◌then◌else◌, ◌==◌}
 use Rattle.meaning.specs.Values.{Id}
 use Rattle.event_log.specs.Entries.{Entry, Released}
-use Rattle.event_log.specs.Holding.{is_held}
+use Rattle.event_log.specs.Holding.{IsHeld}
 use Rattle.event_log.specs.Rules.{Setting}
-use Rattle.protocol.specs.Messages.{Unhold}
-use Rattle.protocol.specs.Tables.{Object, released, without_holder}
+use Rattle.protocol.specs.Messages.{Reason, Unhold, WasReleased}
+use Rattle.protocol.specs.Tables.{Object, released}
 use Rattle.protocol.specs.Steps.{Here, changes, each_from, is_own, logs, own_id, own_object, says, says_to_node}
-use Rattle.protocol.specs.Holders.{unhold_reached}
+use Rattle.protocol.specs.Holders.{unheld_by, unhold_reached}
 use Rattle.protocol.specs.Releases.{may_release, lets_go_of, lets_go, drops_copies, releases, releases_by, release_pass, entries_made, release_passes, release_step}
 use Rattle.holding.specs.Past.{Fact}
 use Rattle.holding_steps.specs.Clauses.{During, so_far, HereTrue, Goes}
@@ -29,9 +29,9 @@ push_parts (e ∷ es) (z ∷ front) back x y h = elim (push_parts es front back 
 ]
 
 -- one entry more, which releases what isn't held
-unheld_push : (d : During) (es : List Entry) (o : Id) → NoneGoesHeld d es → is_held o (so_far d es) ≡ false → NoneGoesHeld d (es ++ Released o ∷ [])
+unheld_push : (d : During) (es : List Entry) (o : Id) → NoneGoesHeld d es → (IsHeld o (so_far d es) → ⊥) → NoneGoesHeld d (es ++ Released o ∷ [])
 unheld_push d es o u h = λ front back p e. elim (push_parts es front back (Released o) (Released p) e) [
-  | inl k ↦ subst (λ l. is_held p (so_far d l) ≡ false) k.0 (subst (λ q. is_held q (so_far d es) ≡ false) (same o p k.1) h)
+  | inl k ↦ subst (λ l. IsHeld p (so_far d l) → ⊥) k.0 (subst (λ q. IsHeld q (so_far d es) → ⊥) (same o p k.1) h)
   | inr k ↦ u front k.0 p k.1
 ]
   where
@@ -40,18 +40,18 @@ unheld_push d es o u h = λ front back p e. elim (push_parts es front back (Rele
 
 -- ---- what a release logs
 
-unhold_log : (h : Here) (e o : Id) → (unhold_reached h e o).there.out.entries ≡ h.there.out.entries
-unhold_log h e o = by_test (is_own h o)
+unhold_log : (h : Here) (e o : Id) (why : Reason) → (unhold_reached h e o why).there.out.entries ≡ h.there.out.entries
+unhold_log h e o why = by_test (is_own h o)
   where
-    by_test : (b : Bool) → (if b then changes h o (without_holder e) else h).there.out.entries ≡ h.there.out.entries
+    by_test : (b : Bool) → (if b then changes h o (unheld_by why e) else h).there.out.entries ≡ h.there.out.entries
     by_test true = refl
     by_test false = refl
 
 lets_go_of_log : (h : Here) (e o : Id) → (lets_go_of h e o).there.out.entries ≡ h.there.out.entries
 lets_go_of_log h e o = by_test (is_own h o)
   where
-    by_test : (b : Bool) → (if b then unhold_reached h e o else says h o.owner (Unhold e o)).there.out.entries ≡ h.there.out.entries
-    by_test true = unhold_log h e o
+    by_test : (b : Bool) → (if b then unhold_reached h e o WasReleased else says h o.owner (Unhold e o WasReleased)).there.out.entries ≡ h.there.out.entries
+    by_test true = unhold_log h e o WasReleased
     by_test false = refl
 
 lets_go_log : (os : List Id) (h : Here) (e : Id) → (lets_go h e os).there.out.entries ≡ h.there.out.entries
@@ -60,7 +60,7 @@ lets_go_log (o ∷ os) h e = lets_go_log os (lets_go_of h e o) e ∙ lets_go_of_
 
 drops_log : (ns : List ℕ) (h : Here) (e : Id) → (drops_copies h e ns).there.out.entries ≡ h.there.out.entries
 drops_log [] h e = refl
-drops_log (n ∷ ns) h e = drops_log ns (says_to_node h n (Unhold e e)) e
+drops_log (n ∷ ns) h e = drops_log ns (says_to_node h n (Unhold e e WasReleased)) e
 
 releases_log : (h : Here) (e : Id) (x : Object) → (releases h e x).there.out.entries ≡ h.there.out.entries ++ Released e ∷ []
 releases_log h e x = let g : Here = logs (changes h e released) (Released e) in drops_log x.places (lets_go g e x.ids) e ∙ lets_go_log x.ids g e

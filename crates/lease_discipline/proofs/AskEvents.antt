@@ -38,12 +38,12 @@ use Rattle.event_log.specs.Entries.{Entry}
 use Rattle.event_log.specs.Words.{same_attempt}
 use Rattle.protocol.specs.Commits.{bears_all, claim_by, claim_step, commit_by, commit_step, ends, next_id_here, stops_by, with_outcomes}
 use Rattle.protocol.specs.Deliveries.{reached}
-use Rattle.protocol.specs.Holders.{holds_ids}
+use Rattle.protocol.specs.Holders.{holds_ids, passes_on}
 use Rattle.protocol.specs.Jobs.{AtEnd, AtGet, Stopped, stop_of}
 use Rattle.protocol.specs.Releases.{release_step}
 use Rattle.protocol.specs.Runs.{begins_run, is_free, leaves_if_free, push_reached}
 use Rattle.protocol.specs.Steps.{logs_all, store_here, with_phase, with_run, with_store}
-use Rattle.protocol.specs.Stores.{with_primary}
+use Rattle.protocol.specs.Stores.{with_ended}
 use Rattle.protocol.specs.Tables.{HasEnded, Out, Run, Waits}
 use Rattle.protocol.specs.Whole.{worker_does, worker_does_at, worker_does_by}
 use Rattle.protocol_owed.proofs.Moves as M
@@ -358,13 +358,13 @@ module _ (c : Whole) (me : ℕ) (x : Worker) (at : worker_at c me ≡ Some x) wh
       let g : Here = with_phase h run (HasEnded content) in
       let o : Id = run.attempt.object in
       let ids : List Id = each_once (ids_in_outcome content) in
-      let stored : Here = with_store g (with_primary (store_here h) o run.attempt.number content) in
+      let stored : Here = passes_on (with_store g (with_ended (store_here h) o run.attempt.number content)) o ids in
       let held : Here = holds_ids stored o ids in
       frees_asks c me x at (IsDeadNode c) (leaves_if_free held)
       (leaves_if_free-kept (ToldOf c me x at (IsDeadNode c)) (OverBy c me x at (IsDeadNode c)) (GivenOf c me x at (IsDeadNode c))
       (PassedBy c me x at (IsDeadNode c)) R T held
       (holds_ids-kept (ToldOf c me x at (IsDeadNode c)) (OverBy c me x at (IsDeadNode c)) (GivenOf c me x at (IsDeadNode c))
-      (PassedBy c me x at (IsDeadNode c)) R T stored o ids (same h g.worker refl q)))
+      (PassedBy c me x at (IsDeadNode c)) R T stored o ids (same h (passes_on g o ids).worker refl q)))
 
   stops_asks : (h : Here) (stop : Stopped) (r : Option Run) → R h → R (stops_by h stop r)
   stops_asks h stop None q = q
@@ -403,7 +403,7 @@ module _ (c : Whole) (me : ℕ) (x : Worker) (at : worker_at c me ≡ Some x) wh
 
     heard_worker : (u : ℕ) (m : Message) → Among (letter (TheWorker u) (TheWorker me) m) c.network → R first → Heard (TheWorker u) m
     heard_worker u (Push a spec) came q = push_step first a spec q
-    heard_worker u (Finished a n ids) came q = told u a (leases.workers.letters _ came)
+    heard_worker u (Finished a n ids kept) came q = told u a (leases.workers.letters _ came)
     heard_worker u (Failed a f) came q = told u a (leases.workers.letters _ came)
     heard_worker u (FinishedAck a) came q = tt
     heard_worker u (Ask a t) came q = tt
@@ -412,14 +412,14 @@ module _ (c : Whole) (me : ℕ) (x : Worker) (at : worker_at c me ≡ Some x) wh
     heard_worker u (Wait a t) came q = tt
     heard_worker u (Back a) came q = tt
     heard_worker u (Where o) came q = tt
-    heard_worker u (At o number ns) came q = tt
+    heard_worker u (At o number ns kept) came q = tt
     heard_worker u (Gone o f) came q = tt
     heard_worker u (Fetch o number) came q = tt
     heard_worker u (CopyOf o number b) came q = tt
     heard_worker u (Missing o number n) came q = tt
     heard_worker u (Hold e o) came q = tt
     heard_worker u (HoldAck e o) came q = tt
-    heard_worker u (Unhold e o) came q = tt
+    heard_worker u (Unhold e o why) came q = tt
 
     -- the node that sent the ask on is the one that was asked
     passed : (n t m : ℕ) (a : Attempt) → Among (letter (TheNode n) (TheWorker a.object.owner) (Elsewhere a t m)) c.network → (own : OwnTask) (i : ℕ) →
@@ -445,21 +445,21 @@ module _ (c : Whole) (me : ℕ) (x : Worker) (at : worker_at c me ≡ Some x) wh
     heard_node n (Elsewhere a t m) came = λ own i mine there progress number.
         passed n t m a (subst (λ u. Among (letter (TheNode n) (TheWorker u) (Elsewhere a t m)) c.network) (sym mine) came) own i mine there progress number
     heard_node n (Push a spec) came = tt
-    heard_node n (Finished a m ids) came = tt
+    heard_node n (Finished a m ids kept) came = tt
     heard_node n (Failed a f) came = tt
     heard_node n (FinishedAck a) came = tt
     heard_node n (Ask a t) came = tt
     heard_node n (Wait a t) came = tt
     heard_node n (Back a) came = tt
     heard_node n (Where o) came = tt
-    heard_node n (At o number ns) came = tt
+    heard_node n (At o number ns kept) came = tt
     heard_node n (Gone o f) came = tt
     heard_node n (Fetch o number) came = tt
     heard_node n (CopyOf o number b) came = tt
     heard_node n (Missing o number m) came = tt
     heard_node n (Hold e o) came = tt
     heard_node n (HoldAck e o) came = tt
-    heard_node n (Unhold e o) came = tt
+    heard_node n (Unhold e o why) came = tt
 
     heard_from : (from : Party) (m : Message) → Among (letter from (TheWorker me) m) c.network → R first → Heard from m
     heard_from (TheWorker u) m came q = heard_worker u m came q

@@ -44,21 +44,21 @@ plain_quiet : (m : Message) → is_plain m ≡ true → is_touch m ≡ false
 plain_quiet (Give a t w) e = absurd (cc)
 plain_quiet (Push a spec) e = absurd (cc)
 plain_quiet (Ask a t) e = absurd (cc)
-plain_quiet (Finished a n ids) e = refl
+plain_quiet (Finished a n ids kept) e = refl
 plain_quiet (Failed a f) e = refl
 plain_quiet (FinishedAck a) e = refl
 plain_quiet (Back a) e = refl
 plain_quiet (Elsewhere a t n) e = refl
 plain_quiet (Wait a t) e = refl
 plain_quiet (Where o) e = refl
-plain_quiet (At o number ns) e = refl
+plain_quiet (At o number ns kept) e = refl
 plain_quiet (Gone o f) e = refl
 plain_quiet (Fetch o number) e = refl
 plain_quiet (CopyOf o number c) e = refl
 plain_quiet (Missing o number n) e = refl
 plain_quiet (Hold e o) f = refl
 plain_quiet (HoldAck e o) f = refl
-plain_quiet (Unhold e o) f = refl
+plain_quiet (Unhold e o why) f = refl
 
 -- more was sent, by which no other attempt than a was asked for or pushed
 pub record TouchesOnly (b : Attempt → Type 0) (s t : List Letter) : Type 0 where
@@ -796,7 +796,7 @@ module _ (c : Whole) (me : ℕ) (old : Worker) (there : item_at c.workers me ≡
     faults = λ h run fault y f e w q. frees_asks (logs (with_phase h run (HasFaulted fault)) (Faulted run.attempt y fault))
         (same_asks h.me h.worker _ (sent_so h) (λ i. refl) q);
     frees = λ h run y f e w q. frees_asks h q;
-    tells_end = λ h run n ids _ _ q. says_asks h _ _ refl q;
+    tells_end = λ h run n ids kept _ _ q. says_asks h _ _ refl q;
     tells_fault = λ h run f _ _ q. says_asks h _ _ refl q;
     back = λ h run _ _ q. says_asks h _ _ refl q;
     hears = λ h w a _ q. says_asks h _ _ refl q;

@@ -298,7 +298,7 @@ module _ (c : Whole) (w : ℕ) (x : Worker) (at : worker_at c w ≡ Some x) (nod
 
   heard_worker : (u : ℕ) (m : Message) → Among (letter (TheWorker u) (TheWorker w) m) c.network → P start → Heard (TheWorker u) m
   heard_worker u (Push a spec) came d = push_does c w x.node x at start a spec live u came d
-  heard_worker u (Finished a n ids) came d = record { to = TheWorker w; message = Finished a n ids; came = came; tells = λ look sent i. i }
+  heard_worker u (Finished a n ids kept) came d = record { to = TheWorker w; message = Finished a n ids kept; came = came; tells = λ look sent i. i }
   heard_worker u (Failed a f) came d = record { to = TheWorker w; message = Failed a f; came = came; tells = λ look sent i. i }
   heard_worker u (FinishedAck a) came d = record { from = TheWorker u; came = came }
   heard_worker u (Ask a t) came d = tt
@@ -307,19 +307,19 @@ module _ (c : Whole) (w : ℕ) (x : Worker) (at : worker_at c w ≡ Some x) (nod
   heard_worker u (Wait a t) came d = tt
   heard_worker u (Back a) came d = tt
   heard_worker u (Where o) came d = tt
-  heard_worker u (At o number ns) came d = tt
+  heard_worker u (At o number ns kept) came d = tt
   heard_worker u (Gone o f) came d = tt
   heard_worker u (Fetch o number) came d = tt
   heard_worker u (CopyOf o number b) came d = tt
   heard_worker u (Missing o number n) came d = tt
   heard_worker u (Hold e o) came d = tt
   heard_worker u (HoldAck e o) came d = tt
-  heard_worker u (Unhold e o) came d = tt
+  heard_worker u (Unhold e o why) came d = tt
 
   heard_node : (n : ℕ) (m : Message) → Among (letter (TheNode n) (TheWorker w) m) c.network → Heard (TheNode n) m
   heard_node n (Give a t v) came = λ own. (t, subst (λ u. Among (letter (TheNode n) (TheWorker u) (Give a t v)) c.network) (sym own) came)
   heard_node n (Push a spec) came = tt
-  heard_node n (Finished a m ids) came = tt
+  heard_node n (Finished a m ids kept) came = tt
   heard_node n (Failed a f) came = tt
   heard_node n (FinishedAck a) came = tt
   heard_node n (Ask a t) came = tt
@@ -327,14 +327,14 @@ module _ (c : Whole) (w : ℕ) (x : Worker) (at : worker_at c w ≡ Some x) (nod
   heard_node n (Wait a t) came = tt
   heard_node n (Back a) came = tt
   heard_node n (Where o) came = tt
-  heard_node n (At o number ns) came = tt
+  heard_node n (At o number ns kept) came = tt
   heard_node n (Gone o f) came = tt
   heard_node n (Fetch o number) came = tt
   heard_node n (CopyOf o number b) came = tt
   heard_node n (Missing o number m) came = tt
   heard_node n (Hold e o) came = tt
   heard_node n (HoldAck e o) came = tt
-  heard_node n (Unhold e o) came = tt
+  heard_node n (Unhold e o why) came = tt
 
   heard_from : (from : Party) (m : Message) → Among (letter from (TheWorker w) m) c.network → P start → Heard from m
   heard_from (TheWorker u) m came d = heard_worker u m came d

@@ -107,7 +107,7 @@ module _ (look next : Look) (s t : List Letter) (grows : Grows look next) (more 
   pushed_more from (TheWorker w) a d = record { owner = d.owner; from_worker = d.from_worker; node = d.node; given = gave_more s t d.node a w more d.given }
 
   between_more : (from to : Party) (m : Message) → IsTrueBetween look s from to m → IsTrueBetween next t from to m
-  between_more from to (Finished a n ids) d = done_more from a d
+  between_more from to (Finished a n ids kept) d = done_more from a d
   between_more from to (Failed a f) d = done_more from a d
   between_more from to (Back a) d = back_more from to a d
   between_more from to (FinishedAck a) d = done_more to a d
@@ -117,14 +117,14 @@ module _ (look next : Look) (s t : List Letter) (grows : Grows look next) (more 
   between_more from to (Elsewhere a i n) d = tt
   between_more from to (Wait a i) d = tt
   between_more from to (Where o) d = tt
-  between_more from to (At o number ns) d = tt
+  between_more from to (At o number ns kept) d = tt
   between_more from to (Gone o f) d = tt
   between_more from to (Fetch o number) d = tt
   between_more from to (CopyOf o number c) d = tt
   between_more from to (Missing o number n) d = tt
   between_more from to (Hold e o) d = tt
   between_more from to (HoldAck e o) d = tt
-  between_more from to (Unhold e o) d = tt
+  between_more from to (Unhold e o why) d = tt
 
   pub true_more : (l : Letter) → IsTrue look s l → IsTrue next t l
   true_more l d = between_more l.sender l.receiver l.message d

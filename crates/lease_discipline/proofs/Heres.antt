@@ -85,7 +85,7 @@ out_pace (HasFaulted f) j e = absurd (cc)
 plain_true : (look : Look) (sent : List Letter) (from to : Party) (m : Message) → is_plain m ≡ true → IsTrueBetween look sent from to m
 plain_true look sent from to (Give a t w) e = absurd (cc)
 plain_true look sent from to (Push a spec) e = absurd (cc)
-plain_true look sent from to (Finished a n ids) e = absurd (cc)
+plain_true look sent from to (Finished a n ids kept) e = absurd (cc)
 plain_true look sent from to (Failed a f) e = absurd (cc)
 plain_true look sent from to (FinishedAck a) e = absurd (cc)
 plain_true look sent from to (Back a) e = absurd (cc)
@@ -93,14 +93,14 @@ plain_true look sent from to (Ask a t) e = absurd (cc)
 plain_true look sent from to (Elsewhere a t n) e = tt
 plain_true look sent from to (Wait a t) e = tt
 plain_true look sent from to (Where o) e = tt
-plain_true look sent from to (At o number ns) e = tt
+plain_true look sent from to (At o number ns kept) e = tt
 plain_true look sent from to (Gone o f) e = tt
 plain_true look sent from to (Fetch o number) e = tt
 plain_true look sent from to (CopyOf o number c) e = tt
 plain_true look sent from to (Missing o number n) e = tt
 plain_true look sent from to (Hold e o) f = tt
 plain_true look sent from to (HoldAck e o) f = tt
-plain_true look sent from to (Unhold e o) f = tt
+plain_true look sent from to (Unhold e o why) f = tt
 
 -- ---- the event of worker me of node n
 
@@ -379,7 +379,7 @@ module _ (c : Whole) (me n : ℕ) (old : Worker) (there : item_at c.workers me �
         (run_does h run next e refl (λ o. o) (λ _. refl) (λ j o. absurd (cc)) d) in
         frees_does g (busy_unwanted g next refl over faulted) faulted;
     frees = λ h run y f e q d. frees_does h (busy_unwanted h run e (waits_on h run y f e q d) d) d;
-    tells_end = λ h run m ids e o d. says_does h (TheWorker (owner_of run)) (Finished run.attempt m ids) (by_me h run.attempt d (done_here h run e o d)) d;
+    tells_end = λ h run m ids kept e o d. says_does h (TheWorker (owner_of run)) (Finished run.attempt m ids kept) (by_me h run.attempt d (done_here h run e o d)) d;
     tells_fault = λ h run f e o d. says_does h (TheWorker (owner_of run)) (Failed run.attempt f) (by_me h run.attempt d (done_here h run e o d)) d;
     back = λ h run e o d.
         let done : IsDone (look_here h) h.me run.attempt = by_me h run.attempt d (done_here h run e o d) in

@@ -99,12 +99,12 @@ tick_owes_nothing s = record {
   requests = λ w y m number n b is known kept. absurd (no_delivery b.0 b.1);
   accepted = λ y number n w m logged at came is. absurd (among-nothing _ logged);
   owner = λ y number a logged waits. absurd (among-nothing _ logged);
-  places = λ w a y number nodes foreign b waits. absurd (no_delivery b.0 b.1);
+  places = λ w a y number nodes content foreign b waits. absurd (no_delivery b.0 b.1);
   copies = λ n w a y number c b waits. absurd (no_delivery b.0 b.1);
   missing = λ n w y number m foreign b. absurd (no_delivery b.0 b.1);
   fetches = λ n w y number b. absurd (no_delivery b.0 b.1);
   holds = λ w e o b. absurd (no_delivery b.0 b.1);
-  finishes = λ w v a n ids b. absurd (no_delivery b.0 b.1);
+  finishes = λ w v a n ids content b. absurd (no_delivery b.0 b.1);
   acknowledged = λ v w a n b at. absurd (no_delivery b.0 b.1);
   ends = λ a c w ended other ran holds. absurd (no_end a c ended);
 }

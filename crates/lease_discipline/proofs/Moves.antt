@@ -10,12 +10,12 @@ use Rattle.event_log.specs.Entries.{Attempt, Entry, Got, Fault, Faulted, main_at
 use Rattle.event_log.specs.Words.{same_attempt}
 use Rattle.event_log.specs.Holding.{ids_of_birth}
 use Rattle.protocol.specs.Messages.{Message, Party, TheWorker, TheNode, Ask, Give, Elsewhere, Wait, Back, Push, Finished, FinishedAck, Failed, Where, At}
-use Rattle.protocol.specs.Messages.{Gone, Fetch, CopyOf, Missing, Hold, HoldAck, Unhold}
+use Rattle.protocol.specs.Messages.{Gone, Fetch, CopyOf, Missing, Hold, HoldAck, OwnerIsDead, Reason, Unhold, WasReleased}
 use Rattle.protocol.specs.Stores.{Store, copy_in}
 use Rattle.protocol.specs.Sets.{is_empty}
 use Rattle.protocol.specs.Tables.{has_stopped, owner_of, knows_dead, without_place, new_task, Worker, Run, Phase, Ready, Out, Waits, HasEnded, HasFaulted}
 use Rattle.protocol.specs.Tables.{OwnTask, Object, Progress, AtRest, AskedAt, RunsOn, Fetching, Holding, task_of, live_place, chosen_place, settled_number}
-use Rattle.protocol.specs.Tables.{needed_by}
+use Rattle.protocol.specs.Tables.{holders_of, needed_by, with_dead_holder}
 use Rattle.std.specs.List.{filter}
 use Rattle.protocol.specs.Steps.{Here, with_task_of, with_phase, with_run, logs_all, logs, says, says_to_node, with_worker, with_store, each_from, own_id}
 use Rattle.protocol.specs.Steps.{own_object, object_at, store_here, changes}
@@ -25,12 +25,12 @@ use Rattle.protocol.specs.Runs.{hears_by, finished_ack_reached}
 use Rattle.protocol.specs.Asking.{rests, asks_at, next_attempt, resolves, tells_gone, faults_if_waiting, answers_gone, answers_faulted_by, answers_faulted}
 use Rattle.protocol.specs.Asking.{uses_up, breaks, pushes, begins, with_begun, given_by, given_reached, elsewhere_by, elsewhere_reached}
 use Rattle.protocol.specs.Recovery.{remakes_by, remakes, gives_up, recovers_by, recovers, members, first_stop}
-use Rattle.protocol.specs.Places.{looks_elsewhere_by, looks_elsewhere, looks_here_by, looks_for, needs_unresolved, needs_by, needs_at, needs_own}
-use Rattle.protocol.specs.Places.{needs_own_if_waiting, tells_places, answers_settled_by, answers_settled, lets_wait, answers_asker, asker_by, where_reached}
-use Rattle.protocol.specs.Places.{adds_place_by, adds_place, adds_places, takes_place_by, takes_place, finds_none, answered_here, goes_to, at_reached}
+use Rattle.protocol.specs.Places.{looks_elsewhere_by, looks_elsewhere, looks_here_by, looks_at_places, looks_for_by, looks_for, needs_released, needs_unresolved, needs_by, needs_at, needs_own}
+use Rattle.protocol.specs.Places.{needs_own_if_waiting, tells_places, answers_settled_by, answers_settled, lets_wait, tells_released, answers_asker, asker_by, where_reached}
+use Rattle.protocol.specs.Places.{adds_place_by, adds_place, adds_places, takes_place_by, takes_place, finds_none, answered_here, goes_to, at_answers, at_reached}
 use Rattle.protocol.specs.Places.{makes_copy_known, copy_reached, hands_missing_on, missing_from, missing_reached}
 use Rattle.protocol.specs.Holders.{without_holding, awaits_hold_by, sends_hold, holds_id, holds_ids, hold_reached_by, hold_reached, hold_ack_by}
-use Rattle.protocol.specs.Holders.{hold_ack_reached, unhold_reached, holding}
+use Rattle.protocol.specs.Holders.{hold_ack_reached, unhold_reached, holding, adds_holder, drops_holders, first_born_first, drops_dead_by, drops_dead, lets_go_of_dead, collects}
 use Rattle.protocol.specs.Commits.{bears_put, bears_task, bears_as, bears, bears_all, asks_where, rests_if_waiting, needs, next_id_here}
 use Rattle.protocol.specs.Ends.{finished_by, finished_reached, failed_by, failed_reached}
 use Rattle.protocol.specs.Notices.{is_unheard, runs_on_worker, runs_on_node, with_dead_worker, with_dead_node, breaks_if, breaks_where, loses_owner_of}
@@ -62,7 +62,7 @@ abbrev pub is_plain : Message → Bool
 is_plain (Ask a t) = false
 is_plain (Give a t w) = false
 is_plain (Push a spec) = false
-is_plain (Finished a n ids) = false
+is_plain (Finished a n ids kept) = false
 is_plain (Failed a f) = false
 is_plain (FinishedAck a) = false
 is_plain (Back a) = false
@@ -115,8 +115,8 @@ pub record IsKept (IsToldBy : ℕ → Attempt → Type 0) (IsOverOf : Attempt �
       P h → P (gives_slot_back (logs (with_phase h run (HasFaulted f)) (Faulted run.attempt y f)))
   pub frees : (h : Here) (run : Run) (y : Id) (f : Option Fetching) → h.worker.run ≡ Some run → run.phase ≡ Waits y f → P h → P (gives_slot_back h)
   -- what is said of an attempt that is over
-  pub tells_end : (h : Here) (run : Run) (n : ℕ) (ids : List Id) → h.worker.run ≡ Some run → run.is_over ≡ true → P h →
-      P (says h (owner_of run) (Finished run.attempt n ids))
+  pub tells_end : (h : Here) (run : Run) (n : ℕ) (ids : List Id) (c : Option Outcome) → h.worker.run ≡ Some run → run.is_over ≡ true → P h →
+      P (says h (owner_of run) (Finished run.attempt n ids c))
   pub tells_fault : (h : Here) (run : Run) (f : Fault) → h.worker.run ≡ Some run → run.is_over ≡ true → P h → P (says h (owner_of run) (Failed run.attempt f))
   pub back : (h : Here) (run : Run) → h.worker.run ≡ Some run → run.is_over ≡ true → P h → P (says_to_node h h.worker.node (Back run.attempt))
   pub hears : (h : Here) (w : ℕ) (a : Attempt) → IsToldBy w a → P h → P (says h w (FinishedAck a))
@@ -137,7 +137,7 @@ module _ (IsToldBy : ℕ → Attempt → Type 0) (IsOverOf : Attempt → Type 0)
   each_from-kept f each h k (suc n) p = each_from-kept f each (f h k) (k + 1) n (each h k p)
 
   pub tells_stop-kept : (h : Here) (run : Run) (phase : Phase) → h.worker.run ≡ Some run → run.is_over ≡ true → P h → P (tells_stop h run phase)
-  tells_stop-kept h run (HasEnded c) e o p = kept.tells_end h run _ _ e o p
+  tells_stop-kept h run (HasEnded c) e o p = kept.tells_end h run _ _ _ e o p
   tells_stop-kept h run (HasFaulted f) e o p = kept.tells_fault h run f e o p
   tells_stop-kept h run Ready e o p = p
   tells_stop-kept h run (Out j) e o p = p
@@ -324,11 +324,22 @@ module _ (IsToldBy : ℕ → Attempt → Type 0) (IsOverOf : Attempt → Type 0)
       (kept.objects h _ (untouched_left h.worker o.serial (without_place h.worker.node) (λ y. refl)) p)
   looks_here_by-kept h o x (Some c) p = gets-kept _ c (kept.store h _ p)
 
+  pub looks_at_places-kept : (h : Here) (o : Id) (x : Object) → P h → P (looks_at_places h o x)
+  looks_at_places-kept h o x p = either _ _ _ (looks_here_by-kept h o x (copy_in (store_here h) o (settled_number x)) p) (looks_elsewhere-kept h o x p)
+
+  pub looks_for_by-kept : (h : Here) (o : Id) (x : Object) (c : Option Outcome) → P h → P (looks_for_by h o x c)
+  looks_for_by-kept h o x None p = looks_at_places-kept h o x p
+  looks_for_by-kept h o x (Some c) p = gets-kept h c p
+
   pub looks_for-kept : (h : Here) (o : Id) (x : Object) → P h → P (looks_for h o x)
-  looks_for-kept h o x p = either _ _ _ (looks_here_by-kept h o x (copy_in (store_here h) o (settled_number x)) p) (looks_elsewhere-kept h o x p)
+  looks_for-kept h o x p = looks_for_by-kept h o x x.kept p
+
+  needs_released-kept : (h : Here) (e : Option Id) → P h → P (needs_released h e)
+  needs_released-kept h None p = p
+  needs_released-kept h (Some e) p = faults-kept h _ p
 
   pub needs_unresolved-kept : (h : Here) (o : Id) (x : Object) → P h → P (needs_unresolved h o x)
-  needs_unresolved-kept h o x p = either _ _ _ (looks_for-kept h o x p) (either _ _ _ (recovers-kept h o p) p)
+  needs_unresolved-kept h o x p = either _ _ _ (looks_for-kept h o x p) (either _ _ _ (recovers-kept h o p) (either _ _ _ (needs_released-kept h x.dead_holder p) p))
 
   pub needs_by-kept : (h : Here) (o : Id) (x : Object) (f : Option Fault) → P h → P (needs_by h o x f)
   needs_by-kept h o x None p = needs_unresolved-kept h o x p
@@ -346,7 +357,7 @@ module _ (IsToldBy : ℕ → Attempt → Type 0) (IsOverOf : Attempt → Type 0)
 
   pub tells_places-kept : (h : Here) (ws : List ℕ) (o : Id) (x : Object) → P h → P (tells_places h ws o x)
   tells_places-kept h [] o x p = p
-  tells_places-kept h (w ∷ ws) o x p = tells_places-kept (says h w (At o (settled_number x) x.places)) ws o x (kept.says_plain h _ _ refl p)
+  tells_places-kept h (w ∷ ws) o x p = tells_places-kept (says h w (At o (settled_number x) x.places x.kept)) ws o x (kept.says_plain h _ _ refl p)
 
   pub answers_settled_by-kept : (h : Here) (o : Id) (x : Option Object) → P h → P (answers_settled_by h o x)
   answers_settled_by-kept h o None p = p
@@ -360,8 +371,12 @@ module _ (IsToldBy : ℕ → Attempt → Type 0) (IsOverOf : Attempt → Type 0)
   lets_wait-kept h o w x p = either _ _ _ (recovers-kept _ o (kept.objects h _ (untouched_left h.worker o.serial (with_asker w) (λ y. refl)) p))
       (kept.objects h _ (untouched_left h.worker o.serial (with_asker w) (λ y. refl)) p)
 
+  tells_released-kept : (h : Here) (o : Id) (w : ℕ) (e : Option Id) → P h → P (tells_released h o w e)
+  tells_released-kept h o w None p = p
+  tells_released-kept h o w (Some e) p = kept.says_plain h _ _ refl p
+
   pub answers_asker-kept : (h : Here) (o : Id) (w : ℕ) (x : Object) (f : Option Fault) → P h → P (answers_asker h o w x f)
-  answers_asker-kept h o w x None p = either _ _ _ (kept.says_plain h _ _ refl p) (lets_wait-kept h o w x p)
+  answers_asker-kept h o w x None p = either _ _ _ (kept.says_plain h _ _ refl p) (either _ _ _ (tells_released-kept h o w x.dead_holder p) (lets_wait-kept h o w x p))
   answers_asker-kept h o w x (Some f) p = kept.says_plain h _ _ refl p
 
   pub asker_by-kept : (h : Here) (o : Id) (w : ℕ) (x : Option Object) → P h → P (asker_by h o w x)
@@ -401,8 +416,12 @@ module _ (IsToldBy : ℕ → Attempt → Type 0) (IsOverOf : Attempt → Type 0)
   goes_to-kept h o number (Some n) p = either _ _ _ (answered_here-kept h o number (copy_in (store_here h) o number) p)
       (either _ _ _ (finds_none-kept h o number n p) (fetches-kept h o number n p))
 
-  pub at_reached-kept : (h : Here) (o : Id) (number : ℕ) (ns : List ℕ) → P h → P (at_reached h o number ns)
-  at_reached-kept h o number ns p = either _ _ _ (adds_places-kept h o number ns p) (either _ _ _ (goes_to-kept h o number (chosen_place h.worker ns) p) p)
+  pub at_answers-kept : (h : Here) (o : Id) (number : ℕ) (ns : List ℕ) (c : Option Outcome) → P h → P (at_answers h o number ns c)
+  at_answers-kept h o number ns None p = goes_to-kept h o number (chosen_place h.worker ns) p
+  at_answers-kept h o number ns (Some c) p = gets-kept h c p
+
+  pub at_reached-kept : (h : Here) (o : Id) (number : ℕ) (ns : List ℕ) (c : Option Outcome) → P h → P (at_reached h o number ns c)
+  at_reached-kept h o number ns c p = either _ _ _ (adds_places-kept h o number ns p) (either _ _ _ (at_answers-kept h o number ns c p) p)
 
   pub makes_copy_known-kept : (h : Here) (o : Id) (number : ℕ) → P h → P (makes_copy_known h o number)
   makes_copy_known-kept h o number p = either _ _ _ (adds_place-kept h o number _ p) (kept.says_plain h _ _ refl p)
@@ -427,8 +446,14 @@ module _ (IsToldBy : ℕ → Attempt → Type 0) (IsOverOf : Attempt → Type 0)
   pub sends_hold-kept : (h : Here) (e o : Id) → P h → P (sends_hold h e o)
   sends_hold-kept h e o p = kept.says_plain _ _ _ refl (awaits_hold_by-kept h (holding e o) h.worker.run refl p)
 
+  pub adds_holder-kept : (h : Here) (e o : Id) → P h → P (adds_holder h e o)
+  adds_holder-kept h e o p =
+      let g : Here = changes h o (with_holder e) in
+      let q : P g = kept.objects h _ (untouched_left h.worker o.serial (with_holder e) (λ y. refl)) p in
+      either (knows_dead h.worker e.owner) (changes g o (with_dead_holder e)) g (kept.objects g _ (untouched_left g.worker o.serial (with_dead_holder e) (λ y. refl)) q) q
+
   pub holds_id-kept : (h : Here) (e o : Id) → P h → P (holds_id h e o)
-  holds_id-kept h e o p = either _ _ _ (kept.objects h _ (untouched_left h.worker o.serial (with_holder e) (λ y. refl)) p)
+  holds_id-kept h e o p = either _ _ _ (adds_holder-kept h e o p)
       (either _ _ _ p (sends_hold-kept h e o p))
 
   pub holds_ids-kept : (h : Here) (e : Id) (os : List Id) → P h → P (holds_ids h e os)
@@ -437,7 +462,7 @@ module _ (IsToldBy : ℕ → Attempt → Type 0) (IsOverOf : Attempt → Type 0)
 
   pub hold_reached_by-kept : (h : Here) (w : ℕ) (e o : Id) (x : Option Object) → P h → P (hold_reached_by h w e o x)
   hold_reached_by-kept h w e o None p = p
-  hold_reached_by-kept h w e o (Some x) p = kept.says_plain _ _ _ refl (kept.objects h _ (untouched_left h.worker o.serial (with_holder e) (λ y. refl)) p)
+  hold_reached_by-kept h w e o (Some x) p = kept.says_plain _ _ _ refl (adds_holder-kept h e o p)
 
   pub hold_reached-kept : (h : Here) (w : ℕ) (e o : Id) → P h → P (hold_reached h w e o)
   hold_reached-kept h w e o p = hold_reached_by-kept h w e o (object_at h o) p
@@ -450,8 +475,9 @@ module _ (IsToldBy : ℕ → Attempt → Type 0) (IsOverOf : Attempt → Type 0)
   pub hold_ack_reached-kept : (h : Here) (e o : Id) → P h → P (hold_ack_reached h e o)
   hold_ack_reached-kept h e o p = hold_ack_by-kept h (holding e o) h.worker.run refl p
 
-  pub unhold_reached-kept : (h : Here) (e o : Id) → P h → P (unhold_reached h e o)
-  unhold_reached-kept h e o p = either _ _ _ (kept.objects h _ (untouched_left h.worker o.serial (without_holder e) (λ y. refl)) p) p
+  pub unhold_reached-kept : (h : Here) (e o : Id) (why : Reason) → P h → P (unhold_reached h e o why)
+  unhold_reached-kept h e o WasReleased p = either _ _ _ (kept.objects h _ (untouched_left h.worker o.serial (without_holder e) (λ y. refl)) p) p
+  unhold_reached-kept h e o OwnerIsDead p = either _ _ _ (kept.objects h _ (untouched_left h.worker o.serial (with_dead_holder e) (λ y. refl)) p) p
 
   pub bears_put-kept : (h : Here) (a : Attempt) (o : Id) (v : Value) (ids : List Id) → P h → P (bears_put h a o v ids)
   bears_put-kept h a o v ids p = holds_ids-kept _ o ids
@@ -488,18 +514,18 @@ module _ (IsToldBy : ℕ → Attempt → Type 0) (IsOverOf : Attempt → Type 0)
   pub needs-kept : (h : Here) (run : Run) (y : Id) → P (with_phase h run (Waits y None)) → P (needs h run y)
   needs-kept h run y p = rests_if_waiting-kept (asks_where (with_phase h run (Waits y None)) y) y (asks_where-kept (with_phase h run (Waits y None)) y p)
 
-  pub finished_by-kept : (h : Here) (w : ℕ) (a : Attempt) (n : ℕ) (ids : List Id) (task : Option OwnTask) → task_of (object_at h a.object) ≡ task →
-      IsToldBy w a → P h → P (finished_by h w a n ids task)
-  finished_by-kept h w a n ids None e s p = kept.hears h _ _ s p
-  finished_by-kept h w a n ids (Some task) e s p =
+  pub finished_by-kept : (h : Here) (w : ℕ) (a : Attempt) (n : ℕ) (ids : List Id) (c : Option Outcome) (task : Option OwnTask) → task_of (object_at h a.object) ≡ task →
+      IsToldBy w a → P h → P (finished_by h w a n ids c task)
+  finished_by-kept h w a n ids c None e s p = kept.hears h _ _ s p
+  finished_by-kept h w a n ids c (Some task) e s p =
       let g : Here = with_task_of h a.object (rests task) in
-      either_by (if_present a task) (answers_settled (hears_of_end (accepts h a task n ids) w a) a.object) (hears_of_end h w a)
+      either_by (if_present a task) (answers_settled (hears_of_end (accepts h a task n ids c) w a) a.object) (hears_of_end h w a)
       (λ t. answers_settled-kept _ a.object (kept.hears _ _ _ s (kept.writes _ _ (kept.objects g _
-      (untouched_left g.worker a.object.serial (with_content a.number n ids) (λ y. refl))
+      (untouched_left g.worker a.object.serial (with_content a.number n ids c) (λ y. refl))
       (kept.comes_to_rest h a.object task e (inr (w, subst (IsToldBy w) (present_was a task t) s)) p))))) (λ _. kept.hears h _ _ s p)
 
-  pub finished_reached-kept : (h : Here) (w : ℕ) (a : Attempt) (n : ℕ) (ids : List Id) → IsToldBy w a → P h → P (finished_reached h w a n ids)
-  finished_reached-kept h w a n ids s p = finished_by-kept h w a n ids (task_of (object_at h a.object)) refl s p
+  pub finished_reached-kept : (h : Here) (w : ℕ) (a : Attempt) (n : ℕ) (ids : List Id) (c : Option Outcome) → IsToldBy w a → P h → P (finished_reached h w a n ids c)
+  finished_reached-kept h w a n ids c s p = finished_by-kept h w a n ids c (task_of (object_at h a.object)) refl s p
 
   pub failed_by-kept : (h : Here) (w : ℕ) (a : Attempt) (f : Fault) (task : Option OwnTask) → task_of (object_at h a.object) ≡ task →
       IsToldBy w a → P h → P (failed_by h w a f task)
@@ -547,12 +573,31 @@ module _ (IsToldBy : ℕ → Attempt → Type 0) (IsOverOf : Attempt → Type 0)
   pub drops_stop-kept : (h : Here) (v : ℕ) → P h → P (drops_stop h v)
   drops_stop-kept h v p = drops_stop_by-kept h v h.worker.run refl p
 
+  drops_holders-kept : (h : Here) (o : Id) (es : List Id) → P h → P (drops_holders h o es)
+  drops_holders-kept h o [] p = p
+  drops_holders-kept h o (e ∷ es) p = drops_holders-kept (changes h o (with_dead_holder e)) o es (kept.objects h _ (untouched_left h.worker o.serial (with_dead_holder e) (λ y. refl)) p)
+
+  drops_dead_by-kept : (h : Here) (v : ℕ) (o : Id) (x : Option Object) → P h → P (drops_dead_by h v o x)
+  drops_dead_by-kept h v o None p = p
+  drops_dead_by-kept h v o (Some x) p = drops_holders-kept h o (first_born_first (holders_of v x)) p
+
+  lets_go_of_dead-kept : (h : Here) (v : ℕ) (ks : List Holding) → P h → P (lets_go_of_dead h v ks)
+  lets_go_of_dead-kept h v [] p = p
+  lets_go_of_dead-kept h v (k ∷ ks) p =
+      lets_go_of_dead-kept (if k.holder.owner == v then says h k.object.owner (Unhold k.holder k.object OwnerIsDead) else h) v ks
+      (either _ _ _ (kept.says_plain h _ _ refl p) p)
+
+  pub collects-kept : (h : Here) (v : ℕ) → P h → P (collects h v)
+  collects-kept h v p = lets_go_of_dead-kept (drops_dead h v) v h.worker.passed_on
+      (each_from-kept (λ g k. drops_dead_by g v (own_id g k) (own_object g k)) (λ g k q. drops_dead_by-kept g v (own_id g k) (own_object g k) q)
+      h 1 (length h.worker.objects) p)
+
   pub hears_of_worker-kept : (h : Here) (v : ℕ) → P h → P (hears_of_worker h v)
   hears_of_worker-kept h v p = let g : Here = breaks_where (runs_on_worker v) (with_dead_worker h v) in
-      drops_stop-kept (drops_holds (loses_owner g v) v) v
+      collects-kept (drops_stop (drops_holds (loses_owner g v) v) v) v (drops_stop-kept (drops_holds (loses_owner g v) v) v
       (drops_holds-kept (loses_owner g v) v (loses_owner-kept g v
       (breaks_where-kept (runs_on_worker v) (on_worker v) (with_dead_worker h v)
-      (kept.objects h _ (same_left h.worker (with_dead_worker h v).worker refl refl refl refl refl) p))))
+      (kept.objects h _ (same_left h.worker (with_dead_worker h v).worker refl refl refl refl refl) p)))))
 
   pub notice_step-kept : (h : Here) (v : ℕ) → P h → P (notice_step h v)
   notice_step-kept h v p = either _ _ _ p (hears_of_worker-kept h v p)
@@ -648,7 +693,7 @@ module _ (IsToldBy : ℕ → Attempt → Type 0) (IsOverOf : Attempt → Type 0)
   tick_step-kept h p = sends_run-kept (sends_tasks h) h.worker.run (ap (λ (x : Worker). x.run) (sends_tasks-worker h)) (sends_tasks-kept h p)
 
   pub lets_go_of-kept : (h : Here) (e o : Id) → P h → P (lets_go_of h e o)
-  lets_go_of-kept h e o p = either _ _ _ (unhold_reached-kept h e o p) (kept.says_plain h _ _ refl p)
+  lets_go_of-kept h e o p = either _ _ _ (unhold_reached-kept h e o WasReleased p) (kept.says_plain h _ _ refl p)
 
   pub lets_go-kept : (h : Here) (e : Id) (os : List Id) → P h → P (lets_go h e os)
   lets_go-kept h e [] p = p
@@ -656,7 +701,7 @@ module _ (IsToldBy : ℕ → Attempt → Type 0) (IsOverOf : Attempt → Type 0)
 
   pub drops_copies-kept : (h : Here) (e : Id) (ns : List ℕ) → P h → P (drops_copies h e ns)
   drops_copies-kept h e [] p = p
-  drops_copies-kept h e (n ∷ ns) p = drops_copies-kept (says_to_node h n (Unhold e e)) e ns (kept.says_plain_to_node h _ _ refl p)
+  drops_copies-kept h e (n ∷ ns) p = drops_copies-kept (says_to_node h n (Unhold e e WasReleased)) e ns (kept.says_plain_to_node h _ _ refl p)
 
   pub releases-kept : (h : Here) (e : Id) (x : Object) → P h → P (releases h e x)
   releases-kept h e x p = drops_copies-kept _ e x.places
@@ -681,7 +726,7 @@ module _ (IsToldBy : ℕ → Attempt → Type 0) (IsOverOf : Attempt → Type 0)
   -- what is known of a message from a worker
   abbrev pub IsHeard : Here → ℕ → Message → Type 0
   IsHeard h w (Push a spec) = P (push_reached h a spec)
-  IsHeard h w (Finished a n ids) = IsToldBy w a
+  IsHeard h w (Finished a n ids kept) = IsToldBy w a
   IsHeard h w (Failed a f) = IsToldBy w a
   IsHeard h w (FinishedAck a) = IsOverOf a
   IsHeard h w m = Unit {0}
@@ -693,18 +738,18 @@ module _ (IsToldBy : ℕ → Attempt → Type 0) (IsOverOf : Attempt → Type 0)
   reached_from_worker-kept h w (Wait a t) s p = p
   reached_from_worker-kept h w (Back a) s p = p
   reached_from_worker-kept h w (Push a spec) s p = s
-  reached_from_worker-kept h w (Finished a n ids) s p = finished_reached-kept h w a n ids s p
+  reached_from_worker-kept h w (Finished a n ids c) s p = finished_reached-kept h w a n ids c s p
   reached_from_worker-kept h w (FinishedAck a) s p = finished_ack_reached-kept h a s p
   reached_from_worker-kept h w (Failed a f) s p = failed_reached-kept h w a f s p
   reached_from_worker-kept h w (Where o) s p = where_reached-kept h w o p
-  reached_from_worker-kept h w (At o number ns) s p = at_reached-kept h o number ns p
+  reached_from_worker-kept h w (At o number ns c) s p = at_reached-kept h o number ns c p
   reached_from_worker-kept h w (Gone o f) s p = faults_if_waiting-kept h o f p
   reached_from_worker-kept h w (Fetch o n) s p = p
   reached_from_worker-kept h w (CopyOf o number c) s p = p
   reached_from_worker-kept h w (Missing o number n) s p = missing_reached-kept h (TheWorker w) o number n p
   reached_from_worker-kept h w (Hold e o) s p = hold_reached-kept h w e o p
   reached_from_worker-kept h w (HoldAck e o) s p = hold_ack_reached-kept h e o p
-  reached_from_worker-kept h w (Unhold e o) s p = unhold_reached-kept h e o p
+  reached_from_worker-kept h w (Unhold e o why) s p = unhold_reached-kept h e o why p
 
   -- what is known of a message from a node
   abbrev pub IsHeardOf : Here → ℕ → Message → Type 0
@@ -721,18 +766,18 @@ module _ (IsToldBy : ℕ → Attempt → Type 0) (IsOverOf : Attempt → Type 0)
   reached_from_node-kept h n (Wait a t) s p = p
   reached_from_node-kept h n (Back a) s p = p
   reached_from_node-kept h n (Push a spec) s p = p
-  reached_from_node-kept h n (Finished a m ids) s p = p
+  reached_from_node-kept h n (Finished a m ids kept) s p = p
   reached_from_node-kept h n (FinishedAck a) s p = p
   reached_from_node-kept h n (Failed a f) s p = p
   reached_from_node-kept h n (Where o) s p = p
-  reached_from_node-kept h n (At o number ns) s p = p
+  reached_from_node-kept h n (At o number ns kept) s p = p
   reached_from_node-kept h n (Gone o f) s p = p
   reached_from_node-kept h n (Fetch o number) s p = p
   reached_from_node-kept h n (CopyOf o number c) s p = copy_reached-kept h o number c p
   reached_from_node-kept h n (Missing o number m) s p = missing_reached-kept h (TheNode n) o number m p
   reached_from_node-kept h n (Hold e o) s p = p
   reached_from_node-kept h n (HoldAck e o) s p = p
-  reached_from_node-kept h n (Unhold e o) s p = p
+  reached_from_node-kept h n (Unhold e o why) s p = p
 
   abbrev pub IsHeardFrom : Here → Party → Message → Type 0
   IsHeardFrom h (TheWorker w) m = IsHeard h w m

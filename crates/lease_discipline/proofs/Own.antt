@@ -15,12 +15,12 @@ use Rattle.protocol.specs.Numbered.{item_at}
 use Rattle.protocol.specs.Sets.{has}
 use Rattle.protocol.specs.Messages.{Letter, letter, Message, Party, TheWorker, TheNode, Push}
 use Rattle.protocol.specs.Jobs.{AtEnd, AtGet, Outcomes, Stopped, stop_of}
-use Rattle.protocol.specs.Stores.{with_primary}
+use Rattle.protocol.specs.Stores.{with_ended}
 use Rattle.protocol.specs.Nodes.{posts}
 use Rattle.protocol.specs.Tables.{Fetching, HasEnded, HasFaulted, Out, Phase, Ready, Run, Waits, Worker, has_stopped, new_run}
 use Rattle.protocol.specs.Steps.{Here, logs_all, own_id, store_here, with_phase, with_run, with_store}
 use Rattle.protocol.specs.Runs.{begins_run, is_free, leaves_if_free, push_reached}
-use Rattle.protocol.specs.Holders.{holds_ids}
+use Rattle.protocol.specs.Holders.{holds_ids, passes_on}
 use Rattle.protocol.specs.Commits.{bears_all, claim_by, claim_step, commit_by, commit_step, ends, next_id_here, stops_by, with_outcomes}
 use Rattle.protocol.specs.Refusals.{is_ready_phase, is_ready_run}
 use Rattle.protocol.specs.Whole.{Whole}
@@ -29,6 +29,7 @@ use Rattle.protocol_owed.specs.Told.{pace_in, pace_by}
 use Rattle.protocol_owed.proofs.TellingMore.{stopped_pace, stopped_not, rests_not}
 use Rattle.lease_discipline.specs.Discipline.{Look, Gave, IsBegunBy, IsDoneAt, IsJobOf, IsLeasedFor, IsOfNode, IsPromised, IsPushed, NodeKeeps, WorkerKeeps}
 use Rattle.lease_discipline.proofs.Follows.{Grows, true_more}
+use Rattle.lease_discipline.proofs.Tame.{same_left}
 use Rattle.lease_discipline.proofs.Moves.{Anyhow, IsKept, bears_all-kept, holds_ids-kept, leaves_if_free-kept, needs-kept}
 use Rattle.lease_discipline.proofs.Nodes.{IsUnwanted}
 use Rattle.lease_discipline.proofs.Theres.{letter_cases}
@@ -283,7 +284,7 @@ module _ (c : Whole) (me n : ℕ) (old : Worker) (there : item_at c.workers me �
     gets = λ h run content y f e q p. absurd (not_waiting run h.worker.run y f e q p);
     faults = λ h run fault y f e q p. absurd (not_waiting run h.worker.run y f e q p);
     frees = λ h run y f e q p. absurd (not_waiting run h.worker.run y f e q p);
-    tells_end = λ h run m ids _ _ p. p;
+    tells_end = λ h run m ids kept _ _ p. p;
     tells_fault = λ h run f _ _ p. p;
     back = λ h run _ _ p. p;
     hears = λ h w a _ p. p;
@@ -333,7 +334,7 @@ module _ (c : Whole) (me n : ℕ) (old : Worker) (there : item_at c.workers me �
     gets = λ h run content y f e q p. absurd (stopped_not_waiting run h.worker.run y f e q p.pace);
     faults = λ h run fault y f e q p. absurd (stopped_not_waiting run h.worker.run y f e q p.pace);
     frees = λ h run y f e q p. absurd (stopped_not_waiting run h.worker.run y f e q p.pace);
-    tells_end = λ h run m ids _ _ p. says_stops h _ _ p;
+    tells_end = λ h run m ids kept _ _ p. says_stops h _ _ p;
     tells_fault = λ h run f _ _ p. says_stops h _ _ p;
     back = λ h run _ _ p. says_stops h _ _ p;
     hears = λ h w a _ p. says_stops h _ _ p;
@@ -364,12 +365,14 @@ module _ (c : Whole) (me n : ℕ) (old : Worker) (there : item_at c.workers me �
       } in
       let o : Id = run.attempt.object in
       let ids : List Id = each_once (ids_in_outcome content) in
-      let stored : Here = with_store g (with_primary (store_here h) o run.attempt.number content) in
+      let kept_there : Here = with_store g (with_ended (store_here h) o run.attempt.number content) in
+      let stored : Here = passes_on kept_there o ids in
       let held : Here = holds_ids stored o ids in
       let left : Here = leaves_if_free held in
-      let left_does : Here_does left = both stored held Here_does kept o ids (kept.store g (with_primary (store_here h) o run.attempt.number content) ended) in
+      let left_does : Here_does left = both stored held Here_does kept o ids
+      (kept.objects kept_there stored.worker (same_left kept_there.worker stored.worker refl refl refl refl refl) (kept.store g (with_ended (store_here h) o run.attempt.number content) ended)) in
       let left_stops : StopsHere left = both stored held StopsHere stops_kept o ids
-      (stops_kept.store g (with_primary (store_here h) o run.attempt.number content) stops) in
+      (stops_kept.objects kept_there stored.worker (same_left kept_there.worker stored.worker refl refl refl refl refl) (stops_kept.store g (with_ended (store_here h) o run.attempt.number content) stops)) in
       frees_does c me n old there left (still_unwanted left left_stops) left_does
     where
       both : (stored held : Here) (P : Here → Type 0) (k : Kept P) (o : Id) (ids : List Id) → P stored → P (leaves_if_free (holds_ids stored o ids))

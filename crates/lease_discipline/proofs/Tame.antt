@@ -18,9 +18,9 @@ use Rattle.protocol.specs.Tables.{is_same_id, is_waiting_for, needed_by, new_tas
 use Rattle.protocol.specs.Steps.{Here, is_own, object_at, own_object}
 use Rattle.protocol.specs.Asking.{if_asked, stands_at}
 use Rattle.protocol.specs.Asking.{next_attempt}
-use Rattle.protocol.specs.Holders.{awaits_hold_by, holding, holds_id, holds_ids, sends_hold}
+use Rattle.protocol.specs.Holders.{adds_holder, awaits_hold_by, holding, holds_id, holds_ids, sends_hold}
 use Rattle.protocol.specs.Commits.{next_id_here, with_object}
-use Rattle.protocol.specs.Tables.{knows_dead, with_holder}
+use Rattle.protocol.specs.Tables.{knows_dead, with_dead_holder, with_holder}
 use Rattle.protocol.specs.Steps.{changes, own_id, with_task_of}
 use Rattle.sequence.proofs.Places.{slice_get-last}
 use Rattle.protocol.specs.Notices.{runs_on_node, runs_on_worker}
@@ -240,13 +240,18 @@ same_tasks xs n m f keeps = by_item (item_at (changed_at xs n f) m) refl
       | inr (_, at) ↦ ap task_of e ∙ ap task_of (sym at)
     ]
 
+changed_one : (h : Here) (p o : Id) (f : Object → Object) → ((y : Object) → (f y).maker ≡ y.maker) → task_of (object_at (changes h p f) o) ≡ task_of (object_at h o)
+changed_one h p o f keeps =
+    at_test (λ b. task_of (if b then item_at (changed_at h.worker.objects p.serial f) o.serial else None) ≡ task_of (if b then own_object h o.serial else None)) (is_own h o)
+    (λ _. same_tasks h.worker.objects p.serial o.serial f keeps) (λ _. refl)
+
 held_one : (h : Here) (e p o : Id) → task_of (object_at (holds_id h e p) o) ≡ task_of (object_at h o)
 held_one h e p o =
-    at_test (λ b. task_of (object_at (if b then changes h p (with_holder e) else if knows_dead h.worker p.owner then h else sends_hold h e p) o) ≡ task_of
+    at_test (λ b. task_of (object_at (if b then adds_holder h e p else if knows_dead h.worker p.owner then h else sends_hold h e p) o) ≡ task_of
     (object_at h o)) (is_own h p)
-    (λ _. at_test (λ b. task_of (if b then item_at (changed_at h.worker.objects p.serial (with_holder e)) o.serial else None) ≡ task_of
-    (if b then own_object h o.serial else None)) (is_own h o)
-    (λ _. same_tasks h.worker.objects p.serial o.serial (with_holder e) (λ y. refl)) (λ _. refl))
+    (λ _. at_test (λ d. task_of (object_at (if d then changes (changes h p (with_holder e)) p (with_dead_holder e) else changes h p (with_holder e)) o) ≡ task_of
+    (object_at h o)) (knows_dead h.worker e.owner) (λ _. changed_one (changes h p (with_holder e)) p o (with_dead_holder e) (λ y. refl) ∙ changed_one h p o (with_holder e) (λ y. refl))
+    (λ _. changed_one h p o (with_holder e) (λ y. refl)))
     (λ _. at_test (λ b. task_of (object_at (if b then h else sends_hold h e p) o) ≡ task_of (object_at h o)) (knows_dead h.worker p.owner) (λ _. refl)
     (λ _. by_run h.worker.run))
   where

@@ -203,7 +203,7 @@ module _ (c : Whole) (i w : ℕ) (from : Party) (x : Worker) (at : worker_at c w
   heard_worker : (u : ℕ) → from ≡ TheWorker u → (m : Message) → item_at c.network i ≡ Some (letter from (TheWorker w) m) → Q start →
       IsHeardFrom AnyTold AnyOver GivenBy Anyhow Q q_kept start (TheWorker u) m
   heard_worker u e (Push a spec) sent t = push_heard a spec sent t
-  heard_worker u e (Finished a n ids) sent t = tt
+  heard_worker u e (Finished a n ids content) sent t = tt
   heard_worker u e (Failed a f) sent t = tt
   heard_worker u e (FinishedAck a) sent t = tt
   heard_worker u e (Ask a j) sent t = tt
@@ -212,19 +212,19 @@ module _ (c : Whole) (i w : ℕ) (from : Party) (x : Worker) (at : worker_at c w
   heard_worker u e (Wait a j) sent t = tt
   heard_worker u e (Back a) sent t = tt
   heard_worker u e (Where o) sent t = tt
-  heard_worker u e (At o number ns) sent t = tt
+  heard_worker u e (At o number ns content) sent t = tt
   heard_worker u e (Gone o f) sent t = tt
   heard_worker u e (Fetch o number) sent t = tt
   heard_worker u e (CopyOf o number b) sent t = tt
   heard_worker u e (Missing o number n) sent t = tt
   heard_worker u e (Hold h o) sent t = tt
   heard_worker u e (HoldAck h o) sent t = tt
-  heard_worker u e (Unhold h o) sent t = tt
+  heard_worker u e (Unhold h o why) sent t = tt
 
   heard_node : (n : ℕ) (m : Message) → IsHeardFrom AnyTold AnyOver GivenBy Anyhow Q q_kept start (TheNode n) m
   heard_node n (Give a j v) = λ _. tt
   heard_node n (Push a spec) = tt
-  heard_node n (Finished a m ids) = tt
+  heard_node n (Finished a m ids content) = tt
   heard_node n (Failed a f) = tt
   heard_node n (FinishedAck a) = tt
   heard_node n (Ask a j) = tt
@@ -232,14 +232,14 @@ module _ (c : Whole) (i w : ℕ) (from : Party) (x : Worker) (at : worker_at c w
   heard_node n (Wait a j) = tt
   heard_node n (Back a) = tt
   heard_node n (Where o) = tt
-  heard_node n (At o number ns) = tt
+  heard_node n (At o number ns content) = tt
   heard_node n (Gone o f) = tt
   heard_node n (Fetch o number) = tt
   heard_node n (CopyOf o number b) = tt
   heard_node n (Missing o number m) = tt
   heard_node n (Hold h o) = tt
   heard_node n (HoldAck h o) = tt
-  heard_node n (Unhold h o) = tt
+  heard_node n (Unhold h o why) = tt
 
   reached_turns : (m : Message) → item_at c.network i ≡ Some (letter from (TheWorker w) m) → Q start → Q (reached start from m)
   reached_turns m sent t = by_party from refl

@@ -13,7 +13,7 @@ use Rattle.protocol.specs.Sets.{first_item, has, least, repeated, rest_of}
 use Rattle.protocol.specs.Jobs.{AtEnd, AtGet, Outcomes, Stopped, stop_of}
 use Rattle.protocol.specs.Messages.{Message, Party, TheWorker, TheNode, Ask, Give, Elsewhere, Wait, Back, Push, Finished, FinishedAck, Failed}
 use Rattle.protocol.specs.Messages.{Where, At, Gone, Fetch, CopyOf, Missing, Hold, HoldAck, Unhold}
-use Rattle.protocol.specs.Stores.{copy_in, with_primary}
+use Rattle.protocol.specs.Stores.{copy_in, with_ended}
 use Rattle.protocol.specs.Nodes.{AskKey, Reply, Scheduler, SentOn, There, with_scheduler}
 use Rattle.protocol.specs.Slots.{ask_key, asked_by, asks_slot, fetched, forgets, frees, gives_worker, grants, grants_next, grants_queued, has_free_slot}
 use Rattle.protocol.specs.Slots.{has_no_slot_for, leases_idle, may_be_idle}
@@ -24,7 +24,7 @@ use Rattle.protocol.specs.Steps.{Here, logs, logs_all, store_here, with_phase, w
 use Rattle.protocol.specs.Runs.{asks_for_slot, begins_run, gives_slot_back, leaves_if_free, with_answer}
 use Rattle.protocol.specs.Asking.{asks_at, rests, with_begun}
 use Rattle.protocol.specs.Tables.{AskedAt}
-use Rattle.protocol.specs.Holders.{holds_ids}
+use Rattle.protocol.specs.Holders.{holds_ids, passes_on}
 use Rattle.protocol.specs.Commits.{bears_all, with_object, claim_by, claim_step, commit_by, commit_step, ends, next_id_here, stops_by, with_outcomes}
 use Rattle.protocol.specs.Whole.{Whole}
 use Rattle.protocol_owed.specs.Courses.{GoesOn, HasStopped, IsOut, Rests}
@@ -153,16 +153,16 @@ reached_from_lose t w (Back a) =
     at_test (λ b. NoLoss (sch t) (sch (if b then with_scheduler t (with_idle (sch t) w) else t))) (may_be_idle (sch t) w a)
     (λ _. record { holders = λ v _ e. e; answered = λ v _ e. inr e }) (λ _. none_lost (sch t))
 reached_from_lose t w (Fetch o number) = fetched_lose t o number w (copy_in t.node.store o number)
-reached_from_lose t w (Unhold e o) = record { holders = λ v _ i. i; answered = λ v _ i. inr i }
+reached_from_lose t w (Unhold e o why) = record { holders = λ v _ i. i; answered = λ v _ i. inr i }
 reached_from_lose t w (Give a i v) = none_lost (sch t)
 reached_from_lose t w (Elsewhere a i m) = none_lost (sch t)
 reached_from_lose t w (Wait a i) = none_lost (sch t)
 reached_from_lose t w (Push a spec) = none_lost (sch t)
-reached_from_lose t w (Finished a m ids) = none_lost (sch t)
+reached_from_lose t w (Finished a m ids kept) = none_lost (sch t)
 reached_from_lose t w (FinishedAck a) = none_lost (sch t)
 reached_from_lose t w (Failed a f) = none_lost (sch t)
 reached_from_lose t w (Where o) = none_lost (sch t)
-reached_from_lose t w (At o number ns) = none_lost (sch t)
+reached_from_lose t w (At o number ns kept) = none_lost (sch t)
 reached_from_lose t w (Gone o f) = none_lost (sch t)
 reached_from_lose t w (CopyOf o number c) = none_lost (sch t)
 reached_from_lose t w (Missing o number m) = none_lost (sch t)
@@ -366,7 +366,7 @@ module _ (c : Whole) (me n : ℕ) (old : Worker) (there : item_at c.workers me �
         let turned : Turns (with_run h next) = worker_turns h (record h.worker { run = Some next }) refl (λ i. i) (inr (inr none)) t in
         frees_turns g none (record { who = turned.who; home = turned.home; turns = turned.turns });
     frees = λ h run y f e q t. frees_turns h (waits_pace h run y f e q) t;
-    tells_end = λ h run m ids _ _ t. record { who = t.who; home = t.home; turns = t.turns };
+    tells_end = λ h run m ids kept _ _ t. record { who = t.who; home = t.home; turns = t.turns };
     tells_fault = λ h run f _ _ t. record { who = t.who; home = t.home; turns = t.turns };
     back = λ h run _ _ t. record { who = t.who; home = t.home; turns = t.turns };
     hears = λ h w a _ t. record { who = t.who; home = t.home; turns = t.turns };
@@ -428,7 +428,7 @@ module _ (c : Whole) (me n : ℕ) (old : Worker) (there : item_at c.workers me �
     gets = λ h run content y f e q p. absurd (waits_on h.worker.run run y f e q p);
     faults = λ h run fault y f e q p. absurd (waits_on h.worker.run run y f e q p);
     frees = λ h run y f e q p. absurd (waits_on h.worker.run run y f e q p);
-    tells_end = λ h run m ids _ _ p. p;
+    tells_end = λ h run m ids kept _ _ p. p;
     tells_fault = λ h run f _ _ p. p;
     back = λ h run _ _ p. p;
     hears = λ h w a _ p. p;
@@ -440,10 +440,12 @@ module _ (c : Whole) (me n : ℕ) (old : Worker) (there : item_at c.workers me �
       let g : Here = with_phase h run (HasEnded content) in
       let o : Id = run.attempt.object in
       let ids : List Id = each_once (ids_in_outcome content) in
-      let stored : Here = with_store g (with_primary (store_here h) o run.attempt.number content) in
+      let kept_there : Here = with_store g (with_ended (store_here h) o run.attempt.number content) in
+      let stored : Here = passes_on kept_there o ids in
       let ended : Turns g = worker_turns h g.worker refl (λ i. i) (inr (inr (stopped_no_turn g.worker refl))) t in
       let left : Turns (leaves_if_free (holds_ids stored o ids)) =
-      both stored Turns kept o ids (record { who = ended.who; home = ended.home; turns = ended.turns }) in
+      both stored Turns kept o ids
+      (worker_turns kept_there stored.worker refl (λ i. i) (inr (inr (stopped_no_turn stored.worker refl))) (record { who = ended.who; home = ended.home; turns = ended.turns })) in
       let stopped : StoppedHere (leaves_if_free (holds_ids stored o ids)) = both stored StoppedHere stopped_kept o ids refl in
       frees_turns (leaves_if_free (holds_ids stored o ids)) (stopped_no_turn _ stopped) left
     where

@@ -2,7 +2,7 @@
 
 ghost use Rattle.std.specs.Prelude.{◌≡◌, Some, None};
 ghost use Rattle.protocol.specs.Sets.{retries_in};
-ghost use Rattle.protocol.specs.Tables.{has_content, is_lost, is_whole, may_try_again};
+ghost use Rattle.protocol.specs.Tables.{has_content, is_lost, is_nowhere, is_whole, may_try_again};
 ghost use Rattle.protocol.specs.Steps.{object_at};
 ghost use Rattle.protocol.specs.Recovery.{is_lost_at};
 
@@ -19,18 +19,25 @@ fn is_whole(object: &Object) -> bool
     object.settled.is_some() && object.fault.is_none() && !is_pending(object) && !object.is_released
 }
 
-/// Whether no place of a copy of its content is known, and none is coming.
+/// Whether no place of a copy of its content is known, and the owner doesn't keep it.
+fn is_nowhere(object: &Object) -> bool
+    ensures { result ≡ is_nowhere object.now }
+{
+    object.places.items.is_empty() && object.kept.is_none()
+}
+
+/// Whether its content can't be had, and none is coming.
 pub fn is_lost(object: &Object) -> bool
     ensures { result ≡ is_lost object.now }
 {
-    is_whole(object) && object.places.items.is_empty()
+    is_whole(object) && is_nowhere(object)
 }
 
 /// Whether its content can be had.
 pub fn has_content(object: &Object) -> bool
     ensures { result ≡ has_content object.now }
 {
-    is_whole(object) && !object.places.items.is_empty()
+    is_whole(object) && !is_nowhere(object)
 }
 
 /// Whether the own object of that id is lost.

@@ -1,3 +1,4 @@
+pub mod Unheld
 mod SquareLog
 mod TrapLog
 mod PassingLog

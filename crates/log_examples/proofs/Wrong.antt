@@ -12,13 +12,13 @@ use Rattle.event_log.specs.Entries.{Attempt, Entry, OwnerDied, PutLost, Event, C
 use Rattle.event_log.specs.Words.{same_attempt, attempt, births, runs_of}
 use Rattle.event_log.specs.Events.{accepted_events, under_way_from, is_committed, has_job_out, is_killed, is_live, was_told, was_lost}
 use Rattle.event_log.specs.Breaks.{Among, PutIsLost, breaks_from, breaks_of}
-use Rattle.event_log.specs.Holding.{is_one_of, anchored, is_held}
+use Rattle.event_log.specs.Holding.{is_one_of, anchored, Bore, Given, ByAttempt, ByBirth}
 use Rattle.event_log.specs.Rules.{Receiver, ToWorker, ToNode, IsHeard, Setting, Allowed}
 use Rattle.event_log.specs.Causes.{IsRefusal}
 use Rattle.event_log.specs.Serial.{MainBegins}
 use Rattle.event_log.specs.Legal.{Whole, BrokenOff, Happens, CommitsAll, LegalTo, opening}
 use Rattle.event_log.proofs.Growing.{entries_have_their_needs}
-use Rattle.log_examples.specs.Logs.{first_of, number, square_setting}
+use Rattle.log_examples.specs.Logs.{first_of, number, square_setting, calling_mid}
 use Rattle.log_examples.specs.FaultLogs.{making_one, used_up, retried_setting, owner_died_setting}
 use Rattle.log_examples.specs.ReleaseLogs.{releasing_setting}
 use Rattle.log_examples.specs.WrongLogs.{IsWrong, two_puts, two_puts_setting, owner_died, wrong_content, begun_again, accepted_twice, passed_setting, released_while_held, released_out_of_order, fault_without_cause, print_after_end, skipped_serial, end_of_the_dead, notice_of_the_living, entry_of_a_refused_event, half_a_commit, half_a_commit_and_more, kill_of_nobody, delivery_of_nothing, opened_by_the_dead, lost_before_its_birth, used_up_too_soon, got_from_the_dead, main_resolved, main_accepted, given_out_twice, refused_for_nothing, refused_for_less, cause_comes_later}
@@ -61,12 +61,15 @@ unfolding same_id same_attempt
 accepted_twice_is_wrong = wrong_by square_setting (take 13 accepted_twice) (Accepted (first_of (object 1 1))) [] (λ h. not_nil _ _ h.once)
 
 pub released_while_held_is_wrong : IsWrong passed_setting released_while_held
-unfolding same_id same_attempt accepted_events is_live is_one_of anchored is_held
-released_while_held_is_wrong = wrong_by passed_setting (take 9 released_while_held) (Released (object 1 1)) [] (λ h. so h.unheld)
+unfolding same_id same_attempt accepted_events is_live is_one_of anchored
+released_while_held_is_wrong = wrong_by passed_setting (take 9 released_while_held) (Released (object 1 1)) []
+    (λ h. h.unheld (ByAttempt (first_of (object 1 2)) 2 (10, refl) refl refl refl
+    (Given (first_of (object 1 2)) main_attempt (object 1 1) calling_mid (5, refl) (0, refl) refl (Bore main_attempt (object 1 1) (Put (number 6)) (4, refl)))))
 
 pub released_out_of_order_is_wrong : IsWrong releasing_setting released_out_of_order
-unfolding same_id same_attempt accepted_events is_live is_one_of anchored is_held
-released_out_of_order_is_wrong = wrong_by releasing_setting (take 47 released_out_of_order) (Released (object 1 1)) [] (λ h. so h.unheld)
+unfolding same_id same_attempt accepted_events is_live is_one_of anchored
+released_out_of_order_is_wrong = wrong_by releasing_setting (take 47 released_out_of_order) (Released (object 1 1)) []
+    (λ h. h.unheld (ByBirth (object 1 2) main_attempt calling_mid (5, refl) refl refl (0, refl) (Bore main_attempt (object 1 1) (Put (number 6)) (4, refl))))
 
 pub fault_without_cause_is_wrong : IsWrong square_setting fault_without_cause
 unfolding accepted_events is_killed

@@ -1,5 +1,5 @@
 -- The texts of messages: the kind, and in brackets what it says.
-use Rattle.std.specs.Prelude.{ℕ, List, [], ◌∷◌, ◌++◌, codes}
+use Rattle.std.specs.Prelude.{ℕ, List, None, Option, Some, [], ◌∷◌, ◌++◌, codes}
 use Rattle.std.specs.List.{flat_map}
 use Rattle.std.specs.Fmt.{decimal}
 use Rattle.report.specs.Values.{id_text}
@@ -51,11 +51,11 @@ kind_text (Elsewhere a t n) = codes "Elsewhere"
 kind_text (Wait a t) = codes "Wait"
 kind_text (Back a) = codes "Back"
 kind_text (Push a b) = codes "Push"
-kind_text (Finished a n ids) = codes "Finished"
+kind_text (Finished a n ids kept) = codes "Finished"
 kind_text (FinishedAck a) = codes "FinishedAck"
 kind_text (Failed a f) = codes "Failed"
 kind_text (Where o) = codes "Where"
-kind_text (At o k ns) = codes "At"
+kind_text (At o k ns kept) = codes "At"
 kind_text (Gone o f) = codes "Gone"
 kind_text (Fetch o k) = codes "Fetch"
 kind_text (CopyOf o k c) = codes "Copy"
@@ -68,14 +68,19 @@ kind_text (Unhold e o) = codes "Unhold"
 abbrev pub push_text : Attempt → Birth → List ℕ
 push_text a b = codes "Push(" ++ (attempt_text a ++ (codes ", " ++ (birth_text b ++ codes ")")))
 
--- Finished(a1.1#0, n1, [])
-abbrev pub finished_text : Attempt → ℕ → List Id → List ℕ
-finished_text a n ids =
-    codes "Finished(" ++ (attempt_text a ++ (codes ", n" ++ (decimal n ++ (codes ", " ++ (objects_text ids ++ codes ")")))))
+-- a small content that comes along
+abbrev pub kept_text : Option Outcome → List ℕ
+kept_text None = []
+kept_text (Some c) = codes ", " ++ content_text c
 
--- At(o1.1, 0, [n1, n2])
-abbrev pub at_text : Id → ℕ → List ℕ → List ℕ
-at_text o k ns = codes "At(" ++ (id_text o ++ (codes ", " ++ (decimal k ++ (codes ", " ++ (nodes_text ns ++ codes ")")))))
+-- Finished(a1.1#0, n1, [], 49), or without the content
+abbrev pub finished_text : Attempt → ℕ → List Id → Option Outcome → List ℕ
+finished_text a n ids kept =
+    codes "Finished(" ++ (attempt_text a ++ (codes ", n" ++ (decimal n ++ (codes ", " ++ (objects_text ids ++ (kept_text kept ++ codes ")"))))))
+
+-- At(o1.1, 0, [n1, n2]), or At(o1.1, 0, [], 49)
+abbrev pub at_text : Id → ℕ → List ℕ → Option Outcome → List ℕ
+at_text o k ns kept = codes "At(" ++ (id_text o ++ (codes ", " ++ (decimal k ++ (codes ", " ++ (nodes_text ns ++ (kept_text kept ++ codes ")"))))))
 
 -- Copy(o1.1, 0, 49)
 abbrev pub copy_text : Id → ℕ → Outcome → List ℕ
@@ -84,8 +89,8 @@ copy_text o k c = codes "Copy(" ++ (id_text o ++ (codes ", " ++ (decimal k ++ (c
 -- what carries a task, objects, nodes or a content
 abbrev pub carrying_text : Message → List ℕ
 carrying_text (Push a b) = push_text a b
-carrying_text (Finished a n ids) = finished_text a n ids
-carrying_text (At o k ns) = at_text o k ns
+carrying_text (Finished a n ids kept) = finished_text a n ids kept
+carrying_text (At o k ns kept) = at_text o k ns kept
 carrying_text (CopyOf o k c) = copy_text o k c
 carrying_text _ = []
 

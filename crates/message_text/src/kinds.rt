@@ -1,7 +1,7 @@
 // Messages.
 
 ghost use Rattle.std.specs.Prelude.{◌≡◌, ◌++◌, OnOk, string_bytes};
-ghost use Rattle.message_text.specs.Messages.{at_text, carrying_text, closed_text, copy_text, finished_ack_text, finished_text, hold_text, kind_text};
+ghost use Rattle.message_text.specs.Messages.{at_text, carrying_text, closed_text, copy_text, finished_ack_text, finished_text, hold_text, kept_text, kind_text};
 ghost use Rattle.message_text.specs.Messages.{message_text, place_text, push_text, stop_text};
 
 use crate::lists::{write_nodes, write_objects};
@@ -23,18 +23,30 @@ fn write_push(text: &mut String, attempt: AttemptId, birth: &Origin) -> Result<(
     text.push_str(")")
 }
 
+fn write_kept(text: &mut String, kept: &Option<Content>) -> Result<(), AllocError>
+    ensures { OnOk result (string_bytes text.new ≡ string_bytes text.old ++ kept_text kept.now) }
+{
+    let Some(content) = kept else {
+        return Ok(());
+    };
+    text.push_str(", ")?;
+    write_content(text, &content.inner)
+}
+
 fn write_finished(
     text: &mut String,
     attempt: AttemptId,
     node: NodeId,
     ids: &Seq<ObjectId>,
+    kept: &Option<Content>,
 ) -> Result<(), AllocError>
-    ensures { OnOk result (string_bytes text.new ≡ string_bytes text.old ++ finished_text attempt node ids.now) }
+    ensures { OnOk result (string_bytes text.new ≡ string_bytes text.old ++ finished_text attempt node ids.now kept.now) }
 {
     let attempt = attempt_out(attempt);
     let node = node.0;
     write!(text, "Finished({attempt}, n{node}, ")?;
     write_objects(text, ids.as_slice())?;
+    write_kept(text, kept)?;
     text.push_str(")")
 }
 
@@ -43,12 +55,14 @@ fn write_at(
     object: ObjectId,
     number: u32,
     nodes: &Seq<NodeId>,
+    kept: &Option<Content>,
 ) -> Result<(), AllocError>
-    ensures { OnOk result (string_bytes text.new ≡ string_bytes text.old ++ at_text object number nodes.now) }
+    ensures { OnOk result (string_bytes text.new ≡ string_bytes text.old ++ at_text object number nodes.now kept.now) }
 {
     let object = object_out(object);
     write!(text, "At({object}, {number}, ")?;
     write_nodes(text, nodes.as_slice())?;
+    write_kept(text, kept)?;
     text.push_str(")")
 }
 
@@ -72,8 +86,10 @@ fn write_carrying(text: &mut String, message: &Message) -> Result<(), AllocError
 {
     match message {
         Message::Push(attempt, birth) => write_push(text, *attempt, birth),
-        Message::Finished(attempt, node, ids) => write_finished(text, *attempt, *node, ids),
-        Message::At(object, number, nodes) => write_at(text, *object, *number, nodes),
+        Message::Finished(attempt, node, ids, kept) => {
+            write_finished(text, *attempt, *node, ids, kept)
+        }
+        Message::At(object, number, nodes, kept) => write_at(text, *object, *number, nodes, kept),
         Message::CopyOf(object, number, content) => write_copy(text, *object, *number, content),
         _ => Ok(()),
     }

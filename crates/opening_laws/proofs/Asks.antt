@@ -6,13 +6,13 @@ use Rattle.meaning.specs.Values.{Id}
 use Rattle.protocol.specs.Asking.{answers_faulted, answers_faulted_by, answers_gone, breaks, faults_if_waiting, next_attempt, requests, resolves, rests}
 use Rattle.protocol.specs.Asking.{tells_gone}
 use Rattle.protocol.specs.Holders.{awaits_hold_by, hold_ack_by, hold_ack_reached, hold_reached, hold_reached_by, holding, holds_id, holds_ids, sends_hold}
-use Rattle.protocol.specs.Holders.{unhold_reached, with_holding, without_holding}
-use Rattle.protocol.specs.Messages.{Gone, Hold}
+use Rattle.protocol.specs.Holders.{adds_holder, unheld_by, unhold_reached, with_holding, without_holding}
+use Rattle.protocol.specs.Messages.{Gone, Hold, HoldAck, Reason}
 use Rattle.protocol.specs.Recovery.{first_stop, gives_up, members, recovers, recovers_by, remakes, remakes_by}
 use Rattle.protocol.specs.Sets.{fault}
 use Rattle.protocol.specs.Steps.{Here, changes, is_own, object_at, own_object, says, with_run, with_task_of}
 use Rattle.protocol.specs.Tables.{Holding, Object, OwnTask, Run, is_waiting_for, knows_dead, may_try_again, task_of, with_holder, without_askers}
-use Rattle.protocol.specs.Tables.{without_holder}
+use Rattle.protocol.specs.Tables.{with_dead_holder}
 use Rattle.opening_laws.specs.Spending.{Spends, waits_of}
 use Rattle.opening_laws.proofs.Spends.{faults_spends, leaves_if_free_spends, spends_if, spends_none, spends_same, spends_then, with_run_spends}
 
@@ -27,9 +27,14 @@ sends_hold_spends h e o =
     let g : Here = awaits_hold_by h (holding e o) h.worker.run in
     spends_then {g = g} (awaits_spends h (holding e o) h.worker.run refl) (spends_same {g = says g o.owner (Hold e o)} refl refl)
 
+adds_holder_spends : (h : Here) (e o : Id) → Spends h (adds_holder h e o)
+adds_holder_spends h e o =
+    spends_if (knows_dead h.worker e.owner) (spends_same {g = changes (changes h o (with_holder e)) o (with_dead_holder e)} refl refl)
+    (spends_same {g = changes h o (with_holder e)} refl refl)
+
 holds_id_spends : (h : Here) (e o : Id) → Spends h (holds_id h e o)
 holds_id_spends h e o =
-    spends_if (is_own h o) (spends_same {g = changes h o (with_holder e)} refl refl)
+    spends_if (is_own h o) (adds_holder_spends h e o)
     (spends_if (knows_dead h.worker o.owner) spends_none (sends_hold_spends h e o))
 
 pub holds_ids_spends : (os : List Id) (h : Here) (e : Id) → Spends h (holds_ids h e os)
@@ -38,7 +43,7 @@ holds_ids_spends (o ∷ os) h e = spends_then (holds_id_spends h e o) (holds_ids
 
 hold_by_spends : (h : Here) (w : ℕ) (e o : Id) (x : Option Object) → Spends h (hold_reached_by h w e o x)
 hold_by_spends h w e o None = spends_none
-hold_by_spends h w e o (Some x) = spends_same refl refl
+hold_by_spends h w e o (Some x) = spends_then {g = adds_holder h e o} (adds_holder_spends h e o) (spends_same {g = says (adds_holder h e o) w (HoldAck e o)} refl refl)
 
 pub hold_spends : (h : Here) (w : ℕ) (e o : Id) → Spends h (hold_reached h w e o)
 hold_spends h w e o = hold_by_spends h w e o (object_at h o)
@@ -52,8 +57,8 @@ hold_ack_by_spends h e o (Some run) q =
 pub hold_ack_spends : (h : Here) (e o : Id) → Spends h (hold_ack_reached h e o)
 hold_ack_spends h e o = hold_ack_by_spends h e o h.worker.run refl
 
-pub unhold_spends : (h : Here) (e o : Id) → Spends h (unhold_reached h e o)
-unhold_spends h e o = spends_if (is_own h o) (spends_same {g = changes h o (without_holder e)} refl refl) spends_none
+pub unhold_spends : (h : Here) (e o : Id) (why : Reason) → Spends h (unhold_reached h e o why)
+unhold_spends h e o why = spends_if (is_own h o) (spends_same {g = changes h o (unheld_by why e)} refl refl) spends_none
 
 -- ---- faults and asks
 

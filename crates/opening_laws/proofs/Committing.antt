@@ -7,14 +7,14 @@ use Rattle.event_log.specs.Holding.{ids_of_birth}
 use Rattle.meaning.specs.Values.{Birth, Id, Outcome, Put, Task, Val}
 use Rattle.protocol.specs.Commits.{asks_where, bears, bears_all, bears_as, commit_by, commit_step, ends, needs, next_id_here, stops_by, with_object}
 use Rattle.protocol.specs.Commits.{with_outcomes}
-use Rattle.protocol.specs.Holders.{holds_ids}
+use Rattle.protocol.specs.Holders.{holds_ids, passes_on}
 use Rattle.protocol.specs.Jobs.{AtEnd, AtGet, Outcomes, Stopped, stop_of}
 use Rattle.protocol.specs.Messages.{Where}
 use Rattle.protocol.specs.Runs.{gives_slot_back, leaves_if_free}
 use Rattle.protocol.specs.Sets.{fault}
 use Rattle.protocol.specs.Slots.{frees}
 use Rattle.protocol.specs.Steps.{Here, is_own, logs_all, says, store_here, with_phase, with_run, with_store}
-use Rattle.protocol.specs.Stores.{with_primary}
+use Rattle.protocol.specs.Stores.{with_ended, with_primary}
 use Rattle.protocol.specs.Tables.{ByTask, HasEnded, HasFaulted, Out, Phase, Ready, Run, Waits, is_same_id, is_waiting_for, knows_dead, needed_by, new_object}
 use Rattle.protocol.specs.Tables.{new_task, object_needed, put_object}
 use Rattle.values.specs.Listed.{each_once, ids_in_outcome}
@@ -91,7 +91,7 @@ needs_opens h run y =
 ends_opens : (h : Here) (run : Run) (c : Outcome) → (ends h run c).there.opened ≤ h.there.opened + 1
 ends_opens h run c =
     let o : Id = run.attempt.object in
-    let g : Here = with_store (with_phase h run (HasEnded c)) (with_primary (store_here h) o run.attempt.number c) in
+    let g : Here = passes_on (with_store (with_phase h run (HasEnded c)) (with_ended (store_here h) o run.attempt.number c)) o (each_once (ids_in_outcome c)) in
     let k : Here = holds_ids g o (each_once (ids_in_outcome c)) in
     let l : Here = leaves_if_free k in
     let s : Spends g l = spends_then {g = k} (holds_ids_spends (each_once (ids_in_outcome c)) g o) (leaves_if_free_spends k) in

@@ -33,16 +33,16 @@ finished_ack_spends h a =
 
 from_worker_spends : (h : Here) (w : ℕ) (m : Message) → Spends h (reached_from_worker h w m)
 from_worker_spends h w (Push a spec) = push_spends h a spec
-from_worker_spends h w (Finished a n ids) = finished_spends h w a n ids
+from_worker_spends h w (Finished a n ids kept) = finished_spends h w a n ids kept
 from_worker_spends h w (FinishedAck a) = finished_ack_spends h a
 from_worker_spends h w (Failed a f) = failed_spends h w a f
 from_worker_spends h w (Where o) = where_spends h w o
-from_worker_spends h w (At o number ns) = at_spends h o number ns
+from_worker_spends h w (At o number ns kept) = at_spends h o number ns kept
 from_worker_spends h w (Gone o f) = gone_spends h o f
 from_worker_spends h w (Missing o number n) = missing_spends h (TheWorker w) o number n
 from_worker_spends h w (Hold e o) = hold_spends h w e o
 from_worker_spends h w (HoldAck e o) = hold_ack_spends h e o
-from_worker_spends h w (Unhold e o) = unhold_spends h e o
+from_worker_spends h w (Unhold e o why) = unhold_spends h e o why
 from_worker_spends h w m = spends_none
 
 from_node_spends : (h : Here) (n : ℕ) (m : Message) → Spends h (reached_from_node h n m)

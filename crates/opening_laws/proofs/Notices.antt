@@ -1,18 +1,19 @@
 -- Asks that are answered, deaths that are told, and ticks.
 use Rattle.std.proofs.Common.{Bool, List, None, Option, Some, [], ap, length, refl, sym, ℕ, ◌∷◌, ◌≡◌}
 use Rattle.std.specs.List.{filter}
-use Rattle.std.specs.Prelude.{not, ◌&&◌, ◌==◌}
+use Rattle.std.specs.Prelude.{if◌then◌else◌, not, ◌&&◌, ◌==◌}
 use Rattle.event_log.specs.Entries.{Attempt, OwnerDied}
 use Rattle.meaning.specs.Values.{Id}
 use Rattle.protocol.specs.Asking.{asks_next, begins, elsewhere_by, elsewhere_reached, given_by, given_reached, if_asked, pushes, with_begun}
-use Rattle.protocol.specs.Messages.{Hold, TheNode, Where}
+use Rattle.protocol.specs.Holders.{collects, drops_dead, drops_dead_by, drops_holders, first_born_first, lets_go_of_dead}
+use Rattle.protocol.specs.Messages.{Hold, OwnerIsDead, TheNode, Unhold, Where}
 use Rattle.protocol.specs.Notices.{breaks_if, breaks_where, drops_holds, drops_holds_by, drops_stop, drops_stop_by, is_unheard, loses_fetch_at}
 use Rattle.protocol.specs.Notices.{loses_fetch_by, loses_fetch_of, loses_owner, loses_owner_of, loses_places, moves_ask, moves_ask_at, moves_asks}
 use Rattle.protocol.specs.Notices.{notice_node_step, notice_step, runs_on_node, runs_on_worker, with_dead_node, with_dead_worker}
 use Rattle.protocol.specs.Sets.{fault, has}
-use Rattle.protocol.specs.Steps.{Here, is_own, object_at, own_id, own_object, says, with_run}
-use Rattle.protocol.specs.Tables.{AskedAt, AtRest, Fetching, HasEnded, HasFaulted, Holding, Out, OwnTask, Phase, Progress, Ready, Run, RunsOn, Waits}
-use Rattle.protocol.specs.Tables.{knows_dead, needed_by, owner_of, task_of}
+use Rattle.protocol.specs.Steps.{Here, changes, is_own, object_at, own_id, own_object, says, with_run}
+use Rattle.protocol.specs.Tables.{AskedAt, AtRest, Fetching, HasEnded, HasFaulted, Holding, Out, OwnTask, Phase, Object, Progress, Ready, Run, RunsOn, Waits}
+use Rattle.protocol.specs.Tables.{holders_of, knows_dead, needed_by, owner_of, task_of, with_dead_holder}
 use Rattle.protocol.specs.Ticks.{asks_again, asks_place_again, sends_holds, sends_run, sends_stop, sends_task, sends_task_at, sends_tasks, tick_step}
 use Rattle.opening_laws.specs.Spending.{Spends, waits_of}
 use Rattle.opening_laws.proofs.Spends.{each_spends, faults_spends, is_heard_spends, leaves_if_free_spends, spends_if, spends_none, spends_same, spends_then}
@@ -74,6 +75,25 @@ drops_stop_by_spends h v (Some run) e = spends_if (is_unheard run && (owner_of r
 pub drops_stop_spends : (h : Here) (v : ℕ) → Spends h (drops_stop h v)
 drops_stop_spends h v = drops_stop_by_spends h v h.worker.run refl
 
+drops_holders_spends : (es : List Id) (h : Here) (o : Id) → Spends h (drops_holders h o es)
+drops_holders_spends [] h o = spends_none
+drops_holders_spends (e ∷ es) h o = let g : Here = changes h o (with_dead_holder e) in spends_then {g = g} (spends_same refl refl) (drops_holders_spends es g o)
+
+drops_dead_by_spends : (h : Here) (v : ℕ) (o : Id) (x : Option Object) → Spends h (drops_dead_by h v o x)
+drops_dead_by_spends h v o None = spends_none
+drops_dead_by_spends h v o (Some x) = drops_holders_spends (first_born_first (holders_of v x)) h o
+
+lets_go_of_dead_spends : (v : ℕ) (ks : List Holding) (h : Here) → Spends h (lets_go_of_dead h v ks)
+lets_go_of_dead_spends v [] h = spends_none
+lets_go_of_dead_spends v (k ∷ ks) h =
+    let g : Here = says h k.object.owner (Unhold k.holder k.object OwnerIsDead) in
+    spends_then (spends_if (k.holder.owner == v) (spends_same {g = g} refl refl) spends_none) (lets_go_of_dead_spends v ks (if k.holder.owner == v then g else h))
+
+collects_spends : (h : Here) (v : ℕ) → Spends h (collects h v)
+collects_spends h v =
+    spends_then {g = drops_dead h v} (each_spends (λ g k. drops_dead_by g v (own_id g k) (own_object g k)) (λ g k. drops_dead_by_spends g v (own_id g k) (own_object g k)) (length h.worker.objects) h 1)
+    (lets_go_of_dead_spends v h.worker.passed_on (drops_dead h v))
+
 pub notice_spends : (h : Here) (v : ℕ) → Spends h (notice_step h v)
 notice_spends h v =
     let a : Here = with_dead_worker h v in
@@ -82,7 +102,8 @@ notice_spends h v =
     spends_if (knows_dead h.worker v) spends_none
     (spends_then {g = a} (spends_same refl refl)
     (spends_then (breaks_where_spends (runs_on_worker v) a)
-    (spends_then (loses_owner_spends b v) (spends_then (drops_holds_spends c v) (drops_stop_spends (drops_holds c v) v)))))
+    (spends_then (loses_owner_spends b v) (spends_then (drops_holds_spends c v)
+    (spends_then (drops_stop_spends (drops_holds c v) v) (collects_spends (drops_stop (drops_holds c v) v) v))))))
 
 -- ---- nodes that are dead
 

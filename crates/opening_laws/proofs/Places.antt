@@ -1,18 +1,18 @@
 -- Where contents are, and how whoever waits for one is answered.
 use Rattle.std.proofs.Common.{List, None, Option, Some, [], refl, ℕ, ◌∷◌}
 use Rattle.std.specs.Prelude.{◌==◌}
-use Rattle.event_log.specs.Entries.{Attempt, Fault}
+use Rattle.event_log.specs.Entries.{Attempt, Fault, OwnerDied}
 use Rattle.meaning.specs.Values.{Id, Outcome}
 use Rattle.protocol.specs.Asking.{resolves, rests}
 use Rattle.protocol.specs.Ends.{accepts, failed_by, failed_reached, finished_by, finished_reached, hears_of_end, if_present}
-use Rattle.protocol.specs.Messages.{At, Party, TheNode, TheWorker}
+use Rattle.protocol.specs.Messages.{At, Gone, Party, TheNode, TheWorker}
 use Rattle.protocol.specs.Places.{adds_place, adds_place_by, adds_places, answered_here, answers_asker, answers_settled, answers_settled_by, asker_by}
-use Rattle.protocol.specs.Places.{at_reached, copy_reached, finds_none, goes_to, gone_reached, hands_missing_on, is_present, looks_elsewhere}
-use Rattle.protocol.specs.Places.{looks_elsewhere_by, looks_for, looks_here_by, makes_copy_known, missing_from, missing_reached, needs_at, needs_by}
-use Rattle.protocol.specs.Places.{needs_own, needs_own_if_waiting, needs_unresolved, reports_missing, takes_place, takes_place_by, tells_places}
+use Rattle.protocol.specs.Places.{at_answers, at_reached, copy_reached, finds_none, goes_to, gone_reached, hands_missing_on, is_present, looks_elsewhere}
+use Rattle.protocol.specs.Places.{looks_at_places, looks_elsewhere_by, looks_for, looks_for_by, looks_here_by, makes_copy_known, missing_from, missing_reached, needs_at, needs_by}
+use Rattle.protocol.specs.Places.{needs_own, needs_own_if_waiting, needs_released, needs_unresolved, reports_missing, takes_place, takes_place_by, tells_places, tells_released}
 use Rattle.protocol.specs.Places.{where_reached}
 use Rattle.protocol.specs.Runs.{fetches, with_fetching}
-use Rattle.protocol.specs.Sets.{has}
+use Rattle.protocol.specs.Sets.{fault, has}
 use Rattle.protocol.specs.Steps.{Here, changes, is_own, object_at, says, store_here, with_store, with_task_of}
 use Rattle.protocol.specs.Stores.{copy_in, looked_up, with_secondary}
 use Rattle.protocol.specs.Tables.{Object, OwnTask, chosen_place, has_content, is_lost, is_waiting_for, live_place, settled_number, task_of, with_asker}
@@ -36,13 +36,24 @@ looks_here_spends h o x None =
 looks_here_spends h o x (Some c) =
     let g : Here = with_store h (looked_up (store_here h) o (settled_number x)) in spends_then {g = g} (spends_same refl refl) (gets_spends g c)
 
-looks_for_spends : (h : Here) (o : Id) (x : Object) → Spends h (Rattle.protocol.specs.Places.looks_for h o x)
-looks_for_spends h o x =
+looks_at_places_spends : (h : Here) (o : Id) (x : Object) → Spends h (looks_at_places h o x)
+looks_at_places_spends h o x =
     spends_if (has x.places h.worker.node) (looks_here_spends h o x (copy_in (store_here h) o (settled_number x)))
     (looks_elsewhere_spends h o x (live_place h.worker x.places))
 
+looks_for_by_spends : (h : Here) (o : Id) (x : Object) (kept : Option Outcome) → Spends h (looks_for_by h o x kept)
+looks_for_by_spends h o x None = looks_at_places_spends h o x
+looks_for_by_spends h o x (Some c) = gets_spends h c
+
+looks_for_spends : (h : Here) (o : Id) (x : Object) → Spends h (looks_for h o x)
+looks_for_spends h o x = looks_for_by_spends h o x x.kept
+
+needs_released_spends : (h : Here) (e : Option Id) → Spends h (needs_released h e)
+needs_released_spends h None = spends_none
+needs_released_spends h (Some e) = faults_spends h (fault OwnerDied e)
+
 needs_by_spends : (h : Here) (o : Id) (x : Object) (f : Option Fault) → Spends h (needs_by h o x f)
-needs_by_spends h o x None = spends_if (has_content x) (looks_for_spends h o x) (spends_if (is_lost x) (recovers_spends h o) spends_none)
+needs_by_spends h o x None = spends_if (has_content x) (looks_for_spends h o x) (spends_if (is_lost x) (recovers_spends h o) (spends_if x.is_released (needs_released_spends h x.dead_holder) spends_none))
 needs_by_spends h o x (Some f) = faults_spends h f
 
 needs_at_spends : (h : Here) (o : Id) (x : Option Object) → Spends h (needs_at h o x)
@@ -58,7 +69,7 @@ needs_own_if_waiting_spends h o = spends_if (is_waiting_for h.worker o) (needs_o
 pub tells_places_spends : (ws : List ℕ) (h : Here) (o : Id) (x : Object) → Spends h (tells_places h ws o x)
 tells_places_spends [] h o x = spends_none
 tells_places_spends (w ∷ ws) h o x =
-    let g : Here = says h w (At o (settled_number x) x.places) in spends_then {g = g} (spends_same refl refl) (tells_places_spends ws g o x)
+    let g : Here = says h w (At o (settled_number x) x.places x.kept) in spends_then {g = g} (spends_same refl refl) (tells_places_spends ws g o x)
 
 answers_settled_by_spends : (h : Here) (o : Id) (x : Option Object) → Spends h (answers_settled_by h o x)
 answers_settled_by_spends h o None = spends_none
@@ -69,11 +80,16 @@ answers_settled_by_spends h o (Some x) =
 pub answers_settled_spends : (h : Here) (o : Id) → Spends h (answers_settled h o)
 answers_settled_spends h o = answers_settled_by_spends h o (object_at h o)
 
+tells_released_spends : (h : Here) (o : Id) (w : ℕ) (e : Option Id) → Spends h (tells_released h o w e)
+tells_released_spends h o w None = spends_none
+tells_released_spends h o w (Some e) = spends_same {g = says h w (Gone o (fault OwnerDied e))} refl refl
+
 answers_asker_spends : (h : Here) (o : Id) (w : ℕ) (x : Object) (f : Option Fault) → Spends h (answers_asker h o w x f)
 answers_asker_spends h o w x None =
     let g : Here = changes h o (with_asker w) in
-    spends_if (has_content x) (spends_same {g = says h w (At o (settled_number x) x.places)} refl refl)
-    (spends_if (is_lost x) (spends_then {g = g} (spends_same refl refl) (recovers_spends g o)) (spends_same {g = g} refl refl))
+    spends_if (has_content x) (spends_same {g = says h w (At o (settled_number x) x.places x.kept)} refl refl)
+    (spends_if x.is_released (tells_released_spends h o w x.dead_holder)
+    (spends_if (is_lost x) (spends_then {g = g} (spends_same refl refl) (recovers_spends g o)) (spends_same {g = g} refl refl)))
 answers_asker_spends h o w x (Some f) = spends_same refl refl
 
 asker_by_spends : (h : Here) (o : Id) (w : ℕ) (x : Option Object) → Spends h (asker_by h o w x)
@@ -106,10 +122,14 @@ adds_places_spends [] h o number = spends_none
 adds_places_spends (n ∷ ns) h o number =
     spends_then (adds_place_by_spends h o number n (object_at h o)) (adds_places_spends ns (adds_place h o number n) o number)
 
-pub at_spends : (h : Here) (o : Id) (number : ℕ) (ns : List ℕ) → Spends h (at_reached h o number ns)
-at_spends h o number ns =
+at_answers_spends : (h : Here) (o : Id) (number : ℕ) (ns : List ℕ) (kept : Option Outcome) → Spends h (at_answers h o number ns kept)
+at_answers_spends h o number ns None = goes_to_spends h o number (chosen_place h.worker ns)
+at_answers_spends h o number ns (Some c) = gets_spends h c
+
+pub at_spends : (h : Here) (o : Id) (number : ℕ) (ns : List ℕ) (kept : Option Outcome) → Spends h (at_reached h o number ns kept)
+at_spends h o number ns kept =
     spends_if (is_own h o) (adds_places_spends ns h o number)
-    (spends_if (is_waiting_for h.worker o) (goes_to_spends h o number (chosen_place h.worker ns)) spends_none)
+    (spends_if (is_waiting_for h.worker o) (at_answers_spends h o number ns kept) spends_none)
 
 pub gone_spends : (h : Here) (o : Id) (f : Fault) → Spends h (gone_reached h o f)
 gone_spends h o f = faults_if_waiting_spends h o f
@@ -130,7 +150,7 @@ missing_spends h from o number n =
 makes_known_spends : (h : Here) (o : Id) (number : ℕ) → Spends h (makes_copy_known h o number)
 makes_known_spends h o number =
     spends_if (is_own h o) (adds_place_by_spends h o number h.worker.node (object_at h o))
-    (spends_same {g = says h o.owner (At o number (h.worker.node ∷ []))} refl refl)
+    (spends_same {g = says h o.owner (At o number (h.worker.node ∷ []) None)} refl refl)
 
 pub copy_spends : (h : Here) (o : Id) (number : ℕ) (c : Outcome) → Spends h (copy_reached h o number c)
 copy_spends h o number c =
@@ -141,15 +161,15 @@ copy_spends h o number c =
 
 -- ---- ends
 
-finished_by_spends : (h : Here) (w : ℕ) (a : Attempt) (n : ℕ) (ids : List Id) (r : Option OwnTask) → Spends h (finished_by h w a n ids r)
-finished_by_spends h w a n ids None = spends_same refl refl
-finished_by_spends h w a n ids (Some task) =
-    let g : Here = hears_of_end (accepts h a task n ids) w a in
+finished_by_spends : (h : Here) (w : ℕ) (a : Attempt) (n : ℕ) (ids : List Id) (kept : Option Outcome) (r : Option OwnTask) → Spends h (finished_by h w a n ids kept r)
+finished_by_spends h w a n ids kept None = spends_same refl refl
+finished_by_spends h w a n ids kept (Some task) =
+    let g : Here = hears_of_end (accepts h a task n ids kept) w a in
     spends_if (if_present a task) (spends_then {g = g} (spends_same {g = g} refl refl) (answers_settled_spends g a.object))
     (spends_same {g = hears_of_end h w a} refl refl)
 
-pub finished_spends : (h : Here) (w : ℕ) (a : Attempt) (n : ℕ) (ids : List Id) → Spends h (finished_reached h w a n ids)
-finished_spends h w a n ids = finished_by_spends h w a n ids (task_of (object_at h a.object))
+pub finished_spends : (h : Here) (w : ℕ) (a : Attempt) (n : ℕ) (ids : List Id) (kept : Option Outcome) → Spends h (finished_reached h w a n ids kept)
+finished_spends h w a n ids kept = finished_by_spends h w a n ids kept (task_of (object_at h a.object))
 
 failed_by_spends : (h : Here) (w : ℕ) (a : Attempt) (f : Fault) (r : Option OwnTask) → Spends h (failed_by h w a f r)
 failed_by_spends h w a f None = spends_same refl refl

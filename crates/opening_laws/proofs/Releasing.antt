@@ -4,7 +4,7 @@ use Rattle.std.specs.Prelude.{if◌then◌else◌, ◌==◌}
 use Rattle.event_log.specs.Entries.{Released}
 use Rattle.meaning.specs.Values.{Id}
 use Rattle.protocol.specs.Holders.{unhold_reached}
-use Rattle.protocol.specs.Messages.{Unhold}
+use Rattle.protocol.specs.Messages.{Reason, Unhold, WasReleased}
 use Rattle.protocol.specs.Releases.{drops_copies, entries_made, lets_go, lets_go_of, may_release, release_pass, release_passes, release_step, releases}
 use Rattle.protocol.specs.Releases.{releases_by}
 use Rattle.protocol.specs.Steps.{Here, changes, each_from, is_own, logs, own_id, own_object, says_to_node}
@@ -28,11 +28,11 @@ each_none : (f : Here → ℕ → Here) → ((h : Here) (k : ℕ) → OpensNone 
 each_none f step zero h k = opens_none
 each_none f step (suc n) h k = none_then (step h k) (each_none f step n (f h k) (k + 1))
 
-unhold_none : (h : Here) (e o : Id) → OpensNone h (unhold_reached h e o)
-unhold_none h e o = none_if (is_own h o) (record { same = refl }) opens_none
+unhold_none : (h : Here) (e o : Id) (why : Reason) → OpensNone h (unhold_reached h e o why)
+unhold_none h e o why = none_if (is_own h o) (record { same = refl }) opens_none
 
 lets_go_of_none : (h : Here) (e o : Id) → OpensNone h (lets_go_of h e o)
-lets_go_of_none h e o = none_if (is_own h o) (unhold_none h e o) (record { same = refl })
+lets_go_of_none h e o = none_if (is_own h o) (unhold_none h e o WasReleased) (record { same = refl })
 
 lets_go_none : (os : List Id) (h : Here) (e : Id) → OpensNone h (lets_go h e os)
 lets_go_none [] h e = opens_none
@@ -40,7 +40,7 @@ lets_go_none (o ∷ os) h e = none_then (lets_go_of_none h e o) (lets_go_none os
 
 drops_none : (ns : List ℕ) (h : Here) (e : Id) → OpensNone h (drops_copies h e ns)
 drops_none [] h e = opens_none
-drops_none (n ∷ ns) h e = let g : Here = says_to_node h n (Unhold e e) in none_then {g = g} (record { same = refl }) (drops_none ns g e)
+drops_none (n ∷ ns) h e = let g : Here = says_to_node h n (Unhold e e WasReleased) in none_then {g = g} (record { same = refl }) (drops_none ns g e)
 
 releases_none : (h : Here) (e : Id) (x : Object) → OpensNone h (releases h e x)
 releases_none h e x =

@@ -16,12 +16,12 @@ use Rattle.protocol.specs.Sets.{fault, repeated}
 use Rattle.protocol.specs.Messages.{CopyOf, TheNode, TheWorker, Where}
 use Rattle.protocol.specs.Jobs.{AtEnd, AtGet, Given, Handed, Nothing, OfAnother, OfJob, Outcomes, Stopped, stop_of}
 use Rattle.protocol.specs.Nodes.{Node, Outbox}
-use Rattle.protocol.specs.Stores.{with_primary}
+use Rattle.protocol.specs.Stores.{with_ended}
 use Rattle.protocol.specs.Tables.{Fetching, HasEnded, HasFaulted, Run, Waits, Worker, is_waiting_for, knows_dead, new_worker}
 use Rattle.protocol.specs.Tables.{needed_by, object_needed}
 use Rattle.protocol.specs.Steps.{Here, is_own, logs, logs_all, says, store_here, with_phase, with_run, with_store}
 use Rattle.protocol.specs.Runs.{faults, gives_slot_back, leaves_if_free}
-use Rattle.protocol.specs.Holders.{holds_ids}
+use Rattle.protocol.specs.Holders.{holds_ids, passes_on}
 use Rattle.protocol.specs.Commits.{asks_where, bears_all, commit_by, commit_step, ends, needs, next_id_here, rests_if_waiting, stops_by, with_outcomes}
 use Rattle.protocol.specs.Releases.{release_step}
 use Rattle.protocol.specs.Deliveries.{reached}
@@ -96,7 +96,7 @@ module _ (T : ℕ → Attempt → Type 0) (O : Attempt → Type 0) (V : ℕ → 
     gets = λ h run content y f e q u. absurd (waits_no h run y f e q u);
     faults = λ h run fault y f e q u. absurd (waits_no h run y f e q u);
     frees = λ h run y f e q u. absurd (waits_no h run y f e q u);
-    tells_end = λ h run m ids _ _ u. u;
+    tells_end = λ h run m ids kept _ _ u. u;
     tells_fault = λ h run f _ _ u. u;
     back = λ h run _ _ u. u;
     hears = λ h w a _ u. u;
@@ -175,7 +175,7 @@ ends_asks b run content =
     let g : Here = with_phase b run (HasEnded content) in
     let o : Id = run.attempt.object in
     let ids : List Id = each_once (ids_in_outcome content) in
-    let stored : Here = with_store g (with_primary (store_here b) o run.attempt.number content) in
+    let stored : Here = passes_on (with_store g (with_ended (store_here b) o run.attempt.number content)) o ids in
     let held : HasStoppedHere (leaves_if_free (holds_ids stored o ids)) =
     leaves_if_free-kept AnyTold AnyOver GivenBy Anyhow HasStoppedHere stopped_kept (holds_ids stored o ids)
     (holds_ids-kept AnyTold AnyOver GivenBy Anyhow HasStoppedHere stopped_kept stored o ids refl) in

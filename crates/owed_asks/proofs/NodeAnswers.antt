@@ -72,16 +72,16 @@ module _ (Q : There → Type 0) (kept : IsKeptBy Q) where
   node_reached_from-kept h w (Back a) p =
       either (may_be_idle h.node.scheduler w a) (with_scheduler h (with_idle h.node.scheduler w)) h (kept.scheduler h _ p) p
   node_reached_from-kept h w (Fetch o number) p = fetched-kept h o number w (copy_in h.node.store o number) p
-  node_reached_from-kept h w (Unhold e o) p = kept.store h _ p
+  node_reached_from-kept h w (Unhold e o why) p = kept.store h _ p
   node_reached_from-kept h w (Give a t v) p = p
   node_reached_from-kept h w (Elsewhere a t m) p = p
   node_reached_from-kept h w (Wait a t) p = p
   node_reached_from-kept h w (Push a spec) p = p
-  node_reached_from-kept h w (Finished a m ids) p = p
+  node_reached_from-kept h w (Finished a m ids kept) p = p
   node_reached_from-kept h w (FinishedAck a) p = p
   node_reached_from-kept h w (Failed a f) p = p
   node_reached_from-kept h w (Where o) p = p
-  node_reached_from-kept h w (At o number ns) p = p
+  node_reached_from-kept h w (At o number ns kept) p = p
   node_reached_from-kept h w (Gone o f) p = p
   node_reached_from-kept h w (CopyOf o number c) p = p
   node_reached_from-kept h w (Missing o number m) p = p

@@ -15,12 +15,12 @@ use Rattle.protocol.specs.Messages.{Letter, letter, Message, Party, TheWorker, T
 use Rattle.protocol.specs.Messages.{Where, At, Gone, Fetch, CopyOf, Missing, Hold, HoldAck, Unhold}
 use Rattle.protocol.specs.Jobs.{AtEnd, AtGet, Given, Handed, Job, Nothing, OfAnother, OfJob, Outcomes, Stopped, stop_of}
 use Rattle.protocol.specs.Nodes.{Node, There}
-use Rattle.protocol.specs.Stores.{with_primary}
+use Rattle.protocol.specs.Stores.{with_ended}
 use Rattle.protocol.specs.Slots.{forgets, node_reached}
 use Rattle.protocol.specs.Tables.{HasEnded, Out, OwnTask, Run, Waits, Worker, new_worker, task_of}
 use Rattle.protocol.specs.Steps.{Here, logs_all, store_here, with_phase, with_run, with_store}
 use Rattle.protocol.specs.Runs.{begins_run, is_free, leaves_if_free, push_reached}
-use Rattle.protocol.specs.Holders.{holds_ids}
+use Rattle.protocol.specs.Holders.{holds_ids, passes_on}
 use Rattle.protocol.specs.Commits.{bears_all, claim_by, claim_step, commit_by, commit_step, ends, next_id_here, stops_by, with_outcomes}
 use Rattle.protocol.specs.Notices.{notice_step, notice_node_step}
 use Rattle.protocol.specs.Ticks.{tick_step}
@@ -144,11 +144,11 @@ module _ (c : Whole) (me n : ℕ) where
       let g : Here = with_phase h run (HasEnded content) in
       let o : Id = run.attempt.object in
       let ids : List Id = each_once (ids_in_outcome content) in
-      let stored : Here = with_store g (with_primary (store_here h) o run.attempt.number content) in
+      let stored : Here = passes_on (with_store g (with_ended (store_here h) o run.attempt.number content)) o ids in
       let held : Here = holds_ids stored o ids in
       slot_back_routes c me n (leaves_if_free held)
       (leaves_if_free-kept AnyTold AnyOver GivenBy Anyhow R R_kept held
-      (holds_ids-kept AnyTold AnyOver GivenBy Anyhow R R_kept stored o ids (same h g.worker refl refl q)))
+      (holds_ids-kept AnyTold AnyOver GivenBy Anyhow R R_kept stored o ids (same h (passes_on g o ids).worker refl refl q)))
 
   stops_routes : (h : Here) (stop : Stopped) (r : Option Run) → R h → R (stops_by h stop r)
   stops_routes h stop None q = q
@@ -170,7 +170,7 @@ module _ (c : Whole) (me n : ℕ) where
 
   heard_worker : (h : Here) (u : ℕ) (m : Message) → R h → IsHeardFrom AnyTold AnyOver GivenBy Anyhow R R_kept h (TheWorker u) m
   heard_worker h u (Push a spec) q = push_routes h a spec q
-  heard_worker h u (Finished a k ids) q = tt
+  heard_worker h u (Finished a k ids kept) q = tt
   heard_worker h u (Failed a f) q = tt
   heard_worker h u (FinishedAck a) q = tt
   heard_worker h u (Ask a j) q = tt
@@ -179,19 +179,19 @@ module _ (c : Whole) (me n : ℕ) where
   heard_worker h u (Wait a j) q = tt
   heard_worker h u (Back a) q = tt
   heard_worker h u (Where o) q = tt
-  heard_worker h u (At o number ns) q = tt
+  heard_worker h u (At o number ns kept) q = tt
   heard_worker h u (Gone o f) q = tt
   heard_worker h u (Fetch o number) q = tt
   heard_worker h u (CopyOf o number b) q = tt
   heard_worker h u (Missing o number k) q = tt
   heard_worker h u (Hold e o) q = tt
   heard_worker h u (HoldAck e o) q = tt
-  heard_worker h u (Unhold e o) q = tt
+  heard_worker h u (Unhold e o why) q = tt
 
   heard_node : (h : Here) (k : ℕ) (m : Message) → IsHeardFrom AnyTold AnyOver GivenBy Anyhow R R_kept h (TheNode k) m
   heard_node h k (Give a j v) = λ _. tt
   heard_node h k (Push a spec) = tt
-  heard_node h k (Finished a m ids) = tt
+  heard_node h k (Finished a m ids kept) = tt
   heard_node h k (Failed a f) = tt
   heard_node h k (FinishedAck a) = tt
   heard_node h k (Ask a j) = tt
@@ -199,14 +199,14 @@ module _ (c : Whole) (me n : ℕ) where
   heard_node h k (Wait a j) = tt
   heard_node h k (Back a) = tt
   heard_node h k (Where o) = tt
-  heard_node h k (At o number ns) = tt
+  heard_node h k (At o number ns kept) = tt
   heard_node h k (Gone o f) = tt
   heard_node h k (Fetch o number) = tt
   heard_node h k (CopyOf o number b) = tt
   heard_node h k (Missing o number m) = tt
   heard_node h k (Hold e o) = tt
   heard_node h k (HoldAck e o) = tt
-  heard_node h k (Unhold e o) = tt
+  heard_node h k (Unhold e o why) = tt
 
   reached_routes : (h : Here) (from : Party) (m : Message) → R h → R (reached h from m)
   reached_routes h (TheWorker u) m q = reached-kept AnyTold AnyOver GivenBy Anyhow R R_kept h (TheWorker u) m (heard_worker h u m q) q

@@ -40,42 +40,42 @@ plain_unasked : (m : Message) → is_plain m ≡ true → is_ask m ≡ false
 plain_unasked (Ask a t) e = absurd (cc)
 plain_unasked (Give a t w) e = refl
 plain_unasked (Push a spec) e = refl
-plain_unasked (Finished a n ids) e = refl
+plain_unasked (Finished a n ids kept) e = refl
 plain_unasked (Failed a f) e = refl
 plain_unasked (FinishedAck a) e = refl
 plain_unasked (Back a) e = refl
 plain_unasked (Elsewhere a t n) e = refl
 plain_unasked (Wait a t) e = refl
 plain_unasked (Where o) e = refl
-plain_unasked (At o number ns) e = refl
+plain_unasked (At o number ns kept) e = refl
 plain_unasked (Gone o f) e = refl
 plain_unasked (Fetch o number) e = refl
 plain_unasked (CopyOf o number c) e = refl
 plain_unasked (Missing o number n) e = refl
 plain_unasked (Hold e o) f = refl
 plain_unasked (HoldAck e o) f = refl
-plain_unasked (Unhold e o) f = refl
+plain_unasked (Unhold e o why) f = refl
 
 -- what a worker says, but for asks
 unasked_routed : (u : ℕ) (to : Party) (m : Message) → is_ask m ≡ false → IsRoutedBetween (TheWorker u) to m
 unasked_routed u to (Ask a t) e = absurd (cc)
 unasked_routed u to (Give a t w) e = tt
 unasked_routed u to (Push a spec) e = tt
-unasked_routed u to (Finished a n ids) e = tt
+unasked_routed u to (Finished a n ids kept) e = tt
 unasked_routed u to (Failed a f) e = tt
 unasked_routed u to (FinishedAck a) e = tt
 unasked_routed u to (Back a) e = tt
 unasked_routed u to (Elsewhere a t n) e = tt
 unasked_routed u to (Wait a t) e = tt
 unasked_routed u to (Where o) e = tt
-unasked_routed u to (At o number ns) e = tt
+unasked_routed u to (At o number ns kept) e = tt
 unasked_routed u to (Gone o f) e = tt
 unasked_routed u to (Fetch o number) e = tt
 unasked_routed u to (CopyOf o number c) e = tt
 unasked_routed u to (Missing o number n) e = tt
 unasked_routed u to (Hold e o) f = tt
 unasked_routed u to (HoldAck e o) f = tt
-unasked_routed u to (Unhold e o) f = tt
+unasked_routed u to (Unhold e o why) f = tt
 
 answer_routed : (n : ℕ) (k : AskKey) (x : Reply) → IsRoutedBetween (TheNode n) (TheWorker k.attempt.object.owner) (reply_message k x)
 answer_routed n k (Leased w) = refl
@@ -469,7 +469,7 @@ module _ (c : Whole) (me n : ℕ) where
     faults = λ h run fault y f e w q. frees_routes (logs (with_phase h run (HasFaulted fault)) (Faulted run.attempt y fault))
         (same_routes h.me h.worker _ (sent_so h) refl (λ i. refl) q);
     frees = λ h run y f e w q. frees_routes h q;
-    tells_end = λ h run m ids _ _ q. says_routes h h.worker _ _ refl q;
+    tells_end = λ h run m ids kept _ _ q. says_routes h h.worker _ _ refl q;
     tells_fault = λ h run f _ _ q. says_routes h h.worker _ _ refl q;
     back = λ h run _ _ q. says_routes h h.worker _ _ refl q;
     hears = λ h w a _ q. says_routes h h.worker _ _ refl q;

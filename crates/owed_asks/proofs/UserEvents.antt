@@ -16,12 +16,12 @@ use Rattle.protocol.specs.Messages.{Letter, letter, Message, Party, TheWorker, T
 use Rattle.protocol.specs.Messages.{Where, At, Gone, Fetch, CopyOf, Missing, Hold, HoldAck, Unhold}
 use Rattle.protocol.specs.Jobs.{AtEnd, AtGet, Given, Handed, Job, Nothing, OfAnother, OfJob, Outcomes, Stopped, stop_of}
 use Rattle.protocol.specs.Nodes.{Leased, Node, Queued, Reply, SentOn, There, new_node}
-use Rattle.protocol.specs.Stores.{with_primary}
+use Rattle.protocol.specs.Stores.{with_ended}
 use Rattle.protocol.specs.Slots.{ask_key, forgets, node_reached, reply_to}
 use Rattle.protocol.specs.Tables.{Fetching, HasEnded, Out, Run, has_stopped, Waits, Worker, is_waiting_for, new_worker}
 use Rattle.protocol.specs.Steps.{Here, logs_all, store_here, with_phase, with_run, with_store}
 use Rattle.protocol.specs.Runs.{begins_run, gives_slot_back, is_free, leaves_if_free, push_reached}
-use Rattle.protocol.specs.Holders.{holds_ids}
+use Rattle.protocol.specs.Holders.{holds_ids, passes_on}
 use Rattle.protocol.specs.Commits.{asks_where, bears_all, claim_by, claim_step, commit_by, commit_step, ends, needs, next_id_here, stops_by, with_outcomes}
 use Rattle.protocol.specs.Notices.{notice_step, notice_node_step}
 use Rattle.protocol.specs.Ticks.{tick_step}
@@ -49,6 +49,7 @@ use Rattle.protocol_owed.proofs.Telling.{AnyTold, AnyOver}
 use Rattle.lease_discipline.specs.Asks.{Asked, IsDeadNode, IsPassed, KeepsAsks, Touched}
 use Rattle.lease_discipline.specs.Discipline.{IsOfNode, KeepsLeases}
 use Rattle.numbered.proofs.Places.{counted}
+use Rattle.lease_discipline.proofs.Tame.{same_left}
 use Rattle.lease_discipline.proofs.Heres.{by_number, changed_elsewhere}
 use Rattle.lease_discipline.proofs.Laws.{promise}
 use Rattle.lease_discipline.proofs.Moves.{Anyhow, IsHeardFrom, IsKept, asks_where-kept, bears_all-kept, holds_ids-kept, leaves_if_free-kept}
@@ -185,7 +186,7 @@ module _ (c : Whole) (me n : ℕ) (old : Worker) (at : item_at c.workers me ≡ 
     gets = λ h run content y f e q u. absurd (waits_no h run y f e q u);
     faults = λ h run fault y f e q u. absurd (waits_no h run y f e q u);
     frees = λ h run y f e q u. absurd (waits_no h run y f e q u);
-    tells_end = λ h run m ids _ _ u. u;
+    tells_end = λ h run m ids kept _ _ u. u;
     tells_fault = λ h run f _ _ u. u;
     back = λ h run _ _ u. u;
     hears = λ h w a _ u. u;
@@ -234,11 +235,12 @@ module _ (c : Whole) (me n : ℕ) (old : Worker) (at : item_at c.workers me ≡ 
       let g : Here = with_phase h run (HasEnded content) in
       let o : Id = run.attempt.object in
       let ids : List Id = each_once (ids_in_outcome content) in
-      let stored : Here = with_store g (with_primary (store_here h) o run.attempt.number content) in
+      let kept_there : Here = with_store g (with_ended (store_here h) o run.attempt.number content) in
+      let stored : Here = passes_on kept_there o ids in
       let v : U (Some HasStopped) g = stops_slot HasStopped h ended refl unasking u in
       let held : U (Some HasStopped) (holds_ids stored o ids) = holds_ids-kept AnyTold AnyOver GivenBy Anyhow (U (Some HasStopped)) (kept
       (Some HasStopped)) stored o ids
-      (record { who = v.who; home = v.home; lives = v.lives; number = v.number; counted = v.counted; used = v.used; fresh = v.fresh }) in
+      ((kept (Some HasStopped)).objects kept_there stored.worker (same_left kept_there.worker stored.worker refl refl refl refl refl) (record { who = v.who; home = v.home; lives = v.lives; number = v.number; counted = v.counted; used = v.used; fresh = v.fresh })) in
       frees_uses c me n old at (Some HasStopped) None (leaves_if_free (holds_ids stored o ids))
       (leaves_if_free-kept AnyTold AnyOver GivenBy Anyhow (U (Some HasStopped)) (kept (Some HasStopped)) (holds_ids stored o ids) held)
 
@@ -423,7 +425,7 @@ module _ (c d : Whole) (i w : ℕ) (from : Party) (x : Worker) (at : worker_at d
   heard_worker : (u : ℕ) → from ≡ TheWorker u → (m : Message) → item_at c.network i ≡ Some (letter from (TheWorker w) m) → Q start →
       IsHeardFrom AnyTold AnyOver GivenBy Anyhow Q q_kept start (TheWorker u) m
   heard_worker u e (Push a spec) sent t = push_heard a spec sent refl t
-  heard_worker u e (Finished a n ids) sent t = tt
+  heard_worker u e (Finished a n ids content) sent t = tt
   heard_worker u e (Failed a f) sent t = tt
   heard_worker u e (FinishedAck a) sent t = tt
   heard_worker u e (Ask a j) sent t = tt
@@ -432,19 +434,19 @@ module _ (c d : Whole) (i w : ℕ) (from : Party) (x : Worker) (at : worker_at d
   heard_worker u e (Wait a j) sent t = tt
   heard_worker u e (Back a) sent t = tt
   heard_worker u e (Where o) sent t = tt
-  heard_worker u e (At o number ns) sent t = tt
+  heard_worker u e (At o number ns content) sent t = tt
   heard_worker u e (Gone o f) sent t = tt
   heard_worker u e (Fetch o number) sent t = tt
   heard_worker u e (CopyOf o number b) sent t = tt
   heard_worker u e (Missing o number n) sent t = tt
   heard_worker u e (Hold h o) sent t = tt
   heard_worker u e (HoldAck h o) sent t = tt
-  heard_worker u e (Unhold h o) sent t = tt
+  heard_worker u e (Unhold h o why) sent t = tt
 
   heard_node : (n : ℕ) (m : Message) → IsHeardFrom AnyTold AnyOver GivenBy Anyhow Q q_kept start (TheNode n) m
   heard_node n (Give a j v) = λ _. tt
   heard_node n (Push a spec) = tt
-  heard_node n (Finished a m ids) = tt
+  heard_node n (Finished a m ids content) = tt
   heard_node n (Failed a f) = tt
   heard_node n (FinishedAck a) = tt
   heard_node n (Ask a j) = tt
@@ -452,14 +454,14 @@ module _ (c d : Whole) (i w : ℕ) (from : Party) (x : Worker) (at : worker_at d
   heard_node n (Wait a j) = tt
   heard_node n (Back a) = tt
   heard_node n (Where o) = tt
-  heard_node n (At o number ns) = tt
+  heard_node n (At o number ns content) = tt
   heard_node n (Gone o f) = tt
   heard_node n (Fetch o number) = tt
   heard_node n (CopyOf o number b) = tt
   heard_node n (Missing o number m) = tt
   heard_node n (Hold h o) = tt
   heard_node n (HoldAck h o) = tt
-  heard_node n (Unhold h o) = tt
+  heard_node n (Unhold h o why) = tt
 
   reached_uses : (m : Message) → item_at c.network i ≡ Some (letter from (TheWorker w) m) → Q start → Q (reached start from m)
   reached_uses m sent t = by_party from refl

@@ -342,7 +342,7 @@ module _ (c : Whole) (me n : ℕ) (old : Worker) (there : item_at c.workers me �
         frees_uses (Some HasStopped) p (logs g (Faulted run.attempt y fault)) (logs_uses (Some HasStopped) g (Faulted run.attempt y fault ∷ [])
         (worker_uses p (Some HasStopped) h g.worker refl refl refl (λ _. inr refl) (λ asks. absurd (waits_not p h run y f e q u asks)) u));
     frees = λ h run y f e q u. frees_uses p p h u;
-    tells_end = λ h run m ids _ _ u. says_uses p h _ _ u;
+    tells_end = λ h run m ids kept _ _ u. says_uses p h _ _ u;
     tells_fault = λ h run f _ _ u. says_uses p h _ _ u;
     back = λ h run _ _ u. says_uses p h _ _ u;
     hears = λ h w a _ u. says_uses p h _ _ u;

@@ -6,7 +6,7 @@ use Rattle.meaning.specs.Births.{same_id}
 use Rattle.meaning.specs.Values.{Id, Outcome}
 use Rattle.event_log.specs.Entries.{Fault, Faulted, OwnerDied, Released}
 use Rattle.protocol.specs.Sets.{fault, has}
-use Rattle.protocol.specs.Messages.{Gone, Unhold, Where}
+use Rattle.protocol.specs.Messages.{Gone, Unhold, WasReleased, Where}
 use Rattle.protocol.specs.Stores.{copy_in}
 use Rattle.protocol.specs.Tables.{Fetching, HasEnded, HasFaulted, Object, Out, OwnTask, Phase, Ready, Run, Waits, is_waiting_for, knows_dead, live_place}
 use Rattle.protocol.specs.Tables.{has_content, is_lost, is_same_id, needed_by, object_needed, owner_of, settled_number, task_of, without_place}
@@ -16,7 +16,7 @@ use Rattle.protocol.specs.Runs.{faults, faults_at, faults_by, gets, gets_at, get
 use Rattle.protocol.specs.Runs.{tells, tells_stop, with_fetching, with_fetching_at, with_fetching_by}
 use Rattle.protocol.specs.Asking.{answers_faulted, answers_faulted_by, answers_gone, resolves, tells_gone}
 use Rattle.protocol.specs.Recovery.{first_stop, gives_up, members, recovers, recovers_by, remakes, remakes_by}
-use Rattle.protocol.specs.Places.{looks_elsewhere, looks_elsewhere_by, looks_for, looks_here_by, needs_at, needs_by, needs_own}
+use Rattle.protocol.specs.Places.{looks_elsewhere, looks_elsewhere_by, looks_at_places, looks_for_by, looks_for, looks_here_by, needs_at, needs_by, needs_own, needs_released}
 use Rattle.protocol.specs.Commits.{asks_where}
 use Rattle.protocol.specs.Holders.{unhold_reached}
 use Rattle.protocol.specs.Releases.{drops_copies, entries_made, lets_go, lets_go_of, may_release, release_pass, release_passes, release_step}
@@ -154,15 +154,27 @@ module _ (y : Id) where
       looks_elsewhere_by-waits g o (without_place h.worker.node x) (live_place g.worker (without_place h.worker.node x).places) w
   looks_here_by-waits h o x (Some c) w = gets-waits _ c w
 
-  looks_for-waits : (h : Here) (o : Id) (x : Object) → WaitsOnly h → WaitsOnly (looks_for h o x)
-  looks_for-waits h o x w = either (has x.places h.worker.node) (looks_here_by h o x (copy_in (store_here h) o (settled_number x))) (looks_elsewhere h o x)
+  looks_at_places-waits : (h : Here) (o : Id) (x : Object) → WaitsOnly h → WaitsOnly (looks_at_places h o x)
+  looks_at_places-waits h o x w = either (has x.places h.worker.node) (looks_here_by h o x (copy_in (store_here h) o (settled_number x))) (looks_elsewhere h o x)
       (looks_here_by-waits h o x (copy_in (store_here h) o (settled_number x)) w)
       (looks_elsewhere_by-waits h o x (live_place h.worker x.places) w)
 
+  looks_for_by-waits : (h : Here) (o : Id) (x : Object) (c : Option Outcome) → WaitsOnly h → WaitsOnly (looks_for_by h o x c)
+  looks_for_by-waits h o x None w = looks_at_places-waits h o x w
+  looks_for_by-waits h o x (Some c) w = gets-waits h c w
+
+  looks_for-waits : (h : Here) (o : Id) (x : Object) → WaitsOnly h → WaitsOnly (looks_for h o x)
+  looks_for-waits h o x w = looks_for_by-waits h o x x.kept w
+
+  needs_released-waits : (h : Here) (e : Option Id) → WaitsOnly h → WaitsOnly (needs_released h e)
+  needs_released-waits h None w = w
+  needs_released-waits h (Some e) w = faults-waits h (fault OwnerDied e) w
+
   needs_by-waits : (h : Here) (o : Id) (x : Object) (f : Option Fault) → WaitsOnly h → WaitsOnly (needs_by h o x f)
   needs_by-waits h o x None w =
-      either (has_content x) (looks_for h o x) (if is_lost x then recovers h o else h) (looks_for-waits h o x w)
-      (either (is_lost x) (recovers h o) h (recovers-waits h o w) w)
+      either (has_content x) (looks_for h o x) (if is_lost x then recovers h o else if x.is_released then needs_released h x.dead_holder else h) (looks_for-waits h o x w)
+      (either (is_lost x) (recovers h o) (if x.is_released then needs_released h x.dead_holder else h) (recovers-waits h o w)
+      (either x.is_released (needs_released h x.dead_holder) h (needs_released-waits h x.dead_holder w) w))
   needs_by-waits h o x (Some f) w = faults-waits h f w
 
   needs_at-waits : (h : Here) (o : Id) (x : Option Object) → WaitsOnly h → WaitsOnly (needs_at h o x)
@@ -199,7 +211,7 @@ module _ (y : Id) where
   -- ---- to the end of the event
 
   lets_go_of-waits : (h : Here) (e o : Id) → WaitsOnly h → WaitsOnly (lets_go_of h e o)
-  lets_go_of-waits h e o w = either (is_own h o) (unhold_reached h e o) (says h o.owner (Unhold e o)) (either (is_own h o) (changes h o
+  lets_go_of-waits h e o w = either (is_own h o) (unhold_reached h e o WasReleased) (says h o.owner (Unhold e o WasReleased)) (either (is_own h o) (changes h o
       (without_holder e)) h w w) w
 
   lets_go-waits : (h : Here) (e : Id) (os : List Id) → WaitsOnly h → WaitsOnly (lets_go h e os)
@@ -208,7 +220,7 @@ module _ (y : Id) where
 
   drops_copies-waits : (h : Here) (e : Id) (ns : List ℕ) → WaitsOnly h → WaitsOnly (drops_copies h e ns)
   drops_copies-waits h e [] w = w
-  drops_copies-waits h e (n ∷ ns) w = drops_copies-waits (says_to_node h n (Unhold e e)) e ns w
+  drops_copies-waits h e (n ∷ ns) w = drops_copies-waits (says_to_node h n (Unhold e e WasReleased)) e ns w
 
   releases_by-waits : (h : Here) (k : ℕ) (x : Option Object) → WaitsOnly h → WaitsOnly (releases_by h k x)
   releases_by-waits h k None w = w

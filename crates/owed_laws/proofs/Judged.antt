@@ -1,6 +1,6 @@
 -- The worked examples of what is owed.
-use Rattle.std.proofs.Common.{◌≡◌, ℕ, zero, suc, List, [], ◌∷◌, Some, Option, refl, ap, sym, subst, ◌∙◌, arith}
-use Rattle.meaning.specs.Values.{Argument, Id, Name, Task}
+use Rattle.std.proofs.Common.{◌≡◌, ℕ, zero, suc, List, [], ◌∷◌, Some, None, Option, refl, ap, sym, subst, ◌∙◌, arith}
+use Rattle.meaning.specs.Values.{Argument, Id, Name, Outcome, Task}
 use Rattle.event_log.specs.Breaks.{Among}
 use Rattle.event_log.specs.Entries.{Accepted, Attempt, Born, Deliver, main_attempt}
 use Rattle.event_log.specs.Events.{node_of}
@@ -61,24 +61,24 @@ births_are_judged = record {
 
 -- ---- an end
 
-end_parts : (w v : ℕ) (a : Attempt) (n : ℕ) (ids : List Id) →
-    ◌≡◌ {A = Option Letter} (Some (letter (TheWorker 2) (TheWorker 1) (Finished first_one 1 []))) (Some (letter (TheWorker w) (TheWorker v)
-    (Finished a n ids))) →
+end_parts : (w v : ℕ) (a : Attempt) (n : ℕ) (ids : List Id) (content : Option Outcome) →
+    ◌≡◌ {A = Option Letter} (Some (letter (TheWorker 2) (TheWorker 1) (Finished first_one 1 [] None))) (Some (letter (TheWorker w) (TheWorker v)
+    (Finished a n ids content))) →
     (2 ≡ w) × (1 ≡ v) × (first_one ≡ a)
-end_parts w v a n ids e =
-    let same : letter (TheWorker 2) (TheWorker 1) (Finished first_one 1 []) ≡ letter (TheWorker w) (TheWorker v) (Finished a n ids) = cc in
+end_parts w v a n ids content e =
+    let same : letter (TheWorker 2) (TheWorker 1) (Finished first_one 1 [] None) ≡ letter (TheWorker w) (TheWorker v) (Finished a n ids content) = cc in
     let from : TheWorker 2 ≡ TheWorker w = ap (λ (l : Letter). l.sender) same in
     let to : TheWorker 1 ≡ TheWorker v = ap (λ (l : Letter). l.receiver) same in
-    let says : Finished first_one 1 [] ≡ Finished a n ids = ap (λ (l : Letter). l.message) same in
+    let says : Finished first_one 1 [] None ≡ Finished a n ids content = ap (λ (l : Letter). l.message) same in
     (cc, cc, cc)
 
 first_number : (k : ℕ) → Deliver 1 ≡ Deliver k → 1 ≡ k
 first_number k e = cc
 
 end_is_paid : (s : Setting) → FinishIsAcknowledged (end_comes s (Accepted first_one ∷ []) acknowledged)
-end_is_paid s w v a n ids brings =
-    let parts = end_parts w v a n ids
-    (subst (λ i. item_at ended_network i ≡ Some (letter (TheWorker w) (TheWorker v) (Finished a n ids))) (sym (first_number brings.0 brings.1)) brings.2) in
+end_is_paid s w v a n ids content brings =
+    let parts = end_parts w v a n ids content
+    (subst (λ i. item_at ended_network i ≡ Some (letter (TheWorker w) (TheWorker v) (Finished a n ids content))) (sym (first_number brings.0 brings.1)) brings.2) in
     ((zero, sent w v a parts.0 parts.1 parts.2), λ _. (zero, ap (λ i. Some (Accepted i)) parts.2))
   where
     sent : (w v : ℕ) (a : Attempt) → 2 ≡ w → 1 ≡ v → first_one ≡ a →
@@ -99,6 +99,6 @@ unaccepted_yet (suc (suc (suc (suc (suc (suc (suc k)))))), e) = absurd (cc)
 pub ends_are_judged : EndsAreJudged
 ends_are_judged = record {
   paid = end_is_paid;
-  unaccepted = λ s p. among-nothing _ ((p 2 1 first_one 1 [] (1, refl, refl)).1 unaccepted_yet);
-  unacknowledged = λ s p. among-nothing _ (p 2 1 first_one 1 [] (1, refl, refl)).0;
+  unaccepted = λ s p. among-nothing _ ((p 2 1 first_one 1 [] None (1, refl, refl)).1 unaccepted_yet);
+  unacknowledged = λ s p. among-nothing _ (p 2 1 first_one 1 [] None (1, refl, refl)).0;
 }

@@ -1,5 +1,5 @@
 -- Worked examples of what is owed: a birth and an end that pay, and altered ones in which the ask, or the acceptance, is missing.
-use Rattle.std.specs.Prelude.{List, [], ◌++◌, ◌∷◌}
+use Rattle.std.specs.Prelude.{List, None, [], ◌++◌, ◌∷◌}
 use Rattle.event_log.specs.Entries.{Accepted, Born, Claim, Commit, Deliver, Entry, In, main_attempt}
 use Rattle.event_log.specs.Rules.{Setting}
 use Rattle.event_log.specs.Legal.{opening}
@@ -30,7 +30,7 @@ pub record BirthsAreJudged : Type 0 where
 -- ---- an end
 
 abbrev pub ended_network : List Letter
-ended_network = letter (TheWorker 2) (TheWorker 1) (Finished first_one 1 []) ∷ []
+ended_network = letter (TheWorker 2) (TheWorker 1) (Finished first_one 1 [] None) ∷ []
 
 -- worker 2 has told worker 1 that the attempt ended
 abbrev pub end_comes : Setting → List Entry → List Letter → Happening

@@ -128,8 +128,8 @@ pub right_more : (p es : List Entry) (from to : Party) (m : Message) → IsRight
 right_more p es (TheWorker v) (TheWorker w) (Where y) r = (r.0, r.1, known_more p es y r.2)
 right_more p es (TheWorker v) (TheWorker w) (Hold e o) r = (r.0, born_more p es o r.1)
 right_more p es (TheWorker v) (TheWorker w) (Missing y number n) r = r
-right_more p es (TheWorker v) (TheWorker w) (Finished a n ids) r = r
-right_more p es (TheWorker v) (TheWorker w) (At y number ns) r = r
+right_more p es (TheWorker v) (TheWorker w) (Finished a n ids kept) r = r
+right_more p es (TheWorker v) (TheWorker w) (At y number ns kept) r = r
 right_more p es (TheWorker v) (TheWorker w) (Ask a t) r = tt
 right_more p es (TheWorker v) (TheWorker w) (Give a t u) r = tt
 right_more p es (TheWorker v) (TheWorker w) (Elsewhere a t n) r = tt
@@ -142,7 +142,7 @@ right_more p es (TheWorker v) (TheWorker w) (Gone y g) r = tt
 right_more p es (TheWorker v) (TheWorker w) (Fetch y number) r = tt
 right_more p es (TheWorker v) (TheWorker w) (CopyOf y number c) r = tt
 right_more p es (TheWorker v) (TheWorker w) (HoldAck e o) r = tt
-right_more p es (TheWorker v) (TheWorker w) (Unhold e o) r = tt
+right_more p es (TheWorker v) (TheWorker w) (Unhold e o why) r = tt
 right_more p es (TheWorker v) (TheNode n) m r = tt
 right_more p es (TheNode v) to m r = tt
 
@@ -170,9 +170,10 @@ pub record IsBrought (c : Whole) (e : Event) (a : Attempt) : Type 0 where
   pub owner : ℕ
   pub node : ℕ
   pub ids : List Id
+  pub kept : Option Outcome
   pub worker : Worker
   pub event : e ≡ Deliver number
-  pub sent : item_at c.network number ≡ Some (letter (TheWorker sender) (TheWorker owner) (Finished a node ids))
+  pub sent : item_at c.network number ≡ Some (letter (TheWorker sender) (TheWorker owner) (Finished a node ids kept))
   pub there : worker_at c owner ≡ Some worker
   pub lives : worker.is_live ≡ true
 
@@ -268,8 +269,9 @@ module _ (s : Setting) (log : List Entry) (c : Whole) (e : Event) (seat : ℕ) (
         (
           r.0,
           r.1,
-          subst (λ ls. Among (letter (TheWorker w) (TheWorker f.object.owner) (Finished f r.0 r.1)) ls) (sym a.network)
-              (among-more c.network m.out.letters _ r.2),
+          r.2,
+          subst (λ ls. Among (letter (TheWorker w) (TheWorker f.object.owner) (Finished f r.0 r.1 r.2)) ls) (sym a.network)
+              (among-more c.network m.out.letters _ r.3),
         ),
       )
       by_old (inr g) = elim (a.goes_on f g) [ inl h ↦ inr h | inr p ↦ settles f x i other p ]

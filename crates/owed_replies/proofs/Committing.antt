@@ -14,25 +14,25 @@ use Rattle.event_log.specs.Entries.{Accepted, Attempt, Ended, Entry, Faulted, Ow
 use Rattle.event_log.specs.Holding.{ids_of_birth}
 use Rattle.event_log.specs.Words.{attempt, births, same_attempt}
 use Rattle.protocol.specs.Jobs.{AtEnd, AtGet, Outcomes, Stopped, stop_of}
-use Rattle.protocol.specs.Messages.{Ask, FinishedAck, Hold, Letter, TheWorker, Unhold, Where}
+use Rattle.protocol.specs.Messages.{Ask, FinishedAck, Hold, Letter, TheWorker, Unhold, WasReleased, Where}
 use Rattle.protocol.specs.Numbered.{changed_at, item_at}
 use Rattle.protocol.specs.Sets.{fault}
-use Rattle.protocol.specs.Stores.{Store, with_primary}
+use Rattle.protocol.specs.Stores.{Store, with_ended}
 use Rattle.protocol.specs.Tables.{AskedAt, ByTask, HasEnded, HasFaulted, Holding, Object, Out, OwnTask, Run, Waits, is_waiting_for, knows_dead, needed_by}
-use Rattle.protocol.specs.Tables.{new_object, new_run, new_task, put_object, task_in, task_of, released, with_content, with_holder, with_task, without_holder}
+use Rattle.protocol.specs.Tables.{new_object, new_run, new_task, put_object, task_in, task_of, released, with_content, with_dead_holder, with_holder, with_task, without_holder}
 use Rattle.protocol.specs.Steps.{Here, changes, each_from, is_own, logs, logs_all, object_at, own_id, own_object, says, says_to_node, store_here, with_run, with_store}
 use Rattle.protocol.specs.Steps.{with_task_of, with_worker}
 use Rattle.protocol.specs.Runs.{begins_run, faults, gives_slot_back, is_free, push_reached}
 use Rattle.protocol.specs.Asking.{asks_at, rests}
 use Rattle.protocol.specs.Places.{answers_settled, needs_own}
-use Rattle.protocol.specs.Holders.{awaits_hold_by, holding, holds_id, holds_ids, same_holding, sends_hold, unhold_reached, with_holding}
+use Rattle.protocol.specs.Holders.{adds_holder, awaits_hold_by, holding, holds_id, holds_ids, passes_on, same_holding, sends_hold, unhold_reached, with_holding}
 use Rattle.protocol.specs.Commits.{bears, bears_all, claim_by, claim_step, commit_by, commit_step, ends, needs}
 use Rattle.protocol.specs.Commits.{next_id_here, rests_if_waiting, stops, stops_by, with_object, with_outcomes}
 use Rattle.protocol.specs.Ends.{accepts, finished_by, finished_reached, hears_of_end, if_present}
 use Rattle.protocol.specs.Releases.{drops_copies, may_release, lets_go, lets_go_of, release_pass, release_passes, release_step, releases, releases_by, entries_made}
 use Rattle.protocol_owed.proofs.Letters.{among-append_cases, among-push_cases}
 use Rattle.owed_replies.specs.Kept.{IsBornIn, IsOverInTime, RunIsRight}
-use Rattle.owed_replies.proofs.Objects.{Grows, pushed_grows, put_grows, same_grows, succeeds_alike}
+use Rattle.owed_replies.proofs.Objects.{Grows, pushed_grows, put_grows, same_grows, succeeds_alike, somewhere}
 use Rattle.owed_replies.proofs.Moves.{IsKept, answers_settled-kept, needs_own-kept, rests_if_waiting-kept}
 use Rattle.owed_replies.proofs.Paying.{Does, Pays, frees_does, leaves_pays, objects_does, pays_kept, run_does, said, says_to_node_does, writes_does}
 use Rattle.lease_discipline.proofs.Tame.{changed_here}
@@ -47,7 +47,7 @@ either_run r true x y p q = p
 either_run r false x y p q = q
 
 lets_go_of-run : (r : Option Run) (h : Here) (e o : Id) → IsAs r h → IsAs r (lets_go_of h e o)
-lets_go_of-run r h e o p = either_run r (is_own h o) (unhold_reached h e o) (says h o.owner (Unhold e o)) (either_run r (is_own h o) (changes h o (without_holder e)) h p p) p
+lets_go_of-run r h e o p = either_run r (is_own h o) (unhold_reached h e o WasReleased) (says h o.owner (Unhold e o WasReleased)) (either_run r (is_own h o) (changes h o (without_holder e)) h p p) p
 
 lets_go-run : (r : Option Run) (h : Here) (e : Id) (os : List Id) → IsAs r h → IsAs r (lets_go h e os)
 lets_go-run r h e [] p = p
@@ -55,7 +55,7 @@ lets_go-run r h e (o ∷ os) p = lets_go-run r (lets_go_of h e o) e os (lets_go_
 
 drops_copies-run : (r : Option Run) (h : Here) (e : Id) (ns : List ℕ) → IsAs r h → IsAs r (drops_copies h e ns)
 drops_copies-run r h e [] p = p
-drops_copies-run r h e (n ∷ ns) p = drops_copies-run r (says_to_node h n (Unhold e e)) e ns p
+drops_copies-run r h e (n ∷ ns) p = drops_copies-run r (says_to_node h n (Unhold e e WasReleased)) e ns p
 
 releases-run : (r : Option Run) (h : Here) (e : Id) (x : Object) → IsAs r h → IsAs r (releases h e x)
 releases-run r h e x p = drops_copies-run r (lets_go (logs (changes h e released) (Released e)) e x.ids) e x.places
@@ -114,35 +114,35 @@ own_item h o x e =
     (is_own h o) (λ _ t f. (t, f)) (λ _ _ f. absurd (cc)) refl e
 
 -- the object has its content then
-pub accepted_object : (h : Here) (a : Attempt) (task : OwnTask) (n : ℕ) (ids : List Id) (x : Object) → object_at h a.object ≡ Some x →
-    object_at (accepts h a task n ids) a.object ≡ Some (with_content a.number n ids (with_task (rests task) x))
-accepted_object h a task n ids x e =
+pub accepted_object : (h : Here) (a : Attempt) (task : OwnTask) (n : ℕ) (ids : List Id) (content : Option Outcome) (x : Object) → object_at h a.object ≡ Some x →
+    object_at (accepts h a task n ids content) a.object ≡ Some (with_content a.number n ids content (with_task (rests task) x))
+accepted_object h a task n ids content x e =
     let there = own_item h a.object x e in
     let once : item_at (changed_at h.worker.objects a.object.serial (with_task (rests task))) a.object.serial ≡ Some (with_task (rests task) x) =
     changed_here h.worker.objects a.object.serial (with_task (rests task)) x there.1 in
-    let twice = changed_here (changed_at h.worker.objects a.object.serial (with_task (rests task))) a.object.serial (with_content a.number n ids)
+    let twice = changed_here (changed_at h.worker.objects a.object.serial (with_task (rests task))) a.object.serial (with_content a.number n ids content)
     (with_task (rests task) x) once in
     ap (λ b. if b then item_at (changed_at (changed_at h.worker.objects a.object.serial (with_task (rests task))) a.object.serial
-    (with_content a.number n ids)) a.object.serial else None) there.0 ∙ twice
+    (with_content a.number n ids content)) a.object.serial else None) there.0 ∙ twice
 
 -- where the acceptance is kept, what follows it is
-pub finished_reached-kept : (P : Here → Type 0) → IsKept P → (h : Here) (w : ℕ) (a : Attempt) (n : ℕ) (ids : List Id) →
-    ((task : OwnTask) → P (accepts h a task n ids)) → P h → P (finished_reached h w a n ids)
-finished_reached-kept P kept h w a n ids accept p = by_object (object_at h a.object) refl
+pub finished_reached-kept : (P : Here → Type 0) → IsKept P → (h : Here) (w : ℕ) (a : Attempt) (n : ℕ) (ids : List Id) (content : Option Outcome) →
+    ((task : OwnTask) → P (accepts h a task n ids content)) → P h → P (finished_reached h w a n ids content)
+finished_reached-kept P kept h w a n ids content accept p = by_object (object_at h a.object) refl
   where
     says_so : (g : Here) → P g → P (hears_of_end g w a)
     says_so g q = kept.says g w (FinishedAck a) tt q
 
-    by_task : (x : Object) → object_at h a.object ≡ Some x → (t : Option OwnTask) → P (finished_by h w a n ids t)
+    by_task : (x : Object) → object_at h a.object ≡ Some x → (t : Option OwnTask) → P (finished_by h w a n ids content t)
     by_task x e None = says_so h p
     by_task x e (Some task) =
-        at_test (λ b. P (if b then answers_settled (hears_of_end (accepts h a task n ids) w a) a.object else hears_of_end h w a)) (if_present a task)
-        (λ _. answers_settled-kept P kept (hears_of_end (accepts h a task n ids) w a) a.object
-        (with_content a.number n ids (with_task (rests task) x)) (accepted_object h a task n ids x e) refl refl
-        (says_so (accepts h a task n ids) (accept task)))
+        at_test (λ b. P (if b then answers_settled (hears_of_end (accepts h a task n ids content) w a) a.object else hears_of_end h w a)) (if_present a task)
+        (λ _. answers_settled-kept P kept (hears_of_end (accepts h a task n ids content) w a) a.object
+        (with_content a.number n ids content (with_task (rests task) x)) (accepted_object h a task n ids content x e) (somewhere n content) refl
+        (says_so (accepts h a task n ids content) (accept task)))
         (λ _. says_so h p)
 
-    by_object : (o : Option Object) → object_at h a.object ≡ o → P (finished_by h w a n ids (task_of o))
+    by_object : (o : Option Object) → object_at h a.object ≡ o → P (finished_by h w a n ids content (task_of o))
     by_object None e = says_so h p
     by_object (Some x) e = by_task x e (task_in x.maker)
 
@@ -230,14 +230,24 @@ module _ (log : List Entry) (net : List Letter) (me : ℕ) (old : List Object) (
   changes_both : (h : Here) (ys : List Object) → Grows h.worker.objects ys → Both h → Both (with_worker h (record h.worker { objects = ys }))
   changes_both h ys grows b = (objects_does log net me old ok fin h ys grows b.0, b.1)
 
+  adds_holder_does : (h : Here) (e o : Id) → Both h → Both (adds_holder h e o)
+  adds_holder_does h e o q =
+      let g : Here = changes h o (with_holder e) in
+      let added : Both g = changes_both h _ (same_grows h.worker.objects o.serial (with_holder e) (λ y. succeeds_alike y (with_holder e y) refl refl refl)) q in
+      either_both (knows_dead h.worker e.owner) _ _
+      (changes_both g _ (same_grows g.worker.objects o.serial (with_dead_holder e) (λ y. succeeds_alike y (with_dead_holder e y) refl refl refl)) added) added
+
   holds_id_does : (h : Here) (e o : Id) → IsBornIn log o → Both h → Both (holds_id h e o)
   holds_id_does h e o b q =
-      either_both (is_own h o) _ _ (changes_both h _ (same_grows h.worker.objects o.serial (with_holder e) (λ y. succeeds_alike y (with_holder e y) refl refl refl)) q)
+      either_both (is_own h o) _ _ (adds_holder_does h e o q)
       (either_both (knows_dead h.worker o.owner) h (sends_hold h e o) q (sends_hold_does h e o b q.0 q.1))
 
   holds_ids_does : (h : Here) (e : Id) (os : List Id) → ((o : Id) → Among o os → IsBornIn log o) → Both h → Both (holds_ids h e os)
   holds_ids_does h e [] b q = q
   holds_ids_does h e (o ∷ os) b q = holds_ids_does (holds_id h e o) e os (λ p i. b p (suc i.0, i.1)) (holds_id_does h e o (b o (zero, refl)) q)
+
+  passes_both : (h : Here) (ks : List Holding) → Both h → Both (with_worker h (record h.worker { passed_on = ks }))
+  passes_both h ks (q, g) = (record { who = q.who; objects = q.objects; run = q.run; out = q.out }, g)
 
   with_store_both : (h : Here) (s : Store) → Both h → Both (with_store h s)
   with_store_both h s (q, g) = (record { who = q.who; objects = q.objects; run = q.run; out = record { letters = q.out.letters; quiet = q.out.quiet; ended = q.out.ended } }, g)
@@ -329,8 +339,10 @@ module _ (log : List Entry) (net : List Letter) (me : ℕ) (old : List Object) (
         }) q.0,
         λ s f. let same : next ≡ s = some_run next s f in subst (λ (x : Run). x.is_over ≡ false) same going,
       ) in
-      let kept : Both (with_store (with_run h next) (with_primary (store_here h) run.attempt.object run.attempt.number c)) = with_store_both _ _ ended in
-      let held = holds_ids_does _ run.attempt.object (each_once (ids_in_outcome c)) ids kept in
+      let kept : Both (with_store (with_run h next) (with_ended (store_here h) run.attempt.object run.attempt.number c)) = with_store_both _ _ ended in
+      let ended_here : Here = with_store (with_run h next) (with_ended (store_here h) run.attempt.object run.attempt.number c) in
+      let passed : Both (passes_on ended_here run.attempt.object (each_once (ids_in_outcome c))) = passes_both ended_here _ kept in
+      let held = holds_ids_does _ run.attempt.object (each_once (ids_in_outcome c)) ids passed in
       (pays_kept log net me old ok fin).frees _ (leaves_pays log net me old ok fin _ held.0)
 
   stops_pays : (h : Here) (stop : Stopped) → ((y : Id) → stop ≡ AtGet y → NeedIsBorn (stops h stop) y) → ((c : Outcome) → stop ≡ AtEnd c → (o : Id) → Among o (each_once (ids_in_outcome c)) → IsBornIn log o) →
@@ -395,13 +407,13 @@ module _ (log : List Entry) (net : List Letter) (me : ℕ) (old : List Object) (
 
   -- ---- an acceptance
 
-  accepts_pays : (h : Here) (a : Attempt) (task : OwnTask) (n : ℕ) (ids : List Id) → ok a → P h → P (accepts h a task n ids)
-  accepts_pays h a task n ids k p =
+  accepts_pays : (h : Here) (a : Attempt) (task : OwnTask) (n : ℕ) (ids : List Id) (content : Option Outcome) → ok a → P h → P (accepts h a task n ids content)
+  accepts_pays h a task n ids content k p =
       let kept = pays_kept log net me old ok fin in
       let g : Here = with_task_of h a.object (rests task) in
       let q : P g = kept.objects h _ (put_grows h a.object (rests task)) p in
-      let settled : P (changes g a.object (with_content a.number n ids)) = kept.objects g _
-      (same_grows g.worker.objects a.object.serial (with_content a.number n ids) (λ y. record { askers = λ w f. inr (inl refl); answered = λ _. inl refl })) q in
+      let settled : P (changes g a.object (with_content a.number n ids content)) = kept.objects g _
+      (same_grows g.worker.objects a.object.serial (with_content a.number n ids content) (λ y. record { askers = λ w f. inr (inl refl); answered = λ _. inl refl })) q in
       record {
         does = record {
           who = settled.does.who;
@@ -425,5 +437,5 @@ module _ (log : List Entry) (net : List Letter) (me : ℕ) (old : List Object) (
       no_end : (b : Attempt) (c : Outcome) → Ended b c ≡ Accepted a → ⊥
       no_end b c e = absurd (cc)
 
-  pub finish_pays : (h : Here) (w : ℕ) (a : Attempt) (n : ℕ) (ids : List Id) → ok a → P h → P (finished_reached h w a n ids)
-  finish_pays h w a n ids k p = finished_reached-kept P (pays_kept log net me old ok fin) h w a n ids (λ task. accepts_pays h a task n ids k p) p
+  pub finish_pays : (h : Here) (w : ℕ) (a : Attempt) (n : ℕ) (ids : List Id) (content : Option Outcome) → ok a → P h → P (finished_reached h w a n ids content)
+  finish_pays h w a n ids content k p = finished_reached-kept P (pays_kept log net me old ok fin) h w a n ids content (λ task. accepts_pays h a task n ids content k p) p

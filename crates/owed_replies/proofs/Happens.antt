@@ -26,13 +26,13 @@ use Rattle.protocol.specs.Nodes.{Node, There}
 use Rattle.protocol.specs.Numbered.{changed_at, item_at}
 use Rattle.protocol.specs.Sets.{repeated}
 use Rattle.protocol.specs.Steps.{Here, own_object}
-use Rattle.protocol.specs.Tables.{HasEnded, Object, Out, Run, Worker, has_stopped, needed_by, knows_dead, new_worker, with_content, with_holder}
+use Rattle.protocol.specs.Tables.{AskedAt, AtRest, ByTask, HasEnded, Maker, Object, Out, OwnTask, Progress, Run, RunsOn, WasPut, Worker, has_stopped, needed_by, knows_dead, new_worker, with_content, with_dead_holder, with_holder}
 use Rattle.protocol.specs.Runs.{begins_run, is_free, push_reached}
 use Rattle.protocol.specs.Slots.{forgets, node_reached}
 use Rattle.protocol.specs.Ends.{finished_reached}
 use Rattle.protocol.specs.Asking.{rests}
-use Rattle.protocol.specs.Stores.{with_primary}
-use Rattle.protocol.specs.Holders.{awaits_hold_by, holding, holds_id, holds_ids, sends_hold}
+use Rattle.protocol.specs.Stores.{with_ended}
+use Rattle.protocol.specs.Holders.{adds_holder, awaits_hold_by, holding, holds_id, holds_ids, passes_on, sends_hold}
 use Rattle.protocol.specs.Commits.{bears, stops_by, bears_all, claim_by, claim_step, commit_by, commit_step, next_id_here, stops, with_outcomes}
 use Rattle.protocol.specs.Steps.{changes, is_own, logs_all, store_here, with_phase, with_run, with_store}
 use Rattle.protocol.specs.Deliveries.{reached}
@@ -57,6 +57,8 @@ use Rattle.lease_discipline.specs.Told.{IsInStep}
 use Rattle.lease_discipline.proofs.Events.{item_map}
 use Rattle.lease_discipline.proofs.Heres.{changed_now}
 use Rattle.lease_discipline.proofs.Tame.{item_mapped}
+use Rattle.protocol_legal.specs.Knows.{KnowsMaker, KnowsObject, KnowsProgress}
+use Rattle.protocol_legal.specs.Past.{past}
 use Rattle.owed_replies.specs.Kept.{IsAwaitedBy, IsRightLetter, KeepsReplies}
 use Rattle.owed_replies.proofs.Objects.{grows_itself, put_grows, same_grows, then_grows}
 use Rattle.owed_replies.proofs.Moves as R
@@ -95,14 +97,14 @@ steady_start h = record { grows = grows_itself h.worker.objects; attempt = refl 
 steady_end : (h g : Here) → IsSteady h.worker.objects (attempt_by h.worker.run) g → IsSteady h.worker.objects (attempt_by h.worker.run) (release_step g)
 steady_end h g s = release_step-kept (IsSteady h.worker.objects (attempt_by h.worker.run)) (steady_kept h.worker.objects (attempt_by h.worker.run)) g s
 
-finish_steady : (h : Here) (w : ℕ) (a : Attempt) (n : ℕ) (ids : List Id) → IsSteady h.worker.objects (attempt_by h.worker.run) (finished_reached h w a n ids)
-finish_steady h w a n ids =
+finish_steady : (h : Here) (w : ℕ) (a : Attempt) (n : ℕ) (ids : List Id) (content : Option Outcome) → IsSteady h.worker.objects (attempt_by h.worker.run) (finished_reached h w a n ids content)
+finish_steady h w a n ids content =
     let P : Here → Type 0 = IsSteady h.worker.objects (attempt_by h.worker.run) in
     let kept : R.IsKept P = steady_kept h.worker.objects (attempt_by h.worker.run) in
-    finished_reached-kept P kept h w a n ids
+    finished_reached-kept P kept h w a n ids content
     (λ task. record {
       grows = then_grows _ _ _ (put_grows h a.object (rests task))
-          (same_grows _ a.object.serial (with_content a.number n ids) (λ y. record { askers = λ v f. inr (inl refl); answered = λ _. inl refl }));
+          (same_grows _ a.object.serial (with_content a.number n ids content) (λ y. record { askers = λ v f. inr (inl refl); answered = λ _. inl refl }));
       attempt = refl;
     }) (steady_start h)
 
@@ -118,7 +120,7 @@ module _ (h : Here) (run : Run) (e : h.worker.run ≡ Some run) (going : run.is_
 
   heard_steady : (w : ℕ) (m : Message) → R.IsHeard T (steady_kept h.worker.objects (attempt_by h.worker.run)) h w m
   heard_steady w (Push a spec) = push_steady h a spec run e going
-  heard_steady w (Finished a n ids) = finish_steady h w a n ids
+  heard_steady w (Finished a n ids content) = finish_steady h w a n ids content
   heard_steady w (FinishedAck a) = tt
   heard_steady w (Failed a f) = tt
   heard_steady w (Ask a t) = tt
@@ -127,14 +129,14 @@ module _ (h : Here) (run : Run) (e : h.worker.run ≡ Some run) (going : run.is_
   heard_steady w (Wait a t) = tt
   heard_steady w (Back a) = tt
   heard_steady w (Where o) = tt
-  heard_steady w (At o number ns) = tt
+  heard_steady w (At o number ns kept) = tt
   heard_steady w (Gone o f) = tt
   heard_steady w (Fetch o number) = tt
   heard_steady w (CopyOf o number c) = tt
   heard_steady w (Missing o number n) = tt
   heard_steady w (Hold k o) = tt
   heard_steady w (HoldAck k o) = tt
-  heard_steady w (Unhold k o) = tt
+  heard_steady w (Unhold k o why) = tt
 
   heard_from : (p : Party) (m : Message) → R.IsHeardFrom T (steady_kept h.worker.objects (attempt_by h.worker.run)) h p m
   heard_from (TheWorker w) m = heard_steady w m
@@ -175,8 +177,9 @@ end_logged a c o [] [] = (zero, refl)
 
 holds_id-attempt : (h : Here) (e o : Id) → attempt_by (holds_id h e o).worker.run ≡ attempt_by h.worker.run
 holds_id-attempt h e o =
-    at_test (λ b. attempt_by (if b then changes h o (with_holder e) else if knows_dead h.worker o.owner then h else sends_hold h e o).worker.run ≡ attempt_by h.worker.run)
-    (is_own h o) (λ _. refl)
+    at_test (λ b. attempt_by (if b then adds_holder h e o else if knows_dead h.worker o.owner then h else sends_hold h e o).worker.run ≡ attempt_by h.worker.run)
+    (is_own h o) (λ _. at_test (λ b. attempt_by (if b then changes (changes h o (with_holder e)) o (with_dead_holder e) else
+    changes h o (with_holder e)).worker.run ≡ attempt_by h.worker.run) (knows_dead h.worker e.owner) (λ _. refl) (λ _. refl))
     (λ _. at_test (λ b. attempt_by (if b then h else sends_hold h e o).worker.run ≡ attempt_by h.worker.run) (knows_dead h.worker o.owner) (λ _. refl)
     (λ _. by_run h.worker.run refl))
   where
@@ -206,11 +209,11 @@ stops-attempt h stop = by_run h.worker.run refl stop
         (needs-kept (IsSteady h.worker.objects a) (steady_kept h.worker.objects a) h run y
         (record { grows = grows_itself h.worker.objects; attempt = ap attempt_by (sym e) })).attempt
     by_run (Some run) e (AtEnd c) =
-        let g : Here = holds_ids (with_store (with_phase h run (HasEnded c)) (with_primary (store_here h) run.attempt.object run.attempt.number c)) run.attempt.object
-        (each_once (ids_in_outcome c)) in
+        let ids : List Id = each_once (ids_in_outcome c) in
+        let f : Here = passes_on (with_store (with_phase h run (HasEnded c)) (with_ended (store_here h) run.attempt.object run.attempt.number c)) run.attempt.object ids in
+        let g : Here = holds_ids f run.attempt.object ids in
         (leaves_steady g.worker.objects (attempt_by g.worker.run) g (steady_start g)).attempt ∙
-        holds_ids-attempt (with_store (with_phase h run (HasEnded c)) (with_primary (store_here h) run.attempt.object run.attempt.number c)) run.attempt.object
-        (each_once (ids_in_outcome c)) ∙ ap attempt_by (sym e)
+        holds_ids-attempt f run.attempt.object ids ∙ ap attempt_by (sym e)
 
 commit_steady : (h : Here) (d : Outcomes) (run : Run) → h.worker.run ≡ Some run → attempt_by (release_step (commit_step h d)).worker.run ≡ Some run.attempt
 commit_steady h d run e =
@@ -229,6 +232,9 @@ pub record IsThere (o : Option Worker) : Type 0 where
 pub live_there : (o : Option Worker) → is_live_worker o ≡ true → IsThere o
 live_there None e = absurd (cc)
 live_there (Some x) e = record { worker = x; at = refl; live = e }
+
+differ : (b : Bool) → b ≡ true → b ≡ false → ⊥
+differ b t f = cc
 
 same_out : (p q : Run) → ◌≡◌ {A = Option Run} (Some p) (Some q) → p ≡ q
 same_out p q e = cc
@@ -415,12 +421,13 @@ module _ (s : Setting) (log : List Entry) (c : Whole) (before : IsInStep s log c
 
     heard_pays : (w : ℕ) (n : Message) → from ≡ TheWorker w → m ≡ n → Pay first_here → R.IsHeard Pay pay_kept first_here w n
     heard_pays w (Push a spec) e f q = push_pays _ _ _ _ _ _ first_here a spec q
-    heard_pays w (Finished a n ids) e f q = finish_pays _ _ _ _ _ _ first_here w a n ids (record {
+    heard_pays w (Finished a n ids content) e f q = finish_pays _ _ _ _ _ _ first_here w a n ids content (record {
       number = i;
       sender = w;
       owner = me;
       node = n;
       ids = ids;
+      kept = content;
       worker = x;
       event = refl;
       sent = sent ∙ ap (λ p. Some (letter p (TheWorker me) m)) e ∙ ap (λ g. Some (letter (TheWorker w) (TheWorker me) g)) f;
@@ -435,14 +442,14 @@ module _ (s : Setting) (log : List Entry) (c : Whole) (before : IsInStep s log c
     heard_pays w (Wait a t) e f q = tt
     heard_pays w (Back a) e f q = tt
     heard_pays w (Where o) e f q = tt
-    heard_pays w (At o number ns) e f q = tt
+    heard_pays w (At o number ns kept) e f q = tt
     heard_pays w (Gone o g) e f q = tt
     heard_pays w (Fetch o number) e f q = tt
     heard_pays w (CopyOf o number b) e f q = tt
     heard_pays w (Missing o number n) e f q = tt
     heard_pays w (Hold d o) e f q = tt
     heard_pays w (HoldAck d o) e f q = tt
-    heard_pays w (Unhold d o) e f q = tt
+    heard_pays w (Unhold d o why) e f q = tt
 
     heard_from_pays : (p : Party) (n : Message) → from ≡ p → m ≡ n → Pay first_here → R.IsHeardFrom Pay pay_kept first_here p n
     heard_from_pays (TheWorker w) n e f q = heard_pays w n e f q
@@ -468,13 +475,29 @@ module _ (s : Setting) (log : List Entry) (c : Whole) (before : IsInStep s log c
     some_serial xs zero z e = absurd (cc)
     some_serial xs (suc n) z e = omega arith
 
+    -- a released object has a fault or a content
+    rests_there : (o : Id) → o.owner ≡ me → (z : Object) → item_at x.objects o.serial ≡ Some z → z.is_released ≡ true → z.fault ≡ None → is_some z.settled ≡ true
+    rests_there o own z there released unfaulted = by_maker z.maker knows.maker
+      where
+        knows : KnowsObject (past log before.sound.between.asked) x o z
+        knows = (before.sound.between.knows.workers o.owner x (subst (λ w. worker_at c w ≡ Some x) (sym own) at) live).objects o.serial z there
+
+        by_progress : (task : OwnTask) (q : Progress) → KnowsProgress (past log before.sound.between.asked) o z task q → is_some z.settled ≡ true
+        by_progress task AtRest k = ap is_some (k.3 unfaulted).settled
+        by_progress task (AskedAt t g) k = absurd (differ z.is_released released k.1)
+        by_progress task (RunsOn w g) k = absurd (differ z.is_released released k.1)
+
+        by_maker : (maker : Maker) → KnowsMaker (past log before.sound.between.asked) x.node o z maker → is_some z.settled ≡ true
+        by_maker WasPut k = ap is_some k.settled
+        by_maker (ByTask task) k = by_progress task task.progress k.progress
+
     by_request : (v : ℕ) (o : Id) (n : Message) → from ≡ TheWorker v → o.owner ≡ me → n ≡ m → IsRequest o n → (z : Object) → item_at x.objects o.serial ≡ Some z →
         IsAwaited o.serial v (hears first_here).worker.objects
     by_request v o n party own is (inl where_is) z there =
         let message : m ≡ Where o = sym is ∙ where_is in
         subst (λ p. IsAwaited o.serial v (reached first_here p m).worker.objects) (sym party)
         (subst (λ q. IsAwaited o.serial v (reached first_here (TheWorker v) q).worker.objects) (sym message)
-        (where_waits first_here v o z (ap (λ b. if b then own_object first_here o.serial else None) (own_now o own) ∙ there)
+        (where_waits first_here v o z (ap (λ b. if b then own_object first_here o.serial else None) (own_now o own) ∙ there) (rests_there o own z there)
         (other_way v me (subst (λ w. (w == v) ≡ false) own (told_right (Where o) message).1))))
       where
         told_right : (q : Message) → m ≡ q → IsRightLetter log (letter (TheWorker v) (TheWorker me) q)
@@ -483,7 +506,7 @@ module _ (s : Setting) (log : List Entry) (c : Whole) (before : IsInStep s log c
         let message : m ≡ Missing o number node_number = sym is ∙ missing_is in
         subst (λ p. IsAwaited o.serial v (reached first_here p m).worker.objects) (sym party)
         (subst (λ q. IsAwaited o.serial v (reached first_here (TheWorker v) q).worker.objects) (sym message)
-        (missing_waits first_here v o number node_number z (own_now o own) there
+        (missing_waits first_here v o number node_number z (own_now o own) there (rests_there o own z there)
         (other_way v me (subst (λ w. (w == v) ≡ false) own (told_right (Missing o number node_number) message).1))))
       where
         told_right : (q : Message) → m ≡ q → IsRightLetter log (letter (TheWorker v) (TheWorker me) q)

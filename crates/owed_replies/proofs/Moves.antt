@@ -3,16 +3,16 @@
 -- accepted, stands apart.
 use Rattle.std.proofs.Common.{refl, ap, sym, subst, ◌∙◌, inl, inr}
 use Rattle.std.specs.Prelude.{◌≡◌, ℕ, zero, suc, ◌+◌, ◌==◌, ◌&&◌, length, not, Bool, true, false, if◌then◌else◌, List, [], ◌∷◌, Option, Some, None}
-use Rattle.std.specs.Prelude.{is_some}
+use Rattle.std.specs.Prelude.{is_some, is_none}
 use Rattle.meaning.specs.Values.{Id, Outcome}
 use Rattle.event_log.specs.Entries.{Attempt, Entry, Got, Fault, Faulted, Accepted, Ended}
 use Rattle.protocol.specs.Messages.{Message, Party, TheWorker, TheNode, Ask, Give, Elsewhere, Wait, Back, Push, Finished, FinishedAck, Failed}
-use Rattle.protocol.specs.Messages.{Where, At, Gone, Fetch, CopyOf, Missing, Hold, HoldAck, Unhold}
+use Rattle.protocol.specs.Messages.{Where, At, Gone, Fetch, CopyOf, Missing, Hold, HoldAck, OwnerIsDead, Reason, Unhold, WasReleased}
 use Rattle.protocol.specs.Stores.{Store, copy_in}
 use Rattle.protocol.specs.Sets.{is_empty}
 use Rattle.protocol.specs.Tables.{knows_dead, without_place, Worker, Run, Phase, Ready, Out, Waits, HasEnded, HasFaulted, OwnTask, Object, Progress}
 use Rattle.protocol.specs.Tables.{AtRest, AskedAt, RunsOn, Fetching, Holding, task_of, live_place, chosen_place, settled_number, needed_by}
-use Rattle.protocol.specs.Tables.{released, with_holder, with_place, without_holder, without_places, has_content}
+use Rattle.protocol.specs.Tables.{holders_of, released, with_dead_holder, with_holder, with_place, without_holder, without_places, has_content, is_nowhere}
 use Rattle.std.specs.List.{filter}
 use Rattle.std.proofs.lemmas.Bool.{not-true}
 use Rattle.protocol.specs.Steps.{Here, with_phase, with_run, logs_all, logs, says, says_to_node, with_worker, with_store, each_from, own_id}
@@ -24,10 +24,12 @@ use Rattle.protocol.specs.Asking.{rests, asks_at, next_attempt, resolves, tells_
 use Rattle.protocol.specs.Asking.{answers_faulted, uses_up, breaks, pushes, begins, with_begun, given_by, given_reached, elsewhere_by}
 use Rattle.protocol.specs.Asking.{elsewhere_reached}
 use Rattle.protocol.specs.Recovery.{remakes_by, remakes, gives_up, recovers_by, recovers, members, first_stop}
-use Rattle.protocol.specs.Places.{looks_elsewhere_by, looks_elsewhere, looks_here_by, looks_for, needs_unresolved, needs_by, needs_at, needs_own}
+use Rattle.protocol.specs.Places.{answers_unsettled, needs_released, tells_released}
+use Rattle.protocol.specs.Places.{looks_elsewhere_by, looks_elsewhere, looks_here_by, looks_at_places, looks_for_by, looks_for, needs_unresolved, needs_by, needs_at, needs_own}
 use Rattle.protocol.specs.Places.{needs_own_if_waiting, tells_places, answers_settled_by, answers_settled, lets_wait, answers_asker, asker_by}
 use Rattle.protocol.specs.Places.{where_reached, adds_place_by, adds_place, adds_places, takes_place_by, takes_place, finds_none, answered_here}
-use Rattle.protocol.specs.Places.{goes_to, at_reached, makes_copy_known, copy_reached, hands_missing_on, missing_from, missing_reached}
+use Rattle.protocol.specs.Places.{goes_to, at_answers, at_reached, makes_copy_known, copy_reached, hands_missing_on, missing_from, missing_reached}
+use Rattle.protocol.specs.Holders.{adds_holder, collects, drops_dead, drops_dead_by, drops_holders, first_born_first, lets_go_of_dead, unheld_by}
 use Rattle.protocol.specs.Holders.{hold_reached_by, hold_reached, hold_ack_by, hold_ack_reached, unhold_reached, holding, same_holding}
 use Rattle.protocol.specs.Commits.{asks_where, rests_if_waiting, needs}
 use Rattle.protocol.specs.Ends.{finished_reached, failed_by, failed_reached}
@@ -43,7 +45,7 @@ use Rattle.protocol.specs.Deliveries.{reached_from_worker, reached_from_node, re
 use Rattle.event_log.specs.Breaks.{Among}
 use Rattle.sequence.proofs.Places.{and_left, and_right}
 use Rattle.protocol.specs.Notices.{is_unheard}
-use Rattle.owed_replies.proofs.Objects.{Grows, HasFaultAt, answered_grows, asker_grows, fault_grows, fault_there, fetching_foreign, mapped_grows}
+use Rattle.owed_replies.proofs.Objects.{Grows, HasFaultAt, Succeeds, answered_grows, asker_grows, fault_grows, fault_there, fetching_foreign, mapped_grows}
 use Rattle.owed_replies.proofs.Objects.{put_grows, same_grows, settled_there, some_places, succeeds_alike}
 use Rattle.protocol_owed.proofs.Untouched.{asks_again-worker, sends_holds-worker, sends_tasks-worker}
 
@@ -85,8 +87,8 @@ abbrev pub IsSaid : Here → ℕ → Message → Type 0
 IsSaid h w (Where y) = (w ≡ y.owner) × (is_own h y ≡ false) × Needs h y
 IsSaid h w (Missing y number n) = (w ≡ y.owner) × (is_own h y ≡ false)
 IsSaid h w (Hold e o) = (w ≡ o.owner) × Awaits h (holding e o)
-IsSaid h w (Finished a n ids) = (w ≡ a.object.owner) × IsUnheard h a
-IsSaid h w (At y number ns) = is_empty ns ≡ false
+IsSaid h w (Finished a n ids kept) = (w ≡ a.object.owner) × IsUnheard h a
+IsSaid h w (At y number ns kept) = (is_empty ns && is_none kept) ≡ false
 IsSaid h w m = Unit {0}
 
 pub record IsKept (P : Here → Type 0) : Type 0 where
@@ -94,6 +96,7 @@ pub record IsKept (P : Here → Type 0) : Type 0 where
   pub says : (h : Here) (w : ℕ) (m : Message) → IsSaid h w m → P h → P (says h w m)
   pub says_to_node : (h : Here) (n : ℕ) (m : Message) → P h → P (says_to_node h n m)
   pub objects : (h : Here) (ys : List Object) → Grows h.worker.objects ys → P h → P (with_worker h (record h.worker { objects = ys }))
+  pub passes : (h : Here) (ks : List Holding) → P h → P (with_worker h (record h.worker { passed_on = ks }))
   pub deaths : (h : Here) (vs ns : List ℕ) → P h → P (with_worker h (record h.worker { dead_workers = vs; dead_nodes = ns }))
   pub store : (h : Here) (s : Store) → P h → P (with_store h s)
   pub frees : (h : Here) → P h → P (gives_slot_back h)
@@ -269,11 +272,23 @@ module _ (P : Here → Type 0) (kept : IsKept P) where
       (kept.objects h _ (same_grows h.worker.objects o.serial (without_place h.worker.node) (λ y. succeeds_alike y (without_place h.worker.node y) refl refl refl)) p)
   looks_here_by-kept h o x (Some c) p = gets-kept _ c (kept.store h _ p)
 
+  pub looks_at_places-kept : (h : Here) (o : Id) (x : Object) → P h → P (looks_at_places h o x)
+  looks_at_places-kept h o x p = either _ _ _ (looks_here_by-kept h o x (copy_in (store_here h) o (settled_number x)) p) (looks_elsewhere-kept h o x p)
+
+  pub looks_for_by-kept : (h : Here) (o : Id) (x : Object) (c : Option Outcome) → P h → P (looks_for_by h o x c)
+  looks_for_by-kept h o x None p = looks_at_places-kept h o x p
+  looks_for_by-kept h o x (Some c) p = gets-kept h c p
+
   pub looks_for-kept : (h : Here) (o : Id) (x : Object) → P h → P (looks_for h o x)
-  looks_for-kept h o x p = either _ _ _ (looks_here_by-kept h o x (copy_in (store_here h) o (settled_number x)) p) (looks_elsewhere-kept h o x p)
+  looks_for-kept h o x p = looks_for_by-kept h o x x.kept p
+
+  pub needs_released-kept : (h : Here) (e : Option Id) → P h → P (needs_released h e)
+  needs_released-kept h None p = p
+  needs_released-kept h (Some e) p = faults-kept h _ p
 
   pub needs_unresolved-kept : (h : Here) (o : Id) (x : Object) → P h → P (needs_unresolved h o x)
-  needs_unresolved-kept h o x p = either _ _ _ (looks_for-kept h o x p) (either _ _ _ (recovers-kept h o p) p)
+  needs_unresolved-kept h o x p = either _ _ _ (looks_for-kept h o x p)
+      (either _ _ _ (recovers-kept h o p) (either _ _ _ (needs_released-kept h x.dead_holder p) p))
 
   pub needs_by-kept : (h : Here) (o : Id) (x : Object) (f : Option Fault) → P h → P (needs_by h o x f)
   needs_by-kept h o x None p = needs_unresolved-kept h o x p
@@ -289,12 +304,12 @@ module _ (P : Here → Type 0) (kept : IsKept P) where
   pub needs_own_if_waiting-kept : (h : Here) (o : Id) → P h → P (needs_own_if_waiting h o)
   needs_own_if_waiting-kept h o p = either _ _ _ (needs_own-kept h o p) p
 
-  pub tells_places-kept : (h : Here) (ws : List ℕ) (o : Id) (x : Object) → is_empty x.places ≡ false → P h → P (tells_places h ws o x)
+  pub tells_places-kept : (h : Here) (ws : List ℕ) (o : Id) (x : Object) → is_nowhere x ≡ false → P h → P (tells_places h ws o x)
   tells_places-kept h [] o x some p = p
-  tells_places-kept h (w ∷ ws) o x some p = tells_places-kept (says h w (At o (settled_number x) x.places)) ws o x some (kept.says h _ _ some p)
+  tells_places-kept h (w ∷ ws) o x some p = tells_places-kept (says h w (At o (settled_number x) x.places x.kept)) ws o x some (kept.says h _ _ some p)
 
   -- of an object that has its content
-  pub answers_settled-kept : (h : Here) (o : Id) (x : Object) → object_at h o ≡ Some x → is_empty x.places ≡ false → is_some x.settled ≡ true → P h →
+  pub answers_settled-kept : (h : Here) (o : Id) (x : Object) → object_at h o ≡ Some x → is_nowhere x ≡ false → is_some x.settled ≡ true → P h →
       P (answers_settled h o)
   answers_settled-kept h o x at some settled p =
       subst (λ y. P (answers_settled_by h o y)) (sym at)
@@ -305,8 +320,15 @@ module _ (P : Here → Type 0) (kept : IsKept P) where
   lets_wait-kept h o w x p = either _ _ _ (recovers-kept _ o (kept.objects h _ (asker_grows h.worker.objects o.serial w) p))
       (kept.objects h _ (asker_grows h.worker.objects o.serial w) p)
 
+  tells_released-kept : (h : Here) (o : Id) (w : ℕ) (e : Option Id) → P h → P (tells_released h o w e)
+  tells_released-kept h o w None p = p
+  tells_released-kept h o w (Some e) p = kept.says h _ _ tt p
+
+  answers_unsettled-kept : (h : Here) (o : Id) (w : ℕ) (x : Object) → P h → P (answers_unsettled h o w x)
+  answers_unsettled-kept h o w x p = either _ _ _ (tells_released-kept h o w x.dead_holder p) (lets_wait-kept h o w x p)
+
   pub answers_asker-kept : (h : Here) (o : Id) (w : ℕ) (x : Object) (f : Option Fault) → P h → P (answers_asker h o w x f)
-  answers_asker-kept h o w x None p = either_by (has_content x) _ _ (λ t. kept.says h _ _ (some_places x t) p) (λ _. lets_wait-kept h o w x p)
+  answers_asker-kept h o w x None p = either_by (has_content x) _ _ (λ t. kept.says h _ _ (some_places x t) p) (λ _. answers_unsettled-kept h o w x p)
   answers_asker-kept h o w x (Some f) p = kept.says h _ _ tt p
 
   pub asker_by-kept : (h : Here) (o : Id) (w : ℕ) (x : Option Object) → P h → P (asker_by h o w x)
@@ -346,9 +368,13 @@ module _ (P : Here → Type 0) (kept : IsKept P) where
   goes_to-kept h o number (Some n) foreign p = either _ _ _ (answered_here-kept h o number (copy_in (store_here h) o number) foreign p)
       (either _ _ _ (finds_none-kept h o number n foreign p) (fetches-kept h o number n p))
 
-  pub at_reached-kept : (h : Here) (o : Id) (number : ℕ) (ns : List ℕ) → P h → P (at_reached h o number ns)
-  at_reached-kept h o number ns p = either_by (is_own h o) _ _ (λ _. adds_places-kept h o number ns p)
-      (λ foreign. either _ _ _ (goes_to-kept h o number (chosen_place h.worker ns) foreign p) p)
+  pub at_answers-kept : (h : Here) (o : Id) (number : ℕ) (ns : List ℕ) (c : Option Outcome) → is_own h o ≡ false → P h → P (at_answers h o number ns c)
+  at_answers-kept h o number ns None foreign p = goes_to-kept h o number (chosen_place h.worker ns) foreign p
+  at_answers-kept h o number ns (Some c) foreign p = gets-kept h c p
+
+  pub at_reached-kept : (h : Here) (o : Id) (number : ℕ) (ns : List ℕ) (c : Option Outcome) → P h → P (at_reached h o number ns c)
+  at_reached-kept h o number ns c p = either_by (is_own h o) _ _ (λ _. adds_places-kept h o number ns p)
+      (λ foreign. either _ _ _ (at_answers-kept h o number ns c foreign p) p)
 
   pub makes_copy_known-kept : (h : Here) (o : Id) (number : ℕ) → P h → P (makes_copy_known h o number)
   makes_copy_known-kept h o number p = either _ _ _ (adds_place-kept h o number _ p) (kept.says h _ _ refl p)
@@ -367,9 +393,20 @@ module _ (P : Here → Type 0) (kept : IsKept P) where
   missing_reached-kept h from o number n p = either_by (is_own h o) _ _ (λ _. missing_from-kept _ from o (takes_place-kept h o number n p))
       (λ foreign. hands_missing_on-kept h o number n foreign p)
 
+  holder_kept : (h : Here) (o : Id) (f : Object → Object) → ((x : Object) → Succeeds x (f x)) → P h → P (changes h o f)
+  holder_kept h o f each p = kept.objects h _ (same_grows h.worker.objects o.serial f each) p
+
+  dead_holder_kept : (h : Here) (e o : Id) → P h → P (changes h o (with_dead_holder e))
+  dead_holder_kept h e o p = holder_kept h o (with_dead_holder e) (λ y. succeeds_alike y (with_dead_holder e y) refl refl refl) p
+
+  pub adds_holder-kept : (h : Here) (e o : Id) → P h → P (adds_holder h e o)
+  adds_holder-kept h e o p =
+      let added : P (changes h o (with_holder e)) = holder_kept h o (with_holder e) (λ y. succeeds_alike y (with_holder e y) refl refl refl) p in
+      either _ _ _ (dead_holder_kept (changes h o (with_holder e)) e o added) added
+
   pub hold_reached_by-kept : (h : Here) (w : ℕ) (e o : Id) (x : Option Object) → P h → P (hold_reached_by h w e o x)
   hold_reached_by-kept h w e o None p = p
-  hold_reached_by-kept h w e o (Some x) p = kept.says _ _ _ tt (kept.objects h _ (same_grows h.worker.objects o.serial (with_holder e) (λ y. succeeds_alike y (with_holder e y) refl refl refl)) p)
+  hold_reached_by-kept h w e o (Some x) p = kept.says _ _ _ tt (adds_holder-kept h e o p)
 
   pub hold_reached-kept : (h : Here) (w : ℕ) (e o : Id) → P h → P (hold_reached h w e o)
   hold_reached-kept h w e o p = hold_reached_by-kept h w e o (object_at h o) p
@@ -381,8 +418,31 @@ module _ (P : Here → Type 0) (kept : IsKept P) where
   pub hold_ack_reached-kept : (h : Here) (e o : Id) → P h → P (hold_ack_reached h e o)
   hold_ack_reached-kept h e o p = hold_ack_by-kept h (holding e o) h.worker.run refl p
 
-  pub unhold_reached-kept : (h : Here) (e o : Id) → P h → P (unhold_reached h e o)
-  unhold_reached-kept h e o p = either _ _ _ (kept.objects h _ (same_grows h.worker.objects o.serial (without_holder e) (λ y. succeeds_alike y (without_holder e y) refl refl refl)) p) p
+  pub unhold_reached-kept : (h : Here) (e o : Id) (why : Reason) → P h → P (unhold_reached h e o why)
+  unhold_reached-kept h e o WasReleased p = either _ _ _
+      (holder_kept h o (without_holder e) (λ y. succeeds_alike y (without_holder e y) refl refl refl) p) p
+  unhold_reached-kept h e o OwnerIsDead p = either _ _ _ (dead_holder_kept h e o p) p
+
+  drops_holders-kept : (h : Here) (o : Id) (es : List Id) → P h → P (drops_holders h o es)
+  drops_holders-kept h o [] p = p
+  drops_holders-kept h o (e ∷ es) p = drops_holders-kept (changes h o (with_dead_holder e)) o es (dead_holder_kept h e o p)
+
+  drops_dead_by-kept : (h : Here) (v : ℕ) (o : Id) (x : Option Object) → P h → P (drops_dead_by h v o x)
+  drops_dead_by-kept h v o None p = p
+  drops_dead_by-kept h v o (Some x) p = drops_holders-kept h o (first_born_first (holders_of v x)) p
+
+  drops_dead-kept : (h : Here) (v : ℕ) → P h → P (drops_dead h v)
+  drops_dead-kept h v p = each_from-kept (λ g k. drops_dead_by g v (own_id g k) (own_object g k))
+      (λ g k q. drops_dead_by-kept g v (own_id g k) (own_object g k) q) h 1 (length h.worker.objects) p
+
+  lets_go_of_dead-kept : (h : Here) (v : ℕ) (ks : List Holding) → P h → P (lets_go_of_dead h v ks)
+  lets_go_of_dead-kept h v [] p = p
+  lets_go_of_dead-kept h v (k ∷ ks) p = lets_go_of_dead-kept
+      (if k.holder.owner == v then says h k.object.owner (Unhold k.holder k.object OwnerIsDead) else h) v ks
+      (either (k.holder.owner == v) _ _ (kept.says h _ _ tt p) p)
+
+  collects-kept : (h : Here) (v : ℕ) → P h → P (collects h v)
+  collects-kept h v p = lets_go_of_dead-kept (drops_dead h v) v h.worker.passed_on (drops_dead-kept h v p)
 
   pub asks_where-kept : (h : Here) (y : Id) → Needs h y → P h → P (asks_where h y)
   asks_where-kept h y waits p = either_by (is_own h y) _ _ (λ _. needs_own-kept h y p)
@@ -436,9 +496,10 @@ module _ (P : Here → Type 0) (kept : IsKept P) where
 
   pub hears_of_worker-kept : (h : Here) (v : ℕ) → P h → P (hears_of_worker h v)
   hears_of_worker-kept h v p = let g : Here = breaks_where (runs_on_worker v) (with_dead_worker h v) in
-      drops_stop-kept (drops_holds (loses_owner g v) v) v
+      collects-kept (drops_stop (drops_holds (loses_owner g v) v) v) v
+      (drops_stop-kept (drops_holds (loses_owner g v) v) v
       (drops_holds-kept (loses_owner g v) v (loses_owner-kept g v
-      (breaks_where-kept (runs_on_worker v) (with_dead_worker h v) (kept.deaths h _ _ p))))
+      (breaks_where-kept (runs_on_worker v) (with_dead_worker h v) (kept.deaths h _ _ p)))))
 
   pub notice_step-kept : (h : Here) (v : ℕ) → P h → P (notice_step h v)
   notice_step-kept h v p = either _ _ _ p (hears_of_worker-kept h v p)
@@ -536,7 +597,7 @@ module _ (P : Here → Type 0) (kept : IsKept P) where
   tick_step-kept h p = sends_run-kept (sends_tasks h) h.worker.run (ap (λ (x : Worker). x.run) (sends_tasks-worker h)) (sends_tasks-kept h p)
 
   pub lets_go_of-kept : (h : Here) (e o : Id) → P h → P (lets_go_of h e o)
-  lets_go_of-kept h e o p = either _ _ _ (unhold_reached-kept h e o p) (kept.says h _ _ tt p)
+  lets_go_of-kept h e o p = either _ _ _ (unhold_reached-kept h e o WasReleased p) (kept.says h _ _ tt p)
 
   pub lets_go-kept : (h : Here) (e : Id) (os : List Id) → P h → P (lets_go h e os)
   lets_go-kept h e [] p = p
@@ -544,7 +605,7 @@ module _ (P : Here → Type 0) (kept : IsKept P) where
 
   pub drops_copies-kept : (h : Here) (e : Id) (ns : List ℕ) → P h → P (drops_copies h e ns)
   drops_copies-kept h e [] p = p
-  drops_copies-kept h e (n ∷ ns) p = drops_copies-kept (says_to_node h n (Unhold e e)) e ns (kept.says_to_node h _ _ p)
+  drops_copies-kept h e (n ∷ ns) p = drops_copies-kept (says_to_node h n (Unhold e e WasReleased)) e ns (kept.says_to_node h _ _ p)
 
   pub releases-kept : (h : Here) (e : Id) (x : Object) → P h → P (releases h e x)
   releases-kept h e x p = drops_copies-kept _ e x.places
@@ -569,7 +630,7 @@ module _ (P : Here → Type 0) (kept : IsKept P) where
   -- a Push, and an end that is told, stand apart
   abbrev pub IsHeard : Here → ℕ → Message → Type 0
   IsHeard h w (Push a spec) = P (push_reached h a spec)
-  IsHeard h w (Finished a n ids) = P (finished_reached h w a n ids)
+  IsHeard h w (Finished a n ids c) = P (finished_reached h w a n ids c)
   IsHeard h w m = Unit {0}
 
   pub reached_from_worker-kept : (h : Here) (w : ℕ) (m : Message) → IsHeard h w m → P h → P (reached_from_worker h w m)
@@ -579,18 +640,18 @@ module _ (P : Here → Type 0) (kept : IsKept P) where
   reached_from_worker-kept h w (Wait a t) s p = p
   reached_from_worker-kept h w (Back a) s p = p
   reached_from_worker-kept h w (Push a spec) s p = s
-  reached_from_worker-kept h w (Finished a n ids) s p = s
+  reached_from_worker-kept h w (Finished a n ids kept) s p = s
   reached_from_worker-kept h w (FinishedAck a) s p = finished_ack_reached-kept h a p
   reached_from_worker-kept h w (Failed a f) s p = failed_reached-kept h w a f p
   reached_from_worker-kept h w (Where o) s p = where_reached-kept h w o p
-  reached_from_worker-kept h w (At o number ns) s p = at_reached-kept h o number ns p
+  reached_from_worker-kept h w (At o number ns c) s p = at_reached-kept h o number ns c p
   reached_from_worker-kept h w (Gone o f) s p = faults_if_waiting-kept h o f p
   reached_from_worker-kept h w (Fetch o n) s p = p
   reached_from_worker-kept h w (CopyOf o number c) s p = p
   reached_from_worker-kept h w (Missing o number n) s p = missing_reached-kept h (TheWorker w) o number n p
   reached_from_worker-kept h w (Hold e o) s p = hold_reached-kept h w e o p
   reached_from_worker-kept h w (HoldAck e o) s p = hold_ack_reached-kept h e o p
-  reached_from_worker-kept h w (Unhold e o) s p = unhold_reached-kept h e o p
+  reached_from_worker-kept h w (Unhold e o why) s p = unhold_reached-kept h e o why p
 
   pub reached_from_node-kept : (h : Here) (n : ℕ) (m : Message) → P h → P (reached_from_node h n m)
   reached_from_node-kept h n (Ask a t) p = p
@@ -599,18 +660,18 @@ module _ (P : Here → Type 0) (kept : IsKept P) where
   reached_from_node-kept h n (Wait a t) p = p
   reached_from_node-kept h n (Back a) p = p
   reached_from_node-kept h n (Push a spec) p = p
-  reached_from_node-kept h n (Finished a m ids) p = p
+  reached_from_node-kept h n (Finished a m ids kept) p = p
   reached_from_node-kept h n (FinishedAck a) p = p
   reached_from_node-kept h n (Failed a f) p = p
   reached_from_node-kept h n (Where o) p = p
-  reached_from_node-kept h n (At o number ns) p = p
+  reached_from_node-kept h n (At o number ns kept) p = p
   reached_from_node-kept h n (Gone o f) p = p
   reached_from_node-kept h n (Fetch o number) p = p
   reached_from_node-kept h n (CopyOf o number c) p = copy_reached-kept h o number c p
   reached_from_node-kept h n (Missing o number m) p = missing_reached-kept h (TheNode n) o number m p
   reached_from_node-kept h n (Hold e o) p = p
   reached_from_node-kept h n (HoldAck e o) p = p
-  reached_from_node-kept h n (Unhold e o) p = p
+  reached_from_node-kept h n (Unhold e o why) p = p
 
   abbrev pub IsHeardFrom : Here → Party → Message → Type 0
   IsHeardFrom h (TheWorker w) m = IsHeard h w m

@@ -1,15 +1,15 @@
 -- Changes of a worker's own objects: whoever waits for one waits on, unless it has its content or a fault.
 use Rattle.std.proofs.Common.{◌≡◌, ◌≢◌, ℕ, zero, suc, List, [], ◌∷◌, ◌++◌, map, Some, None, Option, refl, ap, sym, subst, ◌∙◌, ◌⊎◌, inl, inr}
-use Rattle.std.specs.Prelude.{true, false, if◌then◌else◌, is_some, not, slice_get, ◌==◌}
+use Rattle.std.specs.Prelude.{true, false, if◌then◌else◌, is_some, not, slice_get, ◌==◌, Bool, ◌&&◌, is_none}
 use Rattle.std.proofs.lemmas.Bool.{not-true}
 use Rattle.sequence.proofs.Places.{and_right, list_any-push_left}
 use Rattle.meaning.proofs.BirthLaws.{at_test}
-use Rattle.meaning.specs.Values.{Id}
+use Rattle.meaning.specs.Values.{Id, Outcome}
 use Rattle.event_log.specs.Entries.{Fault}
 use Rattle.protocol.specs.Numbered.{changed_at, item_at}
 use Rattle.protocol.specs.Sets.{has, is_empty, with_number}
 use Rattle.protocol.specs.Tables.{Fetching, HasEnded, HasFaulted, Object, Out, OwnTask, Phase, Ready, Run, Waits, has_content, is_whole, with_asker}
-use Rattle.protocol.specs.Tables.{with_fault, with_task, without_askers}
+use Rattle.protocol.specs.Tables.{with_fault, with_task, without_askers, is_nowhere, places_for}
 use Rattle.protocol.specs.Steps.{Here, is_own, object_at, own_object}
 use Rattle.protocol.specs.Runs.{with_fetching, with_fetching_at, with_fetching_by}
 use Rattle.owed_replies.specs.Kept.{IsAnswered}
@@ -123,9 +123,27 @@ pub settled_there : (h : Here) (o : Id) (x y : Object) → is_some x.settled ≡
 settled_there h o x y some at there = let same : x ≡ y = same_item h.worker.objects o.serial x y (looked_up h o x at) there in
     subst (λ (z : Object). is_some z.settled ≡ true) same some
 
--- what can be had has a place
-pub some_places : (x : Object) → has_content x ≡ true → is_empty x.places ≡ false
-some_places x e = not-true (is_empty x.places) (and_right (is_whole x) (not (is_empty x.places)) e)
+-- what can be had has a place, or its owner keeps it
+pub some_places : (x : Object) → has_content x ≡ true → is_nowhere x ≡ false
+some_places x e = not-true (is_nowhere x) (and_right (is_whole x) (not (is_nowhere x)) e)
+
+-- so has what was just accepted
+pub somewhere : (n : ℕ) (kept : Option Outcome) → (is_empty (places_for n kept) && is_none kept) ≡ false
+somewhere n None = refl
+somewhere n (Some c) = refl
+
+-- and what has a place where the owner doesn't keep it
+pub there_is : (ns : List ℕ) (n : ℕ) (kept : Option Outcome) → (kept ≡ None → has ns n ≡ true) → (is_empty ns && is_none kept) ≡ false
+there_is ns n None f = ap (λ b. b && true) (has_some ns (f refl))
+  where
+    has_some : (xs : List ℕ) → has xs n ≡ true → is_empty xs ≡ false
+    has_some [] e = absurd (cc)
+    has_some (x ∷ xs) e = refl
+there_is ns n (Some c) f = neither (is_empty ns)
+  where
+    neither : (b : Bool) → (b && false) ≡ false
+    neither true = refl
+    neither false = refl
 
 -- a Fetch that begins or ends changes nothing of who owns what
 pub fetching_foreign : (h : Here) (o : Id) (f : Option Fetching) → is_own h o ≡ false → is_own (with_fetching h f) o ≡ false

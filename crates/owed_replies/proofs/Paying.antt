@@ -11,6 +11,7 @@ use Rattle.values.specs.Listed.{each_once, ids_in_outcome}
 use Rattle.event_log.specs.Breaks.{Among}
 use Rattle.event_log.specs.Entries.{Accepted, Attempt, Ended, Entry, Fault, Faulted, Got, Opened, main_attempt}
 use Rattle.event_log.specs.Words.{births, same_attempt}
+use Rattle.values.specs.Cells.{if_small}
 use Rattle.protocol.specs.Messages.{Letter, letter, Message, Party, TheWorker, TheNode, Ask, Give, Elsewhere, Wait, Back, Push, Finished, FinishedAck, Failed}
 use Rattle.protocol.specs.Messages.{Where, At, Gone, Fetch, CopyOf, Missing, Hold, HoldAck, Unhold}
 use Rattle.protocol.specs.Nodes.{There}
@@ -75,7 +76,7 @@ module _ (log : List Entry) (net : List Letter) (me : ℕ) (old : List Object) (
   -- ---- what is sent besides
 
   more_sent : (ls : List Letter) (l : Letter) (w : ℕ) (a : Attempt) → IsReported (net ++ ls) w a → IsReported (net ++ (ls ++ l ∷ [])) w a
-  more_sent ls l w a (n, ids, i) = (n, ids, subst (Among (letter (TheWorker w) (TheWorker a.object.owner) (Finished a n ids))) (append_assoc net ls (l ∷ [])) (among-more (net ++ ls) (l ∷ []) _ i))
+  more_sent ls l w a (n, ids, content, i) = (n, ids, content, subst (Among (letter (TheWorker w) (TheWorker a.object.owner) (Finished a n ids content))) (append_assoc net ls (l ∷ [])) (among-more (net ++ ls) (l ∷ []) _ i))
 
   run_more : (ls : List Letter) (l : Letter) (run : Run) → RunIsRight log (net ++ ls) me run → RunIsRight log (net ++ (ls ++ l ∷ [])) me run
   run_more ls l run r = record { needs = r.needs; holds = r.holds; told = λ c e o m. more_sent ls l me run.attempt (r.told c e o m); main = r.main }
@@ -170,8 +171,8 @@ module _ (log : List Entry) (net : List Letter) (me : ℕ) (old : List Object) (
   says_does h w (Where y) s d = said h (TheWorker w) (Where y) (s.0, s.1, waits_born h y s.1 s.2 d) d
   says_does h w (Missing y number n) s d = said h (TheWorker w) (Missing y number n) s d
   says_does h w (Hold e o) s d = said h (TheWorker w) (Hold e o) (s.0, holds_born h _ s.1 d) d
-  says_does h w (Finished a n ids) s d = said h (TheWorker w) (Finished a n ids) (s.0, not_main h a s.1 d) d
-  says_does h w (At y number ns) s d = said h (TheWorker w) (At y number ns) s d
+  says_does h w (Finished a n ids content) s d = said h (TheWorker w) (Finished a n ids content) (s.0, not_main h a s.1 d) d
+  says_does h w (At y number ns content) s d = said h (TheWorker w) (At y number ns content) s d
   says_does h w (Ask a t) s d = said h (TheWorker w) (Ask a t) tt d
   says_does h w (Give a t v) s d = said h (TheWorker w) (Give a t v) tt d
   says_does h w (Elsewhere a t n) s d = said h (TheWorker w) (Elsewhere a t n) tt d
@@ -184,7 +185,7 @@ module _ (log : List Entry) (net : List Letter) (me : ℕ) (old : List Object) (
   says_does h w (Fetch y number) s d = said h (TheWorker w) (Fetch y number) tt d
   says_does h w (CopyOf y number c) s d = said h (TheWorker w) (CopyOf y number c) tt d
   says_does h w (HoldAck e o) s d = said h (TheWorker w) (HoldAck e o) tt d
-  says_does h w (Unhold e o) s d = said h (TheWorker w) (Unhold e o) tt d
+  says_does h w (Unhold e o why) s d = said h (TheWorker w) (Unhold e o why) tt d
 
   pub says_to_node_does : (h : Here) (n : ℕ) (m : Message) → Does h → Does (says_to_node h n m)
   says_to_node_does h n m d = said h (TheNode n) m tt d
@@ -207,7 +208,7 @@ module _ (log : List Entry) (net : List Letter) (me : ℕ) (old : List Object) (
 
       by_phase : (p : Phase) → run.phase ≡ p → Does (tells_stop (with_run h run) run p)
       by_phase (HasEnded c) e =
-          let l : Letter = letter (TheWorker h.me) (TheWorker (owner_of run)) (Finished run.attempt h.worker.node (each_once (ids_in_outcome c))) in
+          let l : Letter = letter (TheWorker h.me) (TheWorker (owner_of run)) (Finished run.attempt h.worker.node (each_once (ids_in_outcome c)) (if_small c)) in
           record {
             who = d.who;
             objects = d.objects;
@@ -217,9 +218,10 @@ module _ (log : List Entry) (net : List Letter) (me : ℕ) (old : List Object) (
               told = λ _ _ _ _. (
                 h.worker.node,
                 each_once (ids_in_outcome c),
-                subst (Among (letter (TheWorker me) (TheWorker run.attempt.object.owner) (Finished run.attempt h.worker.node (each_once (ids_in_outcome c)))))
+                if_small c,
+                subst (Among (letter (TheWorker me) (TheWorker run.attempt.object.owner) (Finished run.attempt h.worker.node (each_once (ids_in_outcome c)) (if_small c))))
                     (append_assoc net h.there.out.letters (l ∷ []))
-                    (subst (λ v. Among (letter (TheWorker v) (TheWorker run.attempt.object.owner) (Finished run.attempt h.worker.node (each_once (ids_in_outcome c)))) ((net ++ h.there.out.letters) ++ l ∷ [])) d.who
+                    (subst (λ v. Among (letter (TheWorker v) (TheWorker run.attempt.object.owner) (Finished run.attempt h.worker.node (each_once (ids_in_outcome c)) (if_small c))) ((net ++ h.there.out.letters) ++ l ∷ [])) d.who
                     (among-last (net ++ h.there.out.letters) l)),
               );
               main = λ m. absurd (both_ways _ other m);
@@ -312,6 +314,7 @@ module _ (log : List Entry) (net : List Letter) (me : ℕ) (old : List Object) (
     says = λ h w m s p. with_does h _ refl p (says_does h w m s p.does);
     says_to_node = λ h n m p. with_does h _ refl p (says_to_node_does h n m p.does);
     objects = λ h ys g p. with_does h _ refl p (objects_does h ys g p.does);
+    passes = λ h ks p. record { does = record { who = p.does.who; objects = p.does.objects; run = p.does.run; out = p.does.out }; in_time = p.in_time };
     deaths = λ h vs ns p. record { does = record { who = p.does.who; objects = p.does.objects; run = p.does.run; out = p.does.out }; in_time = p.in_time };
     store = λ h s p. record { does = record { who = p.does.who; objects = p.does.objects; run = p.does.run; out = record { letters = p.does.out.letters; quiet = p.does.out.quiet; ended = p.does.out.ended } }; in_time = p.in_time };
     frees = λ h p. with_does h _ refl p (frees_does h p.does);

@@ -6,24 +6,30 @@ use Rattle.std.specs.Option.{unwrap_or}
 use Rattle.std.proofs.lemmas.Bool.Decides.{nat_tests}
 use Rattle.meaning.proofs.BirthLaws.{at_test, same_id-true}
 use Rattle.meaning.specs.Births.{birth_at, same_id}
-use Rattle.meaning.specs.Values.{Birth, Id, Put, Task, Value}
+use Rattle.meaning.specs.Values.{Birth, Id, Put, Task, Value, Outcome}
 use Rattle.event_log.specs.Breaks.{Among, BreakRising, at_worker, CauseOf, Standing, breaks, breaks_from, breaks_of}
 use Rattle.event_log.specs.Breaks.{is_some as some_of}
 use Rattle.event_log.specs.Entries.{Accepted, Attempt, Claim, Commit, Deliver, Ended, Entry, Event, Evict, Fault, FaultKind, In, Join, Kill, KillNode, Lose, Notice}
 use Rattle.event_log.specs.Entries.{NoticeNode, OwnerDied, PutLost, Released, RetriesUsed, Tick, Refused, Opened, Begun, Born, Got, Printed, Faulted, Resolved}
 use Rattle.event_log.specs.Events.{accepted_events, is_killed, is_live, kills, kills_node, loses, node_is_killed, node_of, on_node, refused_next, was_lost}
 use Rattle.event_log.specs.Rules.{Setting}
-use Rattle.event_log.specs.Words.{accepted_in, accepts_of, attempt, births, released_in, releases_of, runs_of, worker_of}
+use Rattle.event_log.specs.Words.{accepted_in, accepts_of, attempt, births, released_in, releases_of, runs_of, worker_of, ends_of}
 use Rattle.event_log.proofs.WordLaws.{same_attempt-refl}
+use Rattle.owed_replies.proofs.Objects.{there_is}
+use Rattle.event_log.specs.Legal as L
+use Rattle.event_log.specs.Sane.{Sane}
+use Rattle.event_log.proofs.SaneLaws.{legal_logs_are_sane}
+use Rattle.protocol_legal.proofs.Placing.{lone}
+use Rattle.values.specs.Cells.{if_small, is_small}
 use Rattle.protocol.specs.Numbered.{item_at}
 use Rattle.protocol.specs.Sets.{has, is_empty}
-use Rattle.protocol.specs.Tables.{AskedAt, AtRest, ByTask, Maker, Object, OwnTask, Progress, RunsOn, WasPut, Worker, has_content, is_pending, is_pending_by, is_under_way, settled_number}
+use Rattle.protocol.specs.Tables.{AskedAt, AtRest, ByTask, Maker, Object, OwnTask, Progress, RunsOn, WasPut, Worker, has_content, is_pending, is_pending_by, is_under_way, settled_number, is_nowhere}
 use Rattle.protocol.specs.Whole.{Whole, worker_at}
 use Rattle.protocol_legal.specs.Knows.{IsBegun, IsTask, KnowsMaker, KnowsObject, KnowsProgress, KnowsPut, KnowsTask, once}
 use Rattle.protocol_legal.specs.Lost.{IsLost, RisingTo}
-use Rattle.protocol_legal.specs.Made.{IsMadeAt}
+use Rattle.protocol_legal.specs.Made.{IsMadeAt, EndsSmall, IsSmallEnd}
 use Rattle.protocol_legal.specs.Past.{past}
-use Rattle.protocol_legal.specs.Whole.{Between}
+use Rattle.protocol_legal.specs.Whole.{Between, setting_of}
 use Rattle.protocol_owed.specs.Seen.{AcceptedAt, IsCalm, IsKnownAt, PutAt, is_failure}
 use Rattle.lease_discipline.proofs.Told.{places}
 use Rattle.owed_replies.proofs.Advancing.{among_flat, flat_among}
@@ -209,12 +215,16 @@ none_there (x ∷ xs) h = absurd (h x (ap (λ b. b || has xs x) (equal x)))
     equal : (n : ℕ) → (n == n) ≡ true
     equal n = grind (arith, nat_tests)
 
--- the object has its content, of that number, with a place at that node
+-- the object has its content, of that number: its owner keeps it, or it has a place at that node
 pub record HasContentAt (z : Object) (number n : ℕ) : Type 0 where
   pub unfaulted : z.fault ≡ None
   pub whole : has_content z ≡ true
   pub number_is : settled_number z ≡ number
-  pub place : has z.places n ≡ true
+  pub place : z.kept ≡ None → has z.places n ≡ true
+
+-- and where the owner doesn't keep it, it isn't small
+abbrev pub IsHad : List Entry → Id → Object → ℕ → ℕ → Type 0
+IsHad log y z number n = HasContentAt z number n × (z.kept ≡ None → EndsSmall log (attempt y number) → ⊥)
 
 module _ (s : Setting) (log : List Entry) (c : Whole) (b : Between s log c) (calm : IsCalm log) where
   pub all_live : (w : ℕ) (x : Worker) → worker_at c w ≡ Some x → x.is_live ≡ true
@@ -263,17 +273,22 @@ module _ (s : Setting) (log : List Entry) (c : Whole) (b : Between s log c) (cal
           let f : releases_of y log ≡ once true y = (knows_of y x z at there).released ∙ ap (λ t. once t y) e in
           absurd (unreleased (released_among y (subst (λ xs. Among y xs) (sym f) (zero, refl))))
 
-  has_some : (xs : List ℕ) (n : ℕ) → has xs n ≡ true → is_empty xs ≡ false
-  has_some [] n e = absurd (cc)
-  has_some (x ∷ xs) n e = refl
+  -- an attempt that ended with a small content carries it along
+  pub carries_small : (a : Attempt) (kept : Option Outcome) → IsSmallEnd log a kept → kept ≡ None → EndsSmall log a → ⊥
+  carries_small a kept end none small =
+      let sane : Sane log = legal_logs_are_sane L.Whole (setting_of s c) log b.legal in
+      let same : end.0 ≡ small.0 = lone (ends_of a log) (let l = sane.one_end a in omega (arith, l)) end.0 small.0 end.1 small.1 in
+      let some : if_small end.0 ≡ Some end.0 = ap (λ t. if t then Some end.0 else None) (ap is_small same ∙ small.2) in
+      let is : kept ≡ if_small end.0 = end.2 in
+      absurd (cc)
 
-  content_there : (z : Object) (number n : ℕ) → z.settled ≡ Some number → z.fault ≡ None → is_pending z ≡ false → z.is_released ≡ false → has z.places n ≡ true → HasContentAt z number n
+  content_there : (z : Object) (number n : ℕ) → z.settled ≡ Some number → z.fault ≡ None → is_pending z ≡ false → z.is_released ≡ false → (z.kept ≡ None → has z.places n ≡ true) → HasContentAt z number n
   content_there z number n settled unfaulted rests kept place = record {
     unfaulted = unfaulted;
-    whole = ap (λ o. is_some o && is_none z.fault && not (is_pending z) && not z.is_released && not (is_empty z.places)) settled ∙
-        ap (λ o. true && is_none o && not (is_pending z) && not z.is_released && not (is_empty z.places)) unfaulted ∙
-        ap (λ t. true && true && not t && not z.is_released && not (is_empty z.places)) rests ∙
-        ap (λ t. true && true && true && not t && not (is_empty z.places)) kept ∙ ap (λ t. true && true && true && true && not t) (has_some z.places n place);
+    whole = ap (λ o. is_some o && is_none z.fault && not (is_pending z) && not z.is_released && not (is_nowhere z)) settled ∙
+        ap (λ o. true && is_none o && not (is_pending z) && not z.is_released && not (is_nowhere z)) unfaulted ∙
+        ap (λ t. true && true && not t && not z.is_released && not (is_nowhere z)) rests ∙
+        ap (λ t. true && true && true && not t && not (is_nowhere z)) kept ∙ ap (λ t. true && true && true && true && not t) (there_is z.places n z.kept place);
     number_is = ap (λ o. unwrap_or o 0) settled;
     place = place;
   }
@@ -332,7 +347,7 @@ module _ (s : Setting) (log : List Entry) (c : Whole) (b : Between s log c) (cal
       run_not_put (ByTask task) k v put w ran = put_no_task task.spec v k.is_task (sym k.spec ∙ put)
 
   pub put_known : (y : Id) (x : Worker) (z : Object) (number n : ℕ) → worker_at c y.owner ≡ Some x → item_at x.objects y.serial ≡ Some z → (Among (Released y) log → ⊥) →
-      IsKnownAt log y number n → HasContentAt z number n
+      IsKnownAt log y number n → IsHad log y z number n
   put_known y x z number n at there unreleased known = by_maker z.maker refl known
     where
       knows : KnowsObject (past log b.asked) x y z
@@ -344,20 +359,26 @@ module _ (s : Setting) (log : List Entry) (c : Whole) (b : Between s log c) (cal
       kept : z.is_released ≡ false
       kept = not_released y x z at there unreleased
 
-      put_here : KnowsPut log x.node y z → PutAt log y number n → z.maker ≡ WasPut → HasContentAt z number n
+      put_here : KnowsPut log x.node y z → PutAt log y number n → z.maker ≡ WasPut → IsHad log y z number n
       put_here k p made =
           let home : x.node ≡ n = same_node x.node n (sym (places s log c b y.owner x at) ∙ p.place) in
           let where_is : has z.places n ≡ true = elim (k.placed unfaulted kept) [
             | inl e ↦ subst (λ m. has z.places m ≡ true) home e
             | inr l ↦ absurd (none_lost_put log calm l.before l.after x.node y l.parts l.lost)
           ] in
-          content_there z number n (k.settled ∙ ap (λ m. Some m) (sym p.first)) unfaulted (ap is_pending_by made) kept where_is
+          (content_there z number n (k.settled ∙ ap (λ m. Some m) (sym p.first)) unfaulted (ap is_pending_by made) kept (λ _. where_is), λ _ small. not_run small)
+        where
+          not_run : EndsSmall log (attempt y number) → ⊥
+          not_run small =
+              let sane : Sane log = legal_logs_are_sane L.Whole (setting_of s c) log b.legal in
+              let r = sane.ended (attempt y number) small.1.0 small.0 small.1.1 in
+              nothing_in [] r.0 refl (number, ap (λ xs. slice_get xs number) (sym k.unbegun) ∙ r.1)
 
       no_task : (spec : Birth) (v : Value) → IsTask spec → birth_at (births log) y ≡ Some spec → birth_at (births log) y ≡ Some (Put v) → ⊥
       no_task (Put u) v t e f = t
       no_task (Task g args depth retries) v t e f = let h : ◌≡◌ {A = Option Birth} (Some (Task g args depth retries)) (Some (Put v)) = sym e ∙ f in cc
 
-      rested : (task : OwnTask) → KnowsTask (past log b.asked) y z task → z.maker ≡ ByTask task → AcceptedAt log y number n → (q : Progress) → task.progress ≡ q → HasContentAt z number n
+      rested : (task : OwnTask) → KnowsTask (past log b.asked) y z task → z.maker ≡ ByTask task → AcceptedAt log y number n → (q : Progress) → task.progress ≡ q → IsHad log y z number n
       rested task k made a (AskedAt t m) e = absurd (none_begun y task t m number a.worker x z k e a.ran)
       rested task k made a (RunsOn w m) e =
           let q = subst (KnowsProgress (past log b.asked) y z task) e k.progress in
@@ -371,13 +392,16 @@ module _ (s : Setting) (log : List Entry) (c : Whole) (b : Between s log c) (cal
           let same : task.number ≡ number = r.0 ∙ sym r.1 in
           let settled = q.3 unfaulted in
           let node : q.1 ≡ n = same_node q.1 n (sym q.2.home ∙ ap (λ w. node_of w log) (sym r.2) ∙ a.place) in
-          let where_is : has z.places n ≡ true = elim (settled.placed kept) [
+          let where_is : z.kept ≡ None → has z.places n ≡ true = λ none. elim (settled.placed kept none) [
             | inl f ↦ subst (λ m. has z.places m ≡ true) node f
             | inr l ↦ absurd (none_lost log calm _ l)
-          ] in
-          content_there z number n (settled.settled ∙ ap (λ m. Some m) same) unfaulted (ap is_pending_by made ∙ ap is_under_way e) kept where_is
+          ] in (
+            content_there z number n (settled.settled ∙ ap (λ m. Some m) same) unfaulted (ap is_pending_by made ∙ ap is_under_way e) kept where_is,
+            λ none small. carries_small (attempt y task.number) z.kept (settled.content, settled.ended, settled.kept kept) none
+                (subst (λ i. EndsSmall log (attempt y i)) (sym same) small),
+          )
 
-      by_maker : (m : Maker) → z.maker ≡ m → IsKnownAt log y number n → HasContentAt z number n
+      by_maker : (m : Maker) → z.maker ≡ m → IsKnownAt log y number n → IsHad log y z number n
       by_maker WasPut e (inl p) = put_here (subst (KnowsMaker (past log b.asked) x.node y z) e knows.maker) p e
       by_maker WasPut e (inr a) =
           let k = subst (KnowsMaker (past log b.asked) x.node y z) e knows.maker in

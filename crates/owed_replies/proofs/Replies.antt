@@ -5,7 +5,7 @@ use Rattle.std.proofs.lemmas.List.Concat.{flat_map-append}
 use Rattle.std.proofs.lemmas.Bool.Decides.{nat_tests}
 use Rattle.meaning.proofs.BirthLaws.{at_test}
 use Rattle.meaning.specs.Births.{birth_at}
-use Rattle.meaning.specs.Values.{Birth, Id, Put, Task}
+use Rattle.meaning.specs.Values.{Birth, Id, Put, Task, Outcome}
 use Rattle.event_log.specs.Breaks.{Among}
 use Rattle.event_log.specs.Entries.{Accepted, Attempt, Begun, Born, Deliver, Ended, Entry, Event, Fault, Faulted, Got, In, Opened, Printed, Refused, Released, Resolved, main_attempt}
 use Rattle.event_log.specs.Events.{node_of}
@@ -37,11 +37,11 @@ use Rattle.protocol.specs.Sets.{has}
 use Rattle.protocol.specs.Releases.{release_step}
 use Rattle.protocol.specs.Steps.{Here, changes, object_at}
 use Rattle.protocol.specs.Tables.{AskedAt, AtRest, ByTask, Maker, Object, OwnTask, Progress, RunsOn, WasPut, Worker, task_in, is_under_way, task_of, with_content}
-use Rattle.protocol.specs.Tables.{with_task, without_askers}
+use Rattle.protocol.specs.Tables.{with_task, without_askers, places_for}
 use Rattle.protocol.specs.Whole.{Whole, here, node_at, worker_at}
 use Rattle.protocol_legal.specs.Knows.{IsTask, KnowsMaker, KnowsObject, KnowsProgress, KnowsTask}
 use Rattle.protocol_owed.proofs.Letters.{among-nothing}
-use Rattle.protocol_legal.specs.Made.{IsEndedAt}
+use Rattle.protocol_legal.specs.Made.{IsEndedAt, IsSmallEnd}
 use Rattle.protocol_legal.specs.Past.{past}
 use Rattle.protocol_legal.specs.Says.{Says}
 use Rattle.protocol_legal.specs.Whole.{Between, setting_of}
@@ -72,9 +72,10 @@ module _ (s : Setting) (r : Running) (k : RunReplies s r) (calm : IsCalm r.log) 
   -- ---- the end that is told
 
   -- what a Finished says, and its owner with the task
-  pub record IsEnd (i w v : ℕ) (a : Attempt) (n : ℕ) (ids : List Id) : Type 0 where
+  pub record IsEnd (i w v : ℕ) (a : Attempt) (n : ℕ) (ids : List Id) (kept : Option Outcome) : Type 0 where
     pub own : v ≡ a.object.owner
     pub ended : IsEndedAt r.log a.object a.number n
+    pub small : IsSmallEnd r.log a kept
     pub worker : Worker
     pub there : worker_at c v ≡ Some worker
     pub lives : worker.is_live ≡ true
@@ -94,11 +95,12 @@ module _ (s : Setting) (r : Running) (k : RunReplies s r) (calm : IsCalm r.log) 
       is_main : same_attempt main_attempt main_attempt ≡ false → ⊥
       is_main e = let f = same_attempt-refl main_attempt in cc
 
-  pub end_of : (i w v : ℕ) (a : Attempt) (n : ℕ) (ids : List Id) → item_at c.network i ≡ Some (letter (TheWorker w) (TheWorker v) (Finished a n ids)) → IsEnd i w v a n ids
-  end_of i w v a n ids sent =
-      let l : Letter = letter (TheWorker w) (TheWorker v) (Finished a n ids) in
+  pub end_of : (i w v : ℕ) (a : Attempt) (n : ℕ) (ids : List Id) (kept : Option Outcome) → item_at c.network i ≡ Some (letter (TheWorker w) (TheWorker v) (Finished a n ids kept)) → IsEnd i w v a n ids kept
+  end_of i w v a n ids kept sent =
+      let l : Letter = letter (TheWorker w) (TheWorker v) (Finished a n ids kept) in
       let right : IsRightLetter r.log l = k.replies.letters l (among_at c.network i l sent) in
-      let says : Says (past r.log b.asked) l = all_among (Says (past r.log b.asked)) c.network l b.knows.told (among_at c.network i l sent) in
+      let told = all_among (Says (past r.log b.asked)) c.network l b.knows.told (among_at c.network i l sent) in
+      let says : IsEndedAt r.log a.object a.number n = told.0 in
       let born : IsBornIn r.log a.object = run_born a says.worker says.runs right.1 in
       let x = owner_there s r.log c b calm a.object (entry_born r.log a.object born) in
       let home = k.step.leases.homes a.object.owner x.0 x.1 in
@@ -106,6 +108,7 @@ module _ (s : Setting) (r : Running) (k : RunReplies s r) (calm : IsCalm r.log) 
       record {
         own = right.0;
         ended = says;
+        small = told.1.0;
         worker = x.0;
         there = subst (λ u. worker_at c u ≡ Some x.0) (sym right.0) x.1;
         lives = x.2;
@@ -237,35 +240,35 @@ module _ (s : Setting) (r : Running) (k : RunReplies s r) (calm : IsCalm r.log) 
     own_object_at v a x node z own there = ap (λ t. if t then item_at x.objects a.object.serial else None) (own_now v a.object.owner own) ∙ there
 
     pub finish_owed : FinishIsAcknowledged hap
-    finish_owed w v a n ids (i, is, sent) =
-        let q : IsEnd i w v a n ids = end_of i w v a n ids sent in
+    finish_owed w v a n ids content (i, is, sent) =
+        let q : IsEnd i w v a n ids content = end_of i w v a n ids content sent in
         let h : Here = here c v q.worker q.node in
-        let out = delivered_out c i handed step (TheWorker w) v (Finished a n ids) q.worker q.node sent q.there q.lives q.home (as_delivery i is) in (
-          subst (λ ls. Among (letter (TheWorker v) (TheWorker w) (FinishedAck a)) ls) (sym out.1) (end_is_heard h w a n ids),
+        let out = delivered_out c i handed step (TheWorker w) v (Finished a n ids content) q.worker q.node sent q.there q.lives q.home (as_delivery i is) in (
+          subst (λ ls. Among (letter (TheWorker v) (TheWorker w) (FinishedAck a)) ls) (sym out.1) (end_is_heard h w a n ids content),
           λ unaccepted. subst (λ es. Among (Accepted a) es) (sym out.0)
               (by_stage q h refl unaccepted (stage v a n q.own q.ended q.worker q.there q.lives q.object q.item)),
         )
       where
-        by_stage : (q : IsEnd i w v a n ids) (h : Here) → here c v q.worker q.node ≡ h → (Among (Accepted a) r.log → ⊥) → Stage a q.object →
-            Logged (Accepted a) (release_step (reached h (TheWorker w) (Finished a n ids)))
+        by_stage : (q : IsEnd i w v a n ids content) (h : Here) → here c v q.worker q.node ≡ h → (Among (Accepted a) r.log → ⊥) → Stage a q.object →
+            Logged (Accepted a) (release_step (reached h (TheWorker w) (Finished a n ids content)))
         by_stage q h same unaccepted (IsAccepted j) = absurd (unaccepted j)
         by_stage q h same unaccepted (Pends task made present none kept) =
-            subst (λ g. Logged (Accepted a) (release_step (reached g (TheWorker w) (Finished a n ids)))) same
-            (end_is_accepted (here c v q.worker q.node) w a n ids task (ap task_of (own_object_at v a q.worker q.node q.object q.own q.item) ∙ made) present)
+            subst (λ g. Logged (Accepted a) (release_step (reached g (TheWorker w) (Finished a n ids content)))) same
+            (end_is_accepted (here c v q.worker q.node) w a n ids content task (ap task_of (own_object_at v a q.worker q.node q.object q.own q.item) ∙ made) present)
 
     -- what is sent at the acceptance
-    told_now : (h : Here) (u : ℕ) (a : Attempt) (n : ℕ) (ids : List Id) (z : Object) (task : OwnTask) (w : ℕ) → object_at h a.object ≡ Some z → task_in z.maker ≡ Some task → if_present a task ≡ true →
-        has z.askers w ≡ true → Sent (letter (TheWorker h.me) (TheWorker w) (At a.object a.number (n ∷ []))) (release_step (reached h (TheWorker u) (Finished a n ids)))
-    told_now h u a n ids z task w at made present asks =
-        let l : Letter = letter (TheWorker h.me) (TheWorker w) (At a.object a.number (n ∷ [])) in
-        let g : Here = hears_of_end (accepts h a task n ids) u a in
-        let z' : Object = with_content a.number n ids (with_task (rests task) z) in
-        let there : object_at g a.object ≡ Some z' = accepted_object h a task n ids z at in
+    told_now : (h : Here) (u : ℕ) (a : Attempt) (n : ℕ) (ids : List Id) (content : Option Outcome) (z : Object) (task : OwnTask) (w : ℕ) → object_at h a.object ≡ Some z → task_in z.maker ≡ Some task → if_present a task ≡ true →
+        has z.askers w ≡ true → Sent (letter (TheWorker h.me) (TheWorker w) (At a.object a.number (places_for n content) content)) (release_step (reached h (TheWorker u) (Finished a n ids content)))
+    told_now h u a n ids content z task w at made present asks =
+        let l : Letter = letter (TheWorker h.me) (TheWorker w) (At a.object a.number (places_for n content) content) in
+        let g : Here = hears_of_end (accepts h a task n ids content) u a in
+        let z' : Object = with_content a.number n ids content (with_task (rests task) z) in
+        let there : object_at g a.object ≡ Some z' = accepted_object h a task n ids content z at in
         let told : Sent l (tells_places (changes g a.object without_askers) z'.askers a.object z') = askers_are_told (changes g a.object without_askers) z'.askers a.object z' w asks in
         let settled : Sent l (answers_settled g a.object) = subst (λ o. Sent l (answers_settled_by g a.object o)) (sym there)
         (M.needs_own_if_waiting-kept (Sent l) (sent_stays l) (tells_places (changes g a.object without_askers) z'.askers a.object z') a.object told) in
-        sent_after l (finished_reached h u a n ids)
-        (subst (λ o. Sent l (finished_by h u a n ids (task_of o))) (sym at) (subst (λ t. Sent l (finished_by h u a n ids t)) (sym made)
+        sent_after l (finished_reached h u a n ids content)
+        (subst (λ o. Sent l (finished_by h u a n ids content (task_of o))) (sym at) (subst (λ t. Sent l (finished_by h u a n ids content t)) (sym made)
         (subst (λ t. Sent l (if t then answers_settled g a.object else hears_of_end h u a)) (sym present) settled)))
 
     more_runs : (a : Attempt) (es : List Entry) (w : ℕ) → worker_of a r.log ≡ Some w → worker_of a (r.log ++ es) ≡ Some w
@@ -307,12 +310,12 @@ module _ (s : Setting) (r : Running) (k : RunReplies s r) (calm : IsCalm r.log) 
     accepted_owed brought after y number n w m logged at request is =
         let a : Attempt = attempt y number in
         let f : IsBrought c e a = brought a logged in
-        let q : IsEnd f.number f.sender f.owner a f.node f.ids = end_of f.number f.sender f.owner a f.node f.ids f.sent in
-        let out = delivered_out c f.number handed step (TheWorker f.sender) f.owner (Finished a f.node f.ids) q.worker q.node f.sent q.there q.lives q.home (as_delivery f.number f.event) in
+        let q : IsEnd f.number f.sender f.owner a f.node f.ids f.kept = end_of f.number f.sender f.owner a f.node f.ids f.kept f.sent in
+        let out = delivered_out c f.number handed step (TheWorker f.sender) f.owner (Finished a f.node f.ids f.kept) q.worker q.node f.sent q.there q.lives q.home (as_delivery f.number f.event) in
         by_stage f q out.1 (stage f.owner a f.node q.own q.ended q.worker q.there q.lives q.object q.item)
       where
-        by_stage : (f : IsBrought c e (attempt y number)) (q : IsEnd f.number f.sender f.owner (attempt y number) f.node f.ids) →
-            step.letters ≡ (release_step (reached (here c f.owner q.worker q.node) (TheWorker f.sender) (Finished (attempt y number) f.node f.ids))).there.out.letters →
+        by_stage : (f : IsBrought c e (attempt y number)) (q : IsEnd f.number f.sender f.owner (attempt y number) f.node f.ids f.kept) →
+            step.letters ≡ (release_step (reached (here c f.owner q.worker q.node) (TheWorker f.sender) (Finished (attempt y number) f.node f.ids f.kept))).there.out.letters →
             Stage (attempt y number) q.object → Tells step.letters y w number n
         by_stage f q letters (IsAccepted i) = absurd (not_twice (attempt y number) after logged i)
         by_stage f q letters (Pends task made present unsettled kept) =
@@ -324,14 +327,15 @@ module _ (s : Setting) (r : Running) (k : RunReplies s r) (calm : IsCalm r.log) 
               | inr t ↦ absurd (answered_not q.worker q.object at_owner q.item unsettled t)
             ] in
             let h : Here = here c f.owner q.worker q.node in
-            let sent = told_now h f.sender a f.node f.ids q.object task w (own_object_at f.owner a q.worker q.node q.object q.own q.item) made present asks in
-            let told : Among (letter (TheWorker f.owner) (TheWorker w) (At y number (f.node ∷ []))) step.letters = subst (λ ls. Among (letter (TheWorker f.owner) (TheWorker w) (At y number (f.node ∷ []))) ls) (sym letters) sent in
+            let sent = told_now h f.sender a f.node f.ids f.kept q.object task w (own_object_at f.owner a q.worker q.node q.object q.own q.item) made present asks in
+            let told : Among (letter (TheWorker f.owner) (TheWorker w) (At y number (places_for f.node f.kept) f.kept)) step.letters = subst (λ ls. Among (letter (TheWorker f.owner) (TheWorker w) (At y number (places_for f.node f.kept) f.kept)) ls) (sym letters) sent in
             let runner : at.worker ≡ q.ended.worker = same_some at.worker q.ended.worker (sym at.ran ∙ more_runs a (In e seat ∷ step.entries) q.ended.worker q.ended.runs) in
             let place : f.node ≡ n = same_some f.node n (sym (more_opened q.ended.worker (In e seat ∷ step.entries) f.node q.ended.home) ∙ ap (λ v. node_of v (r.log ++ In e seat ∷ step.entries)) (sym runner) ∙ at.place) in
             record {
-              nodes = f.node ∷ [];
-              told = subst (λ v. Among (letter (TheWorker v) (TheWorker w) (At y number (f.node ∷ []))) step.letters) q.own told;
-              named = ap (λ t. t || false) (own_now n f.node (sym place));
+              nodes = places_for f.node f.kept;
+              kept = f.kept;
+              told = subst (λ v. Among (letter (TheWorker v) (TheWorker w) (At y number (places_for f.node f.kept) f.kept)) step.letters) q.own told;
+              named = λ none. subst (λ d. has (places_for f.node d) n ≡ true) (sym none) (ap (λ t. t || false) (own_now n f.node (sym place)));
             }
           where
             answered_not : (x : Worker) (z : Object) → worker_at c y.owner ≡ Some x → item_at x.objects y.serial ≡ Some z → z.settled ≡ None → IsAnswered z → ⊥

@@ -1,11 +1,11 @@
 -- Whoever asks for what is there is told where it is.
-use Rattle.std.proofs.Common.{◌≡◌, ◌≢◌, ℕ, List, [], ◌∷◌, Some, None, refl, ap, sym, subst, ◌∙◌, inl, inr, arith}
-use Rattle.std.specs.Prelude.{true, false, if◌then◌else◌, not, ◌==◌, ◌&&◌, is_some}
+use Rattle.std.proofs.Common.{◌≡◌, ◌≢◌, ℕ, List, [], ◌∷◌, Some, None, refl, ap, sym, subst, ◌∙◌, inl, inr, arith, Option}
+use Rattle.std.specs.Prelude.{true, false, if◌then◌else◌, not, ◌==◌, ◌&&◌, is_some, is_none}
 use Rattle.std.proofs.lemmas.Bool.Decides.{nat_tests}
 use Rattle.sequence.proofs.Places.{and_left, and_right}
 use Rattle.meaning.proofs.BirthLaws.{at_test, same_id-refl}
 use Rattle.meaning.specs.Births.{same_id}
-use Rattle.meaning.specs.Values.{Id, Put, main_birth}
+use Rattle.meaning.specs.Values.{Id, Put, main_birth, Outcome}
 use Rattle.event_log.specs.Breaks.{Among}
 use Rattle.event_log.specs.Entries.{Attempt, Deliver, Event, Released, main_object}
 use Rattle.event_log.specs.Rules.{Setting}
@@ -14,6 +14,7 @@ use Rattle.event_log.specs.Holding.{ids_of_birth}
 use Rattle.holding.specs.Tells.{is_put}
 use Rattle.holding.proofs.Logged.{born_past}
 use Rattle.holding.proofs.Words.{BornBy, begun_born}
+use Rattle.owed_replies.proofs.Objects.{there_is}
 use Rattle.protocol.specs.Answers.{Step, Takes, answer}
 use Rattle.protocol.specs.Deliveries.{reached}
 use Rattle.protocol.specs.Jobs.{Handed}
@@ -24,9 +25,9 @@ use Rattle.protocol.specs.Places.{hands_missing_on, is_present, takes_place, tak
 use Rattle.protocol.specs.Releases.{release_step}
 use Rattle.protocol.specs.Sets.{has, is_empty, without_number}
 use Rattle.protocol.specs.Steps.{Here, changes, is_own, object_at}
-use Rattle.protocol.specs.Tables.{Object, Worker, is_pending, is_whole, settled_number, without_place}
+use Rattle.protocol.specs.Tables.{Object, Worker, is_pending, is_whole, settled_number, without_place, is_nowhere}
 use Rattle.protocol.specs.Whole.{Whole, here, worker_at}
-use Rattle.protocol_legal.specs.Made.{IsNotAt}
+use Rattle.protocol_legal.specs.Made.{IsNotAt, EndsSmall}
 use Rattle.protocol_legal.specs.Past.{past}
 use Rattle.protocol_legal.specs.Says.{Says}
 use Rattle.protocol_legal.specs.Whole.{Between, setting_of}
@@ -42,7 +43,7 @@ use Rattle.owed_replies.specs.Law.{happening}
 use Rattle.owed_replies.proofs.Advancing.{all_among, entry_born, owner_has}
 use Rattle.owed_replies.proofs.Delivered.{accepted_other, born_serial, delivered_out, owner_there}
 use Rattle.owed_replies.proofs.Known.{born_by_past}
-use Rattle.owed_replies.proofs.Quiet.{HasContentAt, node_alive, none_lost, none_lost_put, put_known, released_among, same_home}
+use Rattle.owed_replies.proofs.Quiet.{HasContentAt, IsHad, node_alive, none_lost, none_lost_put, put_known, released_among, same_home}
 use Rattle.owed_replies.proofs.Runs.{RunReplies}
 
 module _ (s : Setting) (r : Running) (k : RunReplies s r) (calm : IsCalm r.log) where
@@ -71,18 +72,14 @@ module _ (s : Setting) (r : Running) (k : RunReplies s r) (calm : IsCalm r.log) 
       not_main : y ≡ main_object → same_id y main_object ≡ false → ⊥
       not_main e f = let g : same_id y main_object ≡ true = ap (same_id y) (sym e) ∙ same_id-refl y in cc
 
-  has_some : (xs : List ℕ) (n : ℕ) → has xs n ≡ true → is_empty xs ≡ false
-  has_some [] n e = absurd (cc)
-  has_some (x ∷ xs) n e = refl
-
   -- another place that is taken out leaves the content
   pub without_other : (z : Object) (number n j : ℕ) → n ≢ j → HasContentAt z number n → HasContentAt (without_place j z) number n
   without_other z number n j apart q =
-      let kept : has (without_number z.places j) n ≡ true = has-stays z.places j n (λ e. apart (sym e)) q.place in
+      let kept : z.kept ≡ None → has (without_number z.places j) n ≡ true = λ none. has-stays z.places j n (λ e. apart (sym e)) (q.place none) in
       record {
         unfaulted = q.unfaulted;
-        whole = ap (λ t. t && not (is_empty (without_number z.places j))) (and_left (is_whole z) (not (is_empty z.places)) q.whole) ∙
-            ap not (has_some (without_number z.places j) n kept);
+        whole = ap (λ t. t && not (is_nowhere (without_place j z))) (and_left (is_whole z) (not (is_nowhere z)) q.whole) ∙
+            ap not (there_is (without_number z.places j) n z.kept kept);
         number_is = q.number_is;
         place = kept;
       }
@@ -105,21 +102,27 @@ module _ (s : Setting) (r : Running) (k : RunReplies s r) (calm : IsCalm r.log) 
     same_number : (m n : ℕ) → (m == n) ≡ true → m ≡ n
     same_number m n f = grind (arith, nat_tests)
 
-    told_so : (y : Id) (w number n : ℕ) (z : Object) → HasContentAt z number n → Among (letter (TheWorker y.owner) (TheWorker w) (At y (settled_number z) z.places)) step.letters → Tells step.letters y w number n
+    told_so : (y : Id) (w number n : ℕ) (z : Object) → HasContentAt z number n → Among (letter (TheWorker y.owner) (TheWorker w) (At y (settled_number z) z.places z.kept)) step.letters → Tells step.letters y w number n
     told_so y w number n z q told = record {
       nodes = z.places;
-      told = subst (λ i. Among (letter (TheWorker y.owner) (TheWorker w) (At y i z.places)) step.letters) q.number_is told;
+      kept = z.kept;
+      told = subst (λ i. Among (letter (TheWorker y.owner) (TheWorker w) (At y i z.places z.kept)) step.letters) q.number_is told;
       named = q.place;
     }
 
     -- where a copy is missed, the content isn't
+    none_of : (r : Option Outcome) → is_none r ≡ true → r ≡ None
+    none_of None f = refl
+    none_of (Some d) f = absurd (cc)
+
     missed_elsewhere : (y : Id) (x : Worker) (z : Object) (number n j : ℕ) → worker_at c y.owner ≡ Some x → item_at x.objects y.serial ≡ Some z → IsKnownAt r.log y number n →
-        (Among (Released y) r.log → ⊥) → IsNotAt r.log y number j → n ≢ j
-    missed_elsewhere y x z number n j at there known unreleased (made, inl (inl gone)) same = unreleased (released_among s r.log c b calm y gone)
-    missed_elsewhere y x z number n j at there known unreleased (made, inl (inr (inl (put, inl lost)))) same = none_lost_put r.log calm lost.before lost.after j y lost.parts lost.lost
-    missed_elsewhere y x z number n j at there known unreleased (made, inl (inr (inl (put, inr killed)))) same = node_alive r.log calm j killed
-    missed_elsewhere y x z number n j at there known unreleased (made, inl (inr (inr (ended, lost)))) same = none_lost r.log calm _ lost
-    missed_elsewhere y x z number n j at there known unreleased (made, inr (home, is, apart)) same =
+        (Among (Released y) r.log → ⊥) → (EndsSmall r.log (attempt y number) → ⊥) → IsNotAt r.log y number j → n ≢ j
+    missed_elsewhere y x z number n j at there known unreleased big (made, inl (inl gone)) same = unreleased (released_among s r.log c b calm y gone)
+    missed_elsewhere y x z number n j at there known unreleased big (made, inl (inr (inl (put, inl lost)))) same = none_lost_put r.log calm lost.before lost.after j y lost.parts lost.lost
+    missed_elsewhere y x z number n j at there known unreleased big (made, inl (inr (inl (put, inr killed)))) same = node_alive r.log calm j killed
+    missed_elsewhere y x z number n j at there known unreleased big (made, inl (inr (inr (ended, inl lost)))) same = none_lost r.log calm _ lost
+    missed_elsewhere y x z number n j at there known unreleased big (made, inl (inr (inr (ended, inr small)))) same = big small
+    missed_elsewhere y x z number n j at there known unreleased big (made, inr (home, is, apart)) same =
         apart (same_home s r.log c b calm y x z number n home at there known is ∙ same)
 
     pub request_owed : RequestIsTold hap
@@ -128,25 +131,25 @@ module _ (s : Setting) (r : Running) (k : RunReplies s r) (calm : IsCalm r.log) 
         let x = owner_there s r.log c b calm y (entry_born r.log y born) in
         let node = k.step.leases.homes y.owner x.0 x.1 in
         let z = owner_has s r.log c b y (entry_born r.log y born) x.0 x.1 x.2 (born_serial (setting_of s c) r.log b.legal y born) in
-        let content : HasContentAt z.0 number n = put_known s r.log c b calm y x.0 z.0 number n x.1 z.1 unreleased known in
+        let content = put_known s r.log c b calm y x.0 z.0 number n x.1 z.1 unreleased known in
         let out = delivered_out c i handed step (TheWorker w) y.owner m x.0 node.0 sent x.1 x.2 node.1 (as_delivery i is) in
         by_message x.0 node.0 z.0 x.1 z.1 content out.1 request
       where
         l : Letter
         l = letter (TheWorker w) (TheWorker y.owner) m
 
-        by_message : (x : Worker) (node : Node) (z : Object) → worker_at c y.owner ≡ Some x → item_at x.objects y.serial ≡ Some z → HasContentAt z number n →
+        by_message : (x : Worker) (node : Node) (z : Object) → worker_at c y.owner ≡ Some x → item_at x.objects y.serial ≡ Some z → IsHad r.log y z number n →
             step.letters ≡ (release_step (reached (here c y.owner x node) (TheWorker w) m)).there.out.letters → IsRequest y m → Tells step.letters y w number n
-        by_message x node z at there content letters (inl where_is) =
+        by_message x node z at there (content, big) letters (inl where_is) =
             let h : Here = here c y.owner x node in
             let right : IsRightLetter r.log (letter (TheWorker w) (TheWorker y.owner) (Where y)) =
             subst (λ q. IsRightLetter r.log (letter (TheWorker w) (TheWorker y.owner) q)) where_is (k.replies.letters l (among_at c.network i l sent)) in
             let item : object_at h y ≡ Some z = ap (λ t. if t then item_at x.objects y.serial else None) (own_now y.owner y.owner refl) ∙ there in
             told_so y w number n z content
-            (subst (λ ls. Among (letter (TheWorker y.owner) (TheWorker w) (At y (settled_number z) z.places)) ls) (sym letters)
-            (subst (λ q. Sent (letter (TheWorker y.owner) (TheWorker w) (At y (settled_number z) z.places)) (release_step (reached h (TheWorker w) q))) (sym where_is)
+            (subst (λ ls. Among (letter (TheWorker y.owner) (TheWorker w) (At y (settled_number z) z.places z.kept)) ls) (sym letters)
+            (subst (λ q. Sent (letter (TheWorker y.owner) (TheWorker w) (At y (settled_number z) z.places z.kept)) (release_step (reached h (TheWorker w) q))) (sym where_is)
             (where_is_told h y w z item content.unfaulted content.whole (other_way w y.owner right.1))))
-        by_message x node z at there content letters (inr (number', j, missing_is)) =
+        by_message x node z at there (content, big) letters (inr (number', j, missing_is)) =
             let h : Here = here c y.owner x node in
             let right : IsRightLetter r.log (letter (TheWorker w) (TheWorker y.owner) (Missing y number' j)) =
             subst (λ q. IsRightLetter r.log (letter (TheWorker w) (TheWorker y.owner) q)) missing_is (k.replies.letters l (among_at c.network i l sent)) in
@@ -162,16 +165,18 @@ module _ (s : Setting) (r : Running) (k : RunReplies s r) (calm : IsCalm r.log) 
             at_test (λ t. is_present number' z ≡ t → step.letters ≡ (release_step (where_reached (if t then changes h y (without_place j) else h) w y)).there.out.letters → Tells step.letters y w number n)
             (is_present number' z)
             (λ _ present so.
+            let none : z.kept ≡ None = none_of z.kept (and_right (is_some z.settled && (settled_number z == number') && not z.is_released && not (is_pending z)) (is_none z.kept) present) in
             let same : settled_number z ≡ number' = same_number (settled_number z) number' (and_right (is_some z.settled) (settled_number z == number')
-            (and_left (is_some z.settled && (settled_number z == number')) (not z.is_released) (and_left (is_some z.settled && (settled_number z == number') && not z.is_released) (not (is_pending z)) present))) in
-            let apart : n ≢ j = missed_elsewhere y x z number n j at there known unreleased (subst (λ q. IsNotAt r.log y q j) (sym same ∙ content.number_is) says) in
+            (and_left (is_some z.settled && (settled_number z == number')) (not z.is_released) (and_left (is_some z.settled && (settled_number z == number') && not z.is_released) (not (is_pending z))
+            (and_left (is_some z.settled && (settled_number z == number') && not z.is_released && not (is_pending z)) (is_none z.kept) present)))) in
+            let apart : n ≢ j = missed_elsewhere y x z number n j at there known unreleased (big none) (subst (λ q. IsNotAt r.log y q j) (sym same ∙ content.number_is) says) in
             let left : HasContentAt (without_place j z) number n = without_other z number n j apart content in
             let g : Here = changes h y (without_place j) in
             let now : object_at g y ≡ Some (without_place j z) =
             ap (λ t. if t then item_at (changed_at x.objects y.serial (without_place j)) y.serial else None) own ∙ changed_here x.objects y.serial (without_place j) z there in
             told_so y w number n (without_place j z) left
-            (subst (λ ls. Among (letter (TheWorker y.owner) (TheWorker w) (At y (settled_number (without_place j z)) (without_place j z).places)) ls) (sym so)
+            (subst (λ ls. Among (letter (TheWorker y.owner) (TheWorker w) (At y (settled_number (without_place j z)) (without_place j z).places z.kept)) ls) (sym so)
             (where_is_told g y w (without_place j z) now left.unfaulted left.whole other)))
             (λ _ _ so. told_so y w number n z content
-            (subst (λ ls. Among (letter (TheWorker y.owner) (TheWorker w) (At y (settled_number z) z.places)) ls) (sym so)
+            (subst (λ ls. Among (letter (TheWorker y.owner) (TheWorker w) (At y (settled_number z) z.places z.kept)) ls) (sym so)
             (where_is_told h y w z item content.unfaulted content.whole other))) refl reached_so

@@ -12,10 +12,10 @@ use Rattle.protocol.specs.Messages.{At, TheWorker}
 use Rattle.protocol.specs.Numbered.{changed_at, item_at}
 use Rattle.protocol.specs.Sets.{has, is_empty, with_number}
 use Rattle.protocol.specs.Tables.{HasFaulted, Object, Run, Worker, has_content, has_stopped, is_lost, is_pending, is_whole, knows_dead, owner_of, settled_number}
-use Rattle.protocol.specs.Tables.{with_asker, without_place}
+use Rattle.protocol.specs.Tables.{with_asker, without_place, is_nowhere}
 use Rattle.protocol.specs.Steps.{Here, changes, is_own, object_at, own_object, says, with_run}
 use Rattle.protocol.specs.Runs.{is_heard, leaves, leaves_by, leaves_if_free, tells}
-use Rattle.protocol.specs.Places.{answers_asker, asker_by, hands_missing_on, is_present, lets_wait, missing_reached, takes_place, takes_place_by, where_reached}
+use Rattle.protocol.specs.Places.{answers_asker, answers_unsettled, asker_by, hands_missing_on, is_present, lets_wait, missing_reached, takes_place, tells_released, takes_place_by, where_reached}
 use Rattle.protocol.specs.Recovery.{recovers}
 use Rattle.lease_discipline.proofs.Tame.{changed_here}
 use Rattle.owed_replies.specs.Kept.{IsAwaitedBy}
@@ -60,6 +60,7 @@ module _ (xs : List Object) (a : Option Attempt) where
     says = λ h w m i s. s;
     says_to_node = λ h n m s. s;
     objects = λ h ys g s. record { grows = then_grows xs h.worker.objects ys s.grows g; attempt = s.attempt };
+    passes = λ h ks s. record { grows = s.grows; attempt = s.attempt };
     deaths = λ h vs ns s. record { grows = s.grows; attempt = s.attempt };
     store = λ h t s. s;
     frees = λ h s. s;
@@ -113,29 +114,39 @@ module _ (h : Here) (v : ℕ) (o : Id) where
   settled_of : (x : Object) → has_content x ≡ true → is_some x.settled ≡ true
   settled_of x e =
       and_left (is_some x.settled) (is_none x.fault) (and_left (is_some x.settled && is_none x.fault) (not (is_pending x))
-      (and_left (is_some x.settled && is_none x.fault && not (is_pending x)) (not x.is_released) (and_left (is_whole x) (not (is_empty x.places)) e)))
+      (and_left (is_some x.settled && is_none x.fault && not (is_pending x)) (not x.is_released) (and_left (is_whole x) (not (is_nowhere x)) e)))
 
-  asker_waits : (x : Object) → item_at h.worker.objects o.serial ≡ Some x → (f : Option Fault) → x.fault ≡ f → Awaited (answers_asker h o v x f)
-  asker_waits x at None e =
-      at_test (λ b. has_content x ≡ b → Awaited (if b then says h v (At o (settled_number x) x.places) else lets_wait h o v x)) (has_content x)
+  -- a released one has a fault or a content
+  abbrev Rests : Object → Type 0
+  Rests x = x.is_released ≡ true → x.fault ≡ None → is_some x.settled ≡ true
+
+  told_waits : (x : Object) → item_at h.worker.objects o.serial ≡ Some x → is_some x.settled ≡ true → (e : Option Id) → Awaited (tells_released h o v e)
+  told_waits x at settled None = record { object = x; there = at; waits = inr (inl settled) }
+  told_waits x at settled (Some e) = record { object = x; there = at; waits = inr (inl settled) }
+
+  asker_waits : (x : Object) → item_at h.worker.objects o.serial ≡ Some x → Rests x → (f : Option Fault) → x.fault ≡ f → Awaited (answers_asker h o v x f)
+  asker_waits x at rests None e =
+      at_test (λ b. has_content x ≡ b → Awaited (if b then says h v (At o (settled_number x) x.places x.kept) else answers_unsettled h o v x)) (has_content x)
       (λ _ t. record { object = x; there = at; waits = inr (inl (settled_of x t)) })
-      (λ _ _. lets_it_wait x at) refl
-  asker_waits x at (Some f) e = record { object = x; there = at; waits = inr (inr (ap is_some e)) }
+      (λ _ _. at_test (λ b. Awaited (if b then tells_released h o v x.dead_holder else lets_wait h o v x)) x.is_released
+      (λ r. told_waits x at (rests r e) x.dead_holder) (λ _. lets_it_wait x at)) refl
+  asker_waits x at rests (Some f) e = record { object = x; there = at; waits = inr (inr (ap is_some e)) }
 
-  pub where_waits : (x : Object) → object_at h o ≡ Some x → (v == h.me) ≡ false → Awaited (where_reached h v o)
-  where_waits x at other =
+  pub where_waits : (x : Object) → object_at h o ≡ Some x → Rests x → (v == h.me) ≡ false → Awaited (where_reached h v o)
+  where_waits x at rests other =
       subst (λ y. Awaited (asker_by h o v y)) (sym at)
-      (subst (λ b. Awaited (if b then h else answers_asker h o v x x.fault)) (sym other) (asker_waits x (looked_up h o x at) x.fault refl))
+      (subst (λ b. Awaited (if b then h else answers_asker h o v x x.fault)) (sym other) (asker_waits x (looked_up h o x at) rests x.fault refl))
 
 -- after a place was taken out too
-pub missing_waits : (h : Here) (v : ℕ) (o : Id) (number n : ℕ) (x : Object) → is_own h o ≡ true → item_at h.worker.objects o.serial ≡ Some x → (v == h.me) ≡ false →
+pub missing_waits : (h : Here) (v : ℕ) (o : Id) (number n : ℕ) (x : Object) → is_own h o ≡ true → item_at h.worker.objects o.serial ≡ Some x →
+    (x.is_released ≡ true → x.fault ≡ None → is_some x.settled ≡ true) → (v == h.me) ≡ false →
     IsAwaited o.serial v (missing_reached h (TheWorker v) o number n).worker.objects
-missing_waits h v o number n x own at other =
+missing_waits h v o number n x own at rests other =
     let there : object_at h o ≡ Some x = ap (λ b. if b then own_object h o.serial else None) own ∙ at in
     subst (λ b. IsAwaited o.serial v (if b then where_reached (takes_place h o number n) v o else hands_missing_on h o number n).worker.objects) (sym own)
     (subst (λ y. IsAwaited o.serial v (where_reached (takes_place_by h o number n y) v o).worker.objects) (sym there)
     (at_test (λ b. IsAwaited o.serial v (where_reached (if b then changes h o (without_place n) else h) v o).worker.objects) (is_present number x)
     (λ _. where_waits (changes h o (without_place n)) v o (without_place n x)
     (ap (λ b. if b then item_at (changed_at h.worker.objects o.serial (without_place n)) o.serial else None) own ∙
-    changed_here h.worker.objects o.serial (without_place n) x at) other)
-    (λ _. where_waits h v o x there other)))
+    changed_here h.worker.objects o.serial (without_place n) x at) rests other)
+    (λ _. where_waits h v o x there rests other)))

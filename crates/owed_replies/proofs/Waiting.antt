@@ -1,6 +1,6 @@
 -- What is owed by a worker that waits, and for a Hold.
 use Rattle.std.proofs.Common.{◌≡◌, ◌≢◌, ℕ, List, [], ◌∷◌, Some, None, Option, refl, ap, sym, subst, ◌∙◌, ◌⊎◌, inl, inr, arith}
-use Rattle.std.specs.Prelude.{true, false, if◌then◌else◌, ◌==◌}
+use Rattle.std.specs.Prelude.{Bool, true, false, if◌then◌else◌, ◌==◌, ◌&&◌, is_none}
 use Rattle.std.proofs.lemmas.Bool.Decides.{nat_tests}
 use Rattle.std.proofs.lemmas.Bool.{eqb-true, false_from_ne_true}
 use Rattle.meaning.specs.Births.{Bearing, numbered}
@@ -30,7 +30,7 @@ use Rattle.protocol_owed.specs.Courses.{Rests, WaitsFor, course}
 use Rattle.protocol_owed.specs.Replies.{AtIsUsed, Happening, HoldIsAcknowledged, IsGot}
 use Rattle.protocol_owed.specs.Runs.{Running, seen}
 use Rattle.protocol_owed.specs.Seen.{IsCalm}
-use Rattle.protocol_owed.proofs.Replying.{IsAnswered, IsFetched, IsMissed, Uses, at_is_used, hold_is_acknowledged}
+use Rattle.protocol_owed.proofs.Replying.{IsAnswered, IsFetched, IsMissed, Uses, at_is_used, hold_is_acknowledged, at_is_got}
 use Rattle.protocol_owed.specs.Told.{IsAsTold, attempt_by, pace_by, pace_in}
 use Rattle.lease_discipline.proofs.Events.{among_at}
 use Rattle.lease_discipline.proofs.Told.{lives_there, logs_tell, places}
@@ -153,22 +153,22 @@ module _ (s : Setting) (r : Running) (k : RunReplies s r) (calm : IsCalm r.log) 
     foreign_to y w other = false_from_ne_true (y.owner == w) (λ f. other (eqb-true y.owner w f))
 
     pub places_owed : AtIsUsed hap
-    places_owed w a y number nodes other (i, is, sent) waits =
+    places_owed w a y number nodes content other (i, is, sent) waits =
         let q : IsWaiting w a y = waits_so w a y waits in
         let h : Here = here c w q.worker q.node in
-        let l : Letter = letter (TheWorker y.owner) (TheWorker w) (At y number nodes) in
+        let l : Letter = letter (TheWorker y.owner) (TheWorker w) (At y number nodes content) in
         let right : IsRightLetter r.log l = k.replies.letters l (among_at c.network i l sent) in
-        let out = delivered_out c i handed step (TheWorker y.owner) w (At y number nodes) q.worker q.node sent q.there q.lives q.home (as_delivery i is) in
-        by_nodes q nodes right out.0 out.1
+        let out = delivered_out c i handed step (TheWorker y.owner) w (At y number nodes content) q.worker q.node sent q.there q.lives q.home (as_delivery i is) in
+        by_content q content right out.0 out.1
       where
         IsSo : List ℕ → Type 0
         IsSo ns = IsGot hap a y ⊎
             ((n : ℕ) × (has ns n ≡ true) × Among (letter (TheWorker w) (TheNode n) (Fetch y number)) step.letters) ⊎
             ((n : ℕ) × (node_of w r.log ≡ Some n) × (has ns n ≡ true) × Among (letter (TheWorker w) (TheWorker y.owner) (Missing y number n)) step.letters)
 
-        by_use : (q : IsWaiting w a y) (ns : List ℕ) → step.entries ≡ (release_step (reached (here c w q.worker q.node) (TheWorker y.owner) (At y number ns))).there.out.entries →
-            step.letters ≡ (release_step (reached (here c w q.worker q.node) (TheWorker y.owner) (At y number ns))).there.out.letters →
-            Uses (here c w q.worker q.node) q.run y number ns (release_step (reached (here c w q.worker q.node) (TheWorker y.owner) (At y number ns))) → IsSo ns
+        by_use : (q : IsWaiting w a y) (ns : List ℕ) → step.entries ≡ (release_step (reached (here c w q.worker q.node) (TheWorker y.owner) (At y number ns None))).there.out.entries →
+            step.letters ≡ (release_step (reached (here c w q.worker q.node) (TheWorker y.owner) (At y number ns None))).there.out.letters →
+            Uses (here c w q.worker q.node) q.run y number ns (release_step (reached (here c w q.worker q.node) (TheWorker y.owner) (At y number ns None))) → IsSo ns
         by_use q ns entries letters (IsAnswered d got) = inl (d, subst (λ f. Among (Got f y d) step.entries) q.present (subst (λ es. Among (Got q.run.attempt y d) es) (sym entries) got))
         by_use q ns entries letters (IsFetched n named fetched) = inr (inl (n, named, subst (λ ls. Among (letter (TheWorker w) (TheNode n) (Fetch y number)) ls) (sym letters) fetched))
         by_use q ns entries letters (IsMissed named missed) =
@@ -179,12 +179,24 @@ module _ (s : Setting) (r : Running) (k : RunReplies s r) (calm : IsCalm r.log) 
               subst (λ ls. Among (letter (TheWorker w) (TheWorker y.owner) (Missing y number q.worker.node)) ls) (sym letters) missed,
             ))
 
-        by_nodes : (q : IsWaiting w a y) (ns : List ℕ) → is_empty ns ≡ false → step.entries ≡ (release_step (reached (here c w q.worker q.node) (TheWorker y.owner) (At y number ns))).there.out.entries →
-            step.letters ≡ (release_step (reached (here c w q.worker q.node) (TheWorker y.owner) (At y number ns))).there.out.letters → IsSo ns
+        by_nodes : (q : IsWaiting w a y) (ns : List ℕ) → is_empty ns ≡ false → step.entries ≡ (release_step (reached (here c w q.worker q.node) (TheWorker y.owner) (At y number ns None))).there.out.entries →
+            step.letters ≡ (release_step (reached (here c w q.worker q.node) (TheWorker y.owner) (At y number ns None))).there.out.letters → IsSo ns
         by_nodes q [] some entries letters = absurd (cc)
         by_nodes q (n ∷ ns) some entries letters =
             by_use q (n ∷ ns) entries letters
             (at_is_used (here c w q.worker q.node) y.owner y number n ns q.run (foreign_to y w other) q.at q.needs (no_dead_nodes s r.log c b calm w q.worker q.there))
+
+        by_content : (q : IsWaiting w a y) (r' : Option Outcome) → (is_empty nodes && is_none r') ≡ false →
+            step.entries ≡ (release_step (reached (here c w q.worker q.node) (TheWorker y.owner) (At y number nodes r'))).there.out.entries →
+            step.letters ≡ (release_step (reached (here c w q.worker q.node) (TheWorker y.owner) (At y number nodes r'))).there.out.letters → IsSo nodes
+        by_content q None some entries letters = by_nodes q nodes (not_both (is_empty nodes) some) entries letters
+          where
+            not_both : (t : Bool) → (t && true) ≡ false → t ≡ false
+            not_both true f = f
+            not_both false f = f
+        by_content q (Some d) some entries letters =
+            let got = at_is_got (here c w q.worker q.node) y.owner y number nodes d q.run (foreign_to y w other) q.at q.needs in
+            inl (d, subst (λ f. Among (Got f y d) step.entries) q.present (subst (λ es. Among (Got q.run.attempt y d) es) (sym entries) got))
 
     own_now : (m n : ℕ) → m ≡ n → (n == m) ≡ true
     own_now m n f = grind (arith, nat_tests)

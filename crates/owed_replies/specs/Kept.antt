@@ -1,5 +1,5 @@
 -- What is true of messages and attempts between two events, so that each message gets its reply.
-use Rattle.std.specs.Prelude.{◌≡◌, ◌==◌, ◌⊎◌, ℕ, true, false, List, [], Some, is_some}
+use Rattle.std.specs.Prelude.{◌≡◌, ◌==◌, ◌&&◌, ◌⊎◌, ℕ, true, false, List, [], Option, Some, is_none, is_some}
 use Rattle.std.specs.List.{flat_map}
 use Rattle.meaning.specs.Readings.{IsBorn}
 use Rattle.meaning.specs.Values.{Birth, Id, Outcome}
@@ -20,13 +20,13 @@ abbrev pub IsBornIn : List Entry → Id → Type 0
 IsBornIn log o = (a : Attempt) × (b : Birth) × Among (Born o a b) log
 
 -- what worker v says to worker w: of objects that were born, to their owners, who are others; the end of an attempt to its owner; and of places
--- there is one at least
+-- there is one at least, or the content comes along
 abbrev pub IsSaidRight : List Entry → ℕ → ℕ → Message → Type 0
 IsSaidRight log v w (Where y) = (w ≡ y.owner) × ((y.owner == v) ≡ false) × IsBorn (births log) y
 IsSaidRight log v w (Missing y number n) = (w ≡ y.owner) × ((y.owner == v) ≡ false)
 IsSaidRight log v w (Hold e o) = (w ≡ o.owner) × IsBornIn log o
-IsSaidRight log v w (Finished a n ids) = (w ≡ a.object.owner) × (same_attempt a main_attempt ≡ false)
-IsSaidRight log v w (At y number ns) = is_empty ns ≡ false
+IsSaidRight log v w (Finished a n ids kept) = (w ≡ a.object.owner) × (same_attempt a main_attempt ≡ false)
+IsSaidRight log v w (At y number ns kept) = (is_empty ns && is_none kept) ≡ false
 IsSaidRight log v w m = Unit {0}
 
 abbrev pub IsRightBetween : List Entry → Party → Party → Message → Type 0
@@ -39,7 +39,7 @@ IsRightLetter log l = IsRightBetween log l.sender l.receiver l.message
 
 -- the worker told the attempt's owner that it ended
 abbrev pub IsReported : List Letter → ℕ → Attempt → Type 0
-IsReported sent w a = (n : ℕ) × (ids : List Id) × Sends sent (TheWorker w) (TheWorker a.object.owner) (Finished a n ids)
+IsReported sent w a = (n : ℕ) × (ids : List Id) × (kept : Option Outcome) × Sends sent (TheWorker w) (TheWorker a.object.owner) (Finished a n ids kept)
 
 -- a worker's attempt
 pub record RunIsRight (log : List Entry) (sent : List Letter) (w : ℕ) (run : Run) : Type 0 where

@@ -11,7 +11,7 @@ use crate::recovery::recover;
 use lineage::{has_content, is_lost};
 use number_lists::add_worker;
 use numbers::{NodeId, ObjectId, WorkerId};
-use protocol_data::{Here, Message, Object, Objects, Party};
+use protocol_data::{Here, Message, Object, Objects, Party, copy_of};
 use std::alloc::{AllocError, Global};
 use worker_steps::{find_none, is_own, is_present, is_waiting_for, object_at, report_missing, say};
 
@@ -38,8 +38,8 @@ fn add_asker(here: &mut Here, object: ObjectId, worker: WorkerId) -> Result<(), 
     add_asker_at(&mut here.worker.objects, object.serial, worker)
 }
 
-/// Another worker asks where the own object is: it is told that there is no content (Gone), or all places (At), or it waits. A lost object is
-/// made again.
+/// Another worker asks where the own object is: it is told that there is no content (Gone), or all places or the content
+/// that the owner keeps (At), or it waits. A lost object is made again.
 pub fn where_reached(
     alloc: Global,
     here: &mut Here,
@@ -60,7 +60,8 @@ pub fn where_reached(
     if has_content(found) {
         let number = settled_number(found);
         let places = found.places.copy(alloc)?;
-        return say(here, worker, Message::At(object, number, places));
+        let kept = copy_of(&found.kept, alloc)?;
+        return say(here, worker, Message::At(object, number, places, kept));
     }
     if is_lost(found) {
         add_asker(here, object, worker)?;

@@ -59,6 +59,7 @@ fn put_object(
         bearer,
         settled: Some(0),
         places,
+        kept: None,
         ids,
         added: Seq::new(alloc),
         removed: Seq::new(alloc),
@@ -89,6 +90,7 @@ fn task_object(
         bearer,
         settled: None,
         places: Seq::new(alloc),
+        kept: None,
         ids,
         added: Seq::new(alloc),
         removed: Seq::new(alloc),
@@ -103,9 +105,7 @@ fn content_put(alloc: Global, value: &RunValue) -> Result<Content, AllocError>
     ensures { IfOk result (λ c. c ≡ Val (value_of value.now)) }
 {
     let value = value.copy(alloc)?;
-    Ok(Content {
-        inner: values::Content::Value(value),
-    })
+    Content::new(alloc, values::Content::Value(value))
 }
 
 /// A value is put.

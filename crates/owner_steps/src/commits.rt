@@ -11,7 +11,7 @@ use crate::logged::log_outcomes;
 use crate::needs::need_own;
 use held::{Births, Content, Origin, Printed, Prints};
 use numbers::{Cause, Fault, ObjectId};
-use object_store::put_primary;
+use object_store::put_end;
 use protocol_data::{Here, Message, Outcomes, Phase, Stopped};
 use sequence::Seq;
 use std::alloc::{AllocError, Global};
@@ -67,7 +67,7 @@ fn end(alloc: Global, here: &mut Here, content: &Content) -> Result<(), AllocErr
     let stored = content.copy(alloc)?;
     let ids = ids_in_content(alloc, content)?;
     set_phase(here, Phase::HasEnded(kept));
-    put_primary(
+    put_end(
         &mut here.there.node.store,
         attempt.object,
         attempt.number,
@@ -127,7 +127,8 @@ fn add_outcomes(alloc: Global, here: &mut Here, outcomes: &Outcomes) -> Result<(
 }
 
 /// What was done on the attempt's job is committed. Its births, prints and end are logged; each birth enters the table, holds the ids in it, and
-/// is stored or asked for; then the attempt waits for what it needs, unless it is answered at once, or stores the content with which it ends.
+/// is stored or asked for; then the attempt waits for what it needs, unless it is answered at once, or stores the content with which it ends,
+/// unless that is small.
 pub fn commit_step(alloc: Global, here: &mut Here, outcomes: &Outcomes) -> Result<(), AllocError>
     ensures { OnOk result (here.new ≡ commit_step here.old outcomes.now) }
 {

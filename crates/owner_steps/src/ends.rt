@@ -1,8 +1,8 @@
 // The owner hears how an attempt stopped.
 
-ghost use Rattle.std.specs.Prelude.{◌≡◌, ◌&&◌, ◌==◌, OnOk, [], ◌∷◌, ◌++◌, Some, None};
+ghost use Rattle.std.specs.Prelude.{◌≡◌, ◌&&◌, ◌==◌, IfOk, OnOk, [], ◌∷◌, ◌++◌, Some, None};
 ghost use Rattle.protocol.specs.Numbered.{changed_at, item_at};
-ghost use Rattle.protocol.specs.Tables.{is_pending_task, task_of, with_content};
+ghost use Rattle.protocol.specs.Tables.{is_pending_task, places_for, task_of, with_content};
 ghost use Rattle.protocol.specs.Steps.{changes, with_task_of};
 ghost use Rattle.protocol.specs.Asking.{rests};
 ghost use Rattle.protocol.specs.Ends.{accepts, failed_reached, finished_reached, hears_of_end, if_present};
@@ -10,9 +10,10 @@ ghost use Rattle.protocol_data.specs.declared.tables.OwnTask.{OwnTask};
 
 use crate::answers::answer_settled;
 use crate::faulted::answer_faulted;
+use held::Content;
 use number_lists::{add_objects, item_at_number};
 use numbers::{AttemptId, Fault, NodeId, ObjectId, WorkerId};
-use protocol_data::{Here, Maker, Message, Object, Objects, OwnTask, Progress, Said};
+use protocol_data::{Here, Maker, Message, Object, Objects, OwnTask, Progress, Said, copy_of};
 use sequence::Seq;
 use std::alloc::{AllocError, Global};
 use worker_steps::{is_own, log, resolve, say, set_progress_at};
@@ -48,6 +49,18 @@ pub fn rest(here: &mut Here, object: ObjectId, number: u32)
     );
 }
 
+/// Where a content is that was made at the node: there, unless the owner keeps it.
+fn places_for(alloc: Global, node: NodeId, kept: &Option<Content>) -> Result<Seq<NodeId>, AllocError>
+    ensures { IfOk result (λ places. places ≡ places_for node kept.now) }
+{
+    let mut places = Seq::new(alloc);
+    if kept.is_some() {
+        return Ok(places);
+    }
+    places.push(node)?;
+    Ok(places)
+}
+
 /// The object of that serial has the content of the accepted attempt.
 fn set_content_at(
     alloc: Global,
@@ -56,8 +69,9 @@ fn set_content_at(
     number: u32,
     node: NodeId,
     ids: &Seq<ObjectId>,
+    kept: &Option<Content>,
 ) -> Result<(), AllocError>
-    ensures { OnOk result (objects.new ≡ changed_at objects.old serial (with_content number node ids.now)) }
+    ensures { OnOk result (objects.new ≡ changed_at objects.old serial (with_content number node ids.now kept.now)) }
 {
     if serial == 0 {
         return Ok(());
@@ -66,11 +80,12 @@ fn set_content_at(
     if place >= objects.len() as u64 {
         return Ok(());
     }
-    let mut places = Seq::new(alloc);
-    places.push(node)?;
+    let places = places_for(alloc, node, kept)?;
+    let kept = copy_of(kept, alloc)?;
     let object = objects.row_mut(place as usize);
     object.settled = Some(number);
     object.places = places;
+    object.kept = kept;
     add_objects(&mut object.ids, ids)?;
     Ok(())
 }
@@ -82,9 +97,10 @@ fn accept(
     attempt: AttemptId,
     node: NodeId,
     ids: &Seq<ObjectId>,
+    kept: &Option<Content>,
 ) -> Result<(), AllocError>
     ensures { (task : OwnTask) → task_of (item_at here.old.worker.objects attempt.object.serial) ≡ Some task → task.number ≡ attempt.number
-        → OnOk result (here.new ≡ accepts here.old attempt task node ids.now) }
+        → OnOk result (here.new ≡ accepts here.old attempt task node ids.now kept.now) }
 {
     rest(here, attempt.object, attempt.number);
     let serial = attempt.object.serial;
@@ -95,11 +111,12 @@ fn accept(
         attempt.number,
         node,
         ids,
+        kept,
     )?;
     log(here, Said::Accepted(attempt))
 }
 
-/// The worker tells that the attempt has ended, with a content at the node that has these ids. If it is the present attempt of a pending task it
+/// The worker tells that the attempt has ended, with a content at the node that has these ids, and that comes along if it is small. If it is the present attempt of a pending task it
 /// is accepted, and whoever waits for the object is answered. Of any attempt the worker is told that its end was heard.
 pub fn finished_reached(
     alloc: Global,
@@ -108,8 +125,9 @@ pub fn finished_reached(
     attempt: AttemptId,
     node: NodeId,
     ids: &Seq<ObjectId>,
+    kept: &Option<Content>,
 ) -> Result<(), AllocError>
-    ensures { OnOk result (here.new ≡ finished_reached here.old worker attempt node ids.now) }
+    ensures { OnOk result (here.new ≡ finished_reached here.old worker attempt node ids.now kept.now) }
 {
     if !is_own(here, attempt.object) {
         return hear_of_end(here, worker, attempt);
@@ -123,7 +141,7 @@ pub fn finished_reached(
     if !is_present_attempt(attempt, task) {
         return hear_of_end(here, worker, attempt);
     }
-    accept(alloc, here, attempt, node, ids)?;
+    accept(alloc, here, attempt, node, ids, kept)?;
     hear_of_end(here, worker, attempt)?;
     answer_settled(alloc, here, attempt.object)
 }

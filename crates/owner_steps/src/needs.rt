@@ -6,15 +6,16 @@ ghost use Rattle.protocol.specs.Numbered.{changed_at};
 ghost use Rattle.protocol.specs.Stores.{copy_in};
 ghost use Rattle.protocol.specs.Tables.{settled_number, without_place, without_places};
 ghost use Rattle.protocol.specs.Steps.{changes, object_at};
-ghost use Rattle.protocol.specs.Places.{looks_elsewhere, looks_for, looks_here_by, needs_own, needs_own_if_waiting, needs_unresolved};
+ghost use Rattle.protocol.specs.Places.{looks_at_places, looks_elsewhere, looks_for_by, looks_here_by, needs_own, needs_own_if_waiting, needs_unresolved};
 ghost use Rattle.protocol_data.specs.declared.tables.Object.{Object};
 
 use crate::recovery::recover;
+use held::Content;
 use lineage::{has_content, is_lost};
 use number_lists::{has_node, remove_node};
 use numbers::{NodeId, ObjectId};
 use object_store::get as get_copy;
-use protocol_data::{Here, Object, Objects, Worker};
+use protocol_data::{Here, Object, Objects, Worker, copy_of};
 use sequence::Seq;
 use std::alloc::{AllocError, Global};
 use worker_steps::{fault, fetch, get, is_waiting_for, live_place, object_at, set_fetching};
@@ -132,15 +133,15 @@ fn look_here(
     get(alloc, here, &content)
 }
 
-/// The attempt looks for the content of an own object.
-fn look_for(
+/// The attempt looks for a copy of the content of an own object.
+fn look_at_places(
     alloc: Global,
     here: &mut Here,
     object: ObjectId,
     number: u32,
     places: &Seq<NodeId>,
 ) -> Result<(), AllocError>
-    ensures { (x : Object) → settled_number x ≡ number → x.places ≡ places.now → OnOk result (here.new ≡ looks_for here.old object x) }
+    ensures { (x : Object) → settled_number x ≡ number → x.places ≡ places.now → OnOk result (here.new ≡ looks_at_places here.old object x) }
 {
     if has_node(places, here.worker.node) {
         return look_here(alloc, here, object, number, places);
@@ -148,8 +149,25 @@ fn look_for(
     look_elsewhere(alloc, here, object, number, places)
 }
 
-/// The worker's attempt needs an own object. A resolved one answers with its fault; a copy on the own node answers at once; else it is fetched
-/// from the first place that isn't known dead. Where no place is left the object is made again. For a pending one the attempt waits.
+/// The content that the owner keeps answers, else a copy is looked for.
+fn look_for(
+    alloc: Global,
+    here: &mut Here,
+    object: ObjectId,
+    number: u32,
+    places: &Seq<NodeId>,
+    kept: &Option<Content>,
+) -> Result<(), AllocError>
+    ensures { (x : Object) → settled_number x ≡ number → x.places ≡ places.now → OnOk result (here.new ≡ looks_for_by here.old object x kept.now) }
+{
+    match kept {
+        None => look_at_places(alloc, here, object, number, places),
+        Some(content) => get(alloc, here, content),
+    }
+}
+
+/// The worker's attempt needs an own object. A resolved one answers with its fault; what the owner keeps and a copy on the own node answer at
+/// once; else it is fetched from the first place that isn't known dead. Where no place is left the object is made again. For a pending one the attempt waits.
 pub fn need_own(alloc: Global, here: &mut Here, object: ObjectId) -> Result<(), AllocError>
     ensures { OnOk result (here.new ≡ needs_own here.old object) }
 {
@@ -163,7 +181,8 @@ pub fn need_own(alloc: Global, here: &mut Here, object: ObjectId) -> Result<(), 
     if has_content(found) {
         let number = settled_number(found);
         let places = found.places.copy(alloc)?;
-        return look_for(alloc, here, object, number, &places);
+        let kept = copy_of(&found.kept, alloc)?;
+        return look_for(alloc, here, object, number, &places, &kept);
     }
     if is_lost(found) {
         return recover(alloc, here, object);

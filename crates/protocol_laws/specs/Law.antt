@@ -1,7 +1,7 @@
 -- The laws of the whole protocol.
-use Rattle.std.specs.Prelude.{◌≡◌, ◌<◌, ℕ, false, List, ◌∷◌, ◌++◌}
+use Rattle.std.specs.Prelude.{◌≡◌, ◌<◌, ℕ, List, ◌∷◌, ◌++◌}
 use Rattle.event_log.specs.Entries.{Entry, Event, Released}
-use Rattle.event_log.specs.Holding.{is_held}
+use Rattle.event_log.specs.Holding.{IsHeld}
 use Rattle.event_log.specs.Legal.{Legal, opening}
 use Rattle.event_log.specs.Rules.{Setting}
 use Rattle.meaning.specs.Mains.{KeepsMainApart}
@@ -38,4 +38,4 @@ ProtocolStaysLegal =
 abbrev pub NothingHeldIsReleased : Type 0
 NothingHeldIsReleased =
     (s : Setting) (log : List Entry) (c : Whole) → IsSound s log c → (before after : List Entry) (o : Id) →
-    log ≡ opening ++ (before ++ Released o ∷ after) → is_held o (opening ++ before) ≡ false
+    log ≡ opening ++ (before ++ Released o ∷ after) → IsHeld o (opening ++ before) → ⊥

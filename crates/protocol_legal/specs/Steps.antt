@@ -3,7 +3,7 @@ use Rattle.std.specs.Prelude.{◌≡◌, ℕ, true, false, Bool, List, [], ◌�
 use Rattle.meaning.specs.Values.{Id}
 use Rattle.event_log.specs.Entries.{Claim, Commit, Deliver, Entry, Event, Evict, In, Join, Kill, KillNode, Lose, Notice, Refused, Released}
 use Rattle.event_log.specs.Events.{claim_in, commit_in, is_committed, is_killed, node_is_killed, node_lives, tells, worker_of_job}
-use Rattle.event_log.specs.Holding.{is_held}
+use Rattle.event_log.specs.Holding.{IsHeld}
 use Rattle.event_log.specs.Legal.{Happens}
 use Rattle.event_log.specs.Causes.{IsRefusal}
 use Rattle.event_log.specs.Rules.{Receiver, Setting}
@@ -41,7 +41,7 @@ pub record IsJobHere (f : Frame) (j : ℕ) (h : Here) (run : Run) (d : Outcomes)
 
 -- what these entries release isn't held where they release it
 abbrev pub NoneGoesHeld : Frame → List Entry → Type 0
-NoneGoesHeld f es = (before after : List Entry) (o : Id) → es ≡ before ++ Released o ∷ after → is_held o (so_far f before) ≡ false
+NoneGoesHeld f es = (before after : List Entry) (o : Id) → es ≡ before ++ Released o ∷ after → IsHeld o (so_far f before) → ⊥
 
 -- the message is true before the event logged anything
 abbrev pub IsSaid : Frame → Here → Party → Message → Type 0

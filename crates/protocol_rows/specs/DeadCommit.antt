@@ -3,8 +3,7 @@
 -- 10 events, 20 entries, 3 messages, 2 jobs.
 use Rattle.std.specs.Prelude.{List, [], codes, ◌∷◌}
 use Rattle.meaning.specs.Values.{Birth, Task, Val, main_birth}
-use Rattle.event_log.specs.Entries.{Begun, Born, Claim, Commit, Deliver, Faulted, In, Kill, Notice, Opened, Refused, Released, Resolved}
-use Rattle.event_log.specs.Entries.{RetriesUsed}
+use Rattle.event_log.specs.Entries.{Begun, Born, Claim, Commit, Deliver, Faulted, In, Kill, Notice, Opened, Refused, Released, Resolved, RetriesUsed}
 use Rattle.protocol.specs.Sets.{fault}
 use Rattle.protocol.specs.Messages.{Ask, Give, Push, TheNode, TheWorker, letter}
 use Rattle.protocol.specs.Jobs.{AtEnd, AtGet}

@@ -25,8 +25,8 @@ each_refused_events =
     does_all
     (Claim 0 ∷ Claim 2 ∷ Commit 1 ∷ Claim 1 ∷ Claim 1 ∷ Commit 1 ∷ Commit 1 ∷ Commit 0 ∷ Deliver 0 ∷ Deliver 2 ∷ Tick 2 ∷
     Notice 2 2 ∷ Notice 1 2 ∷ Notice 1 1 ∷ NoticeNode 2 2 ∷ NoticeNode 1 2 ∷ NoticeNode 1 1 ∷ Evict 0 o1_1 ∷ Evict 2 o1_1 ∷
-    Evict 1 o1_1 ∷ Lose 2 o1_1 ∷ Lose 1 o1_1 ∷ Kill 2 ∷ KillNode 2 ∷ KillNode 1 ∷ Kill 1 ∷ KillNode 1 ∷ Lose 1 o1_1 ∷ Evict 1 o1_1 ∷
-    Tick 1 ∷ NoticeNode 1 1 ∷ Deliver 1 ∷ Commit 1 ∷ [])
+    Evict 1 o1_1 ∷ Lose 2 o1_1 ∷ Lose 1 o1_1 ∷ Kill 2 ∷ KillNode 2 ∷ KillNode 1 ∷ Kill 1 ∷ KillNode 1 ∷ Lose 1 o1_1 ∷
+    Evict 1 o1_1 ∷ Tick 1 ∷ NoticeNode 1 1 ∷ Deliver 1 ∷ Commit 1 ∷ [])
 
 -- the log, the messages and the jobs
 abbrev pub each_refused_run : Seen

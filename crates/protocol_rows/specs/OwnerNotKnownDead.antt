@@ -1,7 +1,7 @@
 -- The same, and nobody is told: main waits.
 -- `let r = get remote outer(); return get r;`
 -- 22 events, 35 entries, 13 messages, 4 jobs.
-use Rattle.std.specs.Prelude.{List, [], codes, ◌∷◌}
+use Rattle.std.specs.Prelude.{List, Some, [], codes, ◌∷◌}
 use Rattle.meaning.specs.Values.{Birth, Named, Task, Val, main_birth}
 use Rattle.event_log.specs.Entries.{Accepted, Begun, Born, Claim, Commit, Deliver, Ended, Got, In, Kill, Opened}
 use Rattle.protocol.specs.Messages.{Ask, Back, Finished, FinishedAck, Give, Push, TheNode, TheWorker, Where, letter}
@@ -89,12 +89,12 @@ owner_not_known_dead_run =
           ∷ letter (TheNode 1) (TheWorker 1) (Give a1_1_0 0 2)
           ∷ letter (TheWorker 1) (TheWorker 2) (Push a1_1_0 birth_1_1)
           ∷ letter (TheWorker 2) (TheNode 1) (Ask a2_1_0 0)
-          ∷ letter (TheWorker 2) (TheWorker 1) (Finished a1_1_0 1 (o2_1 ∷ []))
+          ∷ letter (TheWorker 2) (TheWorker 1) (Finished a1_1_0 1 (o2_1 ∷ []) (Some (Val (Named o2_1))))
           ∷ letter (TheNode 1) (TheWorker 2) (Give a2_1_0 0 3)
           ∷ letter (TheWorker 1) (TheWorker 2) (FinishedAck a1_1_0)
           ∷ letter (TheWorker 2) (TheWorker 3) (Push a2_1_0 birth_2_1)
           ∷ letter (TheWorker 2) (TheNode 1) (Back a1_1_0)
-          ∷ letter (TheWorker 3) (TheWorker 2) (Finished a2_1_0 1 [])
+          ∷ letter (TheWorker 3) (TheWorker 2) (Finished a2_1_0 1 [] (Some (Val (int 4))))
           ∷ letter (TheWorker 2) (TheWorker 3) (FinishedAck a2_1_0)
           ∷ letter (TheWorker 3) (TheNode 1) (Back a2_1_0)
           ∷ letter (TheWorker 1) (TheWorker 2) (Where o2_1)

@@ -1,10 +1,10 @@
 -- A trap of a task that nobody gets is its content, and nothing more.
 -- `let r = remote div(1, 0); return 5;`
--- 11 events, 20 entries, 7 messages, 2 jobs.
-use Rattle.std.specs.Prelude.{List, [], codes, ◌∷◌}
+-- 10 events, 19 entries, 6 messages, 2 jobs.
+use Rattle.std.specs.Prelude.{List, Some, [], codes, ◌∷◌}
 use Rattle.meaning.specs.Values.{Birth, DivZero, Task, Trapped, Val, main_birth}
 use Rattle.event_log.specs.Entries.{Accepted, Begun, Born, Claim, Commit, Deliver, Ended, In, Opened, Released}
-use Rattle.protocol.specs.Messages.{Ask, Back, Finished, FinishedAck, Give, Push, TheNode, TheWorker, Unhold, letter}
+use Rattle.protocol.specs.Messages.{Ask, Back, Finished, FinishedAck, Give, Push, TheNode, TheWorker, letter}
 use Rattle.protocol.specs.Jobs.{AtEnd}
 use Rattle.protocol.specs.Plays.{Doing, Line, Seen, Settles, does_all, doing}
 use Rattle.protocol_rows.specs.Writing.{a1_0_0, a1_1_0, done, given, int, job, o1_1, o2_1}
@@ -30,7 +30,7 @@ trap_left_lines =
 abbrev pub trap_left_events : List Line
 trap_left_events =
     does_all
-    (Claim 1 ∷ Commit 1 ∷ Deliver 1 ∷ Deliver 2 ∷ Deliver 3 ∷ Claim 2 ∷ Commit 2 ∷ Deliver 4 ∷ Deliver 5 ∷ Deliver 6 ∷ Deliver 7 ∷ [])
+    (Claim 1 ∷ Commit 1 ∷ Deliver 1 ∷ Deliver 2 ∷ Deliver 3 ∷ Claim 2 ∷ Commit 2 ∷ Deliver 4 ∷ Deliver 5 ∷ Deliver 6 ∷ [])
 
 -- the log, the messages and the jobs
 abbrev pub trap_left_run : Seen
@@ -56,15 +56,13 @@ trap_left_run =
           ∷ Released o1_1
           ∷ In (Deliver 5) 0
           ∷ In (Deliver 6) 0
-          ∷ In (Deliver 7) 0
           ∷ [];
       letters =
           letter (TheWorker 1) (TheNode 1) (Ask a1_1_0 0)
           ∷ letter (TheNode 1) (TheWorker 1) (Give a1_1_0 0 2)
           ∷ letter (TheWorker 1) (TheWorker 2) (Push a1_1_0 birth_1_1)
-          ∷ letter (TheWorker 2) (TheWorker 1) (Finished a1_1_0 1 [])
+          ∷ letter (TheWorker 2) (TheWorker 1) (Finished a1_1_0 1 [] (Some (Trapped DivZero)))
           ∷ letter (TheWorker 1) (TheWorker 2) (FinishedAck a1_1_0)
-          ∷ letter (TheWorker 1) (TheNode 1) (Unhold o1_1 o1_1)
           ∷ letter (TheWorker 2) (TheNode 1) (Back a1_1_0)
           ∷ [];
       given =

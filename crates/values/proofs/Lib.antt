@@ -1,3 +1,4 @@
 pub mod Rows
 pub mod ListedLaws
 pub mod SameLists
+pub mod Counting

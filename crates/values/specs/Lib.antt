@@ -1,2 +1,3 @@
 pub mod Values
 pub mod Listed
+pub mod Cells

@@ -1,6 +1,7 @@
 //! What a run computes with: values, contents, traps and faults.
 #![tactic(auto)]
 
+mod cells;
 mod content;
 mod fault;
 mod same;

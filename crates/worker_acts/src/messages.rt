@@ -26,13 +26,15 @@ fn reached_from_worker(
 {
     match message {
         Message::Push(attempt, spec) => push_reached(alloc, here, *attempt, spec),
-        Message::Finished(attempt, node, ids) => {
-            finished_reached(alloc, here, worker, *attempt, *node, ids)
+        Message::Finished(attempt, node, ids, kept) => {
+            finished_reached(alloc, here, worker, *attempt, *node, ids, kept)
         }
         Message::FinishedAck(attempt) => finished_ack_reached(here, *attempt),
         Message::Failed(attempt, why) => failed_reached(alloc, here, worker, *attempt, *why),
         Message::Where(object) => where_reached(alloc, here, worker, *object),
-        Message::At(object, number, nodes) => at_reached(alloc, here, *object, *number, nodes),
+        Message::At(object, number, nodes, kept) => {
+            at_reached(alloc, here, *object, *number, nodes, kept)
+        }
         Message::Gone(object, why) => gone_reached(alloc, here, *object, *why),
         Message::Missing(object, number, node) => {
             missing_reached(

@@ -6,5 +6,5 @@ use Rattle.owner_steps.proofs.answers.tell_places.Given as goal
 
 abbrev pub invariant-loop-worker : goal.invariant-loop-worker
 invariant-loop-worker l =
-    (x : Object) → settled_number x ≡ l.number → x.places ≡ l.places
+    (x : Object) → settled_number x ≡ l.number → x.places ≡ l.places → x.kept ≡ l.kept
     → tells_places l.here (drop l.worker-index l.worker-items) l.object x ≡ tells_places l.initial.here l.worker-items l.object x

@@ -1,0 +1,137 @@
+-- What a dead owner held stays where nobody tells of the death. `b` returns `put 5`, `a` returns `remote b()`.
+-- `let s = get remote a(); let t = get s; return get t;`
+-- 30 events, 48 entries, 17 messages, 6 jobs.
+use Rattle.std.specs.Prelude.{List, None, Some, [], codes, ◌∷◌}
+use Rattle.meaning.specs.Values.{Birth, Named, Put, Task, Val, main_birth}
+use Rattle.event_log.specs.Entries.{Accepted, Begun, Born, Claim, Commit, Deliver, Ended, Got, In, Kill, Opened, Released}
+use Rattle.protocol.specs.Messages.{Ask, At, Back, Finished, FinishedAck, Give, Push, TheNode, TheWorker, Unhold, WasReleased, Where, letter}
+use Rattle.protocol.specs.Jobs.{AtEnd, AtGet}
+use Rattle.protocol.specs.Plays.{Does, Doing, Line, Seen, Settles, does_all, doing}
+use Rattle.protocol_rows.specs.Writing.{a1_0_0, a1_1_0, a2_1_0, done, int, job, o1_1, o2_1, o3_1}
+
+-- what makes o1.1
+abbrev pub birth_1_1 : Birth
+birth_1_1 = Task (codes "a") [] 1 3
+
+-- what makes o2.1
+abbrev pub birth_2_1 : Birth
+birth_2_1 = Task (codes "b") [] 2 3
+
+-- what makes o3.1
+abbrev pub birth_3_1 : Birth
+birth_3_1 = Put (int 5)
+
+-- what each job comes to
+abbrev pub not_collected_doings : List Doing
+not_collected_doings =
+    doing 1 (done (birth_1_1 ∷ []) [] (AtGet o1_1))
+    ∷ doing 2 (done (birth_2_1 ∷ []) [] (AtEnd (Val (Named o2_1))))
+    ∷ doing 3 (done (birth_3_1 ∷ []) [] (AtEnd (Val (Named o3_1))))
+    ∷ doing 4 (done [] [] (AtGet o2_1))
+    ∷ doing 5 (done [] [] (AtGet o3_1))
+    ∷ doing 6 (done [] [] (AtEnd (Val (int 5))))
+    ∷ []
+
+-- the lines of the event file
+abbrev pub not_collected_lines : List Line
+not_collected_lines =
+    Does (Claim 1)
+    ∷ Does (Commit 1)
+    ∷ Settles (1 ∷ [])
+    ∷ Does (Claim 1)
+    ∷ Does (Commit 4)
+    ∷ Settles (1 ∷ [])
+    ∷ Does (Kill 2)
+    ∷ Settles []
+    ∷ []
+
+-- the events, one by one
+abbrev pub not_collected_events : List Line
+not_collected_events =
+    does_all
+    (Claim 1 ∷ Commit 1 ∷ Deliver 1 ∷ Deliver 2 ∷ Deliver 3 ∷ Claim 2 ∷ Commit 2 ∷ Deliver 4 ∷ Deliver 5 ∷ Deliver 6 ∷ Deliver 7 ∷
+    Deliver 8 ∷ Deliver 9 ∷ Claim 3 ∷ Commit 3 ∷ Deliver 10 ∷ Deliver 11 ∷ Deliver 12 ∷ Claim 1 ∷ Commit 4 ∷ Deliver 13 ∷
+    Deliver 14 ∷ Kill 2 ∷ Claim 1 ∷ Commit 5 ∷ Deliver 15 ∷ Deliver 16 ∷ Claim 1 ∷ Commit 6 ∷ Deliver 17 ∷ [])
+
+-- the log, the messages and the jobs
+abbrev pub not_collected_run : Seen
+not_collected_run =
+    record {
+      log =
+          Opened 1 1
+          ∷ Begun a1_0_0 1
+          ∷ In (Claim 1) 0
+          ∷ In (Commit 1) 0
+          ∷ Born o1_1 a1_0_0 birth_1_1
+          ∷ In (Deliver 1) 0
+          ∷ Opened 2 1
+          ∷ In (Deliver 2) 0
+          ∷ Begun a1_1_0 2
+          ∷ In (Deliver 3) 0
+          ∷ In (Claim 2) 0
+          ∷ In (Commit 2) 0
+          ∷ Born o2_1 a1_1_0 birth_2_1
+          ∷ Ended a1_1_0 (Val (Named o2_1))
+          ∷ In (Deliver 4) 0
+          ∷ Opened 3 1
+          ∷ In (Deliver 5) 0
+          ∷ Accepted a1_1_0
+          ∷ Got a1_0_0 o1_1 (Val (Named o2_1))
+          ∷ In (Deliver 6) 0
+          ∷ Begun a2_1_0 3
+          ∷ In (Deliver 7) 0
+          ∷ In (Deliver 8) 0
+          ∷ In (Deliver 9) 0
+          ∷ In (Claim 3) 0
+          ∷ In (Commit 3) 0
+          ∷ Born o3_1 a2_1_0 birth_3_1
+          ∷ Ended a2_1_0 (Val (Named o3_1))
+          ∷ In (Deliver 10) 0
+          ∷ Accepted a2_1_0
+          ∷ In (Deliver 11) 0
+          ∷ In (Deliver 12) 0
+          ∷ In (Claim 1) 0
+          ∷ In (Commit 4) 0
+          ∷ In (Deliver 13) 0
+          ∷ In (Deliver 14) 0
+          ∷ Got a1_0_0 o2_1 (Val (Named o3_1))
+          ∷ In (Kill 2) 0
+          ∷ In (Claim 1) 0
+          ∷ In (Commit 5) 0
+          ∷ In (Deliver 15) 0
+          ∷ In (Deliver 16) 0
+          ∷ Got a1_0_0 o3_1 (Val (int 5))
+          ∷ In (Claim 1) 0
+          ∷ In (Commit 6) 0
+          ∷ Ended a1_0_0 (Val (int 5))
+          ∷ Released o1_1
+          ∷ In (Deliver 17) 0
+          ∷ [];
+      letters =
+          letter (TheWorker 1) (TheNode 1) (Ask a1_1_0 0)
+          ∷ letter (TheNode 1) (TheWorker 1) (Give a1_1_0 0 2)
+          ∷ letter (TheWorker 1) (TheWorker 2) (Push a1_1_0 birth_1_1)
+          ∷ letter (TheWorker 2) (TheNode 1) (Ask a2_1_0 0)
+          ∷ letter (TheWorker 2) (TheWorker 1) (Finished a1_1_0 1 (o2_1 ∷ []) (Some (Val (Named o2_1))))
+          ∷ letter (TheNode 1) (TheWorker 2) (Give a2_1_0 0 3)
+          ∷ letter (TheWorker 1) (TheWorker 2) (FinishedAck a1_1_0)
+          ∷ letter (TheWorker 2) (TheWorker 3) (Push a2_1_0 birth_2_1)
+          ∷ letter (TheWorker 2) (TheNode 1) (Back a1_1_0)
+          ∷ letter (TheWorker 3) (TheWorker 2) (Finished a2_1_0 1 (o3_1 ∷ []) (Some (Val (Named o3_1))))
+          ∷ letter (TheWorker 2) (TheWorker 3) (FinishedAck a2_1_0)
+          ∷ letter (TheWorker 3) (TheNode 1) (Back a2_1_0)
+          ∷ letter (TheWorker 1) (TheWorker 2) (Where o2_1)
+          ∷ letter (TheWorker 2) (TheWorker 1) (At o2_1 0 [] (Some (Val (Named o3_1))))
+          ∷ letter (TheWorker 1) (TheWorker 3) (Where o3_1)
+          ∷ letter (TheWorker 3) (TheWorker 1) (At o3_1 0 (1 ∷ []) None)
+          ∷ letter (TheWorker 1) (TheWorker 2) (Unhold o1_1 o2_1 WasReleased)
+          ∷ [];
+      given =
+          job 1 a1_0_0 main_birth o1_1 [] [] []
+          ∷ job 2 a1_1_0 birth_1_1 o2_1 [] [] []
+          ∷ job 3 a2_1_0 birth_2_1 o3_1 [] [] []
+          ∷ job 4 a1_0_0 main_birth o1_1 (birth_1_1 ∷ []) [] (Val (Named o2_1) ∷ [])
+          ∷ job 5 a1_0_0 main_birth o1_1 (birth_1_1 ∷ []) [] (Val (Named o2_1) ∷ Val (Named o3_1) ∷ [])
+          ∷ job 6 a1_0_0 main_birth o1_1 (birth_1_1 ∷ []) [] (Val (Named o2_1) ∷ Val (Named o3_1) ∷ Val (int 5) ∷ [])
+          ∷ [];
+    }

@@ -17,7 +17,7 @@ use sequence::Seq;
 use std::alloc::{AllocError, Global};
 use worker_steps::{
     fault, give_slot_back, hold_ids, ids_in_content, is_own, is_waiting_for, knows_dead,
-    leave_if_free, say, set_phase,
+    leave_if_free, pass_on, say, set_phase,
 };
 
 // ---- stops
@@ -73,6 +73,7 @@ fn end(alloc: Global, here: &mut Here, content: &Content) -> Result<(), AllocErr
         attempt.number,
         stored,
     )?;
+    pass_on(here, attempt.object, &ids)?;
     hold_ids(here, attempt.object, &ids)?;
     leave_if_free(alloc, here)?;
     give_slot_back(alloc, here)

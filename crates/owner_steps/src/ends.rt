@@ -50,7 +50,11 @@ pub fn rest(here: &mut Here, object: ObjectId, number: u32)
 }
 
 /// Where a content is that was made at the node: there, unless the owner keeps it.
-fn places_for(alloc: Global, node: NodeId, kept: &Option<Content>) -> Result<Seq<NodeId>, AllocError>
+fn places_for(
+    alloc: Global,
+    node: NodeId,
+    kept: &Option<Content>,
+) -> Result<Seq<NodeId>, AllocError>
     ensures { IfOk result (λ places. places ≡ places_for node kept.now) }
 {
     let mut places = Seq::new(alloc);

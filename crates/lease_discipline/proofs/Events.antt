@@ -2,7 +2,7 @@
 use Rattle.std.proofs.Common.{◌≡◌, ◌≢◌, ℕ, zero, suc, ◌+◌, List, [], ◌∷◌, ◌++◌, length, map, Some, None, Option, refl, ap, sym, subst, ◌∙◌, ◌⊎◌, inl, inr}
 use Rattle.std.proofs.Common.{arith, append-nil}
 use Rattle.std.specs.Prelude.{Bool, true, false, if◌then◌else◌, slice_get, slice_set, not, ◌&&◌, ◌==◌}
-use Rattle.std.proofs.lemmas.Bool.{both_ways, eqb-true, false_from_ne_true}
+use Rattle.std.proofs.lemmas.Bool.{both_ways, false_from_ne_true}
 use Rattle.sequence.proofs.Places.{and_left, and_right, slice_get-last}
 use Rattle.meaning.proofs.BirthLaws.{at_test}
 use Rattle.event_log.specs.Entries.{Attempt, Event, Claim, Commit, Deliver, Tick, Notice, NoticeNode, Evict, Lose, Kill, KillNode, Join}

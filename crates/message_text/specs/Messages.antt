@@ -4,7 +4,7 @@ use Rattle.std.specs.List.{flat_map}
 use Rattle.std.specs.Fmt.{decimal}
 use Rattle.report.specs.Values.{id_text}
 use Rattle.meaning.specs.Values.{Id, Birth, Outcome}
-use Rattle.event_log.specs.Entries.{Attempt, Fault}
+use Rattle.event_log.specs.Entries.{Attempt}
 use Rattle.history.specs.Texts.{attempt_text, fault_text}
 use Rattle.log_words.specs.Calls.{birth_text}
 use Rattle.log_words.specs.Contents.{content_text}

@@ -7,9 +7,9 @@ use Rattle.protocol.specs.Asking.{resolves, rests}
 use Rattle.protocol.specs.Ends.{accepts, failed_by, failed_reached, finished_by, finished_reached, hears_of_end, if_present}
 use Rattle.protocol.specs.Messages.{At, Gone, Party, TheNode, TheWorker}
 use Rattle.protocol.specs.Places.{adds_place, adds_place_by, adds_places, answered_here, answers_asker, answers_settled, answers_settled_by, asker_by}
-use Rattle.protocol.specs.Places.{at_answers, at_reached, copy_reached, finds_none, goes_to, gone_reached, hands_missing_on, is_present, looks_elsewhere}
+use Rattle.protocol.specs.Places.{at_answers, at_reached, copy_reached, finds_none, goes_to, gone_reached, is_present}
 use Rattle.protocol.specs.Places.{looks_at_places, looks_elsewhere_by, looks_for, looks_for_by, looks_here_by, makes_copy_known, missing_from, missing_reached, needs_at, needs_by}
-use Rattle.protocol.specs.Places.{needs_own, needs_own_if_waiting, needs_released, needs_unresolved, reports_missing, takes_place, takes_place_by, tells_places, tells_released}
+use Rattle.protocol.specs.Places.{needs_own, needs_own_if_waiting, needs_released, reports_missing, takes_place, takes_place_by, tells_places, tells_released}
 use Rattle.protocol.specs.Places.{where_reached}
 use Rattle.protocol.specs.Runs.{fetches, with_fetching}
 use Rattle.protocol.specs.Sets.{fault, has}

@@ -29,7 +29,7 @@ use Rattle.protocol.specs.Places.{looks_elsewhere_by, looks_elsewhere, looks_her
 use Rattle.protocol.specs.Places.{needs_own_if_waiting, tells_places, answers_settled_by, answers_settled, lets_wait, answers_asker, asker_by}
 use Rattle.protocol.specs.Places.{where_reached, adds_place_by, adds_place, adds_places, takes_place_by, takes_place, finds_none, answered_here}
 use Rattle.protocol.specs.Places.{goes_to, at_answers, at_reached, makes_copy_known, copy_reached, hands_missing_on, missing_from, missing_reached}
-use Rattle.protocol.specs.Holders.{adds_holder, collects, drops_dead, drops_dead_by, drops_holders, first_born_first, lets_go_of_dead, unheld_by}
+use Rattle.protocol.specs.Holders.{adds_holder, collects, drops_dead, drops_dead_by, drops_holders, first_born_first, lets_go_of_dead}
 use Rattle.protocol.specs.Holders.{hold_reached_by, hold_reached, hold_ack_by, hold_ack_reached, unhold_reached, holding, same_holding}
 use Rattle.protocol.specs.Commits.{asks_where, rests_if_waiting, needs}
 use Rattle.protocol.specs.Ends.{finished_reached, failed_by, failed_reached}

@@ -22,7 +22,7 @@ use Rattle.event_log.proofs.SaneLaws.{legal_logs_are_sane}
 use Rattle.protocol_legal.proofs.Placing.{lone}
 use Rattle.values.specs.Cells.{if_small, is_small}
 use Rattle.protocol.specs.Numbered.{item_at}
-use Rattle.protocol.specs.Sets.{has, is_empty}
+use Rattle.protocol.specs.Sets.{has}
 use Rattle.protocol.specs.Tables.{AskedAt, AtRest, ByTask, Maker, Object, OwnTask, Progress, RunsOn, WasPut, Worker, has_content, is_pending, is_pending_by, is_under_way, settled_number, is_nowhere}
 use Rattle.protocol.specs.Whole.{Whole, worker_at}
 use Rattle.protocol_legal.specs.Knows.{IsBegun, IsTask, KnowsMaker, KnowsObject, KnowsProgress, KnowsPut, KnowsTask, once}

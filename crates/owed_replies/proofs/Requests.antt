@@ -1,5 +1,5 @@
 -- Whoever asks for what is there is told where it is.
-use Rattle.std.proofs.Common.{◌≡◌, ◌≢◌, ℕ, List, [], ◌∷◌, Some, None, refl, ap, sym, subst, ◌∙◌, inl, inr, arith, Option}
+use Rattle.std.proofs.Common.{◌≡◌, ◌≢◌, ℕ, [], Some, None, refl, ap, sym, subst, ◌∙◌, inl, inr, arith, Option}
 use Rattle.std.specs.Prelude.{true, false, if◌then◌else◌, not, ◌==◌, ◌&&◌, is_some, is_none}
 use Rattle.std.proofs.lemmas.Bool.Decides.{nat_tests}
 use Rattle.sequence.proofs.Places.{and_left, and_right}
@@ -23,7 +23,7 @@ use Rattle.protocol.specs.Nodes.{Node}
 use Rattle.protocol.specs.Numbered.{changed_at, item_at}
 use Rattle.protocol.specs.Places.{hands_missing_on, is_present, takes_place, takes_place_by, where_reached}
 use Rattle.protocol.specs.Releases.{release_step}
-use Rattle.protocol.specs.Sets.{has, is_empty, without_number}
+use Rattle.protocol.specs.Sets.{has, without_number}
 use Rattle.protocol.specs.Steps.{Here, changes, is_own, object_at}
 use Rattle.protocol.specs.Tables.{Object, Worker, is_pending, is_whole, settled_number, without_place, is_nowhere}
 use Rattle.protocol.specs.Whole.{Whole, here, worker_at}

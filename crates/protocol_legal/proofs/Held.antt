@@ -1,5 +1,5 @@
 -- An own object gains a holder, or loses one whose owner is dead.
-use Rattle.std.proofs.Common.{◌≡◌, ℕ, Bool, true, false, List, [], ◌∷◌, Some, None, inl, refl, sym, subst}
+use Rattle.std.proofs.Common.{◌≡◌, List, [], ◌∷◌, Some, None, inl, refl, sym, subst}
 use Rattle.std.specs.Prelude.{if◌then◌else◌}
 use Rattle.meaning.specs.Values.{Id}
 use Rattle.meaning.proofs.BirthLaws.{at_test}
@@ -10,7 +10,7 @@ use Rattle.protocol.specs.Tables.{Object, knows_dead, with_holder, with_dead_hol
 use Rattle.protocol.specs.Steps.{Here, changes}
 use Rattle.protocol.specs.Holders.{adds_holder}
 use Rattle.protocol_legal.specs.Past.{Asking}
-use Rattle.protocol_legal.specs.Names.{IsDeadHolder, IsDeadIfAny, KnowsNames, NamesOf}
+use Rattle.protocol_legal.specs.Names.{IsDeadHolder, IsDeadIfAny, NamesOf}
 use Rattle.protocol_legal.specs.During.{Frame, so_far, SoundHere}
 use Rattle.protocol_legal.proofs.Names.{all_adding}
 use Rattle.protocol_legal.proofs.Placing.{placed_sound}

@@ -1,20 +1,18 @@
 -- Names stay true as the past goes on.
-use Rattle.std.proofs.Common.{◌≡◌, ℕ, Bool, true, false, List, [], ◌∷◌, ◌++◌, ◌⊎◌, Option, Some, None, inl, inr, refl, subst}
-use Rattle.std.specs.Prelude.{suc, ◌==◌, ◌&&◌, ◌||◌, if◌then◌else◌, nat_lt, slice_get}
+use Rattle.std.proofs.Common.{◌≡◌, Bool, true, List, [], ◌∷◌, ◌++◌, Option, Some, None, refl}
+use Rattle.std.specs.Prelude.{suc, if◌then◌else◌, nat_lt}
 use Rattle.std.specs.List.{AllByRecursion, filter, list_any}
-use Rattle.std.proofs.lemmas.Bool.{and_parts, eqb-true}
 use Rattle.meaning.specs.Values.{Id}
 use Rattle.meaning.specs.Births.{same_id}
 use Rattle.meaning.proofs.BirthLaws.{at_test}
 use Rattle.values.specs.Listed.{without, each_once, adding}
-use Rattle.event_log.specs.Entries.{Entry}
 use Rattle.event_log.specs.Breaks.{Among}
 use Rattle.event_log.specs.Holding.{HasId}
-use Rattle.protocol.specs.Tables.{Holding, Object}
+use Rattle.protocol.specs.Tables.{Holding}
 use Rattle.protocol.specs.Holders.{first_born, first_born_first}
 use Rattle.protocol_legal.specs.Past.{Past}
 use Rattle.protocol_legal.specs.Grows.{Grows}
-use Rattle.protocol_legal.specs.Names.{IsDeadHolder, IsDeadIfAny, AllHave, KnowsNames, NamesOf}
+use Rattle.protocol_legal.specs.Names.{IsDeadIfAny, AllHave, KnowsNames}
 use Rattle.protocol_legal.proofs.Growing.{has_grows, dead_holder_grows}
 
 -- ---- lists

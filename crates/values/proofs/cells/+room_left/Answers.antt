@@ -1,4 +1,4 @@
-use Rattle.std.proofs.Common.{◌≡◌, ◌+◌, ◌<◌, ap, ◌∙◌, sym, subst}
+use Rattle.std.proofs.Common.{◌+◌, ◌<◌, ap, ◌∙◌, sym, subst}
 use Rattle.values.specs.Values.{value_of}
 use Rattle.values.specs.Cells.{cells}
 use Rattle.values.proofs.Counting.{all_left, left_behind, too_much}

@@ -1,4 +1,4 @@
-use Rattle.std.proofs.Common.{◌≡◌, ap, ◌∙◌, sym}
+use Rattle.std.proofs.Common.{ap, ◌∙◌, sym}
 use Rattle.values.specs.Values.{content_of, trap_of, value_of}
 use Rattle.values.specs.Cells.{is_small}
 use Rattle.values.proofs.Counting.{trap_is_small, value_is_small}

@@ -6,7 +6,8 @@ ghost use Rattle.protocol.specs.Numbered.{changed_at};
 ghost use Rattle.protocol.specs.Stores.{copy_in};
 ghost use Rattle.protocol.specs.Tables.{settled_number, without_place, without_places};
 ghost use Rattle.protocol.specs.Steps.{changes, object_at};
-ghost use Rattle.protocol.specs.Places.{looks_at_places, looks_elsewhere, looks_for_by, looks_here_by, needs_own, needs_own_if_waiting, needs_released, needs_unresolved};
+ghost use Rattle.protocol.specs.Places.{looks_at_places, looks_elsewhere, looks_for_by, looks_here_by};
+ghost use Rattle.protocol.specs.Places.{needs_own, needs_own_if_waiting, needs_released, needs_unresolved};
 ghost use Rattle.protocol_data.specs.declared.tables.Object.{Object};
 
 use crate::recovery::recover;

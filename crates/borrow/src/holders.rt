@@ -1,10 +1,10 @@
 // An object's holders.
 
-ghost use Rattle.std.specs.Prelude.{◌≡◌, ◌↔◌, ◌&&◌, ◌||◌, OnOk, not, true};
+ghost use Rattle.std.specs.Prelude.{◌≡◌, ◌↔◌, ◌&&◌, ◌||◌, None, OnOk, Some, not, true};
 ghost use Rattle.meaning.specs.Births.{same_id};
 ghost use Rattle.meaning.specs.Values.{Id};
 ghost use Rattle.protocol.specs.Sets.{has_id};
-ghost use Rattle.protocol.specs.Tables.{is_held, with_holder, without_holder};
+ghost use Rattle.protocol.specs.Tables.{id_or, is_held, with_dead_holder, with_holder, without_holder};
 ghost use Rattle.borrow.specs.Held.{holds};
 
 use number_lists::{add_object, has_object};
@@ -28,6 +28,28 @@ pub fn remove(object: &mut Object, holder: ObjectId) -> Result<(), AllocError>
     ensures removed { (e : Id) → OnOk result (holds object.new e ≡ (holds object.old e && not (same_id holder e))) }
 {
     add_object(&mut object.removed, holder)?;
+    Ok(())
+}
+
+/// The one that is kept already, else the holder.
+fn first_dead(kept: Option<ObjectId>, holder: ObjectId) -> ObjectId
+    ensures { result ≡ id_or kept holder }
+{
+    match kept {
+        None => holder,
+        Some(first) => first,
+    }
+}
+
+/// Removes a holder whose owner is dead, and no other, and keeps it as the dead holder, unless another one is kept. An error is want of memory.
+pub fn remove_dead(object: &mut Object, holder: ObjectId) -> Result<(), AllocError>
+    ensures step { OnOk result (object.new ≡ with_dead_holder holder object.old) }
+    ensures removed { (e : Id) → OnOk result (holds object.new e ≡ (holds object.old e && not (same_id holder e))) }
+    ensures kept { object.old.dead_holder ≡ None → OnOk result (object.new.dead_holder ≡ Some holder) }
+    ensures first { (d : Id) → object.old.dead_holder ≡ Some d → OnOk result (object.new.dead_holder ≡ Some d) }
+{
+    remove(object, holder)?;
+    object.dead_holder = Some(first_dead(object.dead_holder, holder));
     Ok(())
 }
 

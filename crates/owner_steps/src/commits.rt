@@ -3,6 +3,7 @@
 ghost use Rattle.std.specs.Prelude.{◌≡◌, ◌++◌, IfOk, OnOk, Some, None};
 ghost use Rattle.protocol.specs.Steps.{with_phase, with_run};
 ghost use Rattle.protocol.specs.Tables.{Out};
+ghost use Rattle.protocol.specs.Holders.{holds_ids, passes_on};
 ghost use Rattle.protocol.specs.Commits.{asks_where, claim_step, commit_step, ends, needs, rests_if_waiting, stops, with_outcomes};
 ghost use Rattle.protocol_data.specs.declared.tables.Run.{Run};
 
@@ -55,6 +56,14 @@ fn need(alloc: Global, here: &mut Here, object: ObjectId) -> Result<(), AllocErr
     rest_if_waiting(alloc, here, object)
 }
 
+/// The object holds the ids in a content of it, which came from here.
+fn hold_content(here: &mut Here, object: ObjectId, ids: &Seq<ObjectId>) -> Result<(), AllocError>
+    ensures { OnOk result (here.new ≡ holds_ids (passes_on here.old object ids.now) object ids.now) }
+{
+    pass_on(here, object, ids)?;
+    hold_ids(here, object, ids)
+}
+
 /// The attempt ends with a content.
 fn end(alloc: Global, here: &mut Here, content: &Content) -> Result<(), AllocError>
     ensures { (run : Run) → here.old.worker.run ≡ Some run → OnOk result (here.new ≡ ends here.old run content.now) }
@@ -73,8 +82,7 @@ fn end(alloc: Global, here: &mut Here, content: &Content) -> Result<(), AllocErr
         attempt.number,
         stored,
     )?;
-    pass_on(here, attempt.object, &ids)?;
-    hold_ids(here, attempt.object, &ids)?;
+    hold_content(here, attempt.object, &ids)?;
     leave_if_free(alloc, here)?;
     give_slot_back(alloc, here)
 }

@@ -1,12 +1,12 @@
 -- A search for what can be released may pass over what the index says.
-use Rattle.std.proofs.Common.{◌≡◌, ℕ, ◌+◌, ◌-◌, ◌<◌, ◌≤◌, ◌⊎◌, inl, inr, Bool, true, false, List, Option, Some, None, zero, suc, refl, sym, ap, ◌∙◌, arith}
+use Rattle.std.proofs.Common.{◌≡◌, ℕ, ◌+◌, ◌-◌, ◌<◌, ◌≤◌, ◌⊎◌, inl, inr, Bool, true, false, Option, Some, None, zero, suc, refl, sym, ap, ◌∙◌, arith}
 use Rattle.std.specs.Prelude.{not, ◌&&◌, ◌||◌, if◌then◌else◌, slice_get, is_some}
 use Rattle.event_log.specs.Words.{same_attempt}
-use Rattle.protocol_data.specs.Unneeded.{AllStay, has_holder, is_awaited, is_borne_by, stays}
+use Rattle.protocol_data.specs.Unneeded.{AllStay, is_awaited, is_borne_by, stays}
 use Rattle.protocol.specs.Numbered.{item_at}
 use Rattle.protocol.specs.Releases.{may_release, releases, releases_by}
 use Rattle.protocol.specs.Steps.{Here, each_from, own_id, own_object}
-use Rattle.protocol.specs.Tables.{AskedAt, AtRest, ByTask, Maker, Object, Run, RunsOn, WasPut, Worker, is_bearer_over, is_going_on, is_held, is_pending_by, is_under_way, OwnTask, Progress}
+use Rattle.protocol.specs.Tables.{AskedAt, AtRest, ByTask, Maker, Object, Run, RunsOn, WasPut, Worker, is_bearer_over, is_going_on, is_held, is_pending_by, is_under_way, Progress}
 use Rattle.protocol_data.specs.Unneeded.{is_under_way as is_on_its_way}
 use Rattle.worker_steps.proofs.EachLaws.{each_step}
 use Rattle.worker_steps.specs.Looking.{NoneGoes, attempt_going_on}

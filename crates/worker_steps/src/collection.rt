@@ -1,6 +1,6 @@
 // What objects of the dead held.
 
-ghost use Rattle.std.specs.Prelude.{◌≡◌, ◌++◌, ◌∷◌, ◌==◌, ◌&&◌, [], OnOk, IfOk, Some, None, map, not};
+ghost use Rattle.std.specs.Prelude.{◌≡◌, ◌++◌, ◌==◌, OnOk, IfOk, map, not};
 ghost use Rattle.std.specs.List.{filter};
 ghost use Rattle.protocol.specs.Tables.{holders_of};
 ghost use Rattle.protocol.specs.Steps.{own_id, own_object};

@@ -3,4 +3,4 @@ use Rattle.protocol.specs.Holders.{first_born}
 use Rattle.worker_steps.proofs.collection.first_born.Given as goal
 
 abbrev pub invariant-loop-other : goal.invariant-loop-other
-invariant-loop-other l = first_born l.least (drop l.other-index l.other-items) ≡ first_born l.first l.other-items
+invariant-loop-other l = first_born l.least (drop l.other-index l.other-items) ≡ first_born l.fn.first l.other-items

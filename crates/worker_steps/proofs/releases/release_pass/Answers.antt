@@ -1,4 +1,4 @@
-use Rattle.std.proofs.Common.{◌≡◌, ◌+◌, ◌≤◌, ap, sym, ◌∙◌, arith}
+use Rattle.std.proofs.Common.{ap, sym, ◌∙◌, arith}
 use Rattle.protocol.specs.Releases.{releases_by}
 use Rattle.protocol.specs.Steps.{each_from, own_object}
 use Rattle.worker_steps.proofs.Looking.{one_released, passed_all}

@@ -1,5 +1,5 @@
 -- The members of a plan are the least closed set.
-use Rattle.std.proofs.Common.{◌≡◌, ℕ, zero, suc, ◌+◌, ◌<◌, ◌≤◌, ◌⊎◌, inl, inr, Bool, true, false, if◌then◌else◌, List, [], ◌∷◌, ◌++◌, Option, Some, None, refl, ap, arith, subst, sym, ◌∙◌}
+use Rattle.std.proofs.Common.{◌≡◌, ℕ, zero, suc, ◌+◌, ◌<◌, ◌≤◌, ◌⊎◌, inl, inr, Bool, true, false, if◌then◌else◌, List, [], ◌∷◌, ◌++◌, None, refl, ap, arith, subst, sym, ◌∙◌}
 use Rattle.std.specs.Prelude.{◌==◌, ◌||◌, nat_lt}
 use Rattle.std.specs.List.{AllByRecursion, filter}
 use Rattle.std.proofs.lemmas.Bool.Decides.{nat_tests}
@@ -9,8 +9,8 @@ use Rattle.protocol.specs.Numbered.{item_at}
 use Rattle.protocol.specs.Sets.{has, with_number}
 use Rattle.protocol.specs.Tables.{Object}
 use Rattle.protocol.specs.Steps.{Here, is_own, object_at}
-use Rattle.protocol.specs.Recovery.{counted_from, first_stop, is_lost_at, made_from, members, members_below, with_lost}
-use Rattle.lineage.specs.Plans.{ArgumentsAreOlder, Ascends, IsClosed, IsLeast, IsRightPlan, Recovery, planned, planned_by}
+use Rattle.protocol.specs.Recovery.{counted_from, is_lost_at, made_from, members, members_below, with_lost}
+use Rattle.lineage.specs.Plans.{ArgumentsAreOlder, Ascends, IsLeast, IsRightPlan, Recovery, planned}
 
 -- ---- tests and numbers
 

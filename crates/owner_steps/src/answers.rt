@@ -51,8 +51,8 @@ fn tell_places(
     Ok(())
 }
 
-/// Whoever waits for the own object, whose content is there now, is answered: each asker is told the places or the kept content, in order of asking, and none of
-/// them waits any more; the own attempt, if it waits for the object, looks for it.
+/// Whoever waits for the own object, whose content is there now, is answered: each asker is told the places or the kept content, in order of
+/// asking, and none of them waits any more; the own attempt, if it waits for the object, looks for it.
 pub fn answer_settled(alloc: Global, here: &mut Here, object: ObjectId) -> Result<(), AllocError>
     ensures { OnOk result (here.new ≡ answers_settled here.old object) }
 {

@@ -4,13 +4,13 @@ ghost use Rattle.std.specs.Prelude.{◌≡◌, OnOk, Some, None};
 ghost use Rattle.protocol.specs.Numbered.{changed_at};
 ghost use Rattle.protocol.specs.Tables.{with_asker};
 ghost use Rattle.protocol.specs.Steps.{changes};
-ghost use Rattle.protocol.specs.Places.{hands_missing_on, missing_from, missing_reached, takes_place, where_reached};
+ghost use Rattle.protocol.specs.Places.{hands_missing_on, missing_from, missing_reached, takes_place, tells_released, where_reached};
 
 use crate::needs::{need_own_if_waiting, remove_place, settled_number};
 use crate::recovery::recover;
 use lineage::{has_content, is_lost};
 use number_lists::add_worker;
-use numbers::{NodeId, ObjectId, WorkerId};
+use numbers::{Cause, Fault, NodeId, ObjectId, WorkerId};
 use protocol_data::{Here, Message, Object, Objects, Party, copy_of};
 use std::alloc::{AllocError, Global};
 use worker_steps::{find_none, is_own, is_present, is_waiting_for, object_at, report_missing, say};
@@ -38,8 +38,28 @@ fn add_asker(here: &mut Here, object: ObjectId, worker: WorkerId) -> Result<(), 
     add_asker_at(&mut here.worker.objects, object.serial, worker)
 }
 
+/// Who asks for a released object is told of a fault where an object of the dead held it, and is passed over else.
+fn tell_released(
+    here: &mut Here,
+    worker: WorkerId,
+    object: ObjectId,
+    dead_holder: Option<ObjectId>,
+) -> Result<(), AllocError>
+    ensures { OnOk result (here.new ≡ tells_released here.old object worker dead_holder) }
+{
+    let Some(held_by) = dead_holder else {
+        return Ok(());
+    };
+    let why = Fault {
+        kind: Cause::OwnerDied,
+        object: held_by,
+    };
+    say(here, worker, Message::Gone(object, why))
+}
+
 /// Another worker asks where the own object is: it is told that there is no content (Gone), or all places or the content
-/// that the owner keeps (At), or it waits. A lost object is made again.
+/// that the owner keeps (At), or it waits. A lost object is made again. Of one that was released it is told that there is no content, where an
+/// object of the dead held it.
 pub fn where_reached(
     alloc: Global,
     here: &mut Here,
@@ -62,6 +82,10 @@ pub fn where_reached(
         let places = found.places.copy(alloc)?;
         let kept = copy_of(&found.kept, alloc)?;
         return say(here, worker, Message::At(object, number, places, kept));
+    }
+    if found.is_released {
+        let dead_holder = found.dead_holder;
+        return tell_released(here, worker, object, dead_holder);
     }
     if is_lost(found) {
         add_asker(here, object, worker)?;

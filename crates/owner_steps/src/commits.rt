@@ -1,8 +1,10 @@
 // A commit: what a job came to.
 
 ghost use Rattle.std.specs.Prelude.{◌≡◌, ◌++◌, IfOk, OnOk, Some, None};
-ghost use Rattle.protocol.specs.Steps.{with_phase, with_run};
-ghost use Rattle.protocol.specs.Tables.{Out};
+ghost use Rattle.protocol.specs.Stores.{with_ended};
+ghost use Rattle.protocol.specs.Steps.{store_here, with_phase, with_run, with_store};
+ghost use Rattle.protocol.specs.Tables.{HasEnded, Out};
+ghost use Rattle.protocol.specs.Holders.{holds_ids, passes_on};
 ghost use Rattle.protocol.specs.Commits.{asks_where, claim_step, commit_step, ends, needs, rests_if_waiting, stops, with_outcomes};
 ghost use Rattle.protocol_data.specs.declared.tables.Run.{Run};
 
@@ -17,7 +19,7 @@ use sequence::Seq;
 use std::alloc::{AllocError, Global};
 use worker_steps::{
     fault, give_slot_back, hold_ids, ids_in_content, is_own, is_waiting_for, knows_dead,
-    leave_if_free, say, set_phase,
+    leave_if_free, pass_on, say, set_phase,
 };
 
 // ---- stops
@@ -55,6 +57,34 @@ fn need(alloc: Global, here: &mut Here, object: ObjectId) -> Result<(), AllocErr
     rest_if_waiting(alloc, here, object)
 }
 
+/// The attempt has ended with the content, which goes into the node's store, unless it is small.
+fn keep_end(alloc: Global, here: &mut Here, content: &Content) -> Result<(), AllocError>
+    ensures { (run : Run) → here.old.worker.run ≡ Some run → OnOk result (here.new ≡ with_store (with_phase here.old run (HasEnded content.now))
+        (with_ended (store_here here.old) run.attempt.object run.attempt.number content.now)) }
+{
+    let Some(run) = &here.worker.run else {
+        return Ok(());
+    };
+    let attempt = run.attempt;
+    let kept = content.copy(alloc)?;
+    let stored = content.copy(alloc)?;
+    set_phase(here, Phase::HasEnded(kept));
+    put_end(
+        &mut here.there.node.store,
+        attempt.object,
+        attempt.number,
+        stored,
+    )
+}
+
+/// The object holds the ids in a content of it, which came from here.
+fn hold_content(here: &mut Here, object: ObjectId, ids: &Seq<ObjectId>) -> Result<(), AllocError>
+    ensures { OnOk result (here.new ≡ holds_ids (passes_on here.old object ids.now) object ids.now) }
+{
+    pass_on(here, object, ids)?;
+    hold_ids(here, object, ids)
+}
+
 /// The attempt ends with a content.
 fn end(alloc: Global, here: &mut Here, content: &Content) -> Result<(), AllocError>
     ensures { (run : Run) → here.old.worker.run ≡ Some run → OnOk result (here.new ≡ ends here.old run content.now) }
@@ -63,17 +93,9 @@ fn end(alloc: Global, here: &mut Here, content: &Content) -> Result<(), AllocErr
         return Ok(());
     };
     let attempt = run.attempt;
-    let kept = content.copy(alloc)?;
-    let stored = content.copy(alloc)?;
     let ids = ids_in_content(alloc, content)?;
-    set_phase(here, Phase::HasEnded(kept));
-    put_end(
-        &mut here.there.node.store,
-        attempt.object,
-        attempt.number,
-        stored,
-    )?;
-    hold_ids(here, attempt.object, &ids)?;
+    keep_end(alloc, here, content)?;
+    hold_content(here, attempt.object, &ids)?;
     leave_if_free(alloc, here)?;
     give_slot_back(alloc, here)
 }

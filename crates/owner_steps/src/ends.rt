@@ -50,7 +50,11 @@ pub fn rest(here: &mut Here, object: ObjectId, number: u32)
 }
 
 /// Where a content is that was made at the node: there, unless the owner keeps it.
-fn places_for(alloc: Global, node: NodeId, kept: &Option<Content>) -> Result<Seq<NodeId>, AllocError>
+fn places_for(
+    alloc: Global,
+    node: NodeId,
+    kept: &Option<Content>,
+) -> Result<Seq<NodeId>, AllocError>
     ensures { IfOk result (λ places. places ≡ places_for node kept.now) }
 {
     let mut places = Seq::new(alloc);
@@ -116,8 +120,8 @@ fn accept(
     log(here, Said::Accepted(attempt))
 }
 
-/// The worker tells that the attempt has ended, with a content at the node that has these ids, and that comes along if it is small. If it is the present attempt of a pending task it
-/// is accepted, and whoever waits for the object is answered. Of any attempt the worker is told that its end was heard.
+/// The worker tells that the attempt has ended, with a content at the node that has these ids, and that comes along if it is small. If it is the
+/// present attempt of a pending task it is accepted, and whoever waits for the object is answered. Of any attempt the worker is told that its end was heard.
 pub fn finished_reached(
     alloc: Global,
     here: &mut Here,

@@ -6,14 +6,15 @@ ghost use Rattle.protocol.specs.Numbered.{changed_at};
 ghost use Rattle.protocol.specs.Stores.{copy_in};
 ghost use Rattle.protocol.specs.Tables.{settled_number, without_place, without_places};
 ghost use Rattle.protocol.specs.Steps.{changes, object_at};
-ghost use Rattle.protocol.specs.Places.{looks_at_places, looks_elsewhere, looks_for_by, looks_here_by, needs_own, needs_own_if_waiting, needs_unresolved};
+ghost use Rattle.protocol.specs.Places.{looks_at_places, looks_elsewhere, looks_for_by, looks_here_by};
+ghost use Rattle.protocol.specs.Places.{needs_own, needs_own_if_waiting, needs_released, needs_unresolved};
 ghost use Rattle.protocol_data.specs.declared.tables.Object.{Object};
 
 use crate::recovery::recover;
 use held::Content;
 use lineage::{has_content, is_lost};
 use number_lists::{has_node, remove_node};
-use numbers::{NodeId, ObjectId};
+use numbers::{Cause, Fault, NodeId, ObjectId};
 use object_store::get as get_copy;
 use protocol_data::{Here, Object, Objects, Worker, copy_of};
 use sequence::Seq;
@@ -166,8 +167,24 @@ fn look_for(
     }
 }
 
+/// The attempt needs a released object: where an object of the dead held it, that is its fault, and else nothing happens.
+fn need_released(
+    alloc: Global,
+    here: &mut Here,
+    dead_holder: Option<ObjectId>,
+) -> Result<(), AllocError>
+    ensures { OnOk result (here.new ≡ needs_released here.old dead_holder) }
+{
+    let Some(object) = dead_holder else {
+        return Ok(());
+    };
+    let kind = Cause::OwnerDied;
+    fault(alloc, here, Fault { kind, object })
+}
+
 /// The worker's attempt needs an own object. A resolved one answers with its fault; what the owner keeps and a copy on the own node answer at
-/// once; else it is fetched from the first place that isn't known dead. Where no place is left the object is made again. For a pending one the attempt waits.
+/// once; else it is fetched from the first place that isn't known dead. Where no place is left the object is made again. One that was released
+/// answers with a fault where an object of the dead held it. For a pending one the attempt waits.
 pub fn need_own(alloc: Global, here: &mut Here, object: ObjectId) -> Result<(), AllocError>
     ensures { OnOk result (here.new ≡ needs_own here.old object) }
 {
@@ -186,6 +203,10 @@ pub fn need_own(alloc: Global, here: &mut Here, object: ObjectId) -> Result<(), 
     }
     if is_lost(found) {
         return recover(alloc, here, object);
+    }
+    if found.is_released {
+        let dead_holder = found.dead_holder;
+        return need_released(alloc, here, dead_holder);
     }
     Ok(())
 }

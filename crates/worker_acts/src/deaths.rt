@@ -10,9 +10,9 @@ use number_lists::has_node;
 use numbers::{NodeId, WorkerId};
 use protocol_data::{Here, Party};
 use std::alloc::{AllocError, Global};
-use worker_steps::knows_dead;
+use worker_steps::{collect, knows_dead};
 
-/// What a worker's death ends.
+/// What a worker's death ends, and at last what the dead held.
 fn hear_of_worker(alloc: Global, here: &mut Here, worker: WorkerId) -> Result<(), AllocError>
     ensures { OnOk result (here.new ≡ hears_of_worker here.old worker) }
 {
@@ -20,7 +20,8 @@ fn hear_of_worker(alloc: Global, here: &mut Here, worker: WorkerId) -> Result<()
     break_where(alloc, here, &Party::TheWorker(worker))?;
     lose_owner(alloc, here, worker)?;
     drop_holds(alloc, here, worker)?;
-    drop_stop(here, worker)
+    drop_stop(here, worker)?;
+    collect(alloc, here, worker)
 }
 
 /// The worker is told that the other is dead. What it knows already changes nothing.

@@ -48,7 +48,7 @@ fn reached_from_worker(
         }
         Message::Hold(holder, object) => hold_reached(here, worker, *holder, *object),
         Message::HoldAck(holder, object) => hold_ack_reached(alloc, here, *holder, *object),
-        Message::Unhold(holder, object) => unhold_reached(here, *holder, *object),
+        Message::Unhold(holder, object, why) => unhold_reached(here, *holder, *object, *why),
         Message::Ask(..)
         | Message::Give(..)
         | Message::Elsewhere(..)

@@ -86,6 +86,7 @@ fn driver(alloc: Global) -> Result<Worker, AllocError>
         objects: Objects::new(alloc),
         run: Some(run),
         began,
+        passed_on: Seq::new(alloc),
         dead_workers: Seq::new(alloc),
         dead_nodes: Seq::new(alloc),
     })

@@ -17,9 +17,9 @@ returns c = λ run e.
     let borne : c.attempt.inside.object ≡ o = ap (λ a. a.object) c.attempt.view_is ∙ ap (λ r. r.attempt.object) (sym same) in
     let ids = c.in_ok-ids.ids in
     let held : c.hold_content.new.here ≡ holds_ids (passes_on ended o (each_once (ids_in_outcome content))) o (each_once (ids_in_outcome content)) =
-        c.in_ok-hold_content.ensures
-        ∙ ap (λ g. holds_ids (passes_on g c.attempt.inside.object ids) c.attempt.inside.object ids) (c.in_ok-keep_end.ensures run e)
-        ∙ ap (λ p. holds_ids (passes_on ended p ids) p ids) borne
-        ∙ ap (λ os. holds_ids (passes_on ended o os) o os) c.in_ok-ids.ensures in
+    c.in_ok-hold_content.ensures
+    ∙ ap (λ g. holds_ids (passes_on g c.attempt.inside.object ids) c.attempt.inside.object ids) (c.in_ok-keep_end.ensures run e)
+    ∙ ap (λ p. holds_ids (passes_on ended p ids) p ids) borne
+    ∙ ap (λ os. holds_ids (passes_on ended o os) o os) c.in_ok-ids.ensures in
     subst (λ g. OnOk c.give_slot_back.result (c.give_slot_back.new.here ≡ gives_slot_back g)) (c.in_ok-leave_if_free.ensures ∙ ap leaves_if_free held)
     c.give_slot_back.ensures

@@ -1,3 +1,4 @@
+pub mod AsSerial
 pub mod Begun
 pub mod Driven
 pub mod Explained

@@ -1,11 +1,14 @@
 -- What is written of a run, in each form.
 use Rattle.std.specs.Prelude.{◌≡◌, ℕ, List, ◌++◌, codes}
+use Rattle.meaning.specs.Syntax.{Script}
 use Rattle.serde_json.specs.Written.{compact_text}
 use Rattle.values.specs.Values.{id_of}
 use Rattle.event_log.specs.Entries.{Entry}
 use Rattle.event_log.specs.Views.{log_of}
 use Rattle.event_log.specs.declared.entry.Entry.{Entry as CodeEntry}
 use Rattle.history.specs.Report.{report_text}
+use Rattle.report_laws.specs.Begins.{BeginsAsSerial}
+use Rattle.report_laws.specs.Json.{SaysAsSerial}
 use Rattle.log_text.specs.Text.{log_text}
 use Rattle.why_text.specs.Text.{why_main_text, why_text}
 use Rattle.lineage_text.specs.Text.{lineage_text}
@@ -45,3 +48,14 @@ IsReportIn (forms.Why o) a text = text ≡ why_text a.log a.lines (id_of o)
 IsReportIn forms.WhyMain a text = text ≡ why_main_text a.log a.lines
 IsReportIn forms.Timeline a text = IsTimelineOf a text
 IsReportIn forms.Lineage a text = text ≡ lineage_text a.log
+
+-- as text or as JSON it says of main what `serial` writes of the script: the whole of it, or a first part, with a fault's cause in the log
+abbrev pub IsAsSerialIn : Form → Script → List Entry → List ℕ → ℕ → Type 0
+IsAsSerialIn forms.Text script log text status = BeginsAsSerial script log text status
+IsAsSerialIn forms.Json script log text status = SaysAsSerial script log text status
+IsAsSerialIn forms.Log script log text status = Unit {0}
+IsAsSerialIn forms.LogWithMessages script log text status = Unit {0}
+IsAsSerialIn (forms.Why o) script log text status = Unit {0}
+IsAsSerialIn forms.WhyMain script log text status = Unit {0}
+IsAsSerialIn forms.Timeline script log text status = Unit {0}
+IsAsSerialIn forms.Lineage script log text status = Unit {0}

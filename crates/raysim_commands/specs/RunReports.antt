@@ -12,7 +12,7 @@ use Rattle.raysim_streams.specs.declared.Refusal.{Refusal}
 use Rattle.raysim_streams.specs.declared.Refusal.TheVariants.{At, NoMemory, Stopped as Stops, BadLine, Failed}
 use Rattle.raysim_commands.specs.declared.form.Form.{Form}
 use Rattle.raysim_commands.specs.Scripts.{IsScript, Explains}
-use Rattle.raysim_commands.specs.Reports.{IsReportIn, account_of}
+use Rattle.raysim_commands.specs.Reports.{IsReportIn, IsAsSerialIn, account_of}
 
 -- a run on such a cluster, as it begins
 abbrev pub first_run : Size → Course
@@ -37,10 +37,14 @@ IsRunStop script size (Stops code) =
 IsRunStop script size (BadLine line) = ⊥
 IsRunStop script size (Failed failure) = ⊥
 
--- the text is a script, and the report of its run was written
-abbrev pub IsRunReported : Size → Form → List ℕ → ℕ → Option (List ℕ) → Option (List ℕ) → Type 0
-IsRunReported size form text status before after =
-    (script : Script) × (report : List ℕ) × IsScript text script × IsReportOf script size form report status × Appends before after report
+-- the text is a script, and the report of its run was written, which begins as what `serial` writes of that script
+pub record IsRunReported (size : Size) (form : Form) (text : List ℕ) (status : ℕ) (before after : Option (List ℕ)) : Type 0 where
+  pub script : Script
+  pub report : List ℕ
+  pub is_script : IsScript text script
+  pub reported : IsReportOf script size form report status
+  pub as_serial : IsAsSerialIn form script reported.0.run.log report status
+  pub written : Appends before after report
 
 -- nothing was written, or the text is a script, and a beginning of the report of its run was written
 abbrev pub IsRunBegun : Size → Form → List ℕ → Option (List ℕ) → Option (List ℕ) → Type 0

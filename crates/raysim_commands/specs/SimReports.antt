@@ -17,7 +17,7 @@ use Rattle.raysim_streams.specs.declared.Failure.TheVariants.{Read, Write, Close
 use Rattle.raysim_streams.specs.declared.Refusal.{Refusal}
 use Rattle.raysim_streams.specs.declared.Refusal.TheVariants.{At, NoMemory, Stopped as Stops, BadLine, Failed}
 use Rattle.raysim_commands.specs.declared.form.Form.{Form}
-use Rattle.raysim_commands.specs.Reports.{IsReportIn, account_of}
+use Rattle.raysim_commands.specs.Reports.{IsReportIn, IsAsSerialIn, account_of}
 use Rattle.raysim_commands.specs.Scripts.{IsAllowed, IsScript, IsNoScriptFor}
 
 -- the bytes are an event file with these lines
@@ -58,7 +58,7 @@ IsSimReportOf script size form lines numbers report status =
 abbrev pub IsTooLong : Script → Size → List Line → Type 0
 IsTooLong script size lines = (p : Play) × PlayStops script lines (first_play size) p stops.TooLong
 
--- the texts are a script and an event file, and the report of the replay was written
+-- the texts are a script and an event file, and the report of the replay was written, which begins as what `serial` writes of that script
 pub record IsSimReported (size : Size) (form : Form) (text events : List ℕ) (status : ℕ) (before after : Option (List ℕ)) : Type 0 where
   pub script : Script
   pub lines : List Line
@@ -67,6 +67,7 @@ pub record IsSimReported (size : Size) (form : Form) (text events : List ℕ) (s
   pub is_script : IsScript text script
   pub are_events : AreEvents events lines numbers
   pub reported : IsSimReportOf script size form lines numbers report status
+  pub as_serial : IsAsSerialIn form script reported.0.run.log report status
   pub written : Appends before after report
 
 -- a beginning of the report was written

@@ -5,7 +5,8 @@ ghost use Rattle.std.specs.Io.KnownBytes.{Appends};
 ghost use Rattle.script_check.specs.Trees.{script_of};
 ghost use Rattle.values.specs.Values.{content_of};
 ghost use Rattle.raysim_commands.specs.Scripts.{IsScript, Explains, IsUnwritten};
-ghost use Rattle.raysim_commands.specs.SerialReports.{serial_report, serial_status, status_of, IsReported, IsBegun};
+ghost use Rattle.report_laws.specs.Serial.{serial_report, serial_status};
+ghost use Rattle.raysim_commands.specs.SerialReports.{status_of, IsReported, IsBegun};
 
 use crate::script::{checked_script, read_script};
 use raysim_streams::{Refusal, Sink, Source, put_all};

@@ -1,6 +1,7 @@
 use Rattle.std.proofs.Common.{rules, subst}
 use Rattle.script_check.specs.Trees.{script_of}
 use Rattle.raysim_commands.specs.Scripts.{IsRefusalOf, IsScript}
+use Rattle.raysim_commands.proofs.AsSerial.{run_reported_so}
 use Rattle.raysim_commands.proofs.Begun.{begun_so, always_err}
 use Rattle.raysim_commands.proofs.Refused.{explains_read, explains_as_others}
 use Rattle.raysim_commands.proofs.run_command.run.Goals as goal
@@ -19,3 +20,9 @@ returns-in_err-put_all-clause-beginning g c =
 pub returns-in_err-text-clause-refused : goal.returns-in_err-text-clause-refused
 returns-in_err-text-clause-refused g c =
     let why = explains_as_others c.args.cluster _ _ _ _ (c.in_err-text.ensures.refused (g.W.Sink.has_failed c.args.writer.now)) in search (rules, why)
+
+pub returns-clause-reported : goal.returns-clause-reported
+returns-clause-reported g c =
+    run_reported_so c.args.cluster c.args.form _ c.in_ok-text.text.items (script_of c.in-Ok.script) _ _ c.in-Ok-run_script.report.status _ _
+    c.in_ok-text.ensures.ok (subst (λ t. IsScript t (script_of c.in-Ok.script)) c.as_slice.ensures.value c.in-Ok.ensures.found) c.in-Ok-run_script.ensures.reported c.as_bytes.ensures.value
+    c.in_ok-put_all.ensures.ok

@@ -1,0 +1,59 @@
+-- What main of a checked script prints and ends with has no reference in it, and so is read as it is.
+use Rattle.std.proofs.Common.{◌≡◌, ◌∙◌, List, [], ◌∷◌, map, refl, sym, ap, subst}
+use Rattle.meaning.specs.Lists.{IsFirst}
+use Rattle.meaning.specs.Values.{Value, Int, Items, Named, Known, Values, none, more, Outcome, Val, Trapped, Id, main_name}
+use Rattle.meaning.specs.Syntax.{Number, Script, Kind}
+use Rattle.meaning.specs.Runs.{Run, Ends, Prints, Bears, Gets, next_id}
+use Rattle.meaning.specs.Meaning.{serial_run}
+use Rattle.meaning.specs.Kinds.{IsPlain, ArePlain, AllPlain, EndsIn, MarkedOf, AnswersFit, IsSafeTask}
+use Rattle.meaning.specs.Readings.{Reading, read, read_items, read_outcome}
+use Rattle.script_laws.proofs.Safety.{are_safe}
+use Rattle.script_check.specs.Scripts.{IsWellTyped}
+
+-- no answers fit every run
+no_answers : (run : Run) (base : Id) → AnswersFit run base []
+no_answers (Ends c) base = tt
+no_answers (Prints v next) base = no_answers next base
+no_answers (Bears b made next) base = no_answers (next (Named base)) (next_id base)
+no_answers (Gets u r next) base = tt
+
+abbrev pub first_id : Id
+first_id = record { owner = 1; serial = 1 }
+
+pub main_is_safe : (script : Script) → IsWellTyped script → IsSafeTask (serial_run script) Number first_id []
+main_is_safe script w =
+    let f = w.main.0 in
+    let marked : MarkedOf [] f.parameters = subst (MarkedOf []) (sym w.main.2) tt in
+    let safe = are_safe script w.checks main_name f [] 0 first_id [] w.main.1 marked (no_answers (serial_run script) first_id) in
+    subst (λ (t : Kind). IsSafeTask (serial_run script) t first_id []) w.main.3 safe
+
+mutual
+  plain_read : (r : Reading) (v : Value) → IsPlain (read r v) → read r v ≡ v
+  plain_read r (Int n) h = refl
+  plain_read r (Items vs) h = ap Items (plain_items r vs h)
+  plain_read r (Named o) h = absurd h
+  plain_read r (Known c) h = absurd h
+
+  plain_items : (r : Reading) (vs : Values) → ArePlain (read_items r vs) → read_items r vs ≡ vs
+  plain_items r none h = refl
+  plain_items r (more v vs) h = ap (λ x. more x (read_items r vs)) (plain_read r v h.0) ∙ ap (λ xs. more v xs) (plain_items r vs h.1)
+
+-- a beginning of what is plain
+pub first_read : (r : Reading) (vs ds : List Value) → AllPlain ds → IsFirst (map (read r) vs) ds → map (read r) vs ≡ vs
+first_read r [] ds p h = refl
+first_read r (v ∷ vs) [] p h = absurd h
+first_read r (v ∷ vs) (d ∷ ds) p h =
+    ap (λ x. x ∷ map (read r) vs) (plain_read r v (subst IsPlain h.0 p.0)) ∙ ap (λ xs. v ∷ xs) (first_read r vs ds p.1 h.1)
+
+-- the whole of it
+pub all_read : (r : Reading) (vs : List Value) → AllPlain (map (read r) vs) → map (read r) vs ≡ vs
+all_read r [] p = refl
+all_read r (v ∷ vs) p = ap (λ x. x ∷ map (read r) vs) (plain_read r v p.0) ∙ ap (λ xs. v ∷ xs) (all_read r vs p.1)
+
+-- an outcome that is a number or a trap
+pub outcome_read : (r : Reading) (c : Outcome) → EndsIn (read_outcome r c) Number → read_outcome r c ≡ c
+outcome_read r (Val (Int n)) h = refl
+outcome_read r (Val (Items vs)) h = absurd h
+outcome_read r (Val (Named o)) h = absurd h
+outcome_read r (Val (Known c)) h = absurd h
+outcome_read r (Trapped t) h = refl

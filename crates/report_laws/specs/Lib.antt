@@ -1,0 +1,4 @@
+pub mod Serial
+pub mod Begins
+pub mod Json
+pub mod Law

@@ -13,6 +13,8 @@ use Rattle.protocol_data.specs.declared.message.Party.TheVariants.{TheWorker, Th
 use Rattle.protocol_data.specs.declared.message.Message.{Message}
 use Rattle.protocol_data.specs.declared.message.Message.TheVariants.{Ask, Give, Elsewhere, Wait, Back, Push, Finished, FinishedAck, Failed}
 use Rattle.protocol_data.specs.declared.message.Message.TheVariants.{Where, At, Gone, Fetch, CopyOf, Missing, Hold, HoldAck, Unhold}
+use Rattle.protocol_data.specs.declared.message.Reason.{Reason}
+use Rattle.protocol_data.specs.declared.message.Reason.TheVariants.{WasReleased, OwnerIsDead}
 
 -- w2, or n1
 abbrev pub party_text : Party → List ℕ
@@ -62,7 +64,7 @@ kind_text (CopyOf o k c) = codes "Copy"
 kind_text (Missing o k n) = codes "Missing"
 kind_text (Hold e o) = codes "Hold"
 kind_text (HoldAck e o) = codes "HoldAck"
-kind_text (Unhold e o) = codes "Unhold"
+kind_text (Unhold e o why) = codes "Unhold"
 
 -- Push(a1.1#0, remote(3) sq(7))
 abbrev pub push_text : Attempt → Birth → List ℕ
@@ -94,11 +96,20 @@ carrying_text (At o k ns kept) = at_text o k ns kept
 carrying_text (CopyOf o k c) = copy_text o k c
 carrying_text _ = []
 
+-- why one object holds another no more
+abbrev pub reason_text : Reason → List ℕ
+reason_text WasReleased = codes "Released"
+reason_text OwnerIsDead = codes "OwnerDead"
+
+-- Unhold(o2.1, o1.1, Released)
+abbrev pub unhold_text : Id → Id → Reason → List ℕ
+unhold_text e o why = codes "Unhold(" ++ (id_text e ++ (codes ", " ++ (id_text o ++ (codes ", " ++ (reason_text why ++ codes ")")))))
+
 -- who holds an object, and the others
 abbrev pub hold_text : Message → List ℕ
 hold_text (Hold e o) = codes "Hold(" ++ (id_text e ++ (codes ", " ++ (id_text o ++ codes ")")))
 hold_text (HoldAck e o) = codes "HoldAck(" ++ (id_text e ++ (codes ", " ++ (id_text o ++ codes ")")))
-hold_text (Unhold e o) = codes "Unhold(" ++ (id_text e ++ (codes ", " ++ (id_text o ++ codes ")")))
+hold_text (Unhold e o why) = unhold_text e o why
 hold_text m = carrying_text m
 
 -- where an object is, and the others

@@ -2,7 +2,7 @@
 
 ghost use Rattle.std.specs.Prelude.{◌≡◌, ◌++◌, OnOk, string_bytes};
 ghost use Rattle.message_text.specs.Messages.{at_text, carrying_text, closed_text, copy_text, finished_ack_text, finished_text, hold_text, kept_text, kind_text};
-ghost use Rattle.message_text.specs.Messages.{message_text, place_text, push_text, stop_text};
+ghost use Rattle.message_text.specs.Messages.{message_text, place_text, push_text, reason_text, stop_text, unhold_text};
 
 use crate::lists::{write_nodes, write_objects};
 use crate::parties::{attempt_out, fault_out, object_out};
@@ -10,7 +10,7 @@ use held::{Content, Origin};
 use history::kind_name;
 use log_words::{write_birth, write_content};
 use numbers::{AttemptId, NodeId, ObjectId};
-use protocol_data::Message;
+use protocol_data::{Message, Reason};
 use sequence::Seq;
 use std::alloc::AllocError;
 
@@ -95,6 +95,30 @@ fn write_carrying(text: &mut String, message: &Message) -> Result<(), AllocError
     }
 }
 
+/// Why one object holds another no more.
+fn reason_name(reason: Reason) -> &'static str
+    ensures { result.now ≡ reason_text reason }
+{
+    match reason {
+        Reason::WasReleased => "Released",
+        Reason::OwnerIsDead => "OwnerDead",
+    }
+}
+
+fn write_unhold(
+    text: &mut String,
+    holder: ObjectId,
+    object: ObjectId,
+    reason: Reason,
+) -> Result<(), AllocError>
+    ensures { OnOk result (string_bytes text.new ≡ string_bytes text.old ++ unhold_text holder object reason) }
+{
+    let holder = object_out(holder);
+    let object = object_out(object);
+    let reason = reason_name(reason);
+    write!(text, "Unhold({holder}, {object}, {reason})")
+}
+
 /// Writes what is said of who holds an object, and the others.
 fn write_hold(text: &mut String, message: &Message) -> Result<(), AllocError>
     ensures { OnOk result (string_bytes text.new ≡ string_bytes text.old ++ hold_text message.now) }
@@ -110,11 +134,7 @@ fn write_hold(text: &mut String, message: &Message) -> Result<(), AllocError>
             let object = object_out(*object);
             write!(text, "HoldAck({holder}, {object})")
         }
-        Message::Unhold(holder, object) => {
-            let holder = object_out(*holder);
-            let object = object_out(*object);
-            write!(text, "Unhold({holder}, {object})")
-        }
+        Message::Unhold(holder, object, reason) => write_unhold(text, *holder, *object, *reason),
         _ => write_carrying(text, message),
     }
 }

@@ -53,12 +53,15 @@ fn is_about(alloc: Global, object: ObjectId, entry: &Entry) -> Result<bool, Allo
         Entry::Faulted {
             attempt,
             object: got,
-            ..
+            fault,
         } => {
             if is_same(attempt.object, object) {
                 return Ok(true);
             }
-            Ok(is_same(*got, object))
+            if is_same(*got, object) {
+                return Ok(true);
+            }
+            Ok(is_same(fault.object, object))
         }
         Entry::Resolved {
             object: resolved,

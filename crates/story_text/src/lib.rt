@@ -6,5 +6,5 @@ mod mentions;
 mod runners;
 mod text;
 
-pub use mentions::{is_in_birth, is_same};
+pub use mentions::{is_in_birth, is_in_content, is_same};
 pub use text::story_text;

@@ -13,6 +13,7 @@ use Rattle.story_text.specs.Mentions.{is_in_birth}
 use Rattle.why_text.specs.Moments.{Moment, when_text}
 use Rattle.why_text.specs.Runs.{Subject}
 use Rattle.why_text.specs.Events.{event_sentence}
+use Rattle.why_text.specs.Notes.{fault_note, kept_note, release_note}
 
 -- a1.0#0 (main) made o1.1 in event 2 (commit 1): remote(1) sq(7).
 abbrev pub made_text : List Bearing → Moment → Id → Attempt → Birth → List ℕ
@@ -40,9 +41,10 @@ ended_text births m a c = named_text births a ++ (codes " ended" ++ (when_text m
 unfoldable pub accepted_head : ℕ → List ℕ
 accepted_head w = codes "w" ++ (decimal w ++ codes " accepted ")
 
--- w1 accepted a1.1#0 (sq) in event 14 (deliver 7).
-abbrev pub accepted_text : List Bearing → Moment → Attempt → List ℕ
-accepted_text births m a = accepted_head a.object.owner ++ (named_text births a ++ (when_text m ++ codes ".\n"))
+-- w1 accepted a1.1#0 (sq) in event 14 (deliver 7), and keeps the result itself: no node can lose it.
+abbrev pub accepted_text : List Bearing → List Entry → Moment → Attempt → List ℕ
+accepted_text births before m a =
+    accepted_head a.object.owner ++ (named_text births a ++ (when_text m ++ (kept_note before a ++ codes ".\n")))
 
 unfoldable pub get_note : Id → List ℕ
 get_note y = codes ", at its get of " ++ (id_text y ++ codes ": ")
@@ -51,17 +53,21 @@ unfoldable pub faulted_head : List Bearing → Moment → Attempt → List ℕ
 faulted_head births m a = named_text births a ++ (codes " ended with a fault" ++ when_text m)
 
 -- a1.2#0 (sum) ended with a fault in event 20 (claim 3), at its get of o1.1: PutLost o1.1 (it was put, and its copy was lost).
-abbrev pub faulted_text : List Bearing → Moment → Attempt → Id → Fault → List ℕ
-faulted_text births m a y f = faulted_head births m a ++ (get_note y ++ (fault_words f ++ codes ".\n"))
+abbrev pub faulted_text : List Bearing → List Entry → Moment → Attempt → Id → Fault → List ℕ
+faulted_text births before m a y f =
+    faulted_head births m a ++ (get_note y ++ (fault_words f ++ (fault_note before y f ++ codes ".\n")))
 
 -- w1 gave up o1.1 in event 7 (notice 1 2): RetriesUsed o1.1 (every run that it was allowed broke).
 abbrev pub given_up_text : Moment → Id → Fault → List ℕ
 given_up_text m o f =
     codes "w" ++ (decimal o.owner ++ (codes " gave up " ++ (id_text o ++ (when_text m ++ (codes ": " ++ (fault_words f ++ codes ".\n"))))))
 
-abbrev pub released_text : Moment → Id → List ℕ
-released_text m o =
-    codes "w" ++ (decimal o.owner ++ (codes " released " ++ (id_text o ++ (when_text m ++ codes ": nothing needed it any more.\n"))))
+unfoldable pub released_head : Moment → Id → List ℕ
+released_head m o = codes "w" ++ (decimal o.owner ++ (codes " released " ++ (id_text o ++ (when_text m ++ codes ": nothing needed it any more"))))
+
+-- w1 released o1.1 in event 18 (commit 3): nothing needed it any more.
+abbrev pub released_text : List ℕ → List Entry → Moment → Id → List ℕ
+released_text lines before m o = released_head m o ++ (release_note lines before o ++ codes ".\n")
 
 -- it was made, or another was made with it
 abbrev pub birth_sentence : Id → List Bearing → Moment → Id → Attempt → Birth → List ℕ
@@ -71,23 +77,23 @@ birth_sentence o births m p a b = if same_id p o then made_text births m p a b e
 abbrev pub got_sentence : Id → List Bearing → Moment → Attempt → Id → Outcome → List ℕ
 got_sentence o births m a y c = if same_id a.object o then got_text births m a y c else (if same_id y o then got_text births m a y c else [])
 
-abbrev pub faulted_sentence : Id → List Bearing → Moment → Attempt → Id → Fault → List ℕ
-faulted_sentence o births m a y f =
-    if same_id a.object o then faulted_text births m a y f else (if same_id y o then faulted_text births m a y f else [])
+abbrev pub faulted_sentence : Id → List Bearing → List Entry → Moment → Attempt → Id → Fault → List ℕ
+faulted_sentence o births before m a y f =
+    if same_id a.object o then faulted_text births before m a y f else (if same_id y o then faulted_text births before m a y f else [])
 
--- what came of an event
-abbrev pub entry_sentence : Id → List Bearing → Moment → Entry → List ℕ
-entry_sentence o births m (Born p a b) = birth_sentence o births m p a b
-entry_sentence o births m (Begun a w) = if same_id a.object o then began_text births m a w else []
-entry_sentence o births m (Got a y c) = got_sentence o births m a y c
-entry_sentence o births m (Ended a c) = if same_id a.object o then ended_text births m a c else []
-entry_sentence o births m (Accepted a) = if same_id a.object o then accepted_text births m a else []
-entry_sentence o births m (Faulted a y f) = faulted_sentence o births m a y f
-entry_sentence o births m (Resolved p f) = if same_id p o then given_up_text m p f else []
-entry_sentence o births m (Released p) = if same_id p o then released_text m p else []
-entry_sentence o births m _ = []
+-- what came of an event; `before` are the entries before it, and `lines` are those of their events
+abbrev pub entry_sentence : Id → List Bearing → List ℕ → List Entry → Moment → Entry → List ℕ
+entry_sentence o births lines before m (Born p a b) = birth_sentence o births m p a b
+entry_sentence o births lines before m (Begun a w) = if same_id a.object o then began_text births m a w else []
+entry_sentence o births lines before m (Got a y c) = got_sentence o births m a y c
+entry_sentence o births lines before m (Ended a c) = if same_id a.object o then ended_text births m a c else []
+entry_sentence o births lines before m (Accepted a) = if same_id a.object o then accepted_text births before m a else []
+entry_sentence o births lines before m (Faulted a y f) = faulted_sentence o births before m a y f
+entry_sentence o births lines before m (Resolved p f) = if same_id p o then given_up_text m p f else []
+entry_sentence o births lines before m (Released p) = if same_id p o then released_text lines before m p else []
+entry_sentence o births lines before m _ = []
 
 -- a refused event did nothing
-unfoldable pub sentence : Subject → List Bearing → Moment → Entry → Bool → List ℕ
-sentence s births m (In e seat) refused = if refused then [] else event_sentence s m e
-sentence s births m x refused = entry_sentence s.object births m x
+unfoldable pub sentence : Subject → List Bearing → List ℕ → List Entry → Moment → Entry → Bool → List ℕ
+sentence s births lines before m (In e seat) refused = if refused then [] else event_sentence s m e
+sentence s births lines before m x refused = entry_sentence s.object births lines before m x

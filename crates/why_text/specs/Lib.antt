@@ -1,5 +1,7 @@
 pub mod Runs
 pub mod Moments
 pub mod Events
+pub mod Holders
+pub mod Notes
 pub mod Entries
 pub mod Text

@@ -1,5 +1,5 @@
 -- Why an object is as it is.
-use Rattle.std.specs.Prelude.{ℕ, if◌then◌else◌, List, [], ◌∷◌, ◌++◌, codes, Option, Some, None}
+use Rattle.std.specs.Prelude.{ℕ, ◌+◌, if◌then◌else◌, List, [], ◌∷◌, ◌++◌, codes, Option, Some, None, take}
 use Rattle.std.specs.List.{flat_map}
 use Rattle.report.specs.Values.{id_text}
 use Rattle.meaning.specs.Values.{Id, Birth}
@@ -16,11 +16,12 @@ use Rattle.why_text.specs.Moments.{Moment, first_moment, moment_after}
 use Rattle.why_text.specs.Runs.{Subject, subject_of}
 use Rattle.why_text.specs.Entries.{sentence}
 
--- the sentences of the entries, where `m` is the moment before them, and `lines` are the lines of the events
-abbrev pub sentences : Subject → List Bearing → List ℕ → Moment → List Entry → List ℕ
-sentences s births lines m [] = []
-sentences s births lines m (x ∷ rest) =
-    sentence s births (moment_after lines m x) x (refused_next rest) ++ sentences s births lines (moment_after lines m x) rest
+-- the sentences of the entries from a place of the log on, where `m` is the moment before them, and `lines` are the lines of the events
+abbrev pub sentences : Subject → List Bearing → List ℕ → List Entry → ℕ → Moment → List Entry → List ℕ
+sentences s births lines log place m [] = []
+sentences s births lines log place m (x ∷ rest) =
+    sentence s births lines (take place log) (moment_after lines m x) x (refused_next rest)
+    ++ sentences s births lines log (place + 1) (moment_after lines m x) rest
 
 -- there is no such object
 unfoldable pub unborn_note : Id → Option Birth → List ℕ
@@ -29,7 +30,7 @@ unborn_note o None = codes "There is no " ++ (id_text o ++ codes ".\n")
 
 -- what the log says of an object, entry by entry
 unfoldable pub account : List Entry → List ℕ → Id → List ℕ
-account log lines o = unborn_note o (birth_at (births log) o) ++ sentences (subject_of log o) (births log) lines first_moment log
+account log lines o = unborn_note o (birth_at (births log) o) ++ sentences (subject_of log o) (births log) lines log 0 first_moment log
 
 -- the object in which the fault of another began, where the entry says that the other has a fault
 unfoldable pub cause_in : Id → Entry → List Id

@@ -45,13 +45,17 @@ fn write_sentences(
 ) -> Result<(), AllocError>
     requires { IsIndexOf index.now log.now }
     ensures { OnOk result (string_bytes text.new
-        ≡ string_bytes text.old ++ sentences (seen_of subject.now) (births (log_of log.now)) lines.now first_moment (log_of log.now)) }
+        ≡ string_bytes text.old
+        ++ sentences (seen_of subject.now) (births (log_of log.now)) lines.now (log_of log.now) 0 first_moment (log_of log.now)) }
 {
     let mut moment = Moment::first();
     for (place, entry) in log.iter().enumerate() {
         let is_refused = is_refusal_at(log, place + 1);
         moment = moment.after(lines, entry);
-        write_sentence(alloc, text, subject, index, log, &moment, entry, is_refused)?;
+        let before = &log[..place];
+        write_sentence(
+            alloc, text, subject, index, log, before, lines, &moment, entry, is_refused,
+        )?;
     }
     Ok(())
 }

@@ -8,14 +8,15 @@ ghost use Rattle.event_log.specs.Views.{attempt_of, fault_of, log_of};
 ghost use Rattle.log_words.specs.Index.{IsIndexOf};
 ghost use Rattle.why_text.specs.Moments.{moment_of};
 ghost use Rattle.why_text.specs.Entries.{accepted_head, accepted_text, again_note, began_text, ended_text, faulted_head, faulted_text, get_note};
-ghost use Rattle.why_text.specs.Entries.{given_up_text, got_text, made_text, released_text};
+ghost use Rattle.why_text.specs.Entries.{given_up_text, got_text, made_text, released_head, released_text};
 
 use crate::moments::{Moment, write_when};
+use crate::notes::{write_fault_note, write_kept_note, write_release_note};
 use event_log::Entry;
 use ids::{AttemptId, ObjectId, WorkerId};
 use log_text::write_named;
 use log_words::{BirthIndex, write_birth, write_content, write_fault};
-use std::alloc::AllocError;
+use std::alloc::{AllocError, Global};
 use task_spec::Birth;
 use values::{Content, Fault};
 
@@ -116,15 +117,17 @@ pub fn write_accepted(
     text: &mut String,
     index: &BirthIndex,
     log: &[Entry],
+    before: &[Entry],
     moment: &Moment,
     attempt: AttemptId,
 ) -> Result<(), AllocError>
     ensures { IsIndexOf index.now log.now → OnOk result (string_bytes text.new ≡ string_bytes text.old
-        ++ accepted_text (births (log_of log.now)) (moment_of moment.now) (attempt_of attempt)) }
+        ++ accepted_text (births (log_of log.now)) (log_of before.now) (moment_of moment.now) (attempt_of attempt)) }
 {
     write_accepted_head(text, attempt.object.owner)?;
     write_named(text, index, log, attempt)?;
     write_when(text, moment)?;
+    write_kept_note(text, before, attempt)?;
     text.push_str(".\n")
 }
 
@@ -153,20 +156,23 @@ fn write_faulted_head(
 }
 
 pub fn write_faulted(
+    alloc: Global,
     text: &mut String,
     index: &BirthIndex,
     log: &[Entry],
+    before: &[Entry],
     moment: &Moment,
     attempt: AttemptId,
     object: ObjectId,
     fault: Fault,
 ) -> Result<(), AllocError>
-    ensures { IsIndexOf index.now log.now → OnOk result (string_bytes text.new ≡ string_bytes text.old
-        ++ faulted_text (births (log_of log.now)) (moment_of moment.now) (attempt_of attempt) (id_of object) (fault_of fault)) }
+    ensures { IsIndexOf index.now log.now → OnOk result (string_bytes text.new ≡ string_bytes text.old ++ faulted_text
+        (births (log_of log.now)) (log_of before.now) (moment_of moment.now) (attempt_of attempt) (id_of object) (fault_of fault)) }
 {
     write_faulted_head(text, index, log, moment, attempt)?;
     write_get(text, object)?;
     write_fault(text, fault)?;
+    write_fault_note(alloc, text, before, object, fault)?;
     text.push_str(".\n")
 }
 
@@ -187,15 +193,32 @@ pub fn write_given_up(
     text.push_str(".\n")
 }
 
-pub fn write_released(
+#[tactic(auto, unfolding(crate::specs::Entries::released_head))]
+fn write_released_head(
     text: &mut String,
     moment: &Moment,
     object: ObjectId,
 ) -> Result<(), AllocError>
-    ensures { OnOk result (string_bytes text.new ≡ string_bytes text.old ++ released_text (moment_of moment.now) (id_of object)) }
+    ensures { OnOk result (string_bytes text.new ≡ string_bytes text.old ++ released_head (moment_of moment.now) (id_of object)) }
 {
     let owner = object.owner;
     write!(text, "{owner} released {object}")?;
     write_when(text, moment)?;
-    text.push_str(": nothing needed it any more.\n")
+    text.push_str(": nothing needed it any more")
+}
+
+pub fn write_released(
+    alloc: Global,
+    text: &mut String,
+    before: &[Entry],
+    lines: &[usize],
+    moment: &Moment,
+    object: ObjectId,
+) -> Result<(), AllocError>
+    ensures { OnOk result (string_bytes text.new
+        ≡ string_bytes text.old ++ released_text lines.now (log_of before.now) (moment_of moment.now) (id_of object)) }
+{
+    write_released_head(text, moment, object)?;
+    write_release_note(alloc, text, before, lines, object)?;
+    text.push_str(".\n")
 }

@@ -72,23 +72,30 @@ fn write_got_sentence(
 }
 
 fn write_faulted_sentence(
+    alloc: Global,
     text: &mut String,
     subject: ObjectId,
     index: &BirthIndex,
     log: &[Entry],
+    before: &[Entry],
     moment: &Moment,
     attempt: AttemptId,
     object: ObjectId,
     fault: Fault,
 ) -> Result<(), AllocError>
-    ensures { IsIndexOf index.now log.now → OnOk result (string_bytes text.new ≡ string_bytes text.old ++ faulted_sentence (id_of subject)
-        (births (log_of log.now)) (moment_of moment.now) (attempt_of attempt) (id_of object) (fault_of fault)) }
+    ensures { IsIndexOf index.now log.now → OnOk result
+        (string_bytes text.new ≡ string_bytes text.old ++ faulted_sentence (id_of subject) (births (log_of log.now))
+        (log_of before.now) (moment_of moment.now) (attempt_of attempt) (id_of object) (fault_of fault)) }
 {
     if is_same(attempt.object, subject) {
-        return write_faulted(text, index, log, moment, attempt, object, fault);
+        return write_faulted(
+            alloc, text, index, log, before, moment, attempt, object, fault,
+        );
     }
     if is_same(object, subject) {
-        return write_faulted(text, index, log, moment, attempt, object, fault);
+        return write_faulted(
+            alloc, text, index, log, before, moment, attempt, object, fault,
+        );
     }
     Ok(())
 }
@@ -100,11 +107,13 @@ fn write_entry_sentence(
     subject: ObjectId,
     index: &BirthIndex,
     log: &[Entry],
+    before: &[Entry],
+    lines: &[usize],
     moment: &Moment,
     entry: &Entry,
 ) -> Result<(), AllocError>
-    ensures { IsIndexOf index.now log.now → OnOk result (string_bytes text.new ≡ string_bytes text.old
-        ++ entry_sentence (id_of subject) (births (log_of log.now)) (moment_of moment.now) (entry_of entry.now)) }
+    ensures { IsIndexOf index.now log.now → OnOk result (string_bytes text.new ≡ string_bytes text.old ++ entry_sentence
+        (id_of subject) (births (log_of log.now)) lines.now (log_of before.now) (moment_of moment.now) (entry_of entry.now)) }
 {
     match entry {
         Entry::Born {
@@ -135,7 +144,7 @@ fn write_entry_sentence(
         }
         Entry::Accepted(attempt) => {
             if is_same(attempt.object, subject) {
-                return write_accepted(text, index, log, moment, *attempt);
+                return write_accepted(text, index, log, before, moment, *attempt);
             }
             Ok(())
         }
@@ -143,7 +152,9 @@ fn write_entry_sentence(
             attempt,
             object,
             fault,
-        } => write_faulted_sentence(text, subject, index, log, moment, *attempt, *object, *fault),
+        } => write_faulted_sentence(
+            alloc, text, subject, index, log, before, moment, *attempt, *object, *fault,
+        ),
         Entry::Resolved { object, fault } => {
             if is_same(*object, subject) {
                 return write_given_up(text, moment, *object, *fault);
@@ -152,7 +163,7 @@ fn write_entry_sentence(
         }
         Entry::Released(object) => {
             if is_same(*object, subject) {
-                return write_released(text, moment, *object);
+                return write_released(alloc, text, before, lines, moment, *object);
             }
             Ok(())
         }
@@ -176,7 +187,8 @@ fn write_event_unless(
     write_event_sentence(text, subject, moment, event)
 }
 
-/// Writes what the entry says of the object; `moment` is that with the entry, and `is_refused` says of an event that it is refused.
+/// Writes what the entry says of the object; `before` are the entries of the log before it, `lines` are the lines of the events, `moment` is
+/// that with the entry, and `is_refused` says of an event that it is refused.
 #[tactic(auto, unfolding(crate::specs::Entries::sentence))]
 pub fn write_sentence(
     alloc: Global,
@@ -184,15 +196,20 @@ pub fn write_sentence(
     subject: &Subject,
     index: &BirthIndex,
     log: &[Entry],
+    before: &[Entry],
+    lines: &[usize],
     moment: &Moment,
     entry: &Entry,
     is_refused: bool,
 ) -> Result<(), AllocError>
-    ensures { IsIndexOf index.now log.now → OnOk result (string_bytes text.new ≡ string_bytes text.old
-        ++ sentence (seen_of subject.now) (births (log_of log.now)) (moment_of moment.now) (entry_of entry.now) is_refused) }
+    ensures { IsIndexOf index.now log.now → OnOk result (string_bytes text.new ≡ string_bytes text.old ++ sentence
+        (seen_of subject.now) (births (log_of log.now)) lines.now (log_of before.now) (moment_of moment.now) (entry_of entry.now) is_refused) }
 {
     if let Entry::In { event, .. } = entry {
         return write_event_unless(text, subject, moment, event, is_refused);
     }
-    write_entry_sentence(alloc, text, subject.object, index, log, moment, entry)
+    let object = subject.object;
+    write_entry_sentence(
+        alloc, text, object, index, log, before, lines, moment, entry,
+    )
 }

@@ -6,7 +6,9 @@ mod acts;
 mod causes;
 mod entries;
 mod events;
+mod holders;
 mod moments;
+mod notes;
 mod runs;
 
 pub use causes::{why_main_text, why_text};

@@ -4,7 +4,7 @@ ghost use Rattle.std.specs.Prelude.{◌≡◌, ◌++◌, IfOk, OnOk, map};
 ghost use Rattle.std.specs.List.{list_any};
 ghost use Rattle.values.specs.Values.{id_of};
 ghost use Rattle.event_log.specs.Events.{from_one};
-ghost use Rattle.event_log.specs.Words.{opened, opened_in};
+ghost use Rattle.event_log.specs.Words.{opened, opened_in, same_attempt};
 ghost use Rattle.event_log.specs.Views.{attempt_of, entry_of, log_of};
 ghost use Rattle.why_text.specs.Runs.{is_end_of, is_kill, is_killed_in, is_node, run_in, run_of, run_seen, runs_of, seen_of, subject_of};
 
@@ -33,13 +33,21 @@ pub struct Subject {
     pub runs: Vec<Run>,
 }
 
-#[tactic(auto, unfolding(event_log::specs::Words::same_attempt, meaning::specs::Births::same_id, crate::specs::Runs::is_end_of))]
+/// Whether two names are of one attempt.
+#[tactic(auto, unfolding(event_log::specs::Words::same_attempt, meaning::specs::Births::same_id))]
+pub fn is_same_attempt(left: AttemptId, right: AttemptId) -> bool
+    ensures { result ≡ same_attempt (attempt_of left) (attempt_of right) }
+{
+    is_same(left.object, right.object) && left.number == right.number
+}
+
+#[tactic(auto, unfolding(crate::specs::Runs::is_end_of))]
 fn is_end_of(attempt: AttemptId, entry: &Entry) -> bool
     ensures { result ≡ is_end_of (attempt_of attempt) (entry_of entry.now) }
 {
     match entry {
         Entry::Ended { attempt: ended, .. } | Entry::Faulted { attempt: ended, .. } => {
-            is_same(ended.object, attempt.object) && ended.number == attempt.number
+            is_same_attempt(*ended, attempt)
         }
         _ => false,
     }
@@ -66,7 +74,7 @@ fn add_opened(nodes: &mut Vec<u32>, entry: &Entry) -> Result<(), AllocError>
 }
 
 /// The nodes of all workers, by their numbers.
-fn opened(alloc: Global, log: &[Entry]) -> Result<Vec<u32>, AllocError>
+pub fn opened(alloc: Global, log: &[Entry]) -> Result<Vec<u32>, AllocError>
     ensures { IfOk result (λ nodes. nodes.items ≡ opened (log_of log.now)) }
 {
     let mut nodes = Vec::new(alloc);
@@ -76,7 +84,8 @@ fn opened(alloc: Global, log: &[Entry]) -> Result<Vec<u32>, AllocError>
     Ok(nodes)
 }
 
-fn node_of(nodes: &[u32], worker: u32) -> Option<u32>
+/// The node of the worker, where `nodes` are those of all workers.
+pub fn node_of(nodes: &[u32], worker: u32) -> Option<u32>
     ensures { result ≡ from_one nodes.now worker }
 {
     if worker == 0 {

@@ -8,7 +8,9 @@ use Rattle.why_text.proofs.account.write_sentences.Given as goal
 
 abbrev pub invariant-loop-place : goal.invariant-loop-place
 invariant-loop-place l = record {
-  written : string_bytes l.text ++ sentences (seen_of l.subject) (births (log_of l.log)) l.lines (moment_of l.moment) (log_of (drop l.place l.log))
-      ≡ string_bytes l.fn.text ++ sentences (seen_of l.subject) (births (log_of l.log)) l.lines first_moment (log_of l.log);
+  written :
+      string_bytes l.text
+      ++ sentences (seen_of l.subject) (births (log_of l.log)) l.lines (log_of l.log) l.place (moment_of l.moment) (log_of (drop l.place l.log))
+      ≡ string_bytes l.fn.text ++ sentences (seen_of l.subject) (births (log_of l.log)) l.lines (log_of l.log) 0 first_moment (log_of l.log);
   counted : l.moment.number ≤ l.place;
 }

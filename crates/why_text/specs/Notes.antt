@@ -1,0 +1,39 @@
+-- What is told beside a release, a fault and an end that was accepted.
+use Rattle.std.specs.Prelude.{ℕ, if◌then◌else◌, List, [], ◌++◌, codes, Option, Some, None}
+use Rattle.std.specs.Fmt.{decimal}
+use Rattle.report.specs.Values.{id_text}
+use Rattle.meaning.specs.Values.{Id}
+use Rattle.event_log.specs.Entries.{Attempt, Fault, Entry}
+use Rattle.why_text.specs.Moments.{Moment, when_text}
+use Rattle.why_text.specs.Holders.{death_of, gone_holder, is_from_above, is_kept}
+
+unfoldable pub death_head : Id → List ℕ
+death_head e = codes ", since w" ++ (decimal e.owner ++ (codes ", the owner of " ++ (id_text e ++ codes ", which had it, died")))
+
+-- , since w2, the owner of o2.1, which had it, died in event 11 (kill 2, line 4)
+abbrev pub death_text : Id → Option Moment → List ℕ
+death_text e None = []
+death_text e (Some m) = death_head e ++ when_text m
+
+unfoldable pub death_note : List ℕ → List Entry → Id → List ℕ
+death_note lines before e = death_text e (death_of lines before e.owner)
+
+abbrev pub holder_note : List ℕ → List Entry → Option Id → List ℕ
+holder_note lines before None = []
+holder_note lines before (Some e) = death_note lines before e
+
+-- why nothing needs the object any more, where what had it went with its owner
+unfoldable pub release_note : List ℕ → List Entry → Id → List ℕ
+release_note lines before o = holder_note lines before (gone_holder lines before o)
+
+-- ; o3.1, which o2.1 had, was released
+unfoldable pub above_note : Id → Id → List ℕ
+above_note y e = codes "; " ++ (id_text y ++ (codes ", which " ++ (id_text e ++ codes " had, was released")))
+
+-- why the fault of one object answers a get of another
+unfoldable pub fault_note : List Entry → Id → Fault → List ℕ
+fault_note before y f = if is_from_above before y f then above_note y f.object else []
+
+-- a small result is in no store
+unfoldable pub kept_note : List Entry → Attempt → List ℕ
+kept_note before a = if is_kept before a then codes ", and keeps the result itself: no node can lose it" else []

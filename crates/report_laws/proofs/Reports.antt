@@ -72,10 +72,12 @@ rest_of log = flat_map (attempt_in log) log ++ (flat_map resolve_in log ++ (flat
 -- it begins with the lines of main's prints and its line
 begins_so : (log : List Entry) (vs : List Value) (line : List ℕ) → printed_by main_attempt log ≡ vs → main_line (main_end log) (main_fault log) ≡ line →
     BeginsWith (report_text log) (print_lines vs ++ line)
-begins_so log vs line e f =
-    (rest_of log, ap (λ t. t ++ (main_line (main_end log) (main_fault log) ++ rest_of log)) (lines_said log ∙ ap print_lines e)
-    ∙ ap (λ t. print_lines vs ++ (t ++ rest_of log)) f
-    ∙ sym (append_assoc (print_lines vs) line (rest_of log)))
+begins_so log vs line e f = (
+  rest_of log,
+  ap (λ t. t ++ (main_line (main_end log) (main_fault log) ++ rest_of log)) (lines_said log ∙ ap print_lines e)
+      ∙ ap (λ t. print_lines vs ++ (t ++ rest_of log)) f
+      ∙ sym (append_assoc (print_lines vs) line (rest_of log)),
+)
 
 -- and says so as JSON
 says_so : (log : List Entry) (vs : List Value) (ended : Option Outcome) (fault : Option Fault) → printed_by main_attempt log ≡ vs →
@@ -119,7 +121,9 @@ pub lines_begin : LinesBegin
 lines_begin [] all h = (print_lines all, refl)
 lines_begin (v ∷ vs) [] h = absurd h
 lines_begin (v ∷ vs) (w ∷ ws) h =
-    let rest = lines_begin vs ws h.1 in
-    (rest.0, ap (λ x. print_lines (x ∷ ws)) h.0
-    ∙ ap (λ t. codes "print " ++ (value_text v ++ (codes "\n" ++ t))) rest.1
-    ∙ ap (λ t. codes "print " ++ t) (sym (append_assoc (value_text v) (codes "\n" ++ print_lines vs) rest.0)))
+    let rest = lines_begin vs ws h.1 in (
+      rest.0,
+      ap (λ x. print_lines (x ∷ ws)) h.0
+          ∙ ap (λ t. codes "print " ++ (value_text v ++ (codes "\n" ++ t))) rest.1
+          ∙ ap (λ t. codes "print " ++ t) (sym (append_assoc (value_text v) (codes "\n" ++ print_lines vs) rest.0)),
+    )

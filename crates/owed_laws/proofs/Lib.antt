@@ -1,2 +1,12 @@
-pub mod Paid
 pub mod Judged
+pub mod Paid
+pub mod Unreleased
+pub mod OwnNeeds
+pub mod OwnWaits
+pub mod NewWaits
+pub mod StoreMoves
+pub mod SlotMoves
+pub mod Senders
+pub mod MadeCopies
+pub mod CommitCopies
+pub mod Made

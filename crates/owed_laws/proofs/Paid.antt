@@ -1,9 +1,10 @@
 -- Every accepted event of every run pays what it owes, as far as that is proved.
-use Rattle.std.proofs.Common.{◌≡◌, ℕ, ◌<◌, ◌≤◌, List, [], ◌∷◌, ◌++◌, ap, sym, subst, ◌∙◌}
+use Rattle.std.proofs.Common.{◌≡◌, ℕ, ◌<◌, ◌≤◌, List, [], ◌∷◌, ◌++◌, refl, ap, sym, subst, ◌∙◌}
 use Rattle.meaning.specs.Mains.{KeepsMainApart}
 use Rattle.event_log.specs.Entries.{Deliver, Entry, Event, In}
 use Rattle.event_log.specs.Rules.{Setting}
 use Rattle.protocol.specs.Answers.{Step, Takes, answer}
+use Rattle.protocol.specs.Messages.{Letter, Missing, TheNode, TheWorker, letter}
 use Rattle.protocol.specs.Whole.{Whole}
 use Rattle.protocol_laws.specs.Coming.{IsRight}
 use Rattle.protocol_owed.specs.Runs.{AcknowledgementsAreMade, Handing, Running, after_event, after_events, answer_to, opening_run, seen}
@@ -14,13 +15,16 @@ use Rattle.protocol_owed.proofs.Counting.{law_of_asks}
 use Rattle.protocol_owed.proofs.Fetches.{law_of_fetches}
 use Rattle.lease_discipline.specs.Slots.{AreRight}
 use Rattle.lease_discipline.specs.Told.{entries_of}
-use Rattle.lease_discipline.proofs.Told.{claims_are_answered}
+use Rattle.lease_discipline.proofs.Events.{among_at}
+use Rattle.lease_discipline.proofs.Told.{claims_are_answered, places}
 use Rattle.owed_asks.specs.Law.{happening}
 use Rattle.owed_asks.proofs.Laws.{RunKeeps, births_are_asked, calm_so_far, elsewheres_are_asked, gives_are_begun, last_log, last_whole, one_more, runs_keep}
 use Rattle.owed_asks.proofs.Laws.{all_right}
-use Rattle.owed_asks.proofs.Needs.{copies_are_got, new_foreign_waits_are_asked}
+use Rattle.owed_asks.proofs.Needs.{copies_are_got}
 use Rattle.owed_asks.proofs.RightSlots.{run_uses, slots_are_all_right, there}
 use Rattle.owed_asks.proofs.UserEvents.{KeepsUses}
+use Rattle.owed_laws.proofs.Senders.{senders_are_there}
+use Rattle.owed_laws.proofs.NewWaits.{new_waits_are_tended}
 use Rattle.owed_laws.specs.Law.{EventIsPaid, EventsArePaid, FetchesAreMet}
 use Rattle.owed_replies.specs.Law as R
 use Rattle.owed_replies.proofs.Laws.{law_of_replies}
@@ -83,12 +87,15 @@ module _ (s : Setting) (slots : ℕ) (some : 0 < s.nodes) (slot : 1 ≤ slots) (
       slots = slots_after;
       replies = λ calm. record {
         births = births_are_asked s slots some slot apart gs right g step is taken calm;
-        waits = new_foreign_waits_are_asked s slots some slot apart gs right g step is taken calm;
+        waits = new_waits_are_tended s slots some slot apart gs right g step is taken calm;
         elsewhere = elsewheres_are_asked s slots some slot apart gs right g step is taken calm;
         gives = gives_are_begun s slots some slot apart gs right g step is taken calm;
         copies = copies_are_got s slots some slot apart gs right g step is taken calm;
-        missing = λ i w n number m y foreign brings place.
-            (made calm brings.0 brings.1).handed_on i w n number m y foreign (record { brought = brings.2; place = place });
+        missing = λ i w y number m foreign brings.
+            let l : Letter = letter (TheNode i) (TheWorker w) (Missing y number m) in
+            let x = (senders_are_there s.nodes slots gs l (among_at r.whole.network brings.0 l brings.2)).lacking i w y number m refl in
+            (made calm brings.0 brings.1).handed_on i w x.0.node number m y foreign
+            (record { brought = brings.2; place = places s r.log r.whole keeps.step.sound.between w x.0 x.1 });
         acknowledged = λ v w a n brings place. (made calm brings.0 brings.1).back v w n a (record { brought = brings.2; place = place });
         replies = replies calm;
       };

@@ -1,19 +1,20 @@
 -- What is owed by an accepted event, as far as every event of every run is proved to pay it. The whole of what is owed is `Owed` of protocol_owed.
-use Rattle.std.specs.Prelude.{◌≡◌, ◌≢◌, ◌<◌, ◌≤◌, ℕ, true, List, Some}
-use Rattle.event_log.specs.Events.{node_lives, node_of}
+use Rattle.std.specs.Prelude.{◌≡◌, ◌<◌, ◌≤◌, ℕ, true, List}
+use Rattle.event_log.specs.Events.{node_lives}
 use Rattle.event_log.specs.Rules.{Setting}
 use Rattle.meaning.specs.Mains.{KeepsMainApart}
 use Rattle.meaning.specs.Values.{Id}
 use Rattle.protocol.specs.Answers.{Step, Takes}
-use Rattle.protocol.specs.Messages.{Fetch, Missing, TheNode, TheWorker}
+use Rattle.protocol.specs.Messages.{Fetch, TheNode, TheWorker}
 use Rattle.protocol_laws.specs.Coming.{IsRight}
-use Rattle.protocol_owed.specs.Replies.{AcknowledgedGoesBack, BirthIsAsked, Brings, CopyIsGot, ElsewhereIsAsked, GiveIsBegun, Happening, Says}
+use Rattle.protocol_owed.specs.Replies.{AcknowledgedGoesBack, BirthIsAsked, Brings, CopyIsGot, ElsewhereIsAsked, GiveIsBegun, Happening}
+use Rattle.protocol_owed.specs.Replies.{MissingIsHandedOn, NewWaitsAreTended}
 use Rattle.protocol_owed.specs.Runs.{FetchIsMet, Handing, Running, after_events, answer_to, opening_run, seen}
 use Rattle.protocol_owed.specs.Seen.{IsCalm}
 use Rattle.protocol_owed.specs.Turns.{AllSlotsAreRight, AsksAreAnswered, ClaimIsAnswered}
 use Rattle.lease_discipline.specs.Slots.{AreRight}
 use Rattle.lease_discipline.specs.Told.{entries_of}
-use Rattle.owed_asks.specs.Law.{NewForeignWaitIsAsked, happening}
+use Rattle.owed_asks.specs.Law.{happening}
 use Rattle.owed_replies.specs.Law.{IsPaid}
 
 -- a Fetch that reaches a live node is answered by what its store has
@@ -22,24 +23,19 @@ FetchesAreMet h =
     (n w number : ℕ) (y : Id) → Brings h (TheWorker w) (TheNode n) (Fetch y number) → node_lives h.before.setting.nodes n h.before.log ≡ true →
     FetchIsMet h.before h.letters n w y number
 
-abbrev pub MissingGoesOn : Happening → Type 0
-MissingGoesOn h =
-    (i w n number m : ℕ) (y : Id) → y.owner ≢ w → Brings h (TheNode i) (TheWorker w) (Missing y number m) → node_of w h.before.log ≡ Some n →
-    Says h (TheWorker w) (TheWorker y.owner) (Missing y number m)
-
 -- as long as nothing was killed or lost
 pub record RepliesArePaid (h : Happening) : Type 0 where
   -- a task that is born is asked for, at its owner's own node
   pub births : BirthIsAsked h
-  -- another worker's object is asked for in the commit that leaves an attempt to wait for it
-  pub waits : NewForeignWaitIsAsked h
+  -- in the commit that leaves an attempt to wait for an object, another worker's is asked for, an own accepted one fetched; an own put is there
+  pub waits : NewWaitsAreTended h
   -- an Elsewhere is followed, and a Give begins its attempt
   pub elsewhere : ElsewhereIsAsked h
   pub gives : GiveIsBegun h
   -- a copy answers the attempt that waits for it
   pub copies : CopyIsGot h
   -- what a worker's node lacks of another's object is handed on to the owner
-  pub missing : MissingGoesOn h
+  pub missing : MissingIsHandedOn h
   -- a FinishedAck goes back to the worker's node
   pub acknowledged : AcknowledgedGoesBack h
   -- ends and answers to whoever asks

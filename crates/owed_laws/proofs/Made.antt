@@ -1,0 +1,157 @@
+-- What is made by a log with one more event was made before it, or by what the event logged, or is small.
+use Rattle.std.proofs.Common.{◌≡◌, ℕ, zero, suc, List, [], ◌∷◌, ◌++◌, Some, None, Option, refl, ap, sym, subst, ◌∙◌, ◌⊎◌, inl, inr}
+use Rattle.std.specs.Prelude.{Bool, true, false, if◌then◌else◌, slice_get}
+use Rattle.std.specs.List.{flat_map}
+use Rattle.std.proofs.lemmas.List.Concat.{flat_map-append}
+use Rattle.sequence.proofs.Places.{slice_get-append}
+use Rattle.meaning.proofs.BirthLaws.{at_test, same_id-true}
+use Rattle.meaning.specs.Births.{Bearing, birth_at, same_id}
+use Rattle.meaning.specs.Values.{Birth, Id, Outcome, Put}
+use Rattle.values.specs.Cells.{is_small}
+use Rattle.event_log.specs.Breaks.{Among}
+use Rattle.event_log.specs.Entries.{Accepted, Attempt, Begun, Born, Ended, Entry, Event, Faulted, Got, In, Opened, Printed, Refused, Released, Resolved}
+use Rattle.event_log.specs.Events.{node_of}
+use Rattle.event_log.specs.Legal as L
+use Rattle.event_log.specs.Rules.{Setting}
+use Rattle.event_log.specs.Sane.{Sane}
+use Rattle.event_log.specs.Words.{attempt, births, born_in, ended_in, ends_of, main_bearing, run_in, runs_of, same_attempt, worker_of}
+use Rattle.event_log.proofs.Extending.{birth_at-more, node_of-more}
+use Rattle.event_log.proofs.SaneLaws.{legal_logs_are_sane}
+use Rattle.event_log.proofs.WordLaws.{same_attempt-true}
+use Rattle.protocol.specs.Whole.{Whole}
+use Rattle.protocol_legal.specs.Made.{EndsSmall, IsEndedAt, IsMadeAt, IsPutAt}
+use Rattle.protocol_legal.specs.Whole.{Between, setting_of}
+use Rattle.protocol_owed.proofs.Letters.{among-append_cases, among-nothing}
+use Rattle.owed_replies.proofs.Advancing.{flat_among}
+use Rattle.owed_laws.proofs.MadeCopies.{IsNewIn}
+
+birth_behind : (xs ys : List Bearing) (o : Id) → birth_at xs o ≡ None → birth_at (xs ++ ys) o ≡ birth_at ys o
+birth_behind [] ys o e = refl
+birth_behind (x ∷ xs) ys o e =
+    at_test (λ t. (if t then Some x.birth else birth_at xs o) ≡ None → (if t then Some x.birth else birth_at (xs ++ ys) o) ≡ birth_at ys o) (same_id x.object o)
+    (λ _ f. absurd (some_none f)) (λ _ f. birth_behind xs ys o f) e
+  where
+    some_none : Some x.birth ≡ None → ⊥
+    some_none f = cc
+
+birth_among : (xs : List Bearing) (o : Id) (b : Birth) → birth_at xs o ≡ Some b → Among (record { object = o; birth = b }) xs
+birth_among [] o b e = absurd (cc)
+birth_among (x ∷ xs) o b e =
+    at_test (λ t. same_id x.object o ≡ t → (if t then Some x.birth else birth_at xs o) ≡ Some b → Among (record { object = o; birth = b }) (x ∷ xs)) (same_id x.object o)
+    (λ _ same f. (zero, ap (λ y. Some y) (is x (same_id-true x.object o same) f))) (λ _ _ f. let r = birth_among xs o b f in (suc r.0, r.1)) refl e
+  where
+    is : (x : Bearing) → x.object ≡ o → Some x.birth ≡ Some b → x ≡ record { object = o; birth = b }
+    is x f g = let h : x.birth ≡ b = cc in ap (λ i. record { object = i; birth = x.birth }) f ∙ ap (λ c. record { object = o; birth = c }) h
+
+-- the entry that bore it
+born_entry : (es : List Entry) (o : Id) (b : Birth) → Among {X = Bearing} (record { object = o; birth = b }) (flat_map born_in es) → (a : Attempt) × Among (Born o a b) es
+born_entry es o b i = let r = flat_among born_in es (record { object = o; birth = b }) i in by_entry r.0 r.2 r.1
+  where
+    none : {Y : Type 0} → Among {X = Bearing} (record { object = o; birth = b }) [] → Y
+    none h = absurd (among-nothing _ h)
+
+    by_entry : (x : Entry) → Among {X = Bearing} (record { object = o; birth = b }) (born_in x) → Among x es → (a : Attempt) × Among (Born o a b) es
+    by_entry (Born p a d) (zero, e) k =
+        let f : ◌≡◌ {A = Bearing} (record { object = p; birth = d }) (record { object = o; birth = b }) = cc in
+        (a, subst (λ (z : Bearing). Among (Born z.object a z.birth) es) f k)
+    by_entry (Born p a d) (suc j, e) k = absurd (cc)
+    by_entry (In e seat) j k = none j
+    by_entry (Refused code) j k = none j
+    by_entry (Opened w n) j k = none j
+    by_entry (Begun a w) j k = none j
+    by_entry (Got a y c) j k = none j
+    by_entry (Printed v) j k = none j
+    by_entry (Ended a c) j k = none j
+    by_entry (Accepted a) j k = none j
+    by_entry (Faulted a y f) j k = none j
+    by_entry (Resolved p f) j k = none j
+    by_entry (Released p) j k = none j
+
+ended_entry : (es : List Entry) (a : Attempt) (c : Outcome) → Among c (flat_map (ended_in a) es) → Among (Ended a c) es
+ended_entry es a c i = let r = flat_among (ended_in a) es c i in by_entry r.0 r.2 r.1
+  where
+    none : {X : Type 0} → Among c [] → X
+    none h = absurd (among-nothing c h)
+
+    by_entry : (x : Entry) → Among c (ended_in a x) → Among x es → Among (Ended a c) es
+    by_entry (Ended d f) j k = at_test (λ t. same_attempt d a ≡ t → Among c (if t then f ∷ [] else []) → Among (Ended a c) es) (same_attempt d a)
+        (λ _ e h. subst (λ b. Among (Ended b c) es) (same_attempt-true d a e) (subst (λ g. Among (Ended d g) es) (only f h) k)) (λ _ _ h. none h) refl j
+      where
+        only : (f : Outcome) → Among c (f ∷ []) → f ≡ c
+        only f (zero, e) = cc
+        only f (suc m, e) = absurd (cc)
+    by_entry (In e seat) j k = none j
+    by_entry (Refused code) j k = none j
+    by_entry (Opened w n) j k = none j
+    by_entry (Begun b w) j k = none j
+    by_entry (Born o b d) j k = none j
+    by_entry (Got b y d) j k = none j
+    by_entry (Printed v) j k = none j
+    by_entry (Accepted b) j k = none j
+    by_entry (Faulted b y f) j k = none j
+    by_entry (Resolved o f) j k = none j
+    by_entry (Released o) j k = none j
+
+module _ (s : Setting) (log : List Entry) (c : Whole) (b : Between s log c) (e : Event) (seat : ℕ) (es : List Entry) where
+  abbrev later : List Entry
+  later = log ++ In e seat ∷ es
+
+  sane : Sane log
+  sane = legal_logs_are_sane L.Whole (setting_of s c) log b.legal
+
+  same_number : (m n : ℕ) → ◌≡◌ {A = Option ℕ} (Some m) (Some n) → m ≡ n
+  same_number m n f = cc
+
+  same_birth : (x y : Birth) → ◌≡◌ {A = Option Birth} (Some x) (Some y) → x ≡ y
+  same_birth x y f = cc
+
+  births_then : births later ≡ births log ++ flat_map born_in (In e seat ∷ es)
+  births_then = ap (λ xs. main_bearing ∷ xs) (flat_map-append born_in log (In e seat ∷ es))
+
+  behind : {x : Entry} → Among x (In e seat ∷ es) → (x ≡ In e seat → ⊥) → Among x es
+  behind {x} (zero, f) other = let g : In e seat ≡ x = cc in absurd (other (sym g))
+  behind {x} (suc k, f) other = (k, f)
+
+  -- a content that was made before, or is new, or is small
+  abbrev WasMade : Id → ℕ → ℕ → Type 0
+  WasMade o number n = IsMadeAt log o number n ⊎ IsNewIn es o number ⊎ EndsSmall later (attempt o number)
+
+  put_before : (o : Id) (number n : ℕ) (p : IsPutAt later o number n) → WasMade o number n
+  put_before o number n p = by_birth (birth_at (births log) o) refl
+    where
+      by_birth : (d : Option Birth) → birth_at (births log) o ≡ d → WasMade o number n
+      by_birth (Some d) f =
+          let home = b.knows.calm.homes o (d, f) in
+          let same : d ≡ Put p.value = same_birth d (Put p.value)
+          (sym (birth_at-more (births log) (flat_map born_in (In e seat ∷ es)) o d f) ∙ ap (λ xs. birth_at xs o) (sym births_then) ∙ p.born) in
+          let place : home.0 ≡ n = same_number home.0 n (sym (node_of-more log (In e seat ∷ es) o.owner home.0 home.1) ∙ p.home) in
+          inl (inl (record { value = p.value; born = f ∙ ap (λ i. Some i) same; first = p.first; home = home.1 ∙ ap (λ i. Some i) place }))
+      by_birth None f =
+          let i = birth_among (flat_map born_in (In e seat ∷ es)) o (Put p.value)
+          (sym (birth_behind (births log) (flat_map born_in (In e seat ∷ es)) o f) ∙ ap (λ xs. birth_at xs o) (sym births_then) ∙ p.born) in
+          let r = born_entry (In e seat ∷ es) o (Put p.value) i in
+          inr (inl (inl (r.0, p.value, behind r.1 (λ g. absurd (cc)), p.first)))
+
+  end_before : (o : Id) (number n : ℕ) (p : IsEndedAt later o number n) → WasMade o number n
+  end_before o number n p =
+      let a : Attempt = attempt o number in
+      elim (among-append_cases (ends_of a log) (flat_map (ended_in a) (In e seat ∷ es)) p.content
+      (subst (λ xs. Among p.content xs) (flat_map-append (ended_in a) log (In e seat ∷ es)) p.ended)) [
+        | inl old ↦
+            let ran = sane.ended a old.0 p.content old.1 in
+            let node = sane.opened o number ran.0 ran.1 in
+            let more : worker_of a later ≡ Some ran.0 = ap (λ xs. slice_get xs number) (flat_map-append (run_in o) log (In e seat ∷ es)) ∙
+            slice_get-append (runs_of o log) (flat_map (run_in o) (In e seat ∷ es)) number ran.0 ran.1 in
+            let worker : ran.0 ≡ p.worker = same_number ran.0 p.worker (sym more ∙ p.runs) in
+            let place : node.0 ≡ n = same_number node.0 n (sym (node_of-more log (In e seat ∷ es) ran.0 node.0 node.1) ∙ ap (λ w. node_of w later) worker ∙ p.home) in
+            inl (inr (record { worker = ran.0; runs = ran.1; home = node.1 ∙ ap (λ i. Some i) place; content = p.content; ended = old }))
+        | inr new ↦ by_size new (is_small p.content) refl
+      ]
+    where
+      by_size : Among p.content (flat_map (ended_in (attempt o number)) (In e seat ∷ es)) → (t : Bool) → is_small p.content ≡ t → WasMade o number n
+      by_size new true small = inr (inr (p.content, p.ended, small))
+      by_size new false big = inr (inl (inr (p.content, behind (ended_entry (In e seat ∷ es) (attempt o number) p.content new) (λ g. absurd (cc)), big)))
+
+  pub made_before : (o : Id) (number n : ℕ) → IsMadeAt later o number n → WasMade o number n
+  made_before o number n (inl p) = put_before o number n p
+  made_before o number n (inr p) = end_before o number n p

@@ -1,0 +1,85 @@
+-- A worker's event takes no primary copy away, and what it logs of births and ends comes of a commit alone.
+use Rattle.std.proofs.Common.{◌≡◌, ℕ, zero, suc, List, [], ◌∷◌, ◌++◌, refl, subst, ◌⊎◌, inl, inr}
+use Rattle.std.specs.Prelude.{Bool, true, false}
+use Rattle.sequence.proofs.Places.{and_left, and_right}
+use Rattle.meaning.specs.Values.{Id, Outcome, Put, Value}
+use Rattle.values.specs.Cells.{is_small}
+use Rattle.event_log.specs.Breaks.{Among}
+use Rattle.event_log.specs.Entries.{Accepted, Attempt, Begun, Born, Ended, Entry, Faulted, Got, In, Opened, Printed, Refused, Released, Resolved}
+use Rattle.event_log.specs.Words.{attempt}
+use Rattle.protocol.specs.Nodes.{There}
+use Rattle.protocol.specs.Steps.{Here}
+use Rattle.protocol.specs.Stores.{Store}
+use Rattle.protocol_owed.proofs.Letters.{among-append_cases}
+use Rattle.owed_laws.proofs.SlotMoves as S
+use Rattle.owed_laws.proofs.StoreMoves.{IsKept, Stores, is_mute, is_quiet}
+
+-- the entries bear the put, or say that the attempt of that number ended with a content that isn't small
+abbrev pub IsNewIn : List Entry → Id → ℕ → Type 0
+IsNewIn es o n = ((a : Attempt) × (v : Value) × Among (Born o a (Put v)) es × (n ≡ 0)) ⊎ ((c : Outcome) × Among (Ended (attempt o n) c) es × (is_small c ≡ false))
+
+abbrev is_making : Entry → Bool
+is_making (Born o a b) = true
+is_making (Ended a c) = true
+is_making _ = false
+
+mute_makes_none : (x : Entry) → is_mute x ≡ true → is_making x ≡ false
+mute_makes_none (Born o a b) e = absurd (cc)
+mute_makes_none (Ended a c) e = absurd (cc)
+mute_makes_none (In e seat) q = refl
+mute_makes_none (Refused code) q = refl
+mute_makes_none (Opened w n) q = refl
+mute_makes_none (Begun a w) q = refl
+mute_makes_none (Got a y c) q = refl
+mute_makes_none (Printed v) q = refl
+mute_makes_none (Accepted a) q = refl
+mute_makes_none (Faulted a y f) q = refl
+mute_makes_none (Resolved o f) q = refl
+mute_makes_none (Released o) q = refl
+
+mute_there : (es : List Entry) (x : Entry) → is_quiet es ≡ true → Among x es → is_making x ≡ false
+mute_there [] x q (k, e) = absurd (cc)
+mute_there (y ∷ es) x q (zero, e) = let same : y ≡ x = cc in subst (λ z. is_making z ≡ false) same (mute_makes_none y (and_left (is_mute y) (is_quiet es) q))
+mute_there (y ∷ es) x q (suc k, e) = mute_there es x (and_right (is_mute y) (is_quiet es) q) (k, e)
+
+new_before : (xs es : List Entry) → ((x : Entry) → Among x es → is_making x ≡ false) → (o : Id) (n : ℕ) → IsNewIn (xs ++ es) o n → IsNewIn xs o n
+new_before xs es none o n (inl (a, v, i, z)) = elim (among-append_cases xs es (Born o a (Put v)) i) [ inl old ↦ inl (a, v, old, z) | inr new ↦ absurd (never (none _ new)) ]
+  where
+    never : true ≡ false → ⊥
+    never e = cc
+new_before xs es none o n (inr (c, i, big)) = elim (among-append_cases xs es (Ended (attempt o n) c) i) [ inl old ↦ inr (c, old, big) | inr new ↦ absurd (never (none _ new)) ]
+  where
+    never : true ≡ false → ⊥
+    never e = cc
+
+opened_makes_none : (w n : ℕ) (x : Entry) → Among x (Opened w n ∷ []) → is_making x ≡ false
+opened_makes_none w n x (zero, e) = let same : Opened w n ≡ x = cc in subst (λ z. is_making z ≡ false) same refl
+opened_makes_none w n x (suc k, e) = absurd (cc)
+
+-- so far each of those primary copies is there, and nothing was made but as those entries say
+module _ (before : Store) (made : List Entry) where
+  pub record StaysThere (t : There) : Type 0 where
+    pub copies : (o : Id) (n : ℕ) → Stores before o n → Stores t.node.store o n
+    pub entries : (o : Id) (n : ℕ) → IsNewIn t.out.entries o n → IsNewIn made o n
+
+  abbrev pub Stays : Here → Type 0
+  Stays h = StaysThere h.there
+
+  there_stays : S.IsKeptThere StaysThere
+  there_stays = record {
+    opens = λ t w p. record { copies = p.copies; entries = λ o n q. p.entries o n (new_before t.out.entries (Opened w t.number ∷ []) (opened_makes_none w t.number) o n q) };
+    replies = λ t k x p. record { copies = p.copies; entries = p.entries };
+    scheduler = λ t s p. record { copies = p.copies; entries = p.entries };
+  }
+
+  -- every step of a worker but the first part of a commit keeps it
+  pub stays_kept : IsKept Stays
+  stays_kept = record {
+    logs = λ h es q p. record { copies = p.copies; entries = λ o n i. p.entries o n (new_before h.there.out.entries es (λ x. mute_there es x q) o n i) };
+    says = λ h w m p. record { copies = p.copies; entries = p.entries };
+    says_to_node = λ h n m p. record { copies = p.copies; entries = p.entries };
+    worker = λ h x _ _ p. record { copies = p.copies; entries = p.entries };
+    store = λ h s keeps p. record { copies = λ o n q. keeps o n (p.copies o n q); entries = p.entries };
+    frees = λ h p. S.frees-kept StaysThere there_stays h.there h.me p;
+    asks = λ h p. S.asks_slot-kept StaysThere there_stays h.there h.me p;
+  }

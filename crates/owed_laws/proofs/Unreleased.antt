@@ -1,0 +1,188 @@
+-- What an attempt needs that goes on wasn't released, as long as nobody was killed: it knows the object, which is safe in it then, and nothing that is
+-- safe in an attempt that goes on is released.
+use Rattle.std.proofs.Common.{◌≡◌, ℕ, zero, suc, Bool, true, List, [], ◌∷◌, ◌++◌, Some, refl, ap, sym, subst, ◌∙◌, inl, inr}
+use Rattle.meaning.specs.Births.{Bearing, birth_at, numbered}
+use Rattle.meaning.specs.Ids.{IsObjectOf, StandsAmong, StandsIn, StandsInArguments, StandsInBirth, StandsInOutcome, StandsInOutcomes, StopIn}
+use Rattle.meaning.specs.Law.{IsGiven}
+use Rattle.meaning.specs.Meaning.{replay}
+use Rattle.meaning.specs.Runs.{Needs, Piece}
+use Rattle.meaning.specs.Values.{Argument, Birth, Id, Int, Items, Known, Named, Outcome, Put, Task, Trapped, Val, Value, Values, more, none}
+use Rattle.script_laws.proofs.Given.{law_of_ids}
+use Rattle.values.specs.Listed.{ids_among, ids_in_outcome, ids_listed}
+use Rattle.event_log.specs.Breaks as B
+use Rattle.event_log.specs.Breaks.{is_some}
+use Rattle.event_log.specs.Entries as logged
+use Rattle.event_log.specs.Entries.{Attempt, Entry}
+use Rattle.event_log.specs.Holding.{ids_of_arguments, ids_of_birth}
+use Rattle.event_log.specs.Rules.{Setting, Stops}
+use Rattle.event_log.specs.Words.{answers_of, births, own_births, worker_of}
+use Rattle.holding.specs.Grows.{Joined}
+use Rattle.holding.specs.Past as facts
+use Rattle.holding.specs.Legal.{Allowed, Legal, MayBear, MayEnd, MayGet, Running}
+use Rattle.holding.specs.Past.{Among, Bore, Fact, Gained, Given, HasNot, InBirth, InContent, IsContent, Killed, Knows, OfPut, OfTask, Puts, Released, Safe}
+use Rattle.holding.specs.Past.{SafeBorn, SafeGained, SafeGiven}
+use Rattle.holding.specs.Tells.{Stands}
+use Rattle.holding.proofs.Bridge.{ids_given_to, ids_of_outcomes, known_to, knows_so, no_end_so, no_fault_so, objects_of}
+use Rattle.holding.proofs.Kept.{always_kept, known as unreleased_known, running_at_work}
+use Rattle.protocol_owed.specs.Seen.{IsCalm}
+use Rattle.owed_replies.proofs.Quiet.{worker_alive}
+
+-- ---- what is given to an attempt is among what it knows
+
+in_left : (z : Id) (xs ys : List Id) → Among z xs → Among z (xs ++ ys)
+in_left z [] ys h = absurd h
+in_left z (x ∷ xs) ys (inl h) = inl h
+in_left z (x ∷ xs) ys (inr h) = inr (in_left z xs ys h)
+
+in_right : (z : Id) (xs ys : List Id) → Among z ys → Among z (xs ++ ys)
+in_right z [] ys h = h
+in_right z (x ∷ xs) ys h = inr (in_right z xs ys h)
+
+mutual
+  in_value : (z : Id) (v : Value) → StandsIn z v → Among z (ids_listed v)
+  in_value z (Int n) h = absurd h
+  in_value z (Items vs) h = in_values z vs h
+  in_value z (Named o) h = inl (sym h)
+  in_value z (Known c) h = absurd h
+
+  in_values : (z : Id) (vs : Values) → StandsAmong z vs → Among z (ids_among vs)
+  in_values z none h = absurd h
+  in_values z (more v vs) (inl h) = in_left z (ids_listed v) (ids_among vs) (in_value z v h)
+  in_values z (more v vs) (inr h) = in_right z (ids_listed v) (ids_among vs) (in_values z vs h)
+
+in_arguments : (z : Id) (args : List Argument) → StandsInArguments z args → Among z (ids_of_arguments args)
+in_arguments z [] h = absurd h
+in_arguments z (a ∷ args) (inl h) = in_left z (ids_listed a.value) (ids_of_arguments args) (in_value z a.value h)
+in_arguments z (a ∷ args) (inr h) = in_right z (ids_listed a.value) (ids_of_arguments args) (in_arguments z args h)
+
+in_birth : (z : Id) (b : Birth) → StandsInBirth z b → Among z (ids_of_birth b)
+in_birth z (Put v) h = in_value z v h
+in_birth z (Task g args depth retries) h = in_arguments z args h
+
+in_outcome : (z : Id) (c : Outcome) → StandsInOutcome z c → Among z (ids_in_outcome c)
+in_outcome z (Val v) h = in_value z v h
+in_outcome z (Trapped t) h = absurd h
+
+in_outcomes : (z : Id) (cs : List Outcome) → StandsInOutcomes z cs → Among z (ids_of_outcomes cs)
+in_outcomes z [] h = absurd h
+in_outcomes z (c ∷ cs) (inl h) = in_left z (ids_in_outcome c) (ids_of_outcomes cs) (in_outcome z c h)
+in_outcomes z (c ∷ cs) (inr h) = in_right z (ids_in_outcome c) (ids_of_outcomes cs) (in_outcomes z cs h)
+
+in_objects : (z : Id) (xs : List Bearing) → IsObjectOf z xs → Among z (objects_of xs)
+in_objects z [] h = absurd h
+in_objects z (x ∷ xs) (inl h) = inl (sym h)
+in_objects z (x ∷ xs) (inr h) = inr (in_objects z xs h)
+
+stands_there : (log : List Entry) (x : Entry) → B.Among x log → Stands x log
+stands_there [] x (k, e) = absurd (cc)
+stands_there (y ∷ log) x (zero, e) = let same : y ≡ x = cc in inl (sym same)
+stands_there (y ∷ log) x (suc k, e) = inr (stands_there log x (k, e))
+
+-- ---- what an attempt knows is safe in it, where nobody was killed
+
+abbrev NoneKilled : List Fact → Type 0
+NoneKilled past = (w : ℕ) → HasNot (Killed w) past
+
+puts_more : (f : Fact) (past : List Fact) (a : Attempt) (e z : Id) → Puts past a e z → Puts (f ∷ past) a e z
+puts_more f past a e z (InBirth put ids h m) = InBirth put ids (inr h) m
+puts_more f past a e z (InContent ids same h m) = InContent ids same (inr h) m
+
+safe_more : (f : Fact) (past : List Fact) → NoneKilled (f ∷ past) → (a : Attempt) (z : Id) → Safe past a z → Safe (f ∷ past) a z
+safe_more f past alive a z (SafeBorn put ids h) = SafeBorn put ids (inr h)
+safe_more f past alive a z (SafeGiven b p lives safe) = SafeGiven b (puts_more f past b a.object z p) (alive a.object.owner) (safe_more f past alive b z safe)
+safe_more f past alive a z (SafeGained b y has lives p safe) =
+    SafeGained b y (safe_more f past alive a y has) (alive y.owner) (puts_more f past b y z p) (safe_more f past alive b z safe)
+
+-- what it knows, and what it puts into an entry
+record AllSafe (past : List Fact) : Type 0 where
+  knows : (a : Attempt) (z : Id) → Knows past a z → Safe past a z
+  puts : (a : Attempt) (e z : Id) → Puts past a e z → Safe past a z
+
+module _ (f : Fact) (past : List Fact) (legal : Legal (f ∷ past)) (alive : NoneKilled (f ∷ past)) (before : AllSafe past) where
+  later : (a : Attempt) (z : Id) → Safe past a z → Safe (f ∷ past) a z
+  later a z safe = safe_more f past alive a z safe
+
+  may_bear : (o : Id) (a : Attempt) (put : Bool) (ids : List Id) → facts.Born o a put ids ≡ f → MayBear past o a ids
+  may_bear o a put ids e = subst (λ g. Allowed past g) (sym e) legal.0
+
+  may_end : (a : Attempt) (ids : List Id) → facts.Ended a ids ≡ f → MayEnd past a ids
+  may_end a ids e = subst (λ g. Allowed past g) (sym e) legal.0
+
+  may_get : (a : Attempt) (y : Id) (ids : List Id) → facts.Got a y ids ≡ f → MayGet past a y ids
+  may_get a y ids e = subst (λ g. Allowed past g) (sym e) legal.0
+
+  puts_then : (a : Attempt) (e z : Id) → Puts (f ∷ past) a e z → Safe (f ∷ past) a z
+  puts_then a e z (InBirth put ids (inl is) m) = later a z (before.knows a z ((may_bear e a put ids is).known z m))
+  puts_then a e z (InBirth put ids (inr h) m) = later a z (before.puts a e z (InBirth put ids h m))
+  puts_then a e z (InContent ids same (inl is) m) = later a z (before.knows a z ((may_end a ids is).known z m))
+  puts_then a e z (InContent ids same (inr h) m) = later a z (before.puts a e z (InContent ids same h m))
+
+  gained : (a : Attempt) (y z : Id) (ids : List Id) → Knows past a y → Among z ids → IsContent past y ids → Safe (f ∷ past) a z
+  gained a y z ids has m (OfPut q h) =
+      SafeGained q y (later a y (before.knows a y has)) (alive y.owner) (InBirth true ids (inr h) m) (later q z (before.puts q y z (InBirth true ids h m)))
+  gained a y z ids has m (OfTask v same ended accepted) =
+      SafeGained v y (later a y (before.knows a y has)) (alive y.owner) (InContent ids (sym same) (inr ended) m)
+      (later v z (before.puts v y z (InContent ids (sym same) ended m)))
+
+  knows_then : (a : Attempt) (z : Id) → Knows (f ∷ past) a z → Safe (f ∷ past) a z
+  knows_then a z (Bore put ids h) = SafeBorn put ids h
+  knows_then a z (Given b put ids (inl is) m) =
+      SafeGiven b (InBirth put ids (inl is) m) (alive a.object.owner) (later b z (before.knows b z ((may_bear a.object b put ids is).known z m)))
+  knows_then a z (Given b put ids (inr h) m) = later a z (before.knows a z (Given b put ids h m))
+  knows_then a z (Gained y ids (inl is) m) = let may = may_get a y ids is in gained a y z ids may.known m may.content
+  knows_then a z (Gained y ids (inr h) m) = later a z (before.knows a z (Gained y ids h m))
+
+all_safe : (past : List Fact) → Legal past → NoneKilled past → AllSafe past
+all_safe [] legal alive = record { knows = no_one; puts = nothing }
+  where
+    no_one : (a : Attempt) (z : Id) → Knows [] a z → Safe [] a z
+    no_one a z (Bore put ids h) = absurd h
+    no_one a z (Given b put ids h m) = absurd h
+    no_one a z (Gained y ids h m) = absurd h
+
+    nothing : (a : Attempt) (e z : Id) → Puts [] a e z → Safe [] a z
+    nothing a e z (InBirth put ids h m) = absurd h
+    nothing a e z (InContent ids same h m) = absurd h
+all_safe (f ∷ past) legal alive =
+    let before : AllSafe past = all_safe past legal.1 (λ w h. alive w (inr h)) in
+    record { knows = knows_then f past legal alive before; puts = puts_then f past legal alive before }
+
+module _ (s : Setting) (log : List Entry) (past : List Fact) (joined : Joined log past) (calm : IsCalm log) where
+  none_killed : (w : ℕ) → HasNot (Killed w) past
+  none_killed w h = worker_alive log calm w (joined.tells.killed w h)
+
+  -- an attempt needs only what it knows
+  pub needed_known : (a : Attempt) (y : Id) → Stops s log a (Needs (Named y)) → Knows past a y
+  needed_known a y h = knows_so log past joined.tells a y (place known)
+    where
+      spec : Birth
+      spec = h.replays.spec
+
+      own : own_births a log ≡ numbered h.base (replay s.script spec h.base (answers_of a log)).births
+      own = h.own ∙ ap (λ (p : Piece). numbered h.base p.births) h.replays.replayed
+
+      known : IsGiven spec (own_births a log) (answers_of a log) y
+      known = subst (λ st. StopIn (IsGiven spec (own_births a log) (answers_of a log)) st) (ap (λ (p : Piece). p.stop) (sym h.replays.replayed) ∙ h.stopped)
+          (subst (λ xs. StopIn (IsGiven spec xs (answers_of a log)) (replay s.script spec h.base (answers_of a log)).stop) (sym own)
+          (law_of_ids s.script spec h.base (answers_of a log)).stop)
+
+      place : IsGiven spec (own_births a log) (answers_of a log) y → Among y (known_to a log)
+      place (inl k) = in_left y (ids_given_to (birth_at (births log) a.object)) (objects_of (own_births a log) ++ ids_of_outcomes (answers_of a log))
+          (subst (λ o. Among y (ids_given_to o)) (sym h.replays.born) (in_birth y spec k))
+      place (inr (inl k)) = in_right y (ids_given_to (birth_at (births log) a.object)) (objects_of (own_births a log) ++ ids_of_outcomes (answers_of a log))
+          (in_left y (objects_of (own_births a log)) (ids_of_outcomes (answers_of a log)) (in_objects y (own_births a log) k))
+      place (inr (inr k)) = in_right y (ids_given_to (birth_at (births log) a.object)) (objects_of (own_births a log) ++ ids_of_outcomes (answers_of a log))
+          (in_right y (objects_of (own_births a log)) (ids_of_outcomes (answers_of a log)) (in_outcomes y (answers_of a log) k))
+
+  -- so that wasn't released
+  pub needed_stays : (a : Attempt) (w : ℕ) (y : Id) → worker_of a log ≡ Some w → Stops s log a (Needs (Named y)) → B.Among (logged.Released y) log → ⊥
+  needed_stays a w y runs h released =
+      let running : Running past a w = record {
+        begun = joined.tells.runs a w runs;
+        lives = none_killed w;
+        no_end = no_end_so log past joined.tells a (ap is_some h.replays.ended);
+        no_fault = no_fault_so log past joined.tells a (ap is_some h.replays.faulted);
+      } in
+      let safe : Safe past a y = (all_safe past joined.legal none_killed).knows a y (needed_known a y h) in
+      unreleased_known past joined.legal (always_kept past joined.legal) a y (running_at_work past joined.legal a w running) safe
+      (joined.tells.said (logged.Released y) (Released y) (stands_there log (logged.Released y) released) (inl refl))

@@ -5,3 +5,5 @@ mod EventTexts
 mod Settles
 mod Rows
 mod Readers
+mod Histories
+mod BothFormats

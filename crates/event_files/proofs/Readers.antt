@@ -155,7 +155,7 @@ plan_line_in_a_line : (p : PlanLine) → IsPlanLine p → has 10 (plan_line_text
 plan_line_in_a_line p h =
     has-append 10 (decimal p.commits) (codes " " ++ event_text p.event) (no_mark_in_decimal 10 p.commits (omega arith) h.0) (event_in_a_line p.event h.1)
 
-digit_first : (bytes rest : List ℕ) → 0 < length bytes → IsInRange 48 57 (get_or bytes 0 0) → is_passed (bytes ++ rest) ≡ false
+pub digit_first : (bytes rest : List ℕ) → 0 < length bytes → IsInRange 48 57 (get_or bytes 0 0) → is_passed (bytes ++ rest) ≡ false
 digit_first [] rest l r = absurd (omega arith)
 digit_first (b ∷ bytes) rest l r = grind (arith, nat_tests)
 

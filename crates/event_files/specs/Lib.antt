@@ -5,3 +5,4 @@ pub mod Files
 pub mod Reading
 pub mod Printing
 pub mod Numbering
+pub mod Recorded

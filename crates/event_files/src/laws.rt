@@ -9,6 +9,9 @@ ghost use Rattle.event_files.specs.Lines.{IsLine, line_text, AreEvents};
 ghost use Rattle.event_files.specs.Plans.{IsPlanLine, plan_line_text};
 ghost use Rattle.event_files.specs.Files.{IsFile, IsBadAt};
 ghost use Rattle.event_files.specs.Printing.{events_text};
+ghost use Rattle.event_files.specs.declared.event_file.EventFile.{EventFile};
+ghost use Rattle.event_files.specs.declared.recorded.RecordedEvent.{RecordedEvent};
+ghost use Rattle.event_files.specs.Recorded.{AreRecorded, IsEventFile, IsRecordedFile, recorded_file};
 
 /// An event file says one thing.
 pub fn one_reading()
@@ -43,4 +46,14 @@ pub fn no_plan_is_bad()
 /// One line is the first that is none of a plan.
 pub fn one_bad_plan_line()
     ensures { (bytes : List ℕ) (m n : ℕ) → IsBadAt IsPlanLine plan_line_text bytes m → IsBadAt IsPlanLine plan_line_text bytes n → m ≡ n }
+{}
+
+/// Events with their seats that are written are an event file of format 2 that says them, in their order.
+pub fn printed_history_is_read()
+    ensures { (events : List RecordedEvent) → AreRecorded events → IsRecordedFile (recorded_file events) events }
+{}
+
+/// A file of either format says one thing.
+pub fn one_event_file()
+    ensures { (bytes : List ℕ) (a b : EventFile) → IsEventFile bytes a → IsEventFile bytes b → a ≡ b }
 {}

@@ -3,6 +3,7 @@
 
 mod error;
 mod event;
+mod event_file;
 mod events;
 pub mod laws;
 mod line;
@@ -11,9 +12,12 @@ mod numbers;
 mod parts;
 mod passing;
 mod plan;
+mod recorded;
 
 pub use error::EventError;
+pub use event_file::{EventFile, parse_event_file};
 pub use events::{MOST_EVENTS, parse_events, print_events};
 pub use line::Line;
 pub use numbering::line_numbers;
 pub use plan::{PlanLine, RunPlan, parse_plan};
+pub use recorded::{RecordedEvent, print_recorded};

@@ -1,14 +1,37 @@
 -- The recorded history of a run.
-use Rattle.std.specs.Prelude.{List, [], ◌∷◌}
-use Rattle.std.specs.List.{flat_map}
+use Rattle.std.specs.Prelude.{ℕ, ◌+◌, Bool, true, false, if◌then◌else◌, List, [], ◌∷◌, Option, Some, None}
 use Rattle.event_log.specs.declared.entry.Entry.{Entry}
-use Rattle.event_log.specs.declared.entry.Entry.TheVariants.{In}
+use Rattle.event_log.specs.declared.entry.Entry.TheVariants.{In, Refused}
 use Rattle.event_log.specs.declared.event.Event.{Event}
+use Rattle.event_log.specs.declared.event.Event.TheVariants.{Claim}
+use Rattle.event_files.specs.declared.recorded.RecordedEvent.{RecordedEvent}
 
-abbrev pub event_in : Entry → List Event
-event_in (In e seat) = e ∷ []
-event_in _ = []
+abbrev pub is_refusal : Entry → Bool
+is_refusal (Refused refusal) = true
+is_refusal _ = false
 
--- the events of a log, oldest first
-abbrev pub events_in : List Entry → List Event
-events_in log = flat_map event_in log
+-- a refusal comes next
+abbrev pub refused_next : List Entry → Bool
+refused_next [] = false
+refused_next (x ∷ rest) = is_refusal x
+
+-- the number of the job that a claim gives behind so many others that were accepted, 0 where it is refused; and none of another event
+abbrev pub given_by : Event → Bool → ℕ → Option ℕ
+given_by (Claim w) refused claims = Some (if refused then 0 else claims + 1)
+given_by e refused claims = None
+
+-- how many claims were accepted behind the event
+abbrev pub claims_behind : Event → Bool → ℕ → ℕ
+claims_behind (Claim w) refused claims = if refused then claims else claims + 1
+claims_behind e refused claims = claims
+
+-- the events of a log behind so many accepted claims, oldest first, each with its seat and the number of the job that it gave
+abbrev pub recorded_from : ℕ → List Entry → List RecordedEvent
+recorded_from claims [] = []
+recorded_from claims (In e seat ∷ rest) =
+    record { seat = seat; event = e; given = given_by e (refused_next rest) claims } ∷ recorded_from (claims_behind e (refused_next rest) claims) rest
+recorded_from claims (x ∷ rest) = recorded_from claims rest
+
+-- the events of a log
+abbrev pub recorded_in : List Entry → List RecordedEvent
+recorded_in log = recorded_from 0 log

@@ -1,15 +1,18 @@
 -- The replay of an event file: the run that comes of the events that its lines stand for, one after the other.
-use Rattle.std.specs.Prelude.{◌≡◌, ◌<◌, ◌≤◌, ◌⊎◌, ◌+◌, ℕ, zero, suc, Bool, true, false, List, [], ◌∷◌, ◌++◌, map, take, slice_get, length, Option, Some, None}
+use Rattle.std.specs.Prelude.{◌≡◌, ◌≢◌, ◌<◌, ◌≤◌, ◌⊎◌, ◌+◌, ℕ, zero, suc, Bool, true, false, List, [], ◌∷◌, ◌++◌, map, take, slice_get, length, Option, Some, None}
 use Rattle.std.specs.Option.{option_flatten}
 use Rattle.meaning.specs.Syntax.{Script}
 use Rattle.ids.specs.declared.worker.WorkerId.{WorkerId}
 use Rattle.segment.specs.Jobs.{JobData, Done, IsTrueOf}
-use Rattle.event_log.specs.Entries.{Commit, Event}
+use Rattle.event_log.specs.Entries.{Claim, Commit, Event}
 use Rattle.event_log.specs.Views.{event_of}
 use Rattle.event_log.specs.declared.refusal.Refusal.{Refusal}
 use Rattle.event_log.specs.declared.refusal.Refusal.TheVariants as refusals
 use Rattle.event_files.specs.declared.line.Line.{Line}
 use Rattle.event_files.specs.declared.line.Line.TheVariants as lines
+use Rattle.event_files.specs.declared.event_file.EventFile.{EventFile}
+use Rattle.event_files.specs.declared.event_file.EventFile.TheVariants as files
+use Rattle.event_files.specs.declared.recorded.RecordedEvent.{RecordedEvent}
 use Rattle.protocol.specs.Numbered.{item_at, changed_at}
 use Rattle.protocol.specs.Settling.{next}
 use Rattle.protocol_core.specs.States.{RunState}
@@ -73,15 +76,15 @@ found_no_memory (GivesJob job) = false
 found_no_memory Accepts = false
 found_no_memory (Refuses refusal) = is_no_memory refusal
 
--- what an event makes of the run, and what is answered, where it comes from seat 0 with what was done on the job that it hands in
-abbrev pub IsAnswered : Script → Play → Event → RunState → Reply → Type 0
-IsAnswered script before e after told = (done : Option Done) × IsDoneOn script (job_for e before.jobs) done × Answers before.run e 0 done after told
+-- what an event makes of the run, and what is answered, where it comes from the seat with what was done on the job that it hands in
+abbrev pub IsAnswered : Script → Play → Event → ℕ → RunState → Reply → Type 0
+IsAnswered script before e seat after told = (done : Option Done) × IsDoneOn script (job_for e before.jobs) done × Answers before.run e seat done after told
 
 -- an event is applied, and finds memory
-pub record Step (script : Script) (before : Play) (e : Event) (after : Play) : Type 0 where
+pub record Step (script : Script) (before : Play) (e : Event) (seat : ℕ) (after : Play) : Type 0 where
   pub within : before.applied < 100000
   pub told : Reply
-  pub answered : IsAnswered script before e after.run told
+  pub answered : IsAnswered script before e seat after.run told
   pub goes_on : found_no_memory told ≡ false
   pub jobs : after.jobs ≡ with_given told (left_by e before.jobs)
   pub counted : after.applied ≡ before.applied + 1
@@ -90,15 +93,27 @@ pub record Step (script : Script) (before : Play) (e : Event) (after : Play) : T
   pub lines : after.lines ≡ before.lines ++ before.begun ∷ []
 
 -- an event at which a replay stops: there is no memory for what is done on its job or for its answer, or 100,000 events were applied
-abbrev pub StopsAt : Script → Play → Event → Play → Stopped → Type 0
-StopsAt script before e after stops.NoMemory = (after.run ≡ before.run) ⊎ ((told : Reply) × IsAnswered script before e after.run told)
-StopsAt script before e after stops.TooLong = (after ≡ before) × (100000 ≤ before.applied)
+abbrev pub StopsAt : Script → Play → Event → ℕ → Play → Stopped → Type 0
+StopsAt script before e seat after stops.NoMemory = (after.run ≡ before.run) ⊎ ((told : Reply) × IsAnswered script before e seat after.run told)
+StopsAt script before e seat after stops.TooLong = (after ≡ before) × (100000 ≤ before.applied)
+StopsAt script before e seat after stops.WrongJob = ⊥
+
+-- the number of the job that a claim gave, 0 where it was refused; of another event none
+abbrev pub given_by : Event → Reply → Option ℕ
+given_by (Claim w) (GivesJob job) = Some job.number
+given_by (Claim w) Accepts = Some 0
+given_by (Claim w) (Refuses refusal) = Some 0
+given_by e told = None
+
+-- an event is applied, and gives that
+abbrev pub Gives : Script → Play → Event → ℕ → Play → Option ℕ → Type 0
+Gives script before e seat after given = (step : Step script before e seat after) × (given ≡ given_by e step.told)
 
 -- so many events, each the one that comes next without these workers
 unfoldable pub Settles : Script → List ℕ → ℕ → Play → Play → Type 0
 Settles script but zero before after = after ≡ before
 Settles script but (suc n) before after =
-    (between : Play) × (e : Event) × Settles script but n before between × (next between.run.whole but ≡ Some e) × Step script between e after
+    (between : Play) × (e : Event) × Settles script but n before between × (next between.run.whole but ≡ Some e) × Step script between e 0 after
 
 -- a settle: such events until none comes next
 abbrev pub ComesToRest : Script → List ℕ → Play → Play → Type 0
@@ -107,7 +122,7 @@ ComesToRest script but before after = (n : ℕ) × Settles script but n before a
 abbrev pub SettleStops : Script → List ℕ → Play → Play → Stopped → Type 0
 SettleStops script but before after stopped =
     (n : ℕ) × (between : Play) × (e : Event)
-    × Settles script but n before between × (next between.run.whole but ≡ Some e) × StopsAt script between e after stopped
+    × Settles script but n before between × (next between.run.whole but ≡ Some e) × StopsAt script between e 0 after stopped
 
 -- the workers that a settle leaves out
 abbrev pub numbers_of : List WorkerId → List ℕ
@@ -115,21 +130,57 @@ numbers_of workers = map (λ w. w.0) workers
 
 -- the line is begun, and is its event or a settle
 abbrev pub LinePlays : Script → Line → Play → Play → Type 0
-LinePlays script (lines.Event e) before after = Step script (next_line before) (event_of e) after
+LinePlays script (lines.Event e) before after = Step script (next_line before) (event_of e) 0 after
 LinePlays script (lines.Settle workers) before after = ComesToRest script (numbers_of workers) (next_line before) after
 
 abbrev pub LineStops : Script → Line → Play → Play → Stopped → Type 0
-LineStops script (lines.Event e) before after stopped = StopsAt script (next_line before) (event_of e) after stopped
+LineStops script (lines.Event e) before after stopped = StopsAt script (next_line before) (event_of e) 0 after stopped
 LineStops script (lines.Settle workers) before after stopped =
     ((after ≡ next_line before) × (stopped ≡ stops.NoMemory)) ⊎ SettleStops script (numbers_of workers) (next_line before) after stopped
 
+-- all items, one after the other, where each takes a play to a play so
+unfoldable pub AllPlay : {A : Type 0} → (A → Play → Play → Type 0) → List A → Play → Play → Type 0
+AllPlay plays [] before after = after ≡ before
+AllPlay plays (x ∷ rest) before after = (between : Play) × plays x before between × AllPlay plays rest between after
+
+-- items up to the one at which the replay stops
+abbrev pub OneStops : {A : Type 0} → (A → Play → Play → Type 0) → (A → Play → Play → Stopped → Type 0) → List A → Play → Play → Stopped → Type 0
+OneStops {A} plays stops all before after stopped =
+    (n : ℕ) × (x : A) × (between : Play) × (slice_get all n ≡ Some x) × AllPlay plays (take n all) before between × stops x between after stopped
+
 -- all lines, one after the other
-unfoldable pub Plays : Script → List Line → Play → Play → Type 0
-Plays script [] before after = after ≡ before
-Plays script (line ∷ rest) before after = (between : Play) × LinePlays script line before between × Plays script rest between after
+abbrev pub Plays : Script → List Line → Play → Play → Type 0
+Plays script lines before after = AllPlay (LinePlays script) lines before after
 
 -- lines up to the one at which the replay stops
 abbrev pub PlayStops : Script → List Line → Play → Play → Stopped → Type 0
-PlayStops script all before after stopped =
-    (n : ℕ) × (line : Line) × (between : Play)
-    × (slice_get all n ≡ Some line) × Plays script (take n all) before between × LineStops script line between after stopped
+PlayStops script lines before after stopped = OneStops (LinePlays script) (LineStops script) lines before after stopped
+
+-- ---- a recorded history
+
+-- the line is begun, and its event comes from its seat and gives the job that stands there
+abbrev pub EventPlays : Script → RecordedEvent → Play → Play → Type 0
+EventPlays script r before after = Gives script (next_line before) (event_of r.event) r.seat after r.given
+
+-- the event can't be applied, or it gives another job
+abbrev pub EventStops : Script → RecordedEvent → Play → Play → Stopped → Type 0
+EventStops script r before after stops.WrongJob =
+    (given : Option ℕ) × Gives script (next_line before) (event_of r.event) r.seat after given × (given ≢ r.given)
+EventStops script r before after stopped = StopsAt script (next_line before) (event_of r.event) r.seat after stopped
+
+abbrev pub PlaysHistory : Script → List RecordedEvent → Play → Play → Type 0
+PlaysHistory script events before after = AllPlay (EventPlays script) events before after
+
+-- events up to the first at which the replay stops
+abbrev pub HistoryStops : Script → List RecordedEvent → Play → Play → Stopped → Type 0
+HistoryStops script events before after stopped = OneStops (EventPlays script) (EventStops script) events before after stopped
+
+-- ---- a file of either format
+
+abbrev pub PlaysFile : Script → EventFile → Play → Play → Type 0
+PlaysFile script (files.Lines lines) before after = Plays script lines before after
+PlaysFile script (files.Recorded events) before after = PlaysHistory script events before after
+
+abbrev pub FileStops : Script → EventFile → Play → Play → Stopped → Type 0
+FileStops script (files.Lines lines) before after stopped = PlayStops script lines before after stopped
+FileStops script (files.Recorded events) before after stopped = HistoryStops script events before after stopped

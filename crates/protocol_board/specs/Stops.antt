@@ -9,6 +9,7 @@ use Rattle.protocol_board.specs.declared.unfinished.Unfinished.TheVariants as en
 abbrev pub stopped_code : Stopped → ℕ
 stopped_code stops.NoMemory = 39
 stopped_code stops.TooLong = 41
+stopped_code stops.WrongJob = 42
 
 abbrev pub unfinished_code : Unfinished → ℕ
 unfinished_code (ends.Refused refusal) = code_of refusal

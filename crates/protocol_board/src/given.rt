@@ -1,11 +1,11 @@
 // The jobs that were given out and not handed in yet.
 
-ghost use Rattle.std.specs.Prelude.{◌≡◌, false, IfOk, OnOk, OnErr, IfErr};
+ghost use Rattle.std.specs.Prelude.{◌≡◌, ◌≢◌, true, false, IfOk, OnOk, OnErr, IfErr};
 ghost use Rattle.script_check.specs.Trees.{script_of};
 ghost use Rattle.event_log.specs.Views.{event_of};
 ghost use Rattle.protocol_core.specs.Steps.{reply_of};
 ghost use Rattle.protocol_board.specs.Own.{JobAgrees, KeepsWithJob};
-ghost use Rattle.protocol_board.specs.Replays.{IsDoneOn, found_no_memory, handed_in, is_no_memory, job_at, job_for, left_by, with_given};
+ghost use Rattle.protocol_board.specs.Replays.{IsDoneOn, found_no_memory, given_by, handed_in, is_no_memory, job_at, job_for, left_by, with_given};
 ghost use Rattle.protocol_board.specs.declared.stopped.Stopped.TheVariants.{NoMemory};
 
 use crate::stopped::Stopped;
@@ -88,5 +88,28 @@ pub fn keep<S: ScriptName>(jobs: &mut Seq<Option<Job<S>>>, told: Reply<S>) -> Re
             }
             Ok(())
         }
+    }
+}
+
+/// The number of the job that a claim gave, 0 where it was refused; of another event none.
+pub fn given_by<S: ScriptName>(event: Event, told: &Reply<S>) -> Option<u64>
+    ensures { result ≡ given_by (event_of event) (reply_of told.now) }
+{
+    match (event, told) {
+        (Event::Claim(_), Reply::Job(job)) => Some(job.number()),
+        (Event::Claim(_), _) => Some(0),
+        _ => None,
+    }
+}
+
+/// Whether a claim gave the job that a history says, or neither names a job.
+pub fn is_same(given: Option<u64>, said: Option<u64>) -> bool
+    ensures same { result ≡ true → given ≡ said }
+    ensures other { result ≡ false → given ≢ said }
+{
+    match (given, said) {
+        (Some(job), Some(other)) => job == other,
+        (None, None) => true,
+        _ => false,
     }
 }

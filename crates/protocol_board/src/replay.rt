@@ -6,12 +6,13 @@ ghost use Rattle.script_check.specs.Trees.{script_of};
 ghost use Rattle.event_log.specs.Views.{event_of};
 ghost use Rattle.protocol.specs.Settling.{next};
 ghost use Rattle.protocol_board.specs.Replays.{ComesToRest, LinePlays, LineStops, PlayStops, Plays, SettleStops, Step, StopsAt, from_first, numbers_of};
+ghost use Rattle.protocol_board.specs.Replays.{EventPlays, EventStops, FileStops, Gives, HistoryStops, PlaysFile, PlaysHistory};
 ghost use Rattle.protocol_board.specs.Views.{noted, play_of};
 
 use crate::board::Board;
-use crate::given::{hand_in, keep, run_job};
+use crate::given::{given_by, hand_in, is_same, keep, run_job};
 use crate::stopped::Stopped;
-use event_files::{Line, MOST_EVENTS};
+use event_files::{EventFile, Line, MOST_EVENTS, RecordedEvent};
 use event_log::Event;
 use kept_frames::Frames;
 use numbers::WorkerId;
@@ -107,6 +108,13 @@ impl<S: ScriptName> Replay<S> {
         &self.lines
     }
 
+    /// How many lines were begun.
+    pub fn begun(&self) -> usize
+        ensures { result ≡ self.now.begun }
+    {
+        self.begun
+    }
+
     /// Notes behind an event how many messages were sent, and its line.
     fn note(&mut self) -> Result<(), AllocError>
         ensures noted { OnOk result (self.new ≡ noted self.old) }
@@ -118,12 +126,18 @@ impl<S: ScriptName> Replay<S> {
         Ok(())
     }
 
-    /// Applies one event.
-    fn apply(&mut self, alloc: Global, script: &Compiled, event: Event) -> Result<(), Stopped>
+    /// Applies one event from the seat, and answers the number of the job that a claim gave, 0 where it was refused.
+    fn apply(
+        &mut self,
+        alloc: Global,
+        script: &Compiled,
+        event: Event,
+        seat: u8,
+    ) -> Result<Option<u64>, Stopped>
         requires { script_of script.now ≡ S.script }
-        ensures step { OnOk result (Step S.script (play_of self.old) (event_of event) (play_of self.new)) }
+        ensures gives { IfOk result (λ given. Gives S.script (play_of self.old) (event_of event) seat (play_of self.new) given) }
         ensures same { OnOk result (self.new.begun ≡ self.old.begun) }
-        ensures stops { IfErr result (λ stopped. StopsAt S.script (play_of self.old) (event_of event) (play_of self.new) stopped) }
+        ensures stops { IfErr result (λ stopped. StopsAt S.script (play_of self.old) (event_of event) seat (play_of self.new) stopped) }
     {
         if self.applied >= MOST_EVENTS {
             return Err(Stopped::TooLong);
@@ -131,9 +145,21 @@ impl<S: ScriptName> Replay<S> {
         let job = hand_in(&mut self.jobs, event);
         let done = run_job(alloc, script, &mut self.frames, job)?;
         self.applied += 1;
-        let told = self.board.apply_own(alloc, event, 0, done);
+        let told = self.board.apply_own(alloc, event, seat, done);
+        let given = given_by(event, &told);
         keep(&mut self.jobs, told)?;
         self.note()?;
+        Ok(given)
+    }
+
+    /// Applies one event from seat 0.
+    fn take(&mut self, alloc: Global, script: &Compiled, event: Event) -> Result<(), Stopped>
+        requires { script_of script.now ≡ S.script }
+        ensures step { OnOk result (Step S.script (play_of self.old) (event_of event) 0 (play_of self.new)) }
+        ensures same { OnOk result (self.new.begun ≡ self.old.begun) }
+        ensures stops { IfErr result (λ stopped. StopsAt S.script (play_of self.old) (event_of event) 0 (play_of self.new) stopped) }
+    {
+        self.apply(alloc, script, event, 0)?;
         Ok(())
     }
 
@@ -157,7 +183,7 @@ impl<S: ScriptName> Replay<S> {
         ensures stops { IfErr result (λ stopped. SettleStops S.script but.now (play_of self.old) (play_of self.new) stopped) }
     {
         while let Some(event) = self.next(but) {
-            self.apply(alloc, script, event)?;
+            self.take(alloc, script, event)?;
         }
         Ok(())
     }
@@ -180,7 +206,7 @@ impl<S: ScriptName> Replay<S> {
     {
         self.begun += 1;
         match line {
-            Line::Event(event) => self.apply(alloc, script, *event),
+            Line::Event(event) => self.take(alloc, script, *event),
             Line::Settle(workers) => {
                 let but = numbers_of(alloc, workers)?;
                 self.settle(alloc, script, &but)
@@ -208,5 +234,64 @@ impl<S: ScriptName> Replay<S> {
             self.play_line(alloc, script, line)?;
         }
         Ok(())
+    }
+
+    /// Applies a recorded event.
+    fn play_event(
+        &mut self,
+        alloc: Global,
+        script: &Compiled,
+        said: RecordedEvent,
+    ) -> Result<(), Stopped>
+        requires script { script_of script.now ≡ S.script }
+        requires counts { self.old.begun + 1 < 2 ^ 64 }
+        ensures counted { OnOk result (self.new.begun ≡ self.old.begun + 1) }
+        ensures plays { OnOk result (EventPlays S.script said (play_of self.old) (play_of self.new)) }
+        ensures stops { IfErr result (λ stopped. EventStops S.script said (play_of self.old) (play_of self.new) stopped) }
+    {
+        self.begun += 1;
+        let given = self.apply(alloc, script, said.event, said.seat)?;
+        if is_same(given, said.given) {
+            return Ok(());
+        }
+        Err(Stopped::WrongJob)
+    }
+
+    /// Applies the events of a recorded history, one after the other, each from its seat; with the first commit of a job comes what was done on it.
+    ///
+    /// It stops with `WrongJob` behind the first claim that gives another job than the history says, with `NoMemory` where an event finds no memory, and
+    /// with `TooLong` before event 100,001.
+    pub fn play_history(
+        &mut self,
+        alloc: Global,
+        script: &Compiled,
+        events: &Seq<RecordedEvent>,
+    ) -> Result<(), Stopped>
+        requires { script_of script.now ≡ S.script }
+        ensures plays { OnOk result (PlaysHistory S.script events.now (from_first (play_of self.old)) (play_of self.new)) }
+        ensures stops { IfErr result (λ stopped. HistoryStops S.script events.now (from_first (play_of self.old)) (play_of self.new) stopped) }
+    {
+        self.restart();
+        for said in &events.items {
+            self.play_event(alloc, script, *said)?;
+        }
+        Ok(())
+    }
+
+    /// Applies what an event file says, of either format: see `play` and `play_history`.
+    pub fn play_file(
+        &mut self,
+        alloc: Global,
+        script: &Compiled,
+        file: &EventFile,
+    ) -> Result<(), Stopped>
+        requires { script_of script.now ≡ S.script }
+        ensures plays { OnOk result (PlaysFile S.script file.now (from_first (play_of self.old)) (play_of self.new)) }
+        ensures stops { IfErr result (λ stopped. FileStops S.script file.now (from_first (play_of self.old)) (play_of self.new) stopped) }
+    {
+        match file {
+            EventFile::Lines(lines) => self.play(alloc, script, lines),
+            EventFile::Recorded(events) => self.play_history(alloc, script, events),
+        }
     }
 }

@@ -12,6 +12,8 @@ pub enum Stopped {
     NoMemory,
     /// 41: more than 100,000 events would be applied.
     TooLong,
+    /// 42: a claim gave another job than the history says.
+    WrongJob,
 }
 
 impl Stopped {
@@ -22,6 +24,7 @@ impl Stopped {
         match self {
             Stopped::NoMemory => 39,
             Stopped::TooLong => 41,
+            Stopped::WrongJob => 42,
         }
     }
 }

@@ -2,7 +2,7 @@
 use Rattle.std.proofs.Common.{ℕ, Bool, false, List, Option, inl}
 use Rattle.raysim_streams.specs.declared.Failure.TheVariants.{Read, Write, Closed}
 use Rattle.raysim_streams.specs.declared.Refusal.{Refusal}
-use Rattle.raysim_streams.specs.declared.Refusal.TheVariants.{At, NoMemory, Stopped, BadLine, Failed}
+use Rattle.raysim_streams.specs.declared.Refusal.TheVariants.{At, NoMemory, Stopped, BadLine, WrongJob, Failed}
 use Rattle.raysim_commands.specs.Scripts.{Explains}
 use Rattle.raysim_commands.specs.ThreadReports.{ExplainsInputs}
 
@@ -12,6 +12,7 @@ explains_script text plan a b (At code span) h = h
 explains_script text plan a b NoMemory h = tt
 explains_script text plan a b (Stopped code) h = absurd h
 explains_script text plan a b (BadLine line) h = absurd h
+explains_script text plan a b (WrongJob line) h = absurd h
 explains_script text plan a b (Failed Read) h = inl h
 explains_script text plan a b (Failed Write) h = let bad : ⊥ = cc in absurd bad
 explains_script text plan a b (Failed Closed) h = let bad : ⊥ = cc in absurd bad

@@ -12,7 +12,7 @@ use Rattle.script_check.specs.Rules.{IsCheckedOf}
 use Rattle.script_check.specs.declared.error.CheckError.{CheckError}
 use Rattle.script_check.specs.declared.error.CheckError.TheVariants as faults
 use Rattle.raysim_streams.specs.declared.Refusal.{Refusal}
-use Rattle.raysim_streams.specs.declared.Refusal.TheVariants.{At, NoMemory, Stopped, BadLine, Failed}
+use Rattle.raysim_streams.specs.declared.Refusal.TheVariants.{At, NoMemory, Stopped, BadLine, WrongJob, Failed}
 use Rattle.raysim_commands.specs.Scripts.{IsNoScript, IsRefusalOf, IsNoScriptFor, syntax_refusal, check_refusal, Explains}
 use Rattle.protocol_board.specs.Cores.{Size}
 use Rattle.raysim_commands.specs.RunReports.{ExplainsRun}
@@ -32,6 +32,7 @@ HasPlace (At code span) = Unit {0}
 HasPlace NoMemory = ⊥
 HasPlace (Stopped code) = ⊥
 HasPlace (BadLine line) = ⊥
+HasPlace (WrongJob line) = ⊥
 HasPlace (Failed failure) = ⊥
 
 placed_syntax : (e : SyntaxError) → HasPlace (syntax_refusal e) → e ≡ syntax.NoMemory → ⊥
@@ -51,6 +52,7 @@ IsOfText (At code span) = Unit {0}
 IsOfText NoMemory = Unit {0}
 IsOfText (Stopped code) = ⊥
 IsOfText (BadLine line) = ⊥
+IsOfText (WrongJob line) = ⊥
 IsOfText (Failed failure) = ⊥
 
 of_text_syntax : (e : SyntaxError) → IsOfText (syntax_refusal e)
@@ -83,6 +85,7 @@ explains_read (Some bytes) text a b (At code span) h k = subst (λ t. IsNoScript
 explains_read known text a b NoMemory h k = tt
 explains_read known text a b (Stopped code) h k = absurd (of_text text (Stopped code) k)
 explains_read known text a b (BadLine line) h k = absurd (of_text text (BadLine line) k)
+explains_read known text a b (WrongJob line) h k = absurd (of_text text (WrongJob line) k)
 explains_read known text a b (Failed failure) h k = absurd (of_text text (Failed failure) k)
 
 -- `run` refuses for the other commands' causes
@@ -91,4 +94,5 @@ explains_as_others size known a b (At code span) h = h
 explains_as_others size known a b NoMemory h = h
 explains_as_others size known a b (Stopped code) h = absurd h
 explains_as_others size known a b (BadLine line) h = absurd h
+explains_as_others size known a b (WrongJob line) h = absurd h
 explains_as_others size known a b (Failed failure) h = h

@@ -3,11 +3,11 @@ use Rattle.std.proofs.Common.{◌≡◌, ◌⊎◌, ◌<◌, ◌*◌, ℕ, Bool,
 use Rattle.std.specs.Prelude.{IfSome}
 use Rattle.std.specs.Io.KnownBytes.{Appends}
 use Rattle.meaning.specs.Syntax.{Script}
-use Rattle.event_files.specs.declared.line.Line.{Line}
+use Rattle.event_files.specs.declared.event_file.EventFile.{EventFile}
 use Rattle.protocol_board.specs.Cores.{Size}
 use Rattle.raysim_streams.specs.declared.Failure.TheVariants.{Read, Write, Closed}
 use Rattle.raysim_streams.specs.declared.Refusal.{Refusal}
-use Rattle.raysim_streams.specs.declared.Refusal.TheVariants.{At, NoMemory, Stopped, BadLine, Failed}
+use Rattle.raysim_streams.specs.declared.Refusal.TheVariants.{At, NoMemory, Stopped, BadLine, WrongJob, Failed}
 use Rattle.raysim_commands.specs.declared.form.Form.{Form}
 use Rattle.raysim_commands.specs.Scripts.{Explains, IsScript}
 use Rattle.raysim_commands.specs.Reports.{account_of}
@@ -34,20 +34,21 @@ explains_script size known events a b w (At code span) h = h
 explains_script size known events a b w NoMemory h = tt
 explains_script size known events a b w (Stopped code) h = absurd h
 explains_script size known events a b w (BadLine line) h = absurd h
+explains_script size known events a b w (WrongJob line) h = absurd h
 explains_script size known events a b w (Failed Read) h = inl h
 explains_script size known events a b w (Failed Write) h = h
 explains_script size known events a b w (Failed Closed) h = h
 
 -- what was written is a beginning of the report of what was read, where that is known
-pub sim_begun_so : (size : Size) (form : Form) (known events : Option (List ℕ)) (text : List ℕ) (script : Script) (lines : List Line) (numbers : List ℕ)
+pub sim_begun_so : (size : Size) (form : Form) (known events : Option (List ℕ)) (text : List ℕ) (script : Script) (says : EventFile) (numbers : List ℕ)
     (report bytes : List ℕ) (status : ℕ) (before after : Option (List ℕ)) → IfSome known (λ b. text ≡ b) → IsScript text script →
-    IfSome events (λ e. AreEvents e lines numbers) → IsSimReportOf script size form lines numbers report status → bytes ≡ report →
+    IfSome events (λ e. AreEvents e says numbers) → IsSimReportOf script size form says numbers report status → bytes ≡ report →
     (k : ℕ) × Appends before after (take k bytes) → IfBoth known events (λ t e. (after ≡ before) ⊎ IsSimBegun size form t e before after)
-sim_begun_so size form None events text script lines numbers report bytes status before after same is ls r written a = tt
-sim_begun_so size form (Some b) None text script lines numbers report bytes status before after same is ls r written a = tt
-sim_begun_so size form (Some b) (Some e) text script lines numbers report bytes status before after same is ls r written (k, a) = inr (record {
+sim_begun_so size form None events text script says numbers report bytes status before after same is ls r written a = tt
+sim_begun_so size form (Some b) None text script says numbers report bytes status before after same is ls r written a = tt
+sim_begun_so size form (Some b) (Some e) text script says numbers report bytes status before after same is ls r written (k, a) = inr (record {
   script = script;
-  lines = lines;
+  says = says;
   numbers = numbers;
   report = report;
   status = status;
@@ -59,15 +60,15 @@ sim_begun_so size form (Some b) (Some e) text script lines numbers report bytes 
 })
 
 -- and where all was written, it is the report of what was read
-pub sim_reported_so : (size : Size) (form : Form) (known events : Option (List ℕ)) (text : List ℕ) (script : Script) (lines : List Line) (numbers : List ℕ)
+pub sim_reported_so : (size : Size) (form : Form) (known events : Option (List ℕ)) (text : List ℕ) (script : Script) (says : EventFile) (numbers : List ℕ)
     (report bytes : List ℕ) (status : ℕ) (before after : Option (List ℕ)) → IfSome known (λ b. text ≡ b) → IsScript text script →
-    IfSome events (λ e. AreEvents e lines numbers) → IsSimReportOf script size form lines numbers report status → bytes ≡ report →
+    IfSome events (λ e. AreEvents e says numbers) → IsSimReportOf script size form says numbers report status → bytes ≡ report →
     Appends before after bytes → IfBoth known events (λ t e. IsSimReported size form t e status before after)
-sim_reported_so size form None events text script lines numbers report bytes status before after same is ls r written a = tt
-sim_reported_so size form (Some b) None text script lines numbers report bytes status before after same is ls r written a = tt
-sim_reported_so size form (Some b) (Some e) text script lines numbers report bytes status before after same is ls r written a = record {
+sim_reported_so size form None events text script says numbers report bytes status before after same is ls r written a = tt
+sim_reported_so size form (Some b) None text script says numbers report bytes status before after same is ls r written a = tt
+sim_reported_so size form (Some b) (Some e) text script says numbers report bytes status before after same is ls r written a = record {
   script = script;
-  lines = lines;
+  says = says;
   numbers = numbers;
   report = report;
   is_script = subst (λ t. IsScript t script) same is;

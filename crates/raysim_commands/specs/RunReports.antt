@@ -9,7 +9,7 @@ use Rattle.protocol_board.specs.declared.unfinished.Unfinished.{Unfinished}
 use Rattle.protocol_board.specs.Stops.{unfinished_code}
 use Rattle.protocol_board.specs.Drives.{Course, EndsSo, StopsSo}
 use Rattle.raysim_streams.specs.declared.Refusal.{Refusal}
-use Rattle.raysim_streams.specs.declared.Refusal.TheVariants.{At, NoMemory, Stopped as Stops, BadLine, Failed}
+use Rattle.raysim_streams.specs.declared.Refusal.TheVariants.{At, NoMemory, Stopped as Stops, BadLine, WrongJob, Failed}
 use Rattle.raysim_commands.specs.declared.form.Form.{Form}
 use Rattle.raysim_commands.specs.Scripts.{IsScript, Explains}
 use Rattle.raysim_commands.specs.Reports.{IsReportIn, IsAsSerialIn, account_of}
@@ -35,6 +35,7 @@ IsRunStop script size NoMemory = Unit {0}
 IsRunStop script size (Stops code) =
     (c : Course) × (unfinished : Unfinished) × StopsSo script (first_run size) c unfinished × (code ≡ unfinished_code unfinished)
 IsRunStop script size (BadLine line) = ⊥
+IsRunStop script size (WrongJob line) = ⊥
 IsRunStop script size (Failed failure) = ⊥
 
 -- the text is a script, and the report of its run was written, which begins as what `serial` writes of that script
@@ -59,4 +60,5 @@ ExplainsRun size text read_failed write_failed (Stops code) =
 ExplainsRun size text read_failed write_failed (At code span) = Explains text read_failed write_failed (At code span)
 ExplainsRun size text read_failed write_failed NoMemory = Explains text read_failed write_failed NoMemory
 ExplainsRun size text read_failed write_failed (BadLine line) = Explains text read_failed write_failed (BadLine line)
+ExplainsRun size text read_failed write_failed (WrongJob line) = Explains text read_failed write_failed (WrongJob line)
 ExplainsRun size text read_failed write_failed (Failed failure) = Explains text read_failed write_failed (Failed failure)

@@ -12,7 +12,7 @@ use Rattle.script_check.specs.declared.error.CheckError.TheVariants as faults
 use Rattle.raysim_streams.specs.declared.Failure.{Failure}
 use Rattle.raysim_streams.specs.declared.Failure.TheVariants.{Read, Write, Closed}
 use Rattle.raysim_streams.specs.declared.Refusal.{Refusal}
-use Rattle.raysim_streams.specs.declared.Refusal.TheVariants.{At, NoMemory, Stopped, BadLine, Failed}
+use Rattle.raysim_streams.specs.declared.Refusal.TheVariants.{At, NoMemory, Stopped, BadLine, WrongJob, Failed}
 
 -- the text reads as a program that the rules allow, and that becomes the script
 abbrev pub IsScript : List ℕ → Script → Type 0
@@ -78,6 +78,7 @@ Explains text read_failed write_failed (At code span) = IfSome text (λ bytes. I
 Explains text read_failed write_failed NoMemory = Unit {0}
 Explains text read_failed write_failed (Stopped code) = ⊥
 Explains text read_failed write_failed (BadLine line) = ⊥
+Explains text read_failed write_failed (WrongJob line) = ⊥
 Explains text read_failed write_failed (Failed failure) = HasFailed read_failed write_failed failure
 
 -- a refusal before anything was written
@@ -86,6 +87,7 @@ IsUnwritten (At code span) = Unit {0}
 IsUnwritten NoMemory = Unit {0}
 IsUnwritten (Stopped code) = Unit {0}
 IsUnwritten (BadLine line) = Unit {0}
+IsUnwritten (WrongJob line) = Unit {0}
 IsUnwritten (Failed Read) = Unit {0}
 IsUnwritten (Failed Write) = ⊥
 IsUnwritten (Failed Closed) = ⊥

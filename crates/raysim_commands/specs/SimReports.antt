@@ -1,10 +1,11 @@
 -- What `sim` writes, and its status.
-use Rattle.std.specs.Prelude.{◌≡◌, ◌⊎◌, ℕ, Bool, true, List, [], Option, Some, None, map, take, IfSome}
+use Rattle.std.specs.Prelude.{◌≡◌, ◌⊎◌, ℕ, Bool, true, List, [], Option, Some, None, map, take, drop, IfSome}
 use Rattle.std.specs.Io.KnownBytes.{Appends}
 use Rattle.meaning.specs.Syntax.{Script}
-use Rattle.event_files.specs.declared.line.Line.{Line}
-use Rattle.event_files.specs.Files.{IsBadAt, IsFile}
-use Rattle.event_files.specs.Lines.{IsLine, line_text}
+use Rattle.event_files.specs.declared.error.EventError.TheVariants as errors
+use Rattle.event_files.specs.declared.event_file.EventFile.{EventFile}
+use Rattle.event_files.specs.declared.event_file.EventFile.TheVariants as files
+use Rattle.event_files.specs.Recorded.{IsEventFile, IsFileRefusal}
 use Rattle.event_files.specs.Numbering.{line_numbers}
 use Rattle.event_log.specs.Events.{from_one}
 use Rattle.history.specs.Main.{status_of}
@@ -12,21 +13,22 @@ use Rattle.protocol_board.specs.Cores.{Size, first_state}
 use Rattle.protocol_board.specs.declared.stopped.Stopped.{Stopped}
 use Rattle.protocol_board.specs.declared.stopped.Stopped.TheVariants as stops
 use Rattle.protocol_board.specs.Meant.{IsSoundLog}
-use Rattle.protocol_board.specs.Replays.{Play, Plays, PlayStops}
+use Rattle.protocol_board.specs.Replays.{FileStops, Play, PlaysFile}
 use Rattle.raysim_streams.specs.declared.Failure.TheVariants.{Read, Write, Closed}
 use Rattle.raysim_streams.specs.declared.Refusal.{Refusal}
-use Rattle.raysim_streams.specs.declared.Refusal.TheVariants.{At, NoMemory, Stopped as Stops, BadLine, Failed}
+use Rattle.raysim_streams.specs.declared.Refusal.TheVariants.{At, NoMemory, Stopped as Stops, BadLine, WrongJob, Failed}
 use Rattle.raysim_commands.specs.declared.form.Form.{Form}
 use Rattle.raysim_commands.specs.Reports.{IsReportIn, IsAsSerialIn, account_of}
 use Rattle.raysim_commands.specs.Scripts.{IsAllowed, IsScript, IsNoScriptFor}
 
--- the bytes are an event file with these lines
-abbrev pub IsEvents : List ℕ → List Line → Type 0
-IsEvents bytes lines = IsFile IsLine line_text bytes lines
+-- the numbers of a file's lines that say something; the first line of format 2 tells the format alone
+abbrev pub said_numbers : EventFile → List ℕ → List ℕ
+said_numbers (files.Lines lines) bytes = line_numbers bytes
+said_numbers (files.Recorded events) bytes = drop 1 (line_numbers bytes)
 
--- and those are the numbers of these lines in it
-abbrev pub AreEvents : List ℕ → List Line → List ℕ → Type 0
-AreEvents bytes lines numbers = IsEvents bytes lines × (numbers ≡ line_numbers bytes)
+-- the bytes are an event file that says this, in lines of these numbers
+abbrev pub AreEvents : List ℕ → EventFile → List ℕ → Type 0
+AreEvents bytes says numbers = IsEventFile bytes says × (numbers ≡ said_numbers says bytes)
 
 abbrev pub or_none : Option ℕ → ℕ
 or_none (Some n) = n
@@ -44,42 +46,46 @@ abbrev pub first_play : Size → Play
 first_play size = record { run = first_state size.nodes size.slots; jobs = []; applied = 0; sent = []; begun = 0; lines = [] }
 
 -- the lines make this of a run of the script that begins on the cluster, and what its log then means
-pub record IsReplayed (script : Script) (size : Size) (lines : List Line) (p : Play) : Type 0 where
-  pub plays : Plays script lines (first_play size) p
+pub record IsReplayed (script : Script) (size : Size) (says : EventFile) (p : Play) : Type 0 where
+  pub plays : PlaysFile script says (first_play size) p
   pub meant : IsSoundLog script p.run.first_nodes p.run.log
 
 -- the report of the replay of these lines, which have these numbers in their file, and its status
-abbrev pub IsSimReportOf : Script → Size → Form → List Line → List ℕ → List ℕ → ℕ → Type 0
-IsSimReportOf script size form lines numbers report status =
-    (p : Play) × IsReplayed script size lines p × IsReportIn form (account_of p.run p.sent (lines_in_file numbers p.lines)) report ×
+abbrev pub IsSimReportOf : Script → Size → Form → EventFile → List ℕ → List ℕ → ℕ → Type 0
+IsSimReportOf script size form says numbers report status =
+    (p : Play) × IsReplayed script size says p × IsReportIn form (account_of p.run p.sent (lines_in_file numbers p.lines)) report ×
     (status ≡ status_of p.run.log)
 
 -- the replay of these lines stops before an event more than it may apply
-abbrev pub IsTooLong : Script → Size → List Line → Type 0
-IsTooLong script size lines = (p : Play) × PlayStops script lines (first_play size) p stops.TooLong
+abbrev pub IsTooLong : Script → Size → EventFile → Type 0
+IsTooLong script size says = (p : Play) × FileStops script says (first_play size) p stops.TooLong
+
+-- the replay of what the file says in lines of these numbers stops in line n, at a claim that gave another job
+abbrev pub IsWrongJob : Script → Size → EventFile → List ℕ → ℕ → Type 0
+IsWrongJob script size says numbers n = (p : Play) × FileStops script says (first_play size) p stops.WrongJob × (n ≡ number_of numbers p.begun)
 
 -- the texts are a script and an event file, and the report of the replay was written, which begins as what `serial` writes of that script
 pub record IsSimReported (size : Size) (form : Form) (text events : List ℕ) (status : ℕ) (before after : Option (List ℕ)) : Type 0 where
   pub script : Script
-  pub lines : List Line
+  pub says : EventFile
   pub numbers : List ℕ
   pub report : List ℕ
   pub is_script : IsScript text script
-  pub are_events : AreEvents events lines numbers
-  pub reported : IsSimReportOf script size form lines numbers report status
+  pub are_events : AreEvents events says numbers
+  pub reported : IsSimReportOf script size form says numbers report status
   pub as_serial : IsAsSerialIn form script reported.0.run.log report status
   pub written : Appends before after report
 
 -- a beginning of the report was written
 pub record IsSimBegun (size : Size) (form : Form) (text events : List ℕ) (before after : Option (List ℕ)) : Type 0 where
   pub script : Script
-  pub lines : List Line
+  pub says : EventFile
   pub numbers : List ℕ
   pub report : List ℕ
   pub status : ℕ
   pub is_script : IsScript text script
-  pub are_events : AreEvents events lines numbers
-  pub reported : IsSimReportOf script size form lines numbers report status
+  pub are_events : AreEvents events says numbers
+  pub reported : IsSimReportOf script size form says numbers report status
   pub count : ℕ
   pub written : Appends before after (take count report)
 
@@ -90,12 +96,17 @@ IfBoth text events P = IfSome text (λ t. IfSome events (λ e. P t e))
 -- the texts are a script and an event file of more events than a replay may apply
 abbrev pub IsStopped : Size → ℕ → List ℕ → List ℕ → Type 0
 IsStopped size code text events =
-    (code ≡ 41) × (script : Script) × (lines : List Line) × (numbers : List ℕ) × IsScript text script × AreEvents events lines numbers ×
-    IsTooLong script size lines
+    (code ≡ 41) × (script : Script) × (says : EventFile) × (numbers : List ℕ) × IsScript text script × AreEvents events says numbers ×
+    IsTooLong script size says
+
+-- the texts are a script and an event file, in line n of which a claim gave another job
+abbrev pub IsWrongLine : Size → ℕ → List ℕ → List ℕ → Type 0
+IsWrongLine size n text events =
+    (script : Script) × (says : EventFile) × (numbers : List ℕ) × IsScript text script × AreEvents events says numbers × IsWrongJob script size says numbers n
 
 -- the text is a script, and the line of that number is the first of the other that is none of an event file
 abbrev pub IsBadLine : ℕ → List ℕ → List ℕ → Type 0
-IsBadLine n text events = IsAllowed text × IsBadAt IsLine line_text events n
+IsBadLine n text events = IsAllowed text × IsFileRefusal events (errors.BadLine n)
 
 -- why `sim` refuses; whether a read of the script, a read of the events, or a write has failed
 abbrev pub ExplainsSim : Size → Option (List ℕ) → Option (List ℕ) → Bool → Bool → Bool → Refusal → Type 0
@@ -103,6 +114,7 @@ ExplainsSim size text events script_failed events_failed write_failed (At code s
 ExplainsSim size text events script_failed events_failed write_failed NoMemory = Unit {0}
 ExplainsSim size text events script_failed events_failed write_failed (Stops code) = IfBoth text events (IsStopped size code)
 ExplainsSim size text events script_failed events_failed write_failed (BadLine n) = IfBoth text events (IsBadLine n)
+ExplainsSim size text events script_failed events_failed write_failed (WrongJob n) = IfBoth text events (IsWrongLine size n)
 ExplainsSim size text events script_failed events_failed write_failed (Failed Read) =
     (script_failed ≡ true) ⊎ ((events_failed ≡ true) × IfSome text IsAllowed)
 ExplainsSim size text events script_failed events_failed write_failed (Failed Write) = write_failed ≡ true
@@ -110,22 +122,25 @@ ExplainsSim size text events script_failed events_failed write_failed (Failed Cl
 
 -- ---- on the way
 
--- what a replay that stopped is refused as
-abbrev pub stop_refusal : Stopped → Refusal
-stop_refusal stops.NoMemory = NoMemory
-stop_refusal stops.TooLong = Stops 41
+-- what a replay that stopped in that line is refused as
+abbrev pub stop_refusal : Stopped → ℕ → Refusal
+stop_refusal stops.NoMemory n = NoMemory
+stop_refusal stops.TooLong n = Stops 41
+stop_refusal stops.WrongJob n = WrongJob n
 
--- why the replay of these lines gives no report
-abbrev pub IsStopOf : Script → Size → List Line → Refusal → Type 0
-IsStopOf script size lines (Stops code) = (code ≡ 41) × IsTooLong script size lines
-IsStopOf script size lines NoMemory = Unit {0}
-IsStopOf script size lines (At code span) = ⊥
-IsStopOf script size lines (BadLine n) = ⊥
-IsStopOf script size lines (Failed failure) = ⊥
+-- why the replay of what the file says, in lines of these numbers, gives no report
+abbrev pub IsStopOf : Script → Size → EventFile → List ℕ → Refusal → Type 0
+IsStopOf script size says numbers (Stops code) = (code ≡ 41) × IsTooLong script size says
+IsStopOf script size says numbers NoMemory = Unit {0}
+IsStopOf script size says numbers (At code span) = ⊥
+IsStopOf script size says numbers (BadLine n) = ⊥
+IsStopOf script size says numbers (WrongJob n) = IsWrongJob script size says numbers n
+IsStopOf script size says numbers (Failed failure) = ⊥
 
 -- why an event file isn't read
 abbrev pub ExplainsEvents : Option (List ℕ) → Bool → Refusal → Type 0
-ExplainsEvents events failed (BadLine n) = IfSome events (λ e. IsBadAt IsLine line_text e n)
+ExplainsEvents events failed (BadLine n) = IfSome events (λ e. IsFileRefusal e (errors.BadLine n))
+ExplainsEvents events failed (WrongJob n) = ⊥
 ExplainsEvents events failed NoMemory = Unit {0}
 ExplainsEvents events failed (Failed Read) = failed ≡ true
 ExplainsEvents events failed (Failed Write) = ⊥

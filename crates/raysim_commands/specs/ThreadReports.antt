@@ -6,19 +6,19 @@ use Rattle.event_log.specs.Views.{log_of}
 use Rattle.event_files.specs.declared.plan.PlanLine.{PlanLine}
 use Rattle.event_files.specs.Files.{IsBadAt, IsFile}
 use Rattle.event_files.specs.Plans.{IsPlanLine, plan_line_text}
-use Rattle.event_files.specs.Printing.{events_text}
+use Rattle.event_files.specs.Recorded.{recorded_file}
 use Rattle.history.specs.Main.{status_of}
 use Rattle.protocol_board.specs.Cores.{RunData, RunState, Size, state_of}
 use Rattle.protocol_board.specs.Meant.{IsSoundLog}
 use Rattle.seats.specs.Ends.{AddsUp, IsAtLimit, IsOver}
 use Rattle.raysim_streams.specs.declared.Failure.TheVariants.{Read, Write, Closed}
 use Rattle.raysim_streams.specs.declared.Refusal.{Refusal}
-use Rattle.raysim_streams.specs.declared.Refusal.TheVariants.{At, NoMemory, Stopped as Stops, BadLine, Failed}
+use Rattle.raysim_streams.specs.declared.Refusal.TheVariants.{At, NoMemory, Stopped as Stops, BadLine, WrongJob, Failed}
 use Rattle.raysim_commands.specs.declared.form.Form.{Form}
 use Rattle.raysim_commands.specs.Reports.{IsReportIn, account_of}
 use Rattle.raysim_commands.specs.Scripts.{IsAllowed, IsNoScriptFor, IsScript}
 use Rattle.raysim_commands.specs.SimReports.{IfBoth}
-use Rattle.histories.specs.Recorded.{events_in}
+use Rattle.histories.specs.Recorded.{recorded_in}
 
 -- the bytes are a plan with these lines
 abbrev pub IsPlan : List ℕ → List PlanLine → Type 0
@@ -28,14 +28,15 @@ IsPlan bytes lines = IsFile IsPlanLine plan_line_text bytes lines
 pub record AreOutputs (script : Script) (run : RunData) (form : Form) (report history : List ℕ) (status : ℕ) : Type 0 where
   pub meant : IsSoundLog script run.first_nodes (log_of run.log)
   pub reported : IsReportIn form (account_of (state_of run) [] []) report
-  pub recorded : history ≡ events_text (events_in run.log)
+  pub recorded : history ≡ recorded_file (recorded_in run.log)
   pub ends : status ≡ status_of (log_of run.log)
 
--- these are written of a run of the script beside the plan, on such a cluster and so many threads, which is over; and the books of its seats add up
+-- these are written of a run of the script beside the plan, on such a cluster and so many threads, which is over; and the books of its seats add up, and
+-- that of seat 1 is what came from it
 pub record IsRunOn (script : Script) (plan : List PlanLine) (size : Size) (threads : ℕ) (form : Form) (report history : List ℕ) (status : ℕ) : Type 0 where
   pub run : RunData
   pub over : IsOver plan size (state_of run)
-  pub books : AddsUp threads (log_of run.log)
+  pub books : AddsUp threads 1 (log_of run.log)
   pub outputs : AreOutputs script run form report history status
 
 -- why a run of the script on so many nodes at first gives neither: there was no memory, or it is at a limit
@@ -44,6 +45,7 @@ IsStop script nodes NoMemory = Unit {0}
 IsStop script nodes (Stops code) = (code ≡ 37) × (run : RunState) × IsSoundLog script run.first_nodes run.log × IsAtLimit nodes run
 IsStop script nodes (At code span) = ⊥
 IsStop script nodes (BadLine n) = ⊥
+IsStop script nodes (WrongJob n) = ⊥
 IsStop script nodes (Failed failure) = ⊥
 
 -- the text is a script, a run of which stops so
@@ -99,6 +101,7 @@ ExplainsThreads size text plan script_failed plan_failed history_failed report_f
 ExplainsThreads size text plan script_failed plan_failed history_failed report_failed NoMemory = Unit {0}
 ExplainsThreads size text plan script_failed plan_failed history_failed report_failed (Stops code) = IfSome text (IsStoppedRun size code)
 ExplainsThreads size text plan script_failed plan_failed history_failed report_failed (BadLine n) = IfBoth text plan (IsBadPlan n)
+ExplainsThreads size text plan script_failed plan_failed history_failed report_failed (WrongJob n) = ⊥
 ExplainsThreads size text plan script_failed plan_failed history_failed report_failed (Failed Read) =
     (script_failed ≡ true) ⊎ ((plan_failed ≡ true) × IfSome text IsAllowed)
 ExplainsThreads size text plan script_failed plan_failed history_failed report_failed (Failed Write) = (report_failed ≡ true) ⊎ (history_failed ≡ true)
@@ -109,6 +112,7 @@ ExplainsThreads size text plan script_failed plan_failed history_failed report_f
 -- why a plan isn't read
 abbrev pub ExplainsPlan : Option (List ℕ) → Bool → Refusal → Type 0
 ExplainsPlan plan failed (BadLine n) = IfSome plan (λ p. IsBadAt IsPlanLine plan_line_text p n)
+ExplainsPlan plan failed (WrongJob n) = ⊥
 ExplainsPlan plan failed NoMemory = Unit {0}
 ExplainsPlan plan failed (Failed Read) = failed ≡ true
 ExplainsPlan plan failed (Failed Write) = ⊥
@@ -122,6 +126,7 @@ ExplainsInputs text plan script_failed plan_failed (At code span) = IfSome text 
 ExplainsInputs text plan script_failed plan_failed NoMemory = Unit {0}
 ExplainsInputs text plan script_failed plan_failed (Stops code) = ⊥
 ExplainsInputs text plan script_failed plan_failed (BadLine n) = IfBoth text plan (IsBadPlan n)
+ExplainsInputs text plan script_failed plan_failed (WrongJob n) = ⊥
 ExplainsInputs text plan script_failed plan_failed (Failed Read) = (script_failed ≡ true) ⊎ ((plan_failed ≡ true) × IfSome text IsAllowed)
 ExplainsInputs text plan script_failed plan_failed (Failed Write) = ⊥
 ExplainsInputs text plan script_failed plan_failed (Failed Closed) = ⊥
@@ -135,3 +140,4 @@ IsOfWriting NoMemory = ⊥
 IsOfWriting (Stops code) = ⊥
 IsOfWriting (At code span) = ⊥
 IsOfWriting (BadLine n) = ⊥
+IsOfWriting (WrongJob n) = ⊥

@@ -4,11 +4,11 @@ ghost use Rattle.std.specs.Prelude.{◌≡◌, ◌⊎◌, IfOk, IfErr, IfSome, s
 ghost use Rattle.script_check.specs.Trees.{script_of};
 ghost use Rattle.raysim_commands.specs.Scripts.{IsUnwritten};
 ghost use Rattle.raysim_commands.specs.SimReports.{AreEvents, ExplainsEvents, ExplainsSim, IfBoth, IsSimBegun, IsSimReported};
-ghost use Rattle.raysim_commands.specs.SimReports.{IsSimReportOf, IsStopOf, lines_in_file, number_of, stop_refusal};
+ghost use Rattle.raysim_commands.specs.SimReports.{IsSimReportOf, IsStopOf, lines_in_file, number_of, said_numbers, stop_refusal};
 
 use crate::form::{Form, report};
 use crate::script::{compiled_script, read_script};
-use event_files::{EventError, Line, line_numbers, parse_events};
+use event_files::{EventError, EventFile, line_numbers, parse_event_file};
 use protocol_board::{Cluster, Core, Replay, Stopped};
 use raysim_streams::{Refusal, Sink, Source, put_all, read_at_most};
 use segment::{Compiled, ScriptName};
@@ -23,10 +23,10 @@ struct SimReport {
     status: u8,
 }
 
-/// The lines of an event file that say something, and their numbers in it.
+/// What an event file says, and the numbers of the lines that say it.
 #[derive(Drop)]
 struct EventLines {
-    lines: Seq<Line>,
+    says: EventFile,
     numbers: Seq<usize>,
 }
 
@@ -54,14 +54,28 @@ fn lines_in_file(
     Ok(all)
 }
 
-/// Why a replay that stopped gives no report.
-fn stop_refusal(stopped: Stopped) -> Refusal
-    ensures { result ≡ stop_refusal stopped }
+/// Why a replay that stopped in that line gives no report.
+fn stop_refusal(stopped: Stopped, line: usize) -> Refusal
+    ensures { result ≡ stop_refusal stopped line }
 {
     match stopped {
         Stopped::NoMemory => Refusal::NoMemory,
         Stopped::TooLong => Refusal::Stopped { code: 41 },
+        Stopped::WrongJob => Refusal::WrongJob { line: line as u64 },
     }
+}
+
+/// The numbers of a file's lines that say something.
+fn said_numbers(alloc: Global, says: &EventFile, text: &[u8]) -> Result<Seq<usize>, AllocError>
+    ensures { IfOk result (λ numbers. numbers ≡ said_numbers says.now text.now) }
+{
+    let mut numbers = line_numbers(alloc, text)?;
+    if let EventFile::Recorded(_) = says {
+        if !numbers.items.is_empty() {
+            numbers.items.remove(0);
+        }
+    }
+    Ok(numbers)
 }
 
 /// The report of the run of a script by these lines.
@@ -73,14 +87,14 @@ fn sim_script<S: ScriptName>(
     form: Form,
 ) -> Result<SimReport, Refusal>
     requires { script_of script.now ≡ S.script }
-    ensures reported { IfOk result (λ report. IsSimReportOf (script_of script.now) cluster form events.now.lines events.now.numbers
+    ensures reported { IfOk result (λ report. IsSimReportOf (script_of script.now) cluster form events.now.says events.now.numbers
         (string_bytes report.text) report.status) }
-    ensures stopped { IfErr result (IsStopOf (script_of script.now) cluster events.now.lines) }
+    ensures stopped { IfErr result (IsStopOf (script_of script.now) cluster events.now.says events.now.numbers) }
 {
     let core = Core::<S>::new(alloc, script.script(), cluster)?;
     let mut replay = Replay::new(alloc, core);
-    if let Err(stopped) = replay.play(alloc, script, &events.lines) {
-        return Err(stop_refusal(stopped));
+    if let Err(stopped) = replay.play_file(alloc, script, &events.says) {
+        return Err(stop_refusal(stopped, number_of(&events.numbers, replay.begun())));
     }
     let board = replay.board();
     let lines = lines_in_file(alloc, &events.numbers, replay.lines())?;
@@ -91,14 +105,14 @@ fn sim_script<S: ScriptName>(
 
 /// The lines of an event file.
 fn read_events<E: Source>(alloc: Global, reader: &mut E) -> Result<EventLines, Refusal>
-    ensures read { IfOk result (λ events. IfSome (E.left reader.old) (λ bytes. AreEvents bytes events.lines events.numbers)) }
+    ensures read { IfOk result (λ events. IfSome (E.left reader.old) (λ bytes. AreEvents bytes events.says events.numbers)) }
     ensures refused { IfErr result (λ refusal. ExplainsEvents (E.left reader.old) (E.has_failed reader.new) refusal) }
 {
     let text = read_at_most(alloc, reader, usize::MAX)?;
-    match parse_events(alloc, text.as_slice()) {
-        Ok(lines) => {
-            let numbers = line_numbers(alloc, text.as_slice())?;
-            Ok(EventLines { lines, numbers })
+    match parse_event_file(alloc, text.as_slice()) {
+        Ok(says) => {
+            let numbers = said_numbers(alloc, &says, text.as_slice())?;
+            Ok(EventLines { says, numbers })
         }
         Err(EventError::BadLine(line)) => Err(Refusal::BadLine { line }),
         Err(EventError::TooLong) => unreachable!(),
@@ -111,7 +125,7 @@ fn read_events<E: Source>(alloc: Global, reader: &mut E) -> Result<EventLines, R
 /// ends with a trap, and 2 where it is open or has a fault.
 ///
 /// Else the refusal says why: `At` where the text is no script that the rules allow, `BadLine` where a line is none of an event file,
-/// `Stopped` with 41 where the events are more than 100,000, `NoMemory`, or `Failed` where a read or a write failed. The script is read
+/// `Stopped` with 41 where the events are more than 100,000, `WrongJob` where a claim gave another job than its line of a history says, `NoMemory`, or `Failed` where a read or a write failed. The script is read
 /// and checked before the events are read, and these are read whole before the first is applied. After a failed write a beginning of the
 /// report is out; before any other refusal nothing is written.
 pub fn sim<R: Source, E: Source, W: Sink>(

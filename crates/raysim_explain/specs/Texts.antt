@@ -4,7 +4,7 @@ use Rattle.std.specs.Fmt.{decimal}
 use Rattle.raysim_explain.specs.declared.reason.Reason.{Reason}
 use Rattle.raysim_explain.specs.declared.reason.Reason.TheVariants.{NotAscii, BadToken, Expected, TooLarge, UnknownName, WrongType, WrongCount, NoMain}
 use Rattle.raysim_explain.specs.declared.reason.Reason.TheVariants.{PrintOutsideMain, MissingReturn, BadRetries, Duplicate, Pinned, NoCopy, NoWorker, NotReady, NoJob}
-use Rattle.raysim_explain.specs.declared.reason.Reason.TheVariants.{Stale, NoMessage, NotDead, NoNode, Limit, Halted, NoMemory, BadLine, TooLong, Failed}
+use Rattle.raysim_explain.specs.declared.reason.Reason.TheVariants.{Stale, NoMessage, NotDead, NoNode, Limit, Halted, NoMemory, BadLine, TooLong, WrongJob, Failed}
 
 abbrev pub number_of : Reason → ℕ
 number_of NotAscii = 1
@@ -33,6 +33,7 @@ number_of Halted = 38
 number_of NoMemory = 39
 number_of BadLine = 40
 number_of TooLong = 41
+number_of WrongJob = 42
 number_of Failed = 50
 
 abbrev pub name_of : Reason → List ℕ
@@ -62,6 +63,7 @@ name_of Halted = codes "Halted"
 name_of NoMemory = codes "NoMemory"
 name_of BadLine = codes "BadLine"
 name_of TooLong = codes "TooLong"
+name_of WrongJob = codes "WrongJob"
 name_of Failed = codes "Failed"
 
 abbrev pub cause_of : Reason → List ℕ
@@ -91,6 +93,7 @@ cause_of Halted = codes "An earlier event found no memory (39), so no further ev
 cause_of NoMemory = codes "There was no memory. A command then gives no report; the log of a run stays legal."
 cause_of BadLine = codes "A line of a file of events is no event, or the last line has no line feed. Lines are counted from 1."
 cause_of TooLong = codes "More than 100,000 events would be applied. A run that meets it ends with no report."
+cause_of WrongJob = codes "A claim gave another job than the line of a recorded history says. The file was recorded of another run."
 cause_of Failed = codes "A read or a write failed. After a failed write a beginning of the report is out."
 
 abbrev pub example_of : Reason → List ℕ
@@ -120,6 +123,7 @@ example_of Halted = codes "any event after a refusal 39"
 example_of NoMemory = codes "a very large list on a small machine"
 example_of BadLine = codes "claim 01 since a number has no leading zero"
 example_of TooLong = codes "a file of 100,001 lines join"
+example_of WrongJob = codes "0 claim 1 2 as the first claim of a file of format 2, since it gives job 1"
 example_of Failed = codes "a script whose file is not there"
 
 -- the number and the name, the cause, and an example, each on a line of its own

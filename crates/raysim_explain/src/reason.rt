@@ -34,6 +34,7 @@ pub enum Reason {
     NoMemory,
     BadLine,
     TooLong,
+    WrongJob,
     Failed,
 }
 
@@ -70,6 +71,7 @@ impl Reason {
             39 => Some(Reason::NoMemory),
             40 => Some(Reason::BadLine),
             41 => Some(Reason::TooLong),
+            42 => Some(Reason::WrongJob),
             50 => Some(Reason::Failed),
             _ => None,
         }
@@ -106,6 +108,7 @@ impl Reason {
             Reason::NoMemory => 39,
             Reason::BadLine => 40,
             Reason::TooLong => 41,
+            Reason::WrongJob => 42,
             Reason::Failed => 50,
         }
     }
@@ -141,6 +144,7 @@ impl Reason {
             Reason::NoMemory => "NoMemory",
             Reason::BadLine => "BadLine",
             Reason::TooLong => "TooLong",
+            Reason::WrongJob => "WrongJob",
             Reason::Failed => "Failed",
         }
     }
@@ -195,6 +199,8 @@ impl Reason {
                 "A line of a file of events is no event, or the last line has no line feed. Lines are counted from 1.",
             Reason::TooLong =>
                 "More than 100,000 events would be applied. A run that meets it ends with no report.",
+            Reason::WrongJob =>
+                "A claim gave another job than the line of a recorded history says. The file was recorded of another run.",
             Reason::Failed =>
                 "A read or a write failed. After a failed write a beginning of the report is out.",
         }
@@ -232,6 +238,8 @@ impl Reason {
             Reason::NoMemory => "a very large list on a small machine",
             Reason::BadLine => "claim 01 since a number has no leading zero",
             Reason::TooLong => "a file of 100,001 lines join",
+            Reason::WrongJob =>
+                "0 claim 1 2 as the first claim of a file of format 2, since it gives job 1",
             Reason::Failed => "a script whose file is not there",
         }
     }

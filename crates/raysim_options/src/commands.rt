@@ -2,8 +2,8 @@
 
 ghost use Rattle.std.specs.Prelude.{◌≡◌, ◌≤ℤ◌, IfOk, codes, pos, false};
 ghost use Rattle.clap.specs.Words.{app_of, rule_of, with_rule, with_subcommand};
-ghost use Rattle.raysim_options.specs.App.{raysim_app, script_app, explained_app, explain_app, sim_app, run_app, log_app, why_app, needed};
-ghost use Rattle.raysim_options.specs.App.{optional, place, number, text, flag, first_app, second_app, with_cluster, with_files, with_views, HasNoGlobals};
+ghost use Rattle.raysim_options.specs.App.{raysim_app, script_app, explained_app, explain_app, sim_app, run_app, log_app, why_app, migrate_app, by_events_app, needed};
+ghost use Rattle.raysim_options.specs.App.{optional, place, number, text, flag, first_app, second_app, third_app, with_cluster, with_files, with_views, HasNoGlobals};
 
 use clap::{Arg, ArgAction, Command};
 use std::alloc::{AllocError, Global};
@@ -139,17 +139,35 @@ fn add_views<'a>(alloc: Global, command: Command<'a>) -> Result<Command<'a>, All
     add(command, text(alloc, "lineage", lineage))
 }
 
+/// A subcommand with a script and a list of events, on a cluster.
+fn by_events<'a>(alloc: Global, name: &'a str, about: &'a str) -> Result<Command<'a>, AllocError>
+    ensures app { IfOk result (λ c. app_of c ≡ by_events_app name.entry.now) }
+    ensures local { IfOk result HasNoGlobals }
+{
+    let command = start(alloc, name, about)?;
+    let events = "The file of events, one in each line";
+    let command = add(command, needed(alloc, "events", events))?;
+    add_cluster(alloc, command)
+}
+
 fn sim<'a>(alloc: Global) -> Result<Command<'a>, AllocError>
     ensures app { IfOk result (λ c. app_of c ≡ sim_app) }
     ensures local { IfOk result HasNoGlobals }
 {
     let about = "Runs a script by a list of events, and writes the run's report";
-    let command = start(alloc, "sim", about)?;
-    let events = "The file of events, one in each line";
-    let command = add(command, needed(alloc, "events", events))?;
-    let command = add_cluster(alloc, command)?;
+    let command = by_events(alloc, "sim", about)?;
     let command = add_json(alloc, command)?;
-    add_views(alloc, command)
+    let command = add_views(alloc, command)?;
+    let books = "Writes behind the report how many commits came from each seat, and the sum of their jobs";
+    add(command, flag(alloc, "books", books))
+}
+
+fn migrate<'a>(alloc: Global) -> Result<Command<'a>, AllocError>
+    ensures app { IfOk result (λ c. app_of c ≡ migrate_app) }
+    ensures local { IfOk result HasNoGlobals }
+{
+    let about = "Writes a file of events as one of format 2, in which each event has its seat";
+    by_events(alloc, "migrate", about)
 }
 
 fn add_files<'a>(alloc: Global, command: Command<'a>) -> Result<Command<'a>, AllocError>
@@ -242,11 +260,17 @@ fn second<'a>(alloc: Global) -> Result<Command<'a>, AllocError>
     add_below(command, run(alloc)?)
 }
 
+fn third<'a>(alloc: Global) -> Result<Command<'a>, AllocError>
+    ensures { IfOk result (λ c. app_of c ≡ third_app) }
+{
+    let command = add_below(second(alloc)?, log(alloc)?)?;
+    add_below(command, why(alloc)?)
+}
+
 /// The command `raysim` with its subcommands.
 pub fn raysim<'a>(alloc: Global) -> Result<Command<'a>, AllocError>
     ensures { IfOk result (λ c. app_of c ≡ raysim_app) }
 {
-    let command = add_below(second(alloc)?, log(alloc)?)?;
-    let command = add_below(command, why(alloc)?)?;
+    let command = add_below(third(alloc)?, migrate(alloc)?)?;
     add_below(command, explain(alloc)?)
 }

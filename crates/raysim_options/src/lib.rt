@@ -28,6 +28,8 @@ pub enum Request<'a> {
     Log(LogOptions<'a>),
     /// Tell why an object of a run is as it is.
     Why(WhyOptions<'a>),
+    /// Write a list of events as one of format 2.
+    Migrate(MigrateOptions<'a>),
     /// Tell what the refusals of this number (from 1 to 50) are.
     Explain(u8),
 }
@@ -40,7 +42,8 @@ pub struct ScriptOptions<'a> {
 }
 
 /// The options of `sim`: the script, the list of events, how many nodes there are and how many slots each has (both from 1
-/// to 64, by default 1 and 4), whether the report is JSON, and where the run's timeline and its lineage are written.
+/// to 64, by default 1 and 4), whether the report is JSON, where the run's timeline and its lineage are written, and whether the books of the
+/// seats are written behind the report.
 #[derive(Drop)]
 pub struct SimOptions<'a> {
     pub script: &'a str,
@@ -50,6 +53,16 @@ pub struct SimOptions<'a> {
     pub json: bool,
     pub timeline: Option<&'a str>,
     pub lineage: Option<&'a str>,
+    pub books: bool,
+}
+
+/// The options of `migrate`: the script, the list of events, and nodes and slots as for `sim`.
+#[derive(Drop)]
+pub struct MigrateOptions<'a> {
+    pub script: &'a str,
+    pub events: &'a str,
+    pub nodes: u8,
+    pub slots: u8,
 }
 
 /// The options of `run`: the script; whether it is run on threads, which it is where a number of threads, a plan or a history is asked for;

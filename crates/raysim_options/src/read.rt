@@ -2,13 +2,13 @@
 
 ghost use Rattle.std.specs.Prelude.{◌≡◌, ◌≤◌, Some, codes, is_some, option_map};
 ghost use Rattle.clap.specs.Words.{first_of, found_of, rows_of};
-ghost use Rattle.raysim_options.specs.App.{log_app, raysim_app, run_app, sim_app, why_app};
+ghost use Rattle.raysim_options.specs.App.{log_app, raysim_app, run_app, sim_app, why_app, migrate_app};
 ghost use Rattle.raysim_options.specs.Meets.{HasText, IsWithin, MeetsAll, MeetsOne};
-ghost use Rattle.raysim_options.specs.Reads.{IsFlag, IsLogOptions, IsNumber, IsRequest, IsRunOptions, IsScriptOptions, IsSimOptions, IsWhyOptions};
+ghost use Rattle.raysim_options.specs.Reads.{IsFlag, IsLogOptions, IsNumber, IsRequest, IsRunOptions, IsScriptOptions, IsSimOptions, IsWhyOptions, IsMigrateOptions};
 ghost use Rattle.raysim_options.specs.Reads.{asks_for_threads};
 
 use crate::commands::{MOST_NODES, MOST_REFUSAL, MOST_SLOTS, MOST_THREADS};
-use crate::{LogOptions, Request, RunOptions, ScriptOptions, SimOptions, WhyOptions};
+use crate::{LogOptions, Request, RunOptions, ScriptOptions, SimOptions, WhyOptions, MigrateOptions};
 use clap::ArgMatches;
 
 /// A number from 1 to `most`, or the default where the words leave it out.
@@ -87,6 +87,19 @@ fn sim<'a>(matches: &ArgMatches<'a>) -> SimOptions<'a>
         json: flag(matches, "json"),
         timeline: text(matches, "timeline"),
         lineage: text(matches, "lineage"),
+        books: flag(matches, "books"),
+    }
+}
+
+fn migrate<'a>(matches: &ArgMatches<'a>) -> MigrateOptions<'a>
+    requires { MeetsAll migrate_app.top.rules (rows_of (found_of matches.now)) }
+    ensures { IsMigrateOptions (rows_of (found_of matches.now)) result }
+{
+    MigrateOptions {
+        script: needed(matches, "script"),
+        events: needed(matches, "events"),
+        nodes: number(matches, "nodes", MOST_NODES, 1),
+        slots: number(matches, "slots", MOST_SLOTS, 4),
     }
 }
 
@@ -147,6 +160,7 @@ pub(crate) fn read<'a>(name: &str, matches: &ArgMatches<'a>) -> Request<'a>
         "run" => Request::Run(run(matches)),
         "log" => Request::Log(log(matches)),
         "why" => Request::Why(why(matches)),
+        "migrate" => Request::Migrate(migrate(matches)),
         "explain" => Request::Explain(number(matches, "number", MOST_REFUSAL, 1)),
         _ => unreachable!(),
     }

@@ -2,13 +2,14 @@
 use Rattle.std.specs.Prelude.{ℕ, List, ◌++◌, codes}
 use Rattle.std.specs.Fmt.{decimal}
 use Rattle.raysim_streams.specs.declared.refusal.Refusal.{Refusal}
-use Rattle.raysim_streams.specs.declared.refusal.Refusal.TheVariants.{At, NoMemory, Stopped, BadLine, Failed}
+use Rattle.raysim_streams.specs.declared.refusal.Refusal.TheVariants.{At, NoMemory, Stopped, BadLine, WrongJob, Failed}
 
 abbrev pub refusal_number : Refusal → ℕ
 refusal_number (At code span) = code
 refusal_number NoMemory = 39
 refusal_number (Stopped code) = code
 refusal_number (BadLine line) = 40
+refusal_number (WrongJob line) = 42
 refusal_number (Failed failure) = 50
 
 abbrev pub refusal_text : Refusal → List ℕ
@@ -16,4 +17,5 @@ refusal_text (At code span) = codes "refused " ++ (decimal code ++ (codes " at "
 refusal_text NoMemory = codes "refused 39"
 refusal_text (Stopped code) = codes "refused " ++ decimal code
 refusal_text (BadLine line) = codes "refused 40 line " ++ decimal line
+refusal_text (WrongJob line) = codes "refused 42 line " ++ decimal line
 refusal_text (Failed failure) = codes "refused 50"

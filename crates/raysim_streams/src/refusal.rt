@@ -20,6 +20,8 @@ pub enum Refusal {
     Stopped { code: u16 },
     /// The line of that number, counted from 1, of an event file or a plan is none of the format: `refused 40 line 2`.
     BadLine { line: u64 },
+    /// The claim in the line of that number, counted from 1, of an event file gave another job than the line says: `refused 42 line 7`.
+    WrongJob { line: u64 },
     /// A read or a write failed: `refused 50`.
     Failed(Failure),
 }
@@ -34,6 +36,7 @@ impl Refusal {
             Refusal::NoMemory => 39,
             Refusal::Stopped { code } => code,
             Refusal::BadLine { line: _ } => 40,
+            Refusal::WrongJob { line: _ } => 42,
             Refusal::Failed(_) => 50,
         }
     }
@@ -55,6 +58,7 @@ impl fmt::Display for Refusal {
             Refusal::NoMemory => write!(f, "refused 39"),
             Refusal::Stopped { code } => write!(f, "refused {code}"),
             Refusal::BadLine { line } => write!(f, "refused 40 line {line}"),
+            Refusal::WrongJob { line } => write!(f, "refused 42 line {line}"),
             Refusal::Failed(_) => write!(f, "refused 50"),
         }
     }

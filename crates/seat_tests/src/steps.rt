@@ -3,6 +3,8 @@
 ghost use Rattle.std.specs.Prelude.{◌≡◌, []};
 ghost use Rattle.protocol_core.specs.Views.{state_of};
 ghost use Rattle.script_check.specs.Trees.{script_of};
+ghost use Rattle.seat_books.specs.Holdings.{SameParts};
+ghost use Rattle.seat_books.specs.Seats.{AreParts};
 ghost use Rattle.seats.specs.Counted.{IsFresh};
 
 use crate::scripts::script;
@@ -11,7 +13,8 @@ use event_log::Event;
 use ids::WorkerId;
 use protocol_board::Board;
 use protocol_core::{Cluster, Core, Reply};
-use seats::{Blanks, RunName, Seat, Shared};
+use seat_books::{Blanks, Seat};
+use seats::{RunName, Shared};
 use segment::{Compiled, ScriptName};
 use sequence::Seq;
 use std::alloc::Global;
@@ -21,12 +24,24 @@ use std::sync::ledger::Ledger;
 use std::test::Fail;
 
 /// Main's first job, claimed and committed; whether that was accepted.
-fn begin<S: ScriptName, P: RunName, E: Ledger, G: Ledger, C: Ledger, J: Ledger, R: Wait>(
+fn begin<
+    S: ScriptName,
+    P: RunName,
+    E: Ledger,
+    G: Ledger,
+    C: Ledger,
+    J: Ledger,
+    V: Ledger,
+    H: Ledger,
+    D: Ledger,
+    M: Ledger,
+    R: Wait,
+>(
     rt: &R,
     alloc: Global,
     script: &Compiled,
-    shared: &Shared<S, P, E, G, C, J>,
-    seat: &mut Seat<E, G, C, J>,
+    shared: &Shared<S, P, E, G, C, J, V, H, D, M>,
+    seat: &mut Seat<P, E, G, C, J, V, H, D, M>,
 ) -> bool
     requires { script_of script.now ≡ S.script }
 {
@@ -40,11 +55,23 @@ fn begin<S: ScriptName, P: RunName, E: Ledger, G: Ledger, C: Ledger, J: Ledger, 
 }
 
 /// The events with which nothing is handed in; whether all were accepted.
-fn go_on<S: ScriptName, P: RunName, E: Ledger, G: Ledger, C: Ledger, J: Ledger, R: Wait>(
+fn go_on<
+    S: ScriptName,
+    P: RunName,
+    E: Ledger,
+    G: Ledger,
+    C: Ledger,
+    J: Ledger,
+    V: Ledger,
+    H: Ledger,
+    D: Ledger,
+    M: Ledger,
+    R: Wait,
+>(
     rt: &R,
     alloc: Global,
-    shared: &Shared<S, P, E, G, C, J>,
-    seat: &mut Seat<E, G, C, J>,
+    shared: &Shared<S, P, E, G, C, J, V, H, D, M>,
+    seat: &mut Seat<P, E, G, C, J, V, H, D, M>,
 ) -> bool {
     let events = [
         Event::Deliver(1),
@@ -66,25 +93,41 @@ fn go_on<S: ScriptName, P: RunName, E: Ledger, G: Ledger, C: Ledger, J: Ledger, 
 }
 
 /// The report of a run of the script, with the events of two seats.
-fn report_of<S: ScriptName, P: RunName, E: Ledger, G: Ledger, C: Ledger, J: Ledger, R: Wait>(
-    rt: &R,
-    alloc: Global,
-    script: &Compiled,
-    blanks: Blanks,
-) -> Result<String, Fail>
+fn report_of<
+    S: ScriptName,
+    P: RunName,
+    E: Ledger,
+    G: Ledger,
+    C: Ledger,
+    J: Ledger,
+    V: Ledger,
+    H: Ledger,
+    D: Ledger,
+    M: Ledger,
+    R: Wait,
+>(rt: &R, alloc: Global, script: &Compiled, blanks: Blanks, further: Blanks) -> Result<String, Fail>
     requires script { script_of script.now ≡ S.script }
     requires named { (P.plan ≡ []) × (P.size ≡ record { nodes = 1; slots = 4 }) }
-    requires events { (blanks.events.name ≡ E.name) × (blanks.events.parts ≡ E.parts) × (E.parts ≡ 2) }
-    requires given { (blanks.given.name ≡ G.name) × (blanks.given.parts ≡ G.parts) × (G.parts ≡ 2) }
-    requires commits { (blanks.commits.name ≡ C.name) × (blanks.commits.parts ≡ C.parts) × (C.parts ≡ 2) }
-    requires committed { (blanks.committed.name ≡ J.name) × (blanks.committed.parts ≡ J.parts) × (J.parts ≡ 2) }
+    requires watched { P.watched ≡ 2 }
+    requires parts { AreParts 2 E.parts × SameParts E.parts G.parts C.parts J.parts }
+    requires further_parts { (V.parts ≡ 1) × SameParts V.parts H.parts D.parts M.parts }
+    requires events { (blanks.events.name ≡ E.name) × (blanks.events.parts ≡ E.parts) }
+    requires given { (blanks.given.name ≡ G.name) × (blanks.given.parts ≡ G.parts) }
+    requires commits { (blanks.commits.name ≡ C.name) × (blanks.commits.parts ≡ C.parts) }
+    requires committed { (blanks.committed.name ≡ J.name) × (blanks.committed.parts ≡ J.parts) }
+    requires further_events { (further.events.name ≡ V.name) × (further.events.parts ≡ V.parts) }
+    requires further_given { (further.given.name ≡ H.name) × (further.given.parts ≡ H.parts) }
+    requires further_commits { (further.commits.name ≡ D.name) × (further.commits.parts ≡ D.parts) }
+    requires further_committed { (further.committed.name ≡ M.name) × (further.committed.parts ≡ M.parts) }
 {
     let cluster = Cluster::new(1, 4).ok_or("a cluster")?;
     let board = Board::new(Core::<S>::new(alloc, script.script(), cluster)?);
     let plan = RunPlan {
         lines: Seq::new(alloc),
     };
-    let (shared, mut seats) = Shared::<S, P, E, G, C, J>::new(alloc, blanks, board, plan, 2)?;
+    let (shared, mut seats) = Shared::<S, P, E, G, C, J, V, H, D, M>::new(
+        alloc, blanks, further, board, plan, 2, 2,
+    )?;
     let begun = begin(rt, alloc, script, &shared, &mut seats[0]);
     let went_on = go_on(rt, alloc, &shared, &mut seats[1]);
     let Ok(board) = shared.close(seats) else {
@@ -101,12 +144,19 @@ fn a_run_by_claim_commit_and_step(rt: HostRuntime) -> Result<(), Fail> {
     let alloc = rt.alloc();
     let text = "fn one() -> int { return 1; }\nfn main() -> int { return get remote(0) one(); }\n";
     let script = script(alloc, text)?;
-    let report = report_of::<Brand, Brand, Brand, Brand, Brand, Brand, HostRuntime>(
-        &rt,
-        alloc,
-        &script,
-        Blanks::new(2),
-    )?;
+    let report = report_of::<
+        Brand,
+        Brand,
+        Brand,
+        Brand,
+        Brand,
+        Brand,
+        Brand,
+        Brand,
+        Brand,
+        Brand,
+        HostRuntime,
+    >(&rt, alloc, &script, Blanks::new(3), Blanks::new(1))?;
     let wanted =
         "main fault RetriesUsed o1.1\nattempt a1.1#0 w2 open\nresolved o1.1 RetriesUsed o1.1\nreleased o1.1\n";
     assert_eq!(rt; report.as_str(), wanted);

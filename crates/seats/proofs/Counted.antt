@@ -1,7 +1,7 @@
 -- What an event adds to the totals of the log is what its answer says.
 use Rattle.std.proofs.Common.{◌≡◌, ℕ, ◌+◌, true, false, Bool, List, [], ◌∷◌, ◌++◌, length}
 use Rattle.std.proofs.Common.{Option, Some, None, refl, sym, ap, ◌∙◌, subst, arith, inl, inr, length-append}
-use Rattle.std.specs.Prelude.{nat_lt, if◌then◌else◌}
+use Rattle.std.specs.Prelude.{nat_lt, ◌==◌, if◌then◌else◌}
 use Rattle.std.specs.List.{flat_map}
 use Rattle.segment.specs.Jobs.{Done}
 use Rattle.event_log.specs.Entries.{Entry, In, Refused, Event, Claim, Commit, Deliver, Tick, Notice, NoticeNode, Evict, Lose, Kill, KillNode, Join}
@@ -18,6 +18,9 @@ use Rattle.protocol.specs.Refusals.{is_within_limits, refusal}
 use Rattle.protocol.specs.Answers.{Answer, Refuses, answer, decided, given_out, logged, takes, whole_after}
 use Rattle.protocol_owed.proofs.Counting.{are_parts, happens-counted, no_event, not_refused}
 use Rattle.protocol_board.specs.Cores.{RunState, GivesThat, Reply, Tells, Answers, Follows}
+use Rattle.books.specs.SeatTotals.{seat_totals}
+use Rattle.books.specs.Laws.{from_seat}
+use Rattle.books.proofs.SeatLaws.{seat_totals-event, no_totals as no_seat_totals}
 use Rattle.seats.specs.Counted.{ClaimsGaveJobs, IsFresh, counted, one_event, refused_totals}
 use Rattle.seats.proofs.Jobs.{claim_gives, happens-jobs}
 use Rattle.seats.proofs.Codes.{is_low, refusal_low}
@@ -55,9 +58,14 @@ told_taken c Join handed told n same r h = ap (counted Join) h
 
 -- ---- what the log says behind the event
 
+-- of the seat w
+abbrev CountsFrom : ℕ → List Entry → Event → ℕ → Answer → Reply → Type 0
+CountsFrom w log e seat a told = seat_totals w (log ++ logged e seat a) ≡ plus (seat_totals w log) (from_seat w seat (counted e told))
+
 abbrev Counts : List Entry → Whole → Event → ℕ → Answer → Reply → Type 0
 Counts log c e seat a told =
     (totals_of (log ++ logged e seat a) ≡ plus (totals_of log) (counted e told)) × (length (claims (log ++ logged e seat a)) ≡ length (whole_after c a).jobs)
+    × ((w : ℕ) → CountsFrom w log e seat a told)
 
 refused_counts : (log : List Entry) (c : Whole) (e : Event) (seat code : ℕ) (told : Reply) → length (claims log) ≡ length c.jobs → nat_lt code 38 ≡ true →
     Tells (Refuses code) told →
@@ -66,6 +74,7 @@ refused_counts log c e seat code told same low h =
     let f : counted e told ≡ one_event = ap (counted e) h.1 ∙ ap refused_totals h.2 ∙ ap (λ b. if b then one_event else nothing) low in (
       totals-event log e seat (Refused code ∷ []) refl ∙ ap (plus (totals_of log)) (sym f),
       ap (λ es. length (flat_map claim_in es)) (accepted-refused log e seat code) ∙ same,
+      λ w. seat_totals-event w log e seat (Refused code ∷ []) refl ∙ ap (λ t. plus (seat_totals w log) (from_seat w seat t)) (sym f),
     )
 
 taken_counts : (log : List Entry) (c : Whole) (e : Event) (seat : ℕ) (handed : Handed) (told : Reply) → length (claims log) ≡ length c.jobs →
@@ -84,6 +93,9 @@ taken_counts log c e seat handed told same r h =
           ∙ ap (λ b. plus (totals_of log) (record (answered_totals b n e) { events = 1 })) (not_refused es q)
           ∙ ap (plus (totals_of log)) (sym (told_taken c e handed told n same r h)),
       omega (arith, jobs, more, same),
+      λ w. seat_totals-event w log e seat es (no_event es q)
+          ∙ ap (λ b. plus (seat_totals w log) (from_seat w seat (record (answered_totals b n e) { events = 1 }))) (not_refused es q)
+          ∙ ap (λ t. plus (seat_totals w log) (from_seat w seat t)) (sym (told_taken c e handed told n same r h)),
     )
 
 limited_counts : (log : List Entry) (c : Whole) (e : Event) (seat : ℕ) (handed : Handed) (told : Reply) → length (claims log) ≡ length c.jobs →
@@ -104,8 +116,9 @@ answer_counts log c e seat handed told same h = decided_counts log c e seat hand
 
 -- ---- an event of a run
 
-pub record IsCounted (before : RunState) (e : Event) (after : RunState) (told : Reply) : Type 0 where
+pub record IsCounted (before : RunState) (e : Event) (seat : ℕ) (after : RunState) (told : Reply) : Type 0 where
   pub totals : totals_of after.log ≡ plus (totals_of before.log) (counted e told)
+  pub of_seat : (w : ℕ) → seat_totals w after.log ≡ plus (seat_totals w before.log) (from_seat w seat (counted e told))
   pub jobs : ClaimsGaveJobs after
 
 plus_nothing : (t : Totals) → plus t nothing ≡ t
@@ -119,28 +132,45 @@ unlogged : (before after : RunState) (e : Event) (told : Reply) → after.log �
     totals_of after.log ≡ plus (totals_of before.log) (counted e told)
 unlogged before after e told same none = ap totals_of same ∙ (sym (plus_nothing (totals_of before.log)) ∙ ap (plus (totals_of before.log)) (sym none))
 
+from_none : (w seat : ℕ) → from_seat w seat nothing ≡ nothing
+from_none w seat = by_test (seat == w)
+  where
+    by_test : (b : Bool) → (if b then nothing else nothing) ≡ nothing
+    by_test true = refl
+    by_test false = refl
+
+unlogged_from : (w : ℕ) (before after : RunState) (e : Event) (seat : ℕ) (told : Reply) → after.log ≡ before.log → counted e told ≡ nothing →
+    seat_totals w after.log ≡ plus (seat_totals w before.log) (from_seat w seat (counted e told))
+unlogged_from w before after e seat told same none =
+    ap (seat_totals w) same
+    ∙ (sym (plus_nothing (seat_totals w before.log))
+    ∙ ap (plus (seat_totals w before.log)) (sym (ap (from_seat w seat) none ∙ from_none w seat)))
+
 true_is_false : {A : Type 0} → true ≡ false → A
 true_is_false e = absurd (cc)
 
 pub answers_counted : (before after : RunState) (e : Event) (seat : ℕ) (done : Option Done) (told : Reply) → ClaimsGaveJobs before →
-    Answers before e seat done after told → IsCounted before e after told
+    Answers before e seat done after told → IsCounted before e seat after told
 answers_counted before after e seat done told same h = by_halt before.is_halted refl
   where
-    follows : before.is_halted ≡ false → Follows before e seat done after told → IsCounted before e after told
+    follows : before.is_halted ≡ false → Follows before e seat done after told → IsCounted before e seat after told
     follows goes (inl out) = record {
       totals = unlogged before after e told out.same (ap (counted e) out.told_so);
+      of_seat = λ w. unlogged_from w before after e seat told out.same (ap (counted e) out.told_so);
       jobs = λ f. true_is_false (sym out.halted ∙ f);
     }
     follows goes (inr (handed, is_handed, is)) =
         let k = answer_counts before.log before.whole e seat handed told (same goes) is.told_so in record {
           totals = ap totals_of is.log ∙ k.0;
+          of_seat = λ w. ap (seat_totals w) is.log ∙ k.2 w;
           jobs = λ f. ap (λ l. length (claims l)) is.log ∙ (k.1 ∙ sym (ap (λ (c : Whole). length c.jobs) is.whole));
         }
 
-    by_halt : (b : Bool) → before.is_halted ≡ b → IsCounted before e after told
+    by_halt : (b : Bool) → before.is_halted ≡ b → IsCounted before e seat after told
     by_halt true f =
         let k = h.halted f in record {
           totals = unlogged before after e told (ap (λ (r : RunState). r.log) k.0) (ap (counted e) k.1);
+          of_seat = λ w. unlogged_from w before after e seat told (ap (λ (r : RunState). r.log) k.0) (ap (counted e) k.1);
           jobs = subst ClaimsGaveJobs (sym k.0) same;
         }
     by_halt false f = follows f (h.follows f)
@@ -157,6 +187,9 @@ no_claims = refl
 
 pub fresh_totals : (r : RunState) → IsFresh r → totals_of r.log ≡ nothing
 fresh_totals r h = ap totals_of h.0 ∙ no_totals
+
+pub fresh_seat_totals : (w : ℕ) (r : RunState) → IsFresh r → seat_totals w r.log ≡ nothing
+fresh_seat_totals w r h = ap (seat_totals w) h.0 ∙ no_seat_totals w
 
 pub fresh_claims : (r : RunState) → IsFresh r → ClaimsGaveJobs r
 fresh_claims r h = λ goes. ap (λ l. length (claims l)) h.0 ∙ no_claims ∙ sym (ap length h.1)

@@ -4,6 +4,5 @@ mod Crosses
 pub mod Few
 pub mod Jobs
 mod Planned
-mod Seats
 mod Sizes
 mod Standing

@@ -1,11 +1,13 @@
 -- What an event adds to the totals of the log, by its answer.
-use Rattle.std.specs.Prelude.{◌≡◌, ℕ, [], nat_lt, false, if◌then◌else◌, length}
-use Rattle.event_log.specs.Entries.{Commit, Event}
+use Rattle.std.specs.Prelude.{◌≡◌, ℕ, List, [], nat_lt, false, if◌then◌else◌, length}
+use Rattle.event_log.specs.Entries.{Commit, Entry, Event}
 use Rattle.event_log.specs.Events.{claims}
 use Rattle.event_log.specs.Legal.{opening}
 use Rattle.event_log.specs.Views.{code_of}
 use Rattle.event_log.specs.Books.{Totals}
-use Rattle.event_log.specs.Laws.{nothing}
+use Rattle.event_log.specs.Laws.{nothing, plus}
+use Rattle.books.specs.SeatTotals.{seat_totals}
+use Rattle.books.specs.Laws.{from_seat}
 use Rattle.protocol_board.specs.Cores.{RunState, Reply, GivesJob, Accepts, Refuses}
 
 abbrev pub one_event : Totals
@@ -25,6 +27,10 @@ abbrev pub counted : Event → Reply → Totals
 counted e (GivesJob job) = record one_event { given = job.number }
 counted e Accepts = taken_totals e
 counted e (Refuses refusal) = refused_totals (code_of refusal)
+
+-- what came from the seat adds so much to the log's totals of the watched one, if it is that seat
+abbrev pub AddsFrom : ℕ → ℕ → Totals → List Entry → List Entry → Type 0
+AddsFrom watched seat more before after = seat_totals watched after ≡ plus (seat_totals watched before) (from_seat watched seat more)
 
 -- unless an event found no memory, each accepted claim gave out a job
 abbrev pub ClaimsGaveJobs : RunState → Type 0

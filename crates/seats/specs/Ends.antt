@@ -10,13 +10,18 @@ use Rattle.event_log.specs.declared.refusal.Refusal.TheVariants as refusals
 use Rattle.protocol.specs.Settling.{next}
 use Rattle.protocol.specs.Whole.{Whole}
 use Rattle.protocol_board.specs.Cores.{RunState, Size, state_of}
-use Rattle.seats.specs.Books.{SeatOf, sums}
+use Rattle.books.specs.SeatTotals.{seat_totals}
+use Rattle.seat_books.specs.Seats.{SeatOf, book_of, sums}
 use Rattle.seats.specs.declared.end.Ended.{Ended}
 use Rattle.seats.specs.declared.end.Ended.TheVariants as ends
 
--- the books of so many seats add up to the totals of the log
-abbrev pub AddsUp : ℕ → List Entry → Type 0
-AddsUp n log = (seats : List SeatOf) × (length seats ≡ n) × (totals_of log ≡ sums seats)
+-- the books of the seats add up to the totals of the log, and the watched one's is what came from that seat
+abbrev pub AddUp : ℕ → List SeatOf → List Entry → Type 0
+AddUp watched seats log = (totals_of log ≡ sums seats) × (book_of watched seats ≡ Some (seat_totals watched log))
+
+-- so do the books of so many seats
+abbrev pub AddsUp : ℕ → ℕ → List Entry → Type 0
+AddsUp n watched log = (seats : List SeatOf) × (length seats ≡ n) × AddUp watched seats log
 
 -- an event of the log was refused since it would have made an object, worker or node past its limit
 abbrev pub WasLimited : List Entry → Type 0
@@ -59,8 +64,8 @@ log_at (ends.AtLimit board) = Some (log_of board.log)
 log_at ends.NoMemory = None
 
 -- and the books of its seats add up
-abbrev pub IsEnd : {X : Type 0} → ℕ → List PlanLine → Size → Ended X → Type 0
-IsEnd seats plan size end = HasEnded plan size end × IfSome (log_at end) (AddsUp seats)
+abbrev pub IsEnd : {X : Type 0} → ℕ → ℕ → List PlanLine → Size → Ended X → Type 0
+IsEnd seats watched plan size end = HasEnded plan size end × IfSome (log_at end) (AddsUp seats watched)
 
 -- what a log has of a plan's events that were taken, and of why the run is given up, if it is: an event of it was refused at a limit, or there was no
 -- memory

@@ -4,11 +4,12 @@ ghost use Rattle.std.specs.Prelude.{List};
 ghost use Rattle.event_files.specs.declared.plan.PlanLine.{PlanLine};
 ghost use Rattle.protocol_board.specs.Cores.{Size};
 
+use seat_books::Watching;
 use std::marker::Brand;
 
-/// A type that stands for one run on threads in contracts: the plan beside it, and the cluster on which it begins. Of a run under a lock nothing
-/// is known but what its type says.
-pub trait RunName {
+/// A type that stands for one run on threads in contracts: which of its seats is watched, the plan beside it, and the cluster on which it begins. Of a
+/// run under a lock nothing is known but what its type says.
+pub trait RunName: Watching {
     ghost plan: { List PlanLine };
 
     ghost size: { Size };

@@ -3,7 +3,7 @@
 ghost use Rattle.std.specs.Prelude.{◌≡◌};
 ghost use Rattle.event_log.specs.Views.{code_of, event_of};
 ghost use Rattle.protocol_board.specs.Cores.{reply_of};
-ghost use Rattle.seats.specs.Tallies.{totals_in};
+ghost use Rattle.seat_books.specs.Tallies.{totals_in};
 ghost use Rattle.seats.specs.Counted.{counted, refused_totals, taken_totals};
 ghost use Rattle.seats.specs.Turns.{turn_counted};
 ghost use Rattle.seats.specs.Views.{told_of};
@@ -11,16 +11,8 @@ ghost use Rattle.seats.specs.Views.{told_of};
 use crate::turn::Turn;
 use event_log::{Event, Refusal};
 use protocol_board::Reply;
+use seat_books::Tally;
 use segment::ScriptName;
-
-/// Four numbers for a book.
-#[derive(Clone, Copy, Debug, PartialEq, Eq)]
-pub struct Tally {
-    pub events: u64,
-    pub given: u64,
-    pub commits: u64,
-    pub committed: u64,
-}
 
 fn nothing() -> Tally
     ensures { result ≡ record { events = 0; given = 0; commits = 0; committed = 0 } }

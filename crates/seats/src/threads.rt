@@ -5,14 +5,16 @@ ghost use Rattle.protocol_board.specs.Cores.{state_of};
 ghost use Rattle.script_check.specs.Trees.{script_of};
 ghost use Rattle.seats.specs.Ends.{IsEnd, size_of};
 ghost use Rattle.seats.specs.Counted.{IsFresh};
+ghost use Rattle.seat_books.specs.Holdings.{SameParts};
+ghost use Rattle.seat_books.specs.Seats.{AreParts};
 
 use crate::end::Ended;
 use crate::run_name::RunName;
-use crate::seat::{Blanks, Seat};
 use crate::shared::Shared;
 use crate::working::{Gate, work};
 use event_files::RunPlan;
 use protocol_board::Board;
+use seat_books::{Blanks, Seat};
 use segment::{Compiled, ScriptName};
 use std::alloc::{AllocError, Global};
 use std::marker::Brand;
@@ -30,22 +32,26 @@ fn sit<
     G: Ledger + Send + Sync,
     C: Ledger + Send + Sync,
     J: Ledger + Send + Sync,
+    V: Ledger + Send + Sync,
+    H: Ledger + Send + Sync,
+    D: Ledger + Send + Sync,
+    M: Ledger + Send + Sync,
     K: Gate + Sync,
     R: Threads + Wait + Clock + Sync,
 >(
     rt: &R,
     alloc: Global,
-    shared: &Shared<S, P, E, G, C, J>,
-    seats: Vec<Seat<E, G, C, J>>,
+    shared: &Shared<S, P, E, G, C, J, V, H, D, M>,
+    seats: Vec<Seat<P, E, G, C, J, V, H, D, M>>,
     script: &Compiled,
     gate: &K,
-) -> Result<Vec<Seat<E, G, C, J>>, AllocError>
+) -> Result<Vec<Seat<P, E, G, C, J, V, H, D, M>>, AllocError>
     requires { script_of script.now ≡ S.script }
 {
     thread::map_vec(
         rt,
         seats,
-        &|seat| -> Seat<E, G, C, J>
+        &|seat| -> Seat<P, E, G, C, J, V, H, D, M>
             requires { script_of script.now ≡ S.script }
         { work(rt, alloc, shared, seat, script, gate) },
     )
@@ -59,12 +65,17 @@ fn run_shared<
     G: Ledger + Send + Sync,
     C: Ledger + Send + Sync,
     J: Ledger + Send + Sync,
+    V: Ledger + Send + Sync,
+    H: Ledger + Send + Sync,
+    D: Ledger + Send + Sync,
+    M: Ledger + Send + Sync,
     K: Gate + Sync,
     R: Threads + Wait + Clock + Sync,
 >(
     rt: &R,
     alloc: Global,
     blanks: Blanks,
+    further: Blanks,
     board: Board<S>,
     plan: RunPlan,
     n: u8,
@@ -75,13 +86,22 @@ fn run_shared<
     requires fresh { IsFresh (state_of board) }
     requires named { (plan.lines ≡ P.plan) × (size_of (state_of board) ≡ P.size) }
     requires script { script_of script.now ≡ S.script }
-    requires events { (blanks.events.name ≡ E.name) × (blanks.events.parts ≡ E.parts) × (E.parts ≡ n) }
-    requires given { (blanks.given.name ≡ G.name) × (blanks.given.parts ≡ G.parts) × (G.parts ≡ n) }
-    requires commits { (blanks.commits.name ≡ C.name) × (blanks.commits.parts ≡ C.parts) × (C.parts ≡ n) }
-    requires committed { (blanks.committed.name ≡ J.name) × (blanks.committed.parts ≡ J.parts) × (J.parts ≡ n) }
-    ensures { IfOk result (IsEnd n P.plan P.size) }
+    requires watched { P.watched ≡ 1 }
+    requires parts { AreParts n E.parts × SameParts E.parts G.parts C.parts J.parts }
+    requires further_parts { (V.parts ≡ 1) × SameParts V.parts H.parts D.parts M.parts }
+    requires events { (blanks.events.name ≡ E.name) × (blanks.events.parts ≡ E.parts) }
+    requires given { (blanks.given.name ≡ G.name) × (blanks.given.parts ≡ G.parts) }
+    requires commits { (blanks.commits.name ≡ C.name) × (blanks.commits.parts ≡ C.parts) }
+    requires committed { (blanks.committed.name ≡ J.name) × (blanks.committed.parts ≡ J.parts) }
+    requires further_events { (further.events.name ≡ V.name) × (further.events.parts ≡ V.parts) }
+    requires further_given { (further.given.name ≡ H.name) × (further.given.parts ≡ H.parts) }
+    requires further_commits { (further.commits.name ≡ D.name) × (further.commits.parts ≡ D.parts) }
+    requires further_committed { (further.committed.name ≡ M.name) × (further.committed.parts ≡ M.parts) }
+    ensures { IfOk result (IsEnd n 1 P.plan P.size) }
 {
-    let (mut shared, mut seats) = Shared::<S, P, E, G, C, J>::new(alloc, blanks, board, plan, n)?;
+    let (mut shared, mut seats) = Shared::<S, P, E, G, C, J, V, H, D, M>::new(
+        alloc, blanks, further, board, plan, n, 1,
+    )?;
     for _ in rt.forever() {
         let back = sit(rt, alloc, &shared, seats, script, gate)?;
         match shared.end(alloc, back) {
@@ -96,7 +116,8 @@ fn run_shared<
 }
 
 /// Runs a script on `n` threads, 1 to 8, beside a plan: each has a seat, takes its turns and runs the jobs that it is given side by side with
-/// the others. Once all are back, the seats' books add up, number by number, to the totals of the log. Where a thread can't be made, another
+/// the others. Once all are back, the seats' books add up, number by number, to the totals of the log; and seat 1, which is watched, has in its book
+/// exactly what came from it. Where a thread can't be made, another
 /// takes its seat after its own. On want of memory for the seats or the threads the run is dropped.
 pub fn run_on_threads<
     S: ScriptName + Send + Sync,
@@ -114,10 +135,11 @@ pub fn run_on_threads<
     requires some { (1 ≤ n) × (n ≤ 8) }
     requires fresh { IsFresh (state_of board) }
     requires script { script_of script.now ≡ S.script }
-    ensures { IfOk result (IsEnd n plan.lines (size_of (state_of board))) }
+    ensures { IfOk result (IsEnd n 1 plan.lines (size_of (state_of board))) }
 {
-    let blanks = Blanks::new(u64::from(n));
-    run_shared::<S, Brand, Brand, Brand, Brand, Brand, K, R>(
-        rt, alloc, blanks, board, plan, n, script, gate,
+    let blanks = Blanks::new(2 * u64::from(n) - 1);
+    let further = Blanks::new(1);
+    run_shared::<S, Brand, Brand, Brand, Brand, Brand, Brand, Brand, Brand, Brand, K, R>(
+        rt, alloc, blanks, further, board, plan, n, script, gate,
     )
 }

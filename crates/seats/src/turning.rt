@@ -7,7 +7,8 @@ ghost use Rattle.event_log.specs.Views.{event_of, log_of};
 ghost use Rattle.event_log.specs.declared.refusal.Refusal.TheVariants.{NoMemory};
 ghost use Rattle.protocol_board.specs.Cores.{Answers, reply_of, state_of};
 ghost use Rattle.protocol_board.specs.Meant.{IsSoundLog};
-ghost use Rattle.seats.specs.Counted.{IsFresh, counted};
+ghost use Rattle.books.specs.SeatTotals.{seat_totals};
+ghost use Rattle.seats.specs.Counted.{AddsFrom, IsFresh, counted};
 ghost use Rattle.seats.specs.Ends.{HasEnded, IsOver, Stands, first_events, log_at, size_of};
 ghost use Rattle.seats.specs.Turns.{Follows, Takes, Turned, choice, due, is_at_end, or_first, past_line, turn_counted};
 ghost use Rattle.seats.specs.Views.{choice_of, told_of, turn_of};
@@ -88,6 +89,7 @@ impl<S: ScriptName, P: RunName> Turning<S, P> {
         requires named { (plan.lines ≡ P.plan) × (size_of (state_of board) ≡ P.size) }
         ensures begins { result ≡ record { run = board; plan = plan.lines; taken = 0; out = []; given_up = None } }
         ensures totals { totals_of (log_of result.run.log) ≡ nothing }
+        ensures watched { seat_totals P.watched (log_of result.run.log) ≡ nothing }
     {
         Turning {
             board,
@@ -100,7 +102,8 @@ impl<S: ScriptName, P: RunName> Turning<S, P> {
         }
     }
 
-    /// One event: see `Board::apply`. What it adds to the totals of the log is what its answer says.
+    /// One event: see `Board::apply`. What it adds to the totals of the log is what its answer says, and to
+    /// those of the watched seat, if it came from that.
     pub fn apply(
         &mut self,
         alloc: Global,
@@ -110,6 +113,7 @@ impl<S: ScriptName, P: RunName> Turning<S, P> {
     ) -> Reply<S>
         ensures answers { Answers (state_of self.old.run) (event_of event) seat done (state_of self.new.run) (reply_of result) }
         ensures counted { totals_of (log_of self.new.run.log) ≡ plus (totals_of (log_of self.old.run.log)) (counted (event_of event) (reply_of result)) }
+        ensures watched { AddsFrom P.watched seat (counted (event_of event) (reply_of result)) (log_of self.old.run.log) (log_of self.new.run.log) }
         ensures follows { Follows (turn_of self.old) (event_of event) (reply_of result) (turn_of self.new) }
     {
         let told = self.board.apply(alloc, event, seat, done);
@@ -167,6 +171,7 @@ impl<S: ScriptName, P: RunName> Turning<S, P> {
     fn take(&mut self, alloc: Global, seat: u8, event: Event) -> Turn<S>
         ensures takes { Takes (turn_of self.old) (event_of event) seat (turn_of self.new) (told_of result) }
         ensures counted { totals_of (log_of self.new.run.log) ≡ plus (totals_of (log_of self.old.run.log)) (turn_counted (told_of result)) }
+        ensures watched { AddsFrom P.watched seat (turn_counted (told_of result)) (log_of self.old.run.log) (log_of self.new.run.log) }
     {
         match self.apply(alloc, event, seat, None) {
             Reply::Job(job) => Turn::Job(job),
@@ -183,6 +188,7 @@ impl<S: ScriptName, P: RunName> Turning<S, P> {
     pub fn turn(&mut self, alloc: Global, seat: u8) -> Turn<S>
         ensures turned { Turned (turn_of self.old) seat (turn_of self.new) (told_of result) }
         ensures counted { totals_of (log_of self.new.run.log) ≡ plus (totals_of (log_of self.old.run.log)) (turn_counted (told_of result)) }
+        ensures watched { AddsFrom P.watched seat (turn_counted (told_of result)) (log_of self.old.run.log) (log_of self.new.run.log) }
     {
         if self.given_up.is_some() {
             return Turn::End;

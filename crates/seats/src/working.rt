@@ -4,10 +4,10 @@ ghost use Rattle.std.specs.Prelude.{◌≡◌};
 ghost use Rattle.script_check.specs.Trees.{script_of};
 
 use crate::run_name::RunName;
-use crate::seat::Seat;
 use crate::shared::Shared;
 use crate::turn::Turn;
 use kept_frames::Frames;
+use seat_books::Seat;
 use segment::{Compiled, Job, ScriptName};
 use std::alloc::Global;
 use std::rt::Clock;
@@ -26,11 +26,24 @@ pub trait Gate {
 }
 
 /// Runs the job outside the lock, from the frame of its attempt if this thread kept it, and commits what was done on it.
-fn run_job<S: ScriptName, P: RunName, E: Ledger, G: Ledger, C: Ledger, J: Ledger, K: Gate, R: Wait>(
+fn run_job<
+    S: ScriptName,
+    P: RunName,
+    E: Ledger,
+    G: Ledger,
+    C: Ledger,
+    J: Ledger,
+    V: Ledger,
+    H: Ledger,
+    D: Ledger,
+    M: Ledger,
+    K: Gate,
+    R: Wait,
+>(
     rt: &R,
     alloc: Global,
-    shared: &Shared<S, P, E, G, C, J>,
-    seat: &mut Seat<E, G, C, J>,
+    shared: &Shared<S, P, E, G, C, J, V, H, D, M>,
+    seat: &mut Seat<P, E, G, C, J, V, H, D, M>,
     script: &Compiled,
     frames: &mut Frames<S>,
     gate: &K,
@@ -58,16 +71,20 @@ pub fn work<
     G: Ledger,
     C: Ledger,
     J: Ledger,
+    V: Ledger,
+    H: Ledger,
+    D: Ledger,
+    M: Ledger,
     K: Gate,
     R: Wait + Clock,
 >(
     rt: &R,
     alloc: Global,
-    shared: &Shared<S, P, E, G, C, J>,
-    seat: Seat<E, G, C, J>,
+    shared: &Shared<S, P, E, G, C, J, V, H, D, M>,
+    seat: Seat<P, E, G, C, J, V, H, D, M>,
     script: &Compiled,
     gate: &K,
-) -> Seat<E, G, C, J>
+) -> Seat<P, E, G, C, J, V, H, D, M>
     requires { script_of script.now ≡ S.script }
     ensures { result.number ≡ seat.number }
 {

@@ -25,7 +25,7 @@ returns-in_err-put_all-clause-beginning g c =
     let said = c.in-Ok-read_events.ensures.read in
     let told = c.in-Ok-sim_script.ensures.reported in
     let begun =
-    sim_begun_so c.args.cluster c.args.form _ _ c.in_ok-text.text.items script c.in-Ok-read_events.found.lines c.in-Ok-read_events.found.numbers _ _ c.in-Ok-sim_script.report.status _ _
+    sim_begun_so c.args.cluster c.args.form _ _ c.in_ok-text.text.items script c.in-Ok-read_events.found.says c.in-Ok-read_events.found.numbers _ _ c.in-Ok-sim_script.report.status _ _
     c.in_ok-text.ensures.ok is said told c.as_bytes.ensures.value c.in_err-put_all.ensures.beginning in
     always_err c.from_residual-in_err-put_all.result _ begun
 
@@ -35,5 +35,5 @@ returns-clause-reported g c =
     let is = subst (λ t. IsScript t script) c.as_slice.ensures.value c.in-Ok.ensures.found in
     let said = c.in-Ok-read_events.ensures.read in
     let told = c.in-Ok-sim_script.ensures.reported in
-    sim_reported_so c.args.cluster c.args.form _ _ c.in_ok-text.text.items script c.in-Ok-read_events.found.lines c.in-Ok-read_events.found.numbers _ _
+    sim_reported_so c.args.cluster c.args.form _ _ c.in_ok-text.text.items script c.in-Ok-read_events.found.says c.in-Ok-read_events.found.numbers _ _
     c.in-Ok-sim_script.report.status _ _ c.in_ok-text.ensures.ok is said told c.as_bytes.ensures.value c.in_ok-put_all.ensures.ok

@@ -19,3 +19,18 @@ ghosts-report_of-C-Ledger g a = record { name = a.blanks.commits.name; parts = a
 
 abbrev pub ghosts-report_of-J-Ledger : goal.ghosts-report_of-J-Ledger
 ghosts-report_of-J-Ledger g a = record { name = a.blanks.committed.name; parts = a.blanks.committed.parts }
+
+abbrev pub ghosts-report_of-P-Watching : goal.ghosts-report_of-P-Watching
+ghosts-report_of-P-Watching g a = record { watched = 2 }
+
+abbrev pub ghosts-report_of-V-Ledger : goal.ghosts-report_of-V-Ledger
+ghosts-report_of-V-Ledger g a = record { name = a.further.events.name; parts = a.further.events.parts }
+
+abbrev pub ghosts-report_of-H-Ledger : goal.ghosts-report_of-H-Ledger
+ghosts-report_of-H-Ledger g a = record { name = a.further.given.name; parts = a.further.given.parts }
+
+abbrev pub ghosts-report_of-D-Ledger : goal.ghosts-report_of-D-Ledger
+ghosts-report_of-D-Ledger g a = record { name = a.further.commits.name; parts = a.further.commits.parts }
+
+abbrev pub ghosts-report_of-M-Ledger : goal.ghosts-report_of-M-Ledger
+ghosts-report_of-M-Ledger g a = record { name = a.further.committed.name; parts = a.further.committed.parts }

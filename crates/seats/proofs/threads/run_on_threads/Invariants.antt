@@ -16,3 +16,18 @@ ghosts-run_shared-C-Ledger g a = record { name = a.blanks.commits.name; parts = 
 
 abbrev pub ghosts-run_shared-J-Ledger : goal.ghosts-run_shared-J-Ledger
 ghosts-run_shared-J-Ledger g a = record { name = a.blanks.committed.name; parts = a.blanks.committed.parts }
+
+abbrev pub ghosts-run_shared-P-Watching : goal.ghosts-run_shared-P-Watching
+ghosts-run_shared-P-Watching g a = record { watched = 1 }
+
+abbrev pub ghosts-run_shared-V-Ledger : goal.ghosts-run_shared-V-Ledger
+ghosts-run_shared-V-Ledger g a = record { name = a.further.events.name; parts = a.further.events.parts }
+
+abbrev pub ghosts-run_shared-H-Ledger : goal.ghosts-run_shared-H-Ledger
+ghosts-run_shared-H-Ledger g a = record { name = a.further.given.name; parts = a.further.given.parts }
+
+abbrev pub ghosts-run_shared-D-Ledger : goal.ghosts-run_shared-D-Ledger
+ghosts-run_shared-D-Ledger g a = record { name = a.further.commits.name; parts = a.further.commits.parts }
+
+abbrev pub ghosts-run_shared-M-Ledger : goal.ghosts-run_shared-M-Ledger
+ghosts-run_shared-M-Ledger g a = record { name = a.further.committed.name; parts = a.further.committed.parts }

@@ -1,14 +1,14 @@
 use Rattle.std.proofs.Common.{◌+◌, [], rules, sym, ap, subst, ◌∙◌}
-use Rattle.protocol_board.specs.Replays.{PlayStops, Plays, from_first}
+use Rattle.protocol_board.specs.Replays.{LinePlays, PlayStops, Plays, from_first}
 use Rattle.protocol_board.specs.Views.{play_of}
-use Rattle.protocol_board.proofs.Playing.{line_there, no_line, one_more_line}
+use Rattle.protocol_board.proofs.Playing.{item_there, no_item, one_more_item}
 use Rattle.protocol_board.proofs.replay.Replay.play.Goals as goal
 
 pub loop-line-init : goal.loop-line-init
 loop-line-init g c =
     let first = from_first (play_of c.args.self.now) in
     record {
-      plays = subst (λ p. Plays g.S.ScriptName.script [] first p) (sym c.restart.ensures.first) (no_line g.S.ScriptName.script first);
+      plays = subst (λ p. Plays g.S.ScriptName.script [] first p) (sym c.restart.ensures.first) (no_item (LinePlays g.S.ScriptName.script) first);
       counted = c.restart.ensures.begun;
     }
 
@@ -16,7 +16,7 @@ pub returns-in_err-play_line-clause-stops : goal.returns-in_err-play_line-clause
 returns-in_err-play_line-clause-stops g c =
     let lines = c.deref-line-items.result.now in
     let same = c.deref-line-items.ensures.value ∙ c.lines.view_is in
-    let at = line_there lines c.args.lines.now c.loop-line.line-index c.line-item.result same c.loop-line-test.true c.line-item.is in
+    let at = item_there lines c.args.lines.now c.loop-line.line-index c.line-item.result same c.loop-line-test.true c.line-item.is in
     let why : PlayStops g.S.ScriptName.script c.args.lines.now (from_first (play_of c.args.self.now)) (play_of c.play_line.new.self) c.in_err-play_line.field-0.0 =
     (c.loop-line.line-index, c.line-item.result, play_of c.loop-line.self, at, c.loop-line.invariant.plays, c.in_err-play_line.ensures.stops) in
     search (rules, why)
@@ -25,13 +25,13 @@ pub loop-line-preserved : goal.loop-line-preserved
 loop-line-preserved g c =
     let lines = c.deref-line-items.result.now in
     let same = c.deref-line-items.ensures.value ∙ c.lines.view_is in
-    let at = line_there lines c.args.lines.now c.loop-line.line-index c.line-item.result same c.loop-line-test.true c.line-item.is in
+    let at = item_there lines c.args.lines.now c.loop-line.line-index c.line-item.result same c.loop-line-test.true c.line-item.is in
     let before = from_first (play_of c.args.self.now) in
     let between = play_of c.loop-line.self in
     let after = play_of c.play_line.new.self in
     let plays = c.in_ok-play_line.ensures.plays in
     let h = c.loop-line.invariant in
     record {
-      plays = one_more_line g.S.ScriptName.script c.args.lines.now c.loop-line.line-index c.line-item.result before between after at h.plays plays;
+      plays = one_more_item (LinePlays g.S.ScriptName.script) c.args.lines.now c.loop-line.line-index c.line-item.result before between after at h.plays plays;
       counted = c.in_ok-play_line.ensures.counted ∙ ap (λ k. k + 1) h.counted;
     }

@@ -11,11 +11,11 @@ pub loop-event-preserved : goal.loop-event-preserved
 loop-event-preserved g c =
     let before = play_of c.args.self.now in
     let between = play_of c.loop-event.self in
-    let after = play_of c.apply.new.self in
+    let after = play_of c.take.new.self in
     let h = c.loop-event.invariant.settles in
     let named = sym c.in-Some.ensures in
-    let step = c.in_ok-apply.ensures.step in
+    let step = c.in_ok-take.ensures.step in
     record {
       settles = (suc h.0, one_more g.S.ScriptName.script c.args.but.now h.0 before between after (event_of c.in-Some.event) h.1 named step);
-      same = c.in_ok-apply.ensures.same ∙ c.loop-event.invariant.same;
+      same = c.in_ok-take.ensures.same ∙ c.loop-event.invariant.same;
     }

@@ -3,7 +3,7 @@ use Rattle.event_log.specs.Books.{totals_of}
 use Rattle.event_log.specs.Laws.{plus}
 use Rattle.event_log.specs.Views.{event_of, log_of}
 use Rattle.protocol_board.specs.Cores.{reply_of, state_of}
-use Rattle.seats.specs.Counted.{counted}
+use Rattle.seats.specs.Counted.{AddsFrom, counted}
 use Rattle.seats.specs.Ends.{first_events}
 use Rattle.seats.specs.Views.{TurnData}
 use Rattle.seats.proofs.Counted.{answers_counted}
@@ -53,3 +53,14 @@ returns-clause-counted g c =
     let h = answers_counted (state_of before) (state_of after) e c.args.seat c.args.done told c.self.invariant.0 c.apply-told.ensures.answers in
     let P : TurnData → Type 0 = λ r. totals_of (log_of after.log) ≡ plus (totals_of (log_of r.run.log)) (counted e told) in
     subst P c.self.view_is h.totals
+
+pub returns-clause-watched : goal.returns-clause-watched
+returns-clause-watched g c =
+    let before = c.self.inside.board in
+    let after = c.apply-told.new.self in
+    let e = event_of c.args.event in
+    let told = reply_of c.apply-told.result in
+    let h = answers_counted (state_of before) (state_of after) e c.args.seat c.args.done told c.self.invariant.0 c.apply-told.ensures.answers in
+    let w = g.P.Watching.watched in
+    let P : TurnData → Type 0 = λ r. AddsFrom w c.args.seat (counted e told) (log_of r.run.log) (log_of after.log) in
+    subst P c.self.view_is (h.of_seat w)

@@ -1,7 +1,7 @@
 use Rattle.std.proofs.Common.{ap, sym}
 use Rattle.event_log.specs.Books.{Totals}
 use Rattle.protocol_board.specs.Cores.{Size, state_of}
-use Rattle.seats.proofs.Counted.{fresh_claims, fresh_totals}
+use Rattle.seats.proofs.Counted.{fresh_claims, fresh_seat_totals, fresh_totals}
 use Rattle.seats.proofs.Standing.{none_in}
 use Rattle.seats.proofs.turning.Turning.new.Goals as goal
 
@@ -18,3 +18,6 @@ invariant_of-result g c =
 
 pub returns-clause-totals : goal.returns-clause-totals
 returns-clause-totals g c = fresh_totals (state_of c.args.board) c.requires.fresh
+
+pub returns-clause-watched : goal.returns-clause-watched
+returns-clause-watched g c = fresh_seat_totals g.P.Watching.watched (state_of c.args.board) c.requires.fresh

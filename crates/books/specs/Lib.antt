@@ -1,0 +1,4 @@
+pub mod SeatTotals
+pub mod Laws
+pub mod Lines
+pub mod Summing

@@ -1,0 +1,9 @@
+use Rattle.std.proofs.Common.{◌≡◌, ◌≤◌, ◌++◌, drop}
+use Rattle.histories.specs.Recorded.{recorded_from, recorded_in}
+use Rattle.histories.proofs.recorded.recorded_in.Given as goal
+
+abbrev pub invariant-loop-place : goal.invariant-loop-place
+invariant-loop-place l = record {
+  found : l.events.items ++ recorded_from l.claims (drop l.place l.log) ≡ recorded_in l.log;
+  counted : l.claims ≤ l.place;
+}

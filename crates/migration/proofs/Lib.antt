@@ -1,0 +1,2 @@
+mod Migrating
+mod Alike

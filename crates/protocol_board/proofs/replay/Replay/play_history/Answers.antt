@@ -1,0 +1,37 @@
+use Rattle.std.proofs.Common.{◌+◌, [], rules, sym, ap, subst, ◌∙◌}
+use Rattle.protocol_board.specs.Replays.{EventPlays, HistoryStops, PlaysHistory, from_first}
+use Rattle.protocol_board.specs.Views.{play_of}
+use Rattle.protocol_board.proofs.Playing.{item_there, no_item, one_more_item}
+use Rattle.protocol_board.proofs.replay.Replay.play_history.Goals as goal
+
+pub loop-said-init : goal.loop-said-init
+loop-said-init g c =
+    let first = from_first (play_of c.args.self.now) in
+    record {
+      plays = subst (λ p. PlaysHistory g.S.ScriptName.script [] first p) (sym c.restart.ensures.first) (no_item (EventPlays g.S.ScriptName.script) first);
+      counted = c.restart.ensures.begun;
+    }
+
+pub returns-in_err-play_event-clause-stops : goal.returns-in_err-play_event-clause-stops
+returns-in_err-play_event-clause-stops g c =
+    let lines = c.deref-said-items.result.now in
+    let same = c.deref-said-items.ensures.value ∙ c.events.view_is in
+    let at = item_there lines c.args.events.now c.loop-said.said-index c.said-item.result same c.loop-said-test.true c.said-item.is in
+    let why : HistoryStops g.S.ScriptName.script c.args.events.now (from_first (play_of c.args.self.now)) (play_of c.play_event.new.self) c.in_err-play_event.field-0.0 =
+    (c.loop-said.said-index, c.said-item.result, play_of c.loop-said.self, at, c.loop-said.invariant.plays, c.in_err-play_event.ensures.stops) in
+    search (rules, why)
+
+pub loop-said-preserved : goal.loop-said-preserved
+loop-said-preserved g c =
+    let lines = c.deref-said-items.result.now in
+    let same = c.deref-said-items.ensures.value ∙ c.events.view_is in
+    let at = item_there lines c.args.events.now c.loop-said.said-index c.said-item.result same c.loop-said-test.true c.said-item.is in
+    let before = from_first (play_of c.args.self.now) in
+    let between = play_of c.loop-said.self in
+    let after = play_of c.play_event.new.self in
+    let plays = c.in_ok-play_event.ensures.plays in
+    let h = c.loop-said.invariant in
+    record {
+      plays = one_more_item (EventPlays g.S.ScriptName.script) c.args.events.now c.loop-said.said-index c.said-item.result before between after at h.plays plays;
+      counted = c.in_ok-play_event.ensures.counted ∙ ap (λ k. k + 1) h.counted;
+    }

@@ -5,7 +5,7 @@ ghost use Rattle.std.specs.Option.{option_map};
 ghost use Rattle.event_log.specs.Views.{event_of, log_of};
 ghost use Rattle.protocol.specs.Settling.{next};
 ghost use Rattle.protocol_core.specs.Own.{GivesOwn, IsOwn};
-ghost use Rattle.protocol_core.specs.Steps.{Answers, reply_of};
+ghost use Rattle.protocol_core.specs.Steps.{Answers, AnswersAsShown, reply_of};
 ghost use Rattle.protocol_core.specs.Views.{state_of};
 ghost use Rattle.history.specs.Main.{status_of};
 ghost use Rattle.history.specs.Report.{report_text};
@@ -37,8 +37,7 @@ impl<S: ScriptName> Model for Board<S> {
     ghost use Rattle.held.specs.Codes.{value_code, outcome_code, birth_code, id_code};
     ghost use Rattle.numbers.specs.Codes.{attempt_code, fault_code};
     ghost use Rattle.values.specs.contracts.value.RunValue as run_values;
-    ghost use Rattle.event_log.specs.Views.{log_of};
-    ghost use Rattle.protocol_core.specs.Views.{RunData};
+    ghost use Rattle.protocol_core.specs.Views.{RunData, state_of};
     ghost use Rattle.protocol_board.specs.Meant.{IsSoundLog};
 
     ghost Value = { RunData };
@@ -47,7 +46,7 @@ impl<S: ScriptName> Model for Board<S> {
 
     ghost view = { λ b. b.core };
 
-    ghost invariant = { λ b. IsSoundLog S.script b.core.first_nodes (log_of b.core.log) };
+    ghost invariant = { λ b. IsSoundLog S.script (state_of b.core) };
 }
 
 impl<S: ScriptName> Board<S> {
@@ -70,7 +69,8 @@ impl<S: ScriptName> Board<S> {
         done: Option<Done<S>>,
     ) -> Reply<S>
         ensures answers { Answers (state_of self.old) (event_of event) seat done (state_of self.new) (reply_of result) }
-        ensures meant { IsSoundLog S.script self.new.first_nodes (log_of self.new.log) }
+        ensures shown { AnswersAsShown S.script (state_of self.old) (event_of event) done (state_of self.new) (reply_of result) }
+        ensures meant { IsSoundLog S.script (state_of self.new) }
     {
         legal_logs_read_as_serial();
         main_begins_the_serial_run();
@@ -87,8 +87,9 @@ impl<S: ScriptName> Board<S> {
     ) -> Reply<S>
         requires { IsOwn (log_of self.old.log) done }
         ensures answers { Answers (state_of self.old) (event_of event) seat done (state_of self.new) (reply_of result) }
+        ensures shown { AnswersAsShown S.script (state_of self.old) (event_of event) done (state_of self.new) (reply_of result) }
         ensures own { GivesOwn (log_of self.new.log) (reply_of result) }
-        ensures meant { IsSoundLog S.script self.new.first_nodes (log_of self.new.log) }
+        ensures meant { IsSoundLog S.script (state_of self.new) }
     {
         legal_logs_read_as_serial();
         main_begins_the_serial_run();
@@ -105,7 +106,7 @@ impl<S: ScriptName> Board<S> {
     /// The entries so far, oldest first.
     pub fn log(&self) -> &[Entry]
         ensures log { result.now ≡ self.now.log }
-        ensures meant { IsSoundLog S.script self.now.first_nodes (log_of self.now.log) }
+        ensures meant { IsSoundLog S.script (state_of self.now) }
     {
         self.core.log()
     }
@@ -120,7 +121,7 @@ impl<S: ScriptName> Board<S> {
     /// The report of the log: see docs/runs.md for its lines. Where memory runs out there is none.
     pub fn report(&self, alloc: Global) -> Result<String, AllocError>
         ensures text { IfOk result (λ text. string_bytes text ≡ report_text (log_of self.now.log)) }
-        ensures meant { IsSoundLog S.script self.now.first_nodes (log_of self.now.log) }
+        ensures meant { IsSoundLog S.script (state_of self.now) }
     {
         report_text(alloc, self.log())
     }
@@ -128,7 +129,7 @@ impl<S: ScriptName> Board<S> {
     /// The report of the log as JSON, on one line that ends with a line feed: see `report_json::report_json`.
     pub fn report_json(&self, alloc: Global) -> Result<String, AllocError>
         ensures text { IfOk result (λ text. string_bytes text ≡ json_text (log_of self.now.log)) }
-        ensures meant { IsSoundLog S.script self.now.first_nodes (log_of self.now.log) }
+        ensures meant { IsSoundLog S.script (state_of self.now) }
     {
         report_json(alloc, self.log())
     }

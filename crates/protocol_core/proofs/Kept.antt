@@ -32,7 +32,10 @@ pub kept_of : (script : Script) (c : RunState) → SoundIsLegal → IsWellTyped 
 kept_of script c law typed nodes sound = record {
   typed = typed;
   nodes = nodes;
-  legal = (c.whole.network, law (beside script c.first_nodes []) c.log c.whole sound);
+  legal = record {
+    own = λ e. law (beside script c.first_nodes []) c.log c.whole sound;
+    some = (c.whole.network, law (beside script c.first_nodes []) c.log c.whole sound);
+  };
   sound = λ e. sound;
 }
 
@@ -46,7 +49,10 @@ pub kept_halted : (script : Script) (before after : RunState) → IsSoundRun scr
 kept_halted script before after kept same nodes halted = record {
   typed = kept.typed;
   nodes = subst (λ n. 0 < n) (sym nodes) kept.nodes;
-  legal = subst (λ n. IsLegal script n after.log) (sym nodes) (subst (λ log. IsLegal script before.first_nodes log) (sym same) kept.legal);
+  legal = record {
+    own = λ f. absurd (true_false (sym halted ∙ f));
+    some = subst (λ n. IsLegal script n after.log) (sym nodes) (subst (λ log. IsLegal script before.first_nodes log) (sym same) kept.legal.some);
+  };
   sound = λ f. absurd (true_false (sym halted ∙ f));
 }
   where

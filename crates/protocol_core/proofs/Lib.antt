@@ -2,3 +2,4 @@ mod Jobs
 mod Kept
 mod Known
 mod Cursors
+mod Shown

@@ -13,7 +13,7 @@ use Rattle.protocol_laws.specs.Sound.{IsSound}
 abbrev pub beside : Script → ℕ → List Letter → Setting
 beside script nodes network = record { script = script; nodes = nodes; receiver = receiver_in network }
 
--- the log is legal beside a network
+-- the log is legal beside some network
 abbrev pub IsLegal : Script → ℕ → List Entry → Type 0
 IsLegal script nodes log = (network : List Letter) × Legal (beside script nodes network) log
 
@@ -28,9 +28,14 @@ pub record RunState : Type 0 where
 abbrev pub first_state : ℕ → ℕ → RunState
 first_state nodes slots = record { log = opening; whole = first_whole nodes slots; first_nodes = nodes; is_halted = false }
 
--- the script is well typed, there is a node, and the log is legal; unless an event found no memory, the run is sound, whose own network counts
+-- the log is legal beside the messages that the run sent; once an event found no memory, beside some
+pub record IsLegalRun (script : Script) (c : RunState) : Type 0 where
+  pub own : c.is_halted ≡ false → Legal (beside script c.first_nodes c.whole.network) c.log
+  pub some : IsLegal script c.first_nodes c.log
+
+-- the script is well typed, there is a node, and the log is legal; unless an event found no memory, the run is sound
 pub record IsSoundRun (script : Script) (c : RunState) : Type 0 where
   pub typed : IsWellTyped script
   pub nodes : 0 < c.first_nodes
-  pub legal : IsLegal script c.first_nodes c.log
+  pub legal : IsLegalRun script c
   pub sound : c.is_halted ≡ false → IsSound (beside script c.first_nodes []) c.log c.whole

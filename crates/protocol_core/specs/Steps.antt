@@ -1,6 +1,8 @@
 -- What an event makes of the state, and what is answered to it.
 use Rattle.std.specs.Prelude.{◌≡◌, ◌⊎◌, ℕ, true, false, ◌++◌, Option, Some, None}
+use Rattle.meaning.specs.Syntax.{Script}
 use Rattle.segment.specs.Jobs.{JobData, Done}
+use Rattle.event_log.specs.Causes.{shown}
 use Rattle.event_log.specs.Entries.{Commit, Event}
 use Rattle.event_log.specs.Views.{code_of}
 use Rattle.event_log.specs.declared.refusal.Refusal.{Refusal}
@@ -10,11 +12,13 @@ use Rattle.protocol.specs.Answers.{Answer, answer, job_of, logged, whole_after}
 use Rattle.protocol.specs.Answers as answers
 use Rattle.protocol.specs.Jobs.{Given, Handed, Job, Nothing, OfAnother, OfJob}
 use Rattle.protocol.specs.Numbered.{item_at}
+use Rattle.protocol.specs.Refusals.{is_of_job}
 use Rattle.protocol.specs.Tables.{Out, Run, Worker}
 use Rattle.protocol.specs.Whole.{Whole, worker_at}
+use Rattle.protocol_laws.specs.Shown.{IsAsShown}
 use Rattle.protocol_core.specs.declared.reply.Reply as coded
 use Rattle.protocol_core.specs.declared.reply.Reply.TheVariants as replies
-use Rattle.protocol_core.specs.States.{RunState}
+use Rattle.protocol_core.specs.States.{RunState, beside}
 
 -- the attempt is out as the job of that number
 pub record IsOutAs (c : Whole) (j : ℕ) (run : Run) : Type 0 where
@@ -87,3 +91,19 @@ Follows before e seat done after told = RunsOut before after told ⊎ Applies be
 pub record Answers (before : RunState) (e : Event) (seat : ℕ) (done : Option Done) (after : RunState) (told : Reply) : Type 0 where
   pub halted : before.is_halted ≡ true → (after ≡ before) × (told ≡ Refuses refusals.Halted)
   pub follows : before.is_halted ≡ false → Follows before e seat done after told
+
+-- the number of a refusal
+abbrev pub number_in : Reply → Option ℕ
+number_in (GivesJob j) = None
+number_in Accepts = None
+number_in (Refuses refusal) = Some (code_of refusal)
+
+-- it is answered as the log shows, beside the messages that the run sent and what is handed in
+abbrev pub IsShown : Script → RunState → Event → Option Done → Reply → Type 0
+IsShown script before e done told =
+    (handed : Handed) × IsHanded before.whole e done handed
+    × IsAsShown e (shown (beside script before.first_nodes before.whole.network) before.log (is_of_job handed) e) (number_in told)
+
+-- so every event is, unless it finds no memory or one before found none
+abbrev pub AnswersAsShown : Script → RunState → Event → Option Done → RunState → Reply → Type 0
+AnswersAsShown script before e done after told = before.is_halted ≡ false → after.is_halted ≡ false → IsShown script before e done told

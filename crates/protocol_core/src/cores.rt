@@ -6,8 +6,8 @@ ghost use Rattle.script_check.specs.Trees.{script_of};
 ghost use Rattle.event_log.specs.Views.{event_of, log_of};
 ghost use Rattle.protocol.specs.Settling.{next};
 ghost use Rattle.protocol_core.specs.Own.{GivesOwn, IsOwn};
-ghost use Rattle.protocol_core.specs.States.{IsLegal, first_state};
-ghost use Rattle.protocol_core.specs.Steps.{Answers, reply_of};
+ghost use Rattle.protocol_core.specs.States.{IsLegalRun, first_state};
+ghost use Rattle.protocol_core.specs.Steps.{Answers, AnswersAsShown, reply_of};
 ghost use Rattle.protocol_core.specs.Views.{state_of};
 
 use crate::cluster::Cluster;
@@ -19,7 +19,7 @@ use event_log::{Entry, Event, Refusal};
 use exchange::event_out;
 use numbers::WorkerId;
 use protocol_data::Letter;
-use protocol_laws::law::{opening_is_sound, sound_is_legal};
+use protocol_laws::law::{opening_is_sound, refusals_are_as_shown, sound_is_legal};
 use script_check::Checked;
 use segment::{Done, ScriptName};
 use sequence::Seq;
@@ -28,7 +28,7 @@ use std::alloc::{AllocError, Global};
 use std::marker::{Model, PhantomData};
 
 /// The run of the script `S` on any number of nodes: its log, and the workers, nodes and messages that say which event comes to what. The
-/// log is legal.
+/// log is legal beside those messages.
 #[derive(Drop)]
 pub struct Core<S: ScriptName> {
     state: State,
@@ -76,7 +76,7 @@ impl<S: ScriptName> Core<S> {
     /// The entries so far, oldest first.
     pub fn log(&self) -> &[Entry]
         ensures log { result.now ≡ self.now.log }
-        ensures legal { IsLegal S.script self.now.first_nodes (log_of self.now.log) }
+        ensures legal { IsLegalRun S.script (state_of self.now) }
     {
         self.state.log.as_slice()
     }
@@ -111,8 +111,10 @@ impl<S: ScriptName> Core<S> {
         requires { is_own ≡ true → IsOwn (log_of self.old.log) done }
         ensures answers { Answers (state_of self.old) (event_of event) seat done (state_of self.new) (reply_of result) }
         ensures own { GivesOwn (log_of self.new.log) (reply_of result) }
-        ensures legal { IsLegal S.script self.new.first_nodes (log_of self.new.log) }
+        ensures legal { IsLegalRun S.script (state_of self.new) }
+        ensures shown { AnswersAsShown S.script (state_of self.old) (event_of event) done (state_of self.new) (reply_of result) }
     {
+        refusals_are_as_shown();
         if self.state.is_halted {
             return Reply::Refused(Refusal::Halted);
         }
@@ -135,7 +137,8 @@ impl<S: ScriptName> Core<S> {
     ) -> Reply<S>
         ensures answers { Answers (state_of self.old) (event_of event) seat done (state_of self.new) (reply_of result) }
         ensures own { GivesOwn (log_of self.new.log) (reply_of result) }
-        ensures legal { IsLegal S.script self.new.first_nodes (log_of self.new.log) }
+        ensures legal { IsLegalRun S.script (state_of self.new) }
+        ensures shown { AnswersAsShown S.script (state_of self.old) (event_of event) done (state_of self.new) (reply_of result) }
     {
         self.take(alloc, event, seat, done, false)
     }
@@ -152,7 +155,8 @@ impl<S: ScriptName> Core<S> {
         requires { IsOwn (log_of self.old.log) done }
         ensures answers { Answers (state_of self.old) (event_of event) seat done (state_of self.new) (reply_of result) }
         ensures own { GivesOwn (log_of self.new.log) (reply_of result) }
-        ensures legal { IsLegal S.script self.new.first_nodes (log_of self.new.log) }
+        ensures legal { IsLegalRun S.script (state_of self.new) }
+        ensures shown { AnswersAsShown S.script (state_of self.old) (event_of event) done (state_of self.new) (reply_of result) }
     {
         self.take(alloc, event, seat, done, true)
     }

@@ -68,7 +68,8 @@ both s log e seat m b t o = record { between = b; past = t.later; held = t.kept;
 beside_jobs : (c d : Whole) → d.workers ≡ c.workers → d.jobs ≡ c.jobs → JobsAreOut c → JobsAreOut d
 beside_jobs c d same jobs o = record {
   given = λ j g at. subst (λ (ws : List Worker). g.worker < length ws + 1) (sym same) (o.given j g (ap (λ js. item_at js j) (sym jobs) ∙ at));
-  out = λ j g x at fresh there live. o.out j g x (ap (λ js. item_at js j) (sym jobs) ∙ at) fresh (ap (λ ws. item_at ws g.worker) (sym same) ∙ there) live;
+  named = λ j g at. o.named j g (ap (λ js. item_at js j) (sym jobs) ∙ at);
+  out = λ j g x at fresh there. o.out j g x (ap (λ js. item_at js j) (sym jobs) ∙ at) fresh (ap (λ ws. item_at ws g.worker) (sym same) ∙ there);
 }
 
 claim_out : (h : Here) (j : ℕ) (run : Run) → h.worker.run ≡ Some run → IsOutAs j (claim_step h j).worker
@@ -145,7 +146,7 @@ module _ (s : Setting) (apart : KeepsMainApart s.script) (log : List Entry) (c :
       let ready : is_ready_on c w (Some l.worker) ≡ true = ap (is_ready_on c w) (sym l.at) ∙ unless_none (is_ready_on c w (worker_at c w)) 31 parts.1 in
       let two = and_parts (l.worker.is_live && is_ready_run l.worker.run) (has_slot w (node_at c l.worker.node)) ready in
       let run = ready_run l.worker.run (and_parts l.worker.is_live (is_ready_run l.worker.run) two.0).1 in
-      ready_has_none c sound.jobs w l.worker l.at l.lives log b.knows.claims (λ j g e. b.knows.commits j ∙ ap committed_in e) run.0 run.1 run.2
+      ready_has_none c sound.jobs w l.worker l.at log b.knows.claims (λ j g e. b.knows.commits j ∙ ap committed_in e) run.0 run.1 run.2
 
   within : (w : ℕ) (x : Worker) → worker_at c w ≡ Some x → w < length c.workers + 1
   within w x at = let i = (item_within c.workers w x at).0 in omega (arith, i)
@@ -163,7 +164,7 @@ module _ (s : Setting) (apart : KeepsMainApart s.script) (log : List Entry) (c :
       (λ a. steps_stay_legal.steps.claims _ _ j run.0 (λ v i. absurd (cc)) (at_once a (on_workers.sound_at_once _ _ _ _ _ a (a.lived, idle_claim w handed r) (λ u. refl))) run.1 run.2)
       (steps_land.claim_adds _ j)
       (λ u lands. steps_land.claim _ facts _ j u)
-      (own_given c sound.jobs w l.worker l.at l.lives run.0 run.1 run.2 (within w l.worker l.at) _ (out_at_release j (claim_step (here c w l.worker (b.knows.housed w l.worker l.at l.lives).0) j) (claim_out (here c w l.worker (b.knows.housed w l.worker l.at l.lives).0) j run.0 run.1)))
+      (own_given c sound.jobs w l.worker l.at run.0 run.1 run.2 (within w l.worker l.at) _ (out_at_release j (claim_step (here c w l.worker (b.knows.housed w l.worker l.at l.lives).0) j) (claim_out (here c w l.worker (b.knows.housed w l.worker l.at l.lives).0) j run.0 run.1)))
 
   tick_event : (w seat : ℕ) (handed : Handed) → refusal c (Tick w) handed ≡ None → Follows s log (Tick w) seat (happens c (Tick w) handed)
   tick_event w seat handed r =
@@ -173,7 +174,7 @@ module _ (s : Setting) (apart : KeepsMainApart s.script) (log : List Entry) (c :
       (λ a. steps_stay_legal.steps.ticks _ _ (λ v i. absurd (cc)) (at_once a (on_workers.sound_at_once _ _ _ _ _ a a.lived (λ u. refl))))
       (steps_land.tick_adds _)
       (λ u lands. steps_land.tick _ facts _ u (runs_begun s log c b facts t w l.worker (b.knows.housed w l.worker l.at l.lives).0 l.at l.lives))
-      (own_stay c sound.jobs w l.worker l.at l.lives _ (λ i p. out_at_release i (tick_step (here c w l.worker (b.knows.housed w l.worker l.at l.lives).0)) (out_at_tick i (here c w l.worker (b.knows.housed w l.worker l.at l.lives).0) p)))
+      (own_stay c sound.jobs w l.worker l.at _ (λ i p. out_at_release i (tick_step (here c w l.worker (b.knows.housed w l.worker l.at l.lives).0)) (out_at_tick i (here c w l.worker (b.knows.housed w l.worker l.at l.lives).0) p)))
 
   -- ---- notices
 
@@ -188,7 +189,7 @@ module _ (s : Setting) (apart : KeepsMainApart s.script) (log : List Entry) (c :
       (λ a. steps_stay_legal.steps.notices _ _ v refl a killed (on_workers.dead_worker_then (Notice w v) seat v killed))
       (steps_land.notice_adds _ v)
       (λ u lands. steps_land.notice _ S facts _ v u (t.dead v k.worker k.at k.lives) lands)
-      (own_stay c sound.jobs w l.worker l.at l.lives _ (λ i p. out_at_release i (notice_step (here c w l.worker (b.knows.housed w l.worker l.at l.lives).0) v) (out_at_notice i (here c w l.worker (b.knows.housed w l.worker l.at l.lives).0) v p)))
+      (own_stay c sound.jobs w l.worker l.at _ (λ i p. out_at_release i (notice_step (here c w l.worker (b.knows.housed w l.worker l.at l.lives).0) v) (out_at_notice i (here c w l.worker (b.knows.housed w l.worker l.at l.lives).0) v p)))
 
   node_notice_event : (w n seat : ℕ) (handed : Handed) → refusal c (NoticeNode w n) handed ≡ None → Follows s log (NoticeNode w n) seat (happens c (NoticeNode w n) handed)
   node_notice_event w n seat handed r =
@@ -201,7 +202,7 @@ module _ (s : Setting) (apart : KeepsMainApart s.script) (log : List Entry) (c :
       (λ a. steps_stay_legal.steps.node_notices _ _ n (λ v i. absurd (cc)) (at_once a (on_workers.sound_at_once _ _ _ _ _ a (a.lived, killed) (λ u. refl))) (on_workers.dead_node_then (NoticeNode w n) seat n killed))
       (steps_land.notice_node_adds _ n)
       (λ u lands. steps_land.notice_node _ S facts _ n u (dead_on s log c b facts t w l.worker (b.knows.housed w l.worker l.at l.lives).0 l.at l.lives n k.node k.at k.lives) lands)
-      (own_stay c sound.jobs w l.worker l.at l.lives _ (λ i p. out_at_release i (notice_node_step (here c w l.worker (b.knows.housed w l.worker l.at l.lives).0) n) (out_at_node_notice i (here c w l.worker (b.knows.housed w l.worker l.at l.lives).0) n p)))
+      (own_stay c sound.jobs w l.worker l.at _ (λ i p. out_at_release i (notice_node_step (here c w l.worker (b.knows.housed w l.worker l.at l.lives).0) n) (out_at_node_notice i (here c w l.worker (b.knows.housed w l.worker l.at l.lives).0) n p)))
 
   -- ---- deliveries
 
@@ -231,7 +232,7 @@ module _ (s : Setting) (apart : KeepsMainApart s.script) (log : List Entry) (c :
           (λ a. steps_stay_legal.steps.reaches _ _ l.sender l.message (λ v i. absurd (cc)) (on_workers.sound_at_once _ _ _ _ _ a (ToWorker w, is_to_worker) (λ u. refl)) said)
           (steps_land.reaches_adds _ l.sender l.message)
           (λ u lands. steps_land.reaches _ S facts _ l.sender l.message u true_there (untouched s log c b facts t w x.worker (b.knows.housed w x.worker x.at x.lives).0 x.at x.lives l.message true_there) lands)
-          (own_stay c sound.jobs w x.worker x.at x.lives _ (λ i p. out_at_release i (reached (here c w x.worker (b.knows.housed w x.worker x.at x.lives).0) l.sender l.message)
+          (own_stay c sound.jobs w x.worker x.at _ (λ i p. out_at_release i (reached (here c w x.worker (b.knows.housed w x.worker x.at x.lives).0) l.sender l.message)
           (out_at_message i (here c w x.worker (b.knows.housed w x.worker x.at x.lives).0) l.sender l.message (λ run is. ((b.knows.workers w x.worker x.at x.lives).run run is).over) p)))
   deliver_to k seat l sent (TheNode n) to = at_test (λ i. Follows s log (Deliver k) seat (if i then node_does (with_delivered c k) n (λ g. node_reached g l.sender l.message) else moved (with_delivered c k)))
       (is_live_node (node_at c n)) lives passes
@@ -301,7 +302,7 @@ module _ (s : Setting) (apart : KeepsMainApart s.script) (log : List Entry) (c :
           }))
           (steps_land.commit_adds _ o)
           (λ u lands. steps_land.commit _ S facts _ run.0 o u run.1 (next_there g l) lands)
-          (own_committed c sound.jobs g.worker l.worker l.at l.lives j run.0 run.1 run.2 _)
+          (own_committed c sound.jobs g.worker l.worker l.at j run.0 run.1 run.2 _)
         where
           next_there : (g : Given) (l : WorkerThere c g.worker true) → length l.worker.objects + 1 ≡ next_serial g.worker (births (log ++ In (Commit j) seat ∷ []))
           next_there g l = sym (ap (next_serial g.worker) (births_in log (Commit j) seat) ∙ (b.knows.workers g.worker l.worker l.at l.lives).serial)

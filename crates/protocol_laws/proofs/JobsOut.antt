@@ -9,7 +9,7 @@ use Rattle.event_log.specs.Events.{claims, has_job_out, is_committed, is_out_fro
 use Rattle.protocol.specs.Numbered.{item_at, changed_at}
 use Rattle.numbered.specs.Counting.{item_of}
 use Rattle.numbered.proofs.Places.{placed}
-use Rattle.numbered.proofs.Lists.{changed_cases, changed-length, pushed_cases, joined_cases, counted_repeated_at}
+use Rattle.numbered.proofs.Lists.{changed_cases, changed-length, item_within, pushed_cases, joined_cases, counted_repeated_at}
 use Rattle.protocol.specs.Sets.{repeated}
 use Rattle.protocol.specs.Jobs.{Given}
 use Rattle.protocol.specs.Tables.{Out, Ready, Run, Worker, new_worker}
@@ -21,15 +21,24 @@ use Rattle.protocol_laws.specs.Sound.{IsOutAs, JobsAreOut}
 
 -- ---- the workers of a whole afterwards
 
--- each live one was there with the same attempt, or is new
+-- a worker was there with that attempt
+abbrev Was : Whole → ℕ → Worker → Type 0
+Was c v y = (x : Worker) × (worker_at c v ≡ Some x) × (x.run ≡ y.run)
+
+-- each was there with the same attempt, or is new
 abbrev CameFrom : Whole → List Worker → Type 0
-CameFrom c workers = (v : ℕ) (y : Worker) → item_at workers v ≡ Some y → y.is_live ≡ true → (worker_at c v ≡ Some y) ⊎ (length c.workers < v)
+CameFrom c workers = (v : ℕ) (y : Worker) → item_at workers v ≡ Some y → Was c v y ⊎ (length c.workers < v)
+
+-- of a worker with the same attempt
+out_as : (j : ℕ) (x y : Worker) → x.run ≡ y.run → IsOutAs j x → IsOutAs j y
+out_as j x y same p = (p.0, sym same ∙ p.1, p.2)
 
 pub jobs_kept : (c d : Whole) → d.jobs ≡ c.jobs → (i : ℕ) → length d.workers ≡ length c.workers + i → CameFrom c d.workers → JobsAreOut c → JobsAreOut d
 jobs_kept c d same more long from o = record {
   given = λ j g at. let h = o.given j g (was j g at) in omega (arith, h, long);
-  out = λ j g x at fresh there live. elim (from g.worker x there live) [
-    | inl k ↦ o.out j g x (was j g at) fresh k live
+  named = λ j g at. o.named j g (was j g at);
+  out = λ j g x at fresh there. elim (from g.worker x there) [
+    | inl k ↦ out_as j k.0 x k.2 (o.out j g k.0 (was j g at) fresh k.1)
     | inr k ↦ let h = o.given j g (was j g at) in absurd (omega (arith, h, k))
   ];
 }
@@ -43,8 +52,8 @@ long_repeated (suc n) z = ap (λ i. suc i) (long_repeated n z)
 
 -- with workers that were opened behind those that are there
 pub from_opened : (c : Whole) (front : List Worker) (n at : ℕ) → length front ≡ length c.workers → CameFrom c front → CameFrom c (front ++ repeated n (new_worker at))
-from_opened c front n at long from v y h live = elim (joined_cases front (repeated n (new_worker at)) v y h) [
-  | inl k ↦ from v y k live
+from_opened c front n at long from v y h = elim (joined_cases front (repeated n (new_worker at)) v y h) [
+  | inl k ↦ from v y k
   | inr k ↦ inr (let i = (counted_repeated_at n (new_worker at) (1 + length front) v y k).1 in omega (arith, i, long))
 ]
 
@@ -52,36 +61,38 @@ pub long_opened : (c : Whole) (front : List Worker) (n at : ℕ) → length fron
 long_opened c front n at long = let a : length (front ++ repeated n (new_worker at)) ≡ length front + length (repeated n (new_worker at)) = length-append front (repeated n (new_worker at)) in let b : length (repeated n (new_worker at)) ≡ n = long_repeated n (new_worker at) in omega (arith, a, b, long)
 
 pub from_same : (c : Whole) → CameFrom c c.workers
-from_same c v y h live = inl h
+from_same c v y h = inl (y, h, refl)
 
 pub from_killed : (c : Whole) (w : ℕ) → CameFrom c (changed_at c.workers w dead)
-from_killed c w v y h live = elim (changed_cases c.workers w dead v y h) [
-  | inl k ↦ absurd (true≢false (sym live ∙ ap (λ (z : Worker). z.is_live) (sym k.1.2)))
-  | inr k ↦ inl k.1
+from_killed c w v y h = elim (changed_cases c.workers w dead v y h) [
+  | inl k ↦ inl (k.1.0, k.1.1, ap (λ (z : Worker). z.run) k.1.2)
+  | inr k ↦ inl (y, k.1, refl)
 ]
 
 pub from_dead_node : (c : Whole) (n : ℕ) → CameFrom c (map (dies_with n) c.workers)
-from_dead_node c n v y h live = let r = mapped_cases (dies_with n) c.workers v y h in by_test r.0 (r.0.node == n) r.1 r.2
+from_dead_node c n v y h = let r = mapped_cases (dies_with n) c.workers v y h in by_test r.0 (r.0.node == n) r.1 r.2
   where
-    by_test : (x : Worker) (t : Bool) → worker_at c v ≡ Some x → (if t then dead x else x) ≡ y → (worker_at c v ≡ Some y) ⊎ (length c.workers < v)
-    by_test x true at e = absurd (true≢false (sym live ∙ ap (λ (z : Worker). z.is_live) (sym e)))
-    by_test x false at e = inl (at ∙ ap Some e)
+    by_test : (x : Worker) (t : Bool) → worker_at c v ≡ Some x → (if t then dead x else x) ≡ y → Was c v y ⊎ (length c.workers < v)
+    by_test x true at e = inl (x, at, ap (λ (z : Worker). z.run) e)
+    by_test x false at e = inl (x, at, ap (λ (z : Worker). z.run) e)
 
 -- ---- a worker's own event
 
 -- what of the jobs afterwards is the worker's own, if it isn't committed, is out on it; all others were so before
 pub record OwnJobs (c : Whole) (w : ℕ) (jobs : List Given) (after : Worker) : Type 0 where
   pub given : (j : ℕ) (g : Given) → item_at jobs j ≡ Some g → g.worker < length c.workers + 1
+  pub named : (j : ℕ) (g : Given) → item_at jobs j ≡ Some g → 0 < g.worker
   pub own : (j : ℕ) (g : Given) → item_at jobs j ≡ Some g → g.is_committed ≡ false → g.worker ≡ w → IsOutAs j after
   pub others : (j : ℕ) (g : Given) → item_at jobs j ≡ Some g → g.is_committed ≡ false → (g.worker ≡ w → ⊥) → item_at c.jobs j ≡ Some g
 
 pub jobs_after : (c d : Whole) (w : ℕ) (after : Worker) (opened at : ℕ) → d.workers ≡ changed_at c.workers w (λ _. after) ++ repeated opened (new_worker at) → OwnJobs c w d.jobs after → JobsAreOut c → JobsAreOut d
 jobs_after c d w after opened at is own o = record {
   given = λ j g i. let h = own.given j g i in let l = long in omega (arith, h, l);
-  out = λ j g x i fresh there live. elim (joined_cases front (repeated opened (new_worker at)) g.worker x (ap (λ xs. item_at xs g.worker) (sym is) ∙ there)) [
+  named = own.named;
+  out = λ j g x i fresh there. elim (joined_cases front (repeated opened (new_worker at)) g.worker x (ap (λ xs. item_at xs g.worker) (sym is) ∙ there)) [
     | inl k ↦ elim (changed_cases c.workers w (λ _. after) g.worker x k) [
       | inl m ↦ subst (IsOutAs j) m.1.2 (own.own j g i fresh m.0)
-      | inr m ↦ o.out j g x (own.others j g i fresh m.0) fresh m.1 live
+      | inr m ↦ o.out j g x (own.others j g i fresh m.0) fresh m.1
     ]
     | inr k ↦ let r = (counted_repeated_at opened (new_worker at) (1 + length front) g.worker x k).1 in let h = own.given j g i in let l : length front ≡ length c.workers = changed-length c.workers w (λ _. after) in absurd (omega (arith, r, h, l))
   ];
@@ -93,7 +104,7 @@ jobs_after c d w after opened at is own o = record {
     long : length d.workers ≡ length c.workers + opened
     long = ap length is ∙ long_opened c front opened at (changed-length c.workers w (λ _. after))
 
-module _ (c : Whole) (o : JobsAreOut c) (w : ℕ) (x : Worker) (at : worker_at c w ≡ Some x) (live : x.is_live ≡ true) where
+module _ (c : Whole) (o : JobsAreOut c) (w : ℕ) (x : Worker) (at : worker_at c w ≡ Some x) where
   there : (g : Given) → g.worker ≡ w → worker_at c g.worker ≡ Some x
   there g e = ap (worker_at c) e ∙ at
 
@@ -101,7 +112,8 @@ module _ (c : Whole) (o : JobsAreOut c) (w : ℕ) (x : Worker) (at : worker_at c
   pub own_stay : (after : Worker) → ((j : ℕ) → IsOutAs j x → IsOutAs j after) → OwnJobs c w c.jobs after
   own_stay after keeps = record {
     given = o.given;
-    own = λ j g i fresh e. keeps j (o.out j g x i fresh (there g e) live);
+    named = o.named;
+    own = λ j g i fresh e. keeps j (o.out j g x i fresh (there g e));
     others = λ j g i fresh e. i;
   }
 
@@ -119,8 +131,12 @@ module _ (c : Whole) (o : JobsAreOut c) (w : ℕ) (x : Worker) (at : worker_at c
       | inl k ↦ o.given j g k
       | inr k ↦ subst (λ (y : Given). y.worker < length c.workers + 1) k.1 within
     ];
+    named = λ j g i. elim (pushed_cases c.jobs (record { worker = w; is_committed = false }) j g i) [
+      | inl k ↦ o.named j g k
+      | inr k ↦ subst (λ (y : Given). 0 < y.worker) k.1 (let r = (item_within c.workers w x at).1 in omega (arith, r))
+    ];
     own = λ j g i fresh e. elim (pushed_cases c.jobs (record { worker = w; is_committed = false }) j g i) [
-      | inl k ↦ absurd (ready_alone run is ready j (o.out j g x k fresh (there g e) live))
+      | inl k ↦ absurd (ready_alone run is ready j (o.out j g x k fresh (there g e)))
       | inr k ↦ let n : length c.jobs + 1 ≡ j = (let m = k.0 in omega (arith, m)) in subst (λ i. IsOutAs i after) n out
     ];
     others = λ j g i fresh e. elim (pushed_cases c.jobs (record { worker = w; is_committed = false }) j g i) [
@@ -136,9 +152,13 @@ module _ (c : Whole) (o : JobsAreOut c) (w : ℕ) (x : Worker) (at : worker_at c
       | inl m ↦ subst (λ (y : Given). y.worker < length c.workers + 1) m.1.2 (o.given i m.1.0 m.1.1)
       | inr m ↦ o.given i g m.1
     ];
+    named = λ i g k. elim (changed_cases c.jobs j as_committed i g k) [
+      | inl m ↦ subst (λ (y : Given). 0 < y.worker) m.1.2 (o.named i m.1.0 m.1.1)
+      | inr m ↦ o.named i g m.1
+    ];
     own = λ i g k fresh e. elim (changed_cases c.jobs j as_committed i g k) [
       | inl m ↦ absurd (true≢false (ap (λ (y : Given). y.is_committed) m.1.2 ∙ fresh))
-      | inr m ↦ absurd (m.0 (same i (o.out i g x m.1 fresh (there g e) live)))
+      | inr m ↦ absurd (m.0 (same i (o.out i g x m.1 fresh (there g e))))
     ];
     others = λ i g k fresh e. elim (changed_cases c.jobs j as_committed i g k) [
       | inl m ↦ absurd (true≢false (ap (λ (y : Given). y.is_committed) m.1.2 ∙ fresh))
@@ -169,7 +189,7 @@ module _ (c : Whole) (o : JobsAreOut c) (w : ℕ) (x : Worker) (at : worker_at c
     where
       by_commit : (i : ℕ) (g : Given) (b : Bool) → g.is_committed ≡ b → item_at c.jobs i ≡ Some g → g.worker ≡ w → g.is_committed ≡ true
       by_commit i g true e k m = e
-      by_commit i g false e k m = absurd (ready_alone run is ready i (o.out i g x k e (there g m) live))
+      by_commit i g false e k m = absurd (ready_alone run is ready i (o.out i g x k e (there g m)))
 
       done : (i : ℕ) (g : Given) → item_of 1 c.jobs i ≡ Some g → g.worker ≡ w → is_committed i log ≡ true
       done i g k m = commits i g (placed c.jobs i k) ∙ by_commit i g g.is_committed refl (placed c.jobs i k) m

@@ -26,7 +26,7 @@ opening_is_sound s slots some = record { between = steps_stay_legal.opens s slot
     nothing g e = cc
 
     none_out : JobsAreOut (first_whole s.nodes slots)
-    none_out = record { given = λ j g at. absurd (nothing g (counted [] j at)); out = λ j g x at fresh there live. absurd (nothing g (counted [] j at)) }
+    none_out = record { given = λ j g at. absurd (nothing g (counted [] j at)); named = λ j g at. absurd (nothing g (counted [] j at)); out = λ j g x at fresh there. absurd (nothing g (counted [] j at)) }
 
 pub event_keeps_sound : EventsKeepSound
 event_keeps_sound s apart log c e seat handed sound right = event_stays s apart log c sound e seat handed right

@@ -7,3 +7,4 @@ pub mod Events
 pub mod Laws
 pub mod Pace
 pub mod Given
+pub mod Shown

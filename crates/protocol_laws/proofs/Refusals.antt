@@ -68,7 +68,7 @@ no_node_there first n count log many out = at_test (λ b. ((b && nat_lt n (first
         less : (i k : ℕ) → nat_lt i k ≡ true → i < k
         less i k h = grind (arith, nat_tests)
 
-item_some : {X : Type 0} (xs : List X) (n : ℕ) → 0 < n → n < length xs + 1 → (x : X) × (item_at xs n ≡ Some x)
+pub item_some : {X : Type 0} (xs : List X) (n : ℕ) → 0 < n → n < length xs + 1 → (x : X) × (item_at xs n ≡ Some x)
 item_some xs zero h k = absurd (omega (arith, h))
 item_some [] (suc i) h k = absurd (omega (arith, k))
 item_some (x ∷ xs) (suc zero) h k = (x, refl)
@@ -250,7 +250,7 @@ module _ (s : Setting) (log : List Entry) (c : Whole) (b : Between s log c) wher
   -- ---- commits
 
   -- what the log says of a job of the table
-  claimed_as : (j : ℕ) (g : Given) → item_at c.jobs j ≡ Some g → worker_of_job j log ≡ Some g.worker
+  pub claimed_as : (j : ℕ) (g : Given) → item_at c.jobs j ≡ Some g → worker_of_job j log ≡ Some g.worker
   claimed_as j g e = ap (λ (ws : List ℕ). from_one ws j) b.knows.claims ∙ from_one_of (λ (i : Given). i.worker) c.jobs j g e
 
   shown_job : (j : ℕ) (g : Given) → item_at c.jobs j ≡ Some g → g.is_committed ≡ false → shown S log true (Commit j) ≡ causes.unless (is_live_worker (worker_at c g.worker)) 33 None

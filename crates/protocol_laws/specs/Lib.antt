@@ -3,3 +3,4 @@ pub mod Coming
 pub mod Law
 pub mod Pace
 pub mod Given
+pub mod Shown

@@ -15,11 +15,11 @@ abbrev pub IsOutAs : ℕ → Worker → Type 0
 IsOutAs j x = (run : Run) × (x.run ≡ Some run) × (run.phase ≡ Out j)
 
 pub record JobsAreOut (c : Whole) : Type 0 where
-  -- each job was given to a worker that is there
+  -- each job was given to a worker that is there, counted from 1
   pub given : (j : ℕ) (g : Given) → item_at c.jobs j ≡ Some g → g.worker < length c.workers + 1
-  -- a job that isn't committed is out, as long as its worker lives
-  pub out : (j : ℕ) (g : Given) (x : Worker) →
-      item_at c.jobs j ≡ Some g → g.is_committed ≡ false → worker_at c g.worker ≡ Some x → x.is_live ≡ true → IsOutAs j x
+  pub named : (j : ℕ) (g : Given) → item_at c.jobs j ≡ Some g → 0 < g.worker
+  -- a job that isn't committed is out, also that of a dead worker
+  pub out : (j : ℕ) (g : Given) (x : Worker) → item_at c.jobs j ≡ Some g → g.is_committed ≡ false → worker_at c g.worker ≡ Some x → IsOutAs j x
 
 pub record IsSound (s : Setting) (log : List Entry) (c : Whole) : Type 0 where
   -- the log is legal, and tables, stores and messages say of it what is true

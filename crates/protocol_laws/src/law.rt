@@ -2,6 +2,7 @@
 
 ghost use Rattle.protocol_laws.specs.Given.{ClaimsGiveGoodJobs, ClaimsGiveJobsOfTheLog, JobsStayOfTheLog, RunsAreGood, RunsHaveTheLogsAnswers};
 ghost use Rattle.protocol_laws.specs.Pace.{KeepsPace};
+ghost use Rattle.protocol_laws.specs.Shown.{RefusalsAreAsShown, RefusalsAreShown};
 ghost use Rattle.protocol_laws.specs.Law.{EventsKeepSound, NothingHeldIsReleased, OpeningIsSound, ProtocolStaysLegal, SoundIsLegal};
 
 /// A run begins sound, in a cluster that has a node.
@@ -62,4 +63,17 @@ pub fn runs_have_the_logs_answers()
 /// A job whose answers begin what the log has of answers to its attempt is such a job of every longer log too.
 pub fn jobs_stay_of_the_log()
     ensures { JobsStayOfTheLog }
+{}
+
+/// Each event of a sound run is answered as its log shows, beside its own network and what is handed in: with the least number of the causes that
+/// log and network show; where they show none, it is accepted, or refused for a limit, an attempt that isn't ready, or a copy that is pinned or
+/// isn't there.
+pub fn refusals_are_as_shown()
+    ensures { RefusalsAreAsShown }
+{}
+
+/// No such live worker, no such job, its worker is dead, no such message, what the notice tells of isn't dead, no such live node: each of these is
+/// answered exactly where the log shows it.
+pub fn refusals_are_shown()
+    ensures { RefusalsAreShown }
 {}

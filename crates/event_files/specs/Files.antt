@@ -64,5 +64,4 @@ pub record IsBadAt {A : Type 0} (is : A → Type 0) (text : A → List ℕ) (byt
 -- why the bytes are refused; reading answers no 41
 abbrev pub IsRefusal : {A : Type 0} → (A → Type 0) → (A → List ℕ) → List ℕ → EventError → Type 0
 IsRefusal is text bytes (errors.BadLine n) = IsBadAt is text bytes n
-IsRefusal is text bytes errors.TooLong = ⊥
 IsRefusal is text bytes errors.NoMemory = Unit {0}

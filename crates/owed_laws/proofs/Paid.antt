@@ -23,6 +23,7 @@ use Rattle.owed_asks.proofs.Laws.{all_right}
 use Rattle.owed_asks.proofs.Needs.{copies_are_got}
 use Rattle.owed_asks.proofs.RightSlots.{run_uses, slots_are_all_right, there}
 use Rattle.owed_asks.proofs.UserEvents.{KeepsUses}
+use Rattle.owed_laws.proofs.KeptCopies.{KeepsMade, first_copy_kept, runs_keep_made}
 use Rattle.owed_laws.proofs.Senders.{senders_are_there}
 use Rattle.owed_laws.proofs.NewWaits.{new_waits_are_tended}
 use Rattle.owed_laws.specs.Law.{EventIsPaid, EventsArePaid, FetchesAreMet}
@@ -40,6 +41,9 @@ module _ (s : Setting) (slots : ℕ) (some : 0 < s.nodes) (slot : 1 ≤ slots) (
   uses : KeepsUses r.whole
   uses = run_uses s slots some slot apart gs right
 
+  made : KeepsMade r.log r.whole
+  made = runs_keep_made s slots some apart gs right
+
   claims : ClaimIsAnswered (seen s r) g.event (entries_of (answer_to r g))
   claims = claims_are_answered s r.log r.whole keeps.step g.event g.handed
 
@@ -56,7 +60,12 @@ module _ (s : Setting) (slots : ℕ) (some : 0 < s.nodes) (slot : 1 ≤ slots) (
     fetches : FetchesAreMet (happening s r g step)
     fetches n w number y brings lives =
         let node = there s r keeps uses n lives in
-        law_of_fetches s slots gs g.seat g.handed brings.0 n w y number node.0 step brings.2 node.1 node.2 (named (Deliver brings.0) brings.1)
+        let met = law_of_fetches s slots gs g.seat g.handed brings.0 n w y number node.0 step brings.2 node.1 node.2 (named (Deliver brings.0) brings.1) in
+        record {
+          there = met.there;
+          first_copy = λ first. met.there (first_copy_kept s r keeps.step.sound.between made n node.0 node.1 y number first);
+          lacking = met.lacking;
+        }
 
     slots_after : AllSlotsAreRight (seen s (after_event r g))
     slots_after =

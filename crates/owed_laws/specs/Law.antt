@@ -7,9 +7,9 @@ use Rattle.meaning.specs.Values.{Id}
 use Rattle.protocol.specs.Answers.{Step, Takes}
 use Rattle.protocol.specs.Messages.{Fetch, TheNode, TheWorker}
 use Rattle.protocol_laws.specs.Coming.{IsRight}
-use Rattle.protocol_owed.specs.Replies.{AcknowledgedGoesBack, BirthIsAsked, Brings, CopyIsGot, ElsewhereIsAsked, GiveIsBegun, Happening}
+use Rattle.protocol_owed.specs.Replies.{AcknowledgedGoesBack, BirthIsAsked, Brings, CopyIsGot, ElsewhereIsAsked, FetchIsAnswered, GiveIsBegun, Happening}
 use Rattle.protocol_owed.specs.Replies.{MissingIsHandedOn, NewWaitsAreTended}
-use Rattle.protocol_owed.specs.Runs.{FetchIsMet, Handing, Running, after_events, answer_to, opening_run, seen}
+use Rattle.protocol_owed.specs.Runs.{Handing, Running, after_events, answer_to, opening_run, seen}
 use Rattle.protocol_owed.specs.Seen.{IsCalm}
 use Rattle.protocol_owed.specs.Turns.{AllSlotsAreRight, AsksAreAnswered, ClaimIsAnswered}
 use Rattle.lease_discipline.specs.Slots.{AreRight}
@@ -17,11 +17,11 @@ use Rattle.lease_discipline.specs.Told.{entries_of}
 use Rattle.owed_asks.specs.Law.{happening}
 use Rattle.owed_replies.specs.Law.{IsPaid}
 
--- a Fetch that reaches a live node is answered by what its store has
+-- a Fetch that reaches a live node is answered: by a copy where the node has a first one, by log and network, or another; else by Missing
 abbrev pub FetchesAreMet : Happening → Type 0
 FetchesAreMet h =
     (n w number : ℕ) (y : Id) → Brings h (TheWorker w) (TheNode n) (Fetch y number) → node_lives h.before.setting.nodes n h.before.log ≡ true →
-    FetchIsMet h.before h.letters n w y number
+    FetchIsAnswered h n w y number
 
 -- as long as nothing was killed or lost
 pub record RepliesArePaid (h : Happening) : Type 0 where

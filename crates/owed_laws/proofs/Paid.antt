@@ -26,7 +26,7 @@ use Rattle.owed_asks.proofs.UserEvents.{KeepsUses}
 use Rattle.owed_laws.proofs.KeptCopies.{KeepsMade, first_copy_kept, runs_keep_made}
 use Rattle.owed_laws.proofs.Senders.{senders_are_there}
 use Rattle.owed_laws.proofs.NewWaits.{new_waits_are_tended}
-use Rattle.owed_laws.specs.Law.{EventIsPaid, EventsArePaid, FetchesAreMet}
+use Rattle.owed_laws.specs.Law.{AnswerPays, EventIsPaid, EventsArePaid, FetchesAreMet, ReachedGoesOn, ReachedPays}
 use Rattle.owed_replies.specs.Law as R
 use Rattle.owed_replies.proofs.Laws.{law_of_replies}
 
@@ -115,3 +115,22 @@ events_are_paid s slots some slot apart gs right g is = record {
   claims = claims s slots some slot apart gs right g;
   accepted = paid s slots some slot apart gs right g is;
 }
+
+-- ---- from one event to the next
+
+pub reached_goes_on : ReachedGoesOn
+reached_goes_on = record {
+  opening = λ s slots. record { handings = []; right = tt; leads = refl };
+  next = λ s slots r g reached right. record {
+    handings = reached.handings ++ g ∷ [];
+    right = all_right s (opening_run s.nodes slots) reached.handings g reached.right
+        (subst (λ (q : Running). IsRight s q.whole g.event g.handed) (sym reached.leads) right);
+    leads = one_more (opening_run s.nodes slots) reached.handings g ∙ ap (λ q. after_event q g) reached.leads;
+  };
+}
+
+pub reached_pays : ReachedPays
+reached_pays s slots some slot apart r reached g right =
+    subst (λ q. AnswerPays s q g) reached.leads
+    (events_are_paid s slots some slot apart reached.handings reached.right g
+    (subst (λ (q : Running). IsRight s q.whole g.event g.handed) (sym reached.leads) right))

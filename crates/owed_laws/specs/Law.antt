@@ -9,7 +9,7 @@ use Rattle.protocol.specs.Messages.{Fetch, TheNode, TheWorker}
 use Rattle.protocol_laws.specs.Coming.{IsRight}
 use Rattle.protocol_owed.specs.Replies.{AcknowledgedGoesBack, BirthIsAsked, Brings, CopyIsGot, ElsewhereIsAsked, FetchIsAnswered, GiveIsBegun, Happening}
 use Rattle.protocol_owed.specs.Replies.{MissingIsHandedOn, NewWaitsAreTended}
-use Rattle.protocol_owed.specs.Runs.{Handing, Running, after_events, answer_to, opening_run, seen}
+use Rattle.protocol_owed.specs.Runs.{Handing, Running, after_event, after_events, answer_to, opening_run, seen}
 use Rattle.protocol_owed.specs.Seen.{IsCalm}
 use Rattle.protocol_owed.specs.Turns.{AllSlotsAreRight, AsksAreAnswered, ClaimIsAnswered}
 use Rattle.lease_discipline.specs.Slots.{AreRight}
@@ -62,3 +62,22 @@ EventsArePaid =
     (gs : List Handing) → AreRight s (opening_run s.nodes slots) gs → (g : Handing) →
     let r : Running = after_events (opening_run s.nodes slots) gs in
     IsRight s r.whole g.event g.handed → AnswerPays s r g
+
+-- ---- from one event to the next
+
+-- the opening leads to the run by handings that are right: what was handed in with each commit is what replays do
+pub record IsReached (s : Setting) (slots : ℕ) (r : Running) : Type 0 where
+  pub handings : List Handing
+  pub right : AreRight s (opening_run s.nodes slots) handings
+  pub leads : after_events (opening_run s.nodes slots) handings ≡ r
+
+-- the opening is reached, and so is what comes of one more event
+pub record ReachedGoesOn : Type 0 where
+  pub opening : (s : Setting) (slots : ℕ) → IsReached s slots (opening_run s.nodes slots)
+  pub next : (s : Setting) (slots : ℕ) (r : Running) (g : Handing) → IsReached s slots r → IsRight s r.whole g.event g.handed → IsReached s slots (after_event r g)
+
+-- of a run that was reached, each event is paid
+abbrev pub ReachedPays : Type 0
+ReachedPays =
+    (s : Setting) (slots : ℕ) → 0 < s.nodes → 1 ≤ slots → KeepsMainApart s.script →
+    (r : Running) → IsReached s slots r → (g : Handing) → IsRight s r.whole g.event g.handed → AnswerPays s r g

@@ -1,12 +1,13 @@
 -- The worked examples of what is owed.
 use Rattle.std.proofs.Common.{◌≡◌, ℕ, zero, suc, Bool, true, false, List, [], ◌∷◌, Some, None, Option, refl, ap, sym, subst, ◌∙◌, inl, arith}
-use Rattle.meaning.specs.Values.{Argument, Id, Name, Outcome, Task, Val}
+use Rattle.meaning.specs.Births.{birth_at, same_id}
+use Rattle.meaning.specs.Values.{Argument, Id, Name, Outcome, Put, Task, Val}
 use Rattle.values.specs.Cells.{is_small}
 use Rattle.event_log.specs.Breaks.{Among}
 use Rattle.event_log.specs.Entries.{Accepted, Attempt, Born, Deliver, Ended, main_attempt}
 use Rattle.event_log.specs.Events.{accepted_events, node_of, was_lost}
 use Rattle.event_log.specs.Rules.{Setting}
-use Rattle.event_log.specs.Words.{attempt}
+use Rattle.event_log.specs.Words.{attempt, births}
 use Rattle.protocol.specs.Messages.{Ask, CopyOf, Finished, FinishedAck, Letter, Missing, TheNode, TheWorker, Unhold, letter}
 use Rattle.protocol.specs.Numbered.{item_at}
 use Rattle.protocol.specs.Sets.{object_id}
@@ -134,9 +135,13 @@ nothing_lost : was_lost 1 (object_id 1 1) put_log ≡ false
 unfolding was_lost accepted_events
 nothing_lost = refl
 
+was_put : birth_at (births put_log) (object_id 1 1) ≡ Some (Put empty_list)
+unfolding same_id
+was_put = refl
+
 first_is_there : (s : Setting) → HasFirstCopy (fetch_scene s put_log false) 1 (object_id 1 1) 0
 first_is_there s = record {
-  first = inl (record { value = empty_list; put = refl; first = refl; place = refl });
+  first = inl (record { value = empty_list; put = was_put; first = refl; place = refl });
   big = λ c i. absurd (no_end c i);
   unlost = nothing_lost;
   kept = λ from e why came. among-nothing _ (subst (λ ls. Among (letter from (TheNode 1) (Unhold e (object_id 1 1) why)) ls) (nothing_came s) came);

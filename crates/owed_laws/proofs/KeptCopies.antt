@@ -275,11 +275,9 @@ runs_keep_made s slots some apart gs right =
 
 found_first : (p : Copy → Bool) (xs ys : List Copy) → list_any p xs ≡ true → is_copy (option_map (λ (x : Copy). x.content) (find p (xs ++ ys))) ≡ true
 found_first p [] ys e = absurd (cc)
-found_first p (x ∷ xs) ys e = by_test (p x) e
-  where
-    by_test : (t : Bool) → (t || list_any p xs) ≡ true → is_copy (option_map (λ (y : Copy). y.content) (if t then Some x else find p (xs ++ ys))) ≡ true
-    by_test true f = refl
-    by_test false f = found_first p xs ys f
+found_first p (x ∷ xs) ys e =
+    at_test (λ t. (t || list_any p xs) ≡ true → is_copy (option_map (λ (y : Copy). y.content) (if t then Some x else find p (xs ++ ys))) ≡ true) (p x)
+    (λ _ f. refl) (λ _ f. found_first p xs ys f) e
 
 -- a first copy is in the store
 pub first_copy_kept : (s : Setting) (r : Running) → Between s r.log r.whole → KeepsMade r.log r.whole → (n : ℕ) (node : Node) → node_at r.whole n ≡ Some node →

@@ -41,8 +41,8 @@ module _ (s : Setting) (slots : ℕ) (some : 0 < s.nodes) (slot : 1 ≤ slots) (
   uses : KeepsUses r.whole
   uses = run_uses s slots some slot apart gs right
 
-  made : KeepsMade r.log r.whole
-  made = runs_keep_made s slots some apart gs right
+  copies : KeepsMade r.log r.whole
+  copies = runs_keep_made s slots some apart gs right
 
   claims : ClaimIsAnswered (seen s r) g.event (entries_of (answer_to r g))
   claims = claims_are_answered s r.log r.whole keeps.step g.event g.handed
@@ -63,7 +63,7 @@ module _ (s : Setting) (slots : ℕ) (some : 0 < s.nodes) (slot : 1 ≤ slots) (
         let met = law_of_fetches s slots gs g.seat g.handed brings.0 n w y number node.0 step brings.2 node.1 node.2 (named (Deliver brings.0) brings.1) in
         record {
           there = met.there;
-          first_copy = λ first. met.there (first_copy_kept s r keeps.step.sound.between made n node.0 node.1 y number first);
+          first_copy = λ first. met.there (first_copy_kept s r keeps.step.sound.between copies n node.0 node.1 y number first);
           lacking = met.lacking;
         }
 

@@ -91,24 +91,24 @@ kept_apart : (o p : Id) (number : ℕ) → same_id p o ≡ false → (xs : List 
     list_any (is_copy_of p number) (filter (λ x. not (is_of o x)) xs) ≡ true
 kept_apart o p number apart [] h = absurd (cc)
 kept_apart o p number apart (x ∷ xs) h =
+    let rest : list_any (is_copy_of p number) xs ≡ true → list_any (is_copy_of p number) (filter (λ y. not (is_of o y)) xs) ≡ true =
+    kept_apart o p number apart xs in
     at_test (λ t. is_of o x ≡ t → list_any (is_copy_of p number) (if not t then x ∷ filter (λ y. not (is_of o y)) xs else filter (λ y. not (is_of o y)) xs) ≡ true)
-    (is_of o x) (λ _ e. others e (is_copy_of p number x) refl h) (λ _ e. this (is_copy_of p number x) h) refl
+    (is_of o x) (λ _ e. others rest e (is_copy_of p number x) refl h) (λ _ e. this rest (is_copy_of p number x) h) refl
   where
-    or_right : (a b : Bool) → b ≡ true → (a || b) ≡ true
-    or_right true b f = refl
-    or_right false b f = f
+    this : (list_any (is_copy_of p number) xs ≡ true → list_any (is_copy_of p number) (filter (λ y. not (is_of o y)) xs) ≡ true) → (a : Bool) →
+        (a || list_any (is_copy_of p number) xs) ≡ true → (a || list_any (is_copy_of p number) (filter (λ y. not (is_of o y)) xs)) ≡ true
+    this rest true f = refl
+    this rest false f = rest f
 
-    this : (a : Bool) → (a || list_any (is_copy_of p number) xs) ≡ true → (a || list_any (is_copy_of p number) (filter (λ y. not (is_of o y)) xs)) ≡ true
-    this true f = refl
-    this false f = kept_apart o p number apart xs f
-
-    others : is_of o x ≡ true → (a : Bool) → is_copy_of p number x ≡ a → (a || list_any (is_copy_of p number) xs) ≡ true →
+    others : (list_any (is_copy_of p number) xs ≡ true → list_any (is_copy_of p number) (filter (λ y. not (is_of o y)) xs) ≡ true) → is_of o x ≡ true →
+        (a : Bool) → is_copy_of p number x ≡ a → (a || list_any (is_copy_of p number) xs) ≡ true →
         list_any (is_copy_of p number) (filter (λ y. not (is_of o y)) xs) ≡ true
-    others e true f g =
+    others rest e true f g =
         let same : x.object ≡ p = (copy_same p number x f).0 in
         let t : same_id p o ≡ true = subst (λ z. same_id z o ≡ true) same e in
         absurd (cc)
-    others e false f g = kept_apart o p number apart xs g
+    others rest e false f g = rest g
 
 -- the object's copies go, and no others
 without_keeps : (s : Store) (o p : Id) (number : ℕ) → Stores s p number → Stores (without_copies s o) p number ⊎ (p ≡ o)
@@ -231,9 +231,15 @@ module _ (c : Whole) (i : ℕ) (l : Letter) (sent : item_at c.network i ≡ Some
     by_message w (Unhold x o why) e f = record {
       keeps = λ p number q. elim (without_keeps node.store o p number q) [
         | inl stored ↦ inl stored
-        | inr same ↦ inr (inl (i, TheWorker w, x, why, refl,
-            subst (λ z. item_at c.network i ≡ Some (letter (TheWorker w) (TheNode n) (Unhold x z why))) (sym same)
-            (sent ∙ ap (λ z. Some z) (is_letter (TheWorker w) (Unhold x o why) e f))))
+        | inr same ↦ inr (inl (
+          i,
+          TheWorker w,
+          x,
+          why,
+          refl,
+          subst (λ z. item_at c.network i ≡ Some (letter (TheWorker w) (TheNode n) (Unhold x z why))) (sym same)
+              (sent ∙ ap (λ z. Some z) (is_letter (TheWorker w) (Unhold x o why) e f)),
+        ))
       ];
       none = none_made;
     }
@@ -282,57 +288,57 @@ module _ (s : Setting) (log : List Entry) (c : Whole) (b : Between s log c) (j s
   abbrev base : Whole
   base = with_committed c j (length d.births)
 
-  abbrev first : Here
-  first = here base me x node
+  abbrev before_commit : Here
+  before_commit = here base me x node
 
-  abbrev last : Here
-  last = release_step (commit_step first d)
+  abbrev after_commit : Here
+  after_commit = release_step (commit_step before_commit d)
 
-  abbrev made : List Entry
-  made = commit_entries run.attempt (next_id_here first) d.births d.prints (stop_of d.stop)
+  abbrev commit_made : List Entry
+  commit_made = commit_entries run.attempt (next_id_here before_commit) d.births d.prints (stop_of d.stop)
 
-  abbrev done : Moved
-  done = after_worker base me x.node last
+  abbrev committed_so : Moved
+  committed_so = after_worker base me x.node after_commit
 
-  abbrev later : List Entry
-  later = log ++ In (Commit j) seat ∷ last.there.out.entries
+  abbrev log_after : List Entry
+  log_after = log ++ In (Commit j) seat ∷ after_commit.there.out.entries
 
-  stays : Stays node.store made last
-  stays = M.release_step-kept (Stays node.store made) (stays_kept node.store made) (commit_step first d) (C.commit_stays first d run runs refl)
+  left_there : Stays node.store commit_made after_commit
+  left_there = M.release_step-kept (Stays node.store commit_made) (stays_kept node.store commit_made) (commit_step before_commit d) (C.commit_stays before_commit d run runs refl)
 
-  stored : (o : Id) (number : ℕ) → IsNewIn made o number → Stores last.there.node.store o number
-  stored o number new = M.release_step-kept (IsStored o number) (stored_stays o number) (commit_step first d) (C.new_stored first d run runs o number new)
+  stored_last : (o : Id) (number : ℕ) → IsNewIn commit_made o number → Stores after_commit.there.node.store o number
+  stored_last o number new = M.release_step-kept (IsStored o number) (stored_stays o number) (commit_step before_commit d) (C.new_stored before_commit d run runs o number new)
 
   -- the worker's node
-  at_home : (n : ℕ) (next : Node) → node_at done.whole n ≡ Some next → x.node ≡ n → last.there.node ≡ next
-  at_home n next there same = elim (changed_cases c.nodes x.node n (λ _. last.there.node) next there) [
+  at_home : (n : ℕ) (next : Node) → node_at committed_so.whole n ≡ Some next → x.node ≡ n → after_commit.there.node ≡ next
+  at_home n next there same = elim (changed_cases c.nodes x.node n (λ _. after_commit.there.node) next there) [
     | inl (_, _, _, is) ↦ sym is
     | inr (apart, _) ↦ absurd (apart (sym same))
   ]
 
-  placed : node_of me later ≡ Some x.node
-  placed = node_of-more log (In (Commit j) seat ∷ last.there.out.entries) me x.node (places s log c b me x at)
+  placed : node_of me log_after ≡ Some x.node
+  placed = node_of-more log (In (Commit j) seat ∷ after_commit.there.out.entries) me x.node (places s log c b me x at)
 
-  commit_nodes : NodesKeep c (Commit j) done.whole.nodes
-  commit_nodes = node_changed c (Commit j) base refl x.node node home last.there (λ o number p. inl (stays.copies o number p))
+  commit_nodes : NodesKeep c (Commit j) committed_so.whole.nodes
+  commit_nodes = node_changed c (Commit j) base refl x.node node home after_commit.there (λ o number p. inl (left_there.copies o number p))
 
-  pub commit_makes : Makes c later (Commit j) done
+  pub commit_makes : Makes c log_after (Commit j) committed_so
   commit_makes = record {
     nodes = commit_nodes;
     puts = λ n next there o number p new.
-        let i = stays.puts o number new in
-        let own : o.owner ≡ me = C.new_put_own first d run runs o number i in
-        let same : x.node ≡ n = same_number x.node n (sym placed ∙ ap (λ w. node_of w later) (sym own) ∙ p.home) in
-        subst (λ (y : Node). Stores y.store o number) (at_home n next there same) (stored o number (inl i));
+        let i = left_there.puts o number new in
+        let own : o.owner ≡ me = C.new_put_own before_commit d run runs o number i in
+        let same : x.node ≡ n = same_number x.node n (sym placed ∙ ap (λ w. node_of w log_after) (sym own) ∙ p.home) in
+        subst (λ (y : Node). Stores y.store o number) (at_home n next there same) (stored_last o number (inl i));
     ends = λ n next there o number p new.
-        let i = stays.ends o number new in
-        let is : run.attempt ≡ attempt o number = C.new_end_own first d run runs o number i in
+        let i = left_there.ends o number new in
+        let is : run.attempt ≡ attempt o number = C.new_end_own before_commit d run runs o number i in
         let old : worker_of (attempt o number) log ≡ Some me =
         ap (λ a. worker_of a log) (sym is) ∙ ((b.knows.workers me x at live).run run runs).runs in
         let own : me ≡ p.worker =
-        same_number me p.worker (sym (runs_more s log c b (Commit j) seat last.there.out.entries (attempt o number) me old) ∙ p.runs) in
-        let same : x.node ≡ n = same_number x.node n (sym placed ∙ ap (λ w. node_of w later) own ∙ p.home) in
-        subst (λ (y : Node). Stores y.store o number) (at_home n next there same) (stored o number (inr i));
+        same_number me p.worker (sym (runs_more s log c b (Commit j) seat after_commit.there.out.entries (attempt o number) me old) ∙ p.runs) in
+        let same : x.node ≡ n = same_number x.node n (sym placed ∙ ap (λ w. node_of w log_after) own ∙ p.home) in
+        subst (λ (y : Node). Stores y.store o number) (at_home n next there same) (stored_last o number (inr i));
   }
 
 -- ---- every event
@@ -394,8 +400,11 @@ module _ (s : Setting) (log : List Entry) (c : Whole) (before : IsInStep s log c
       (worker_silent c (NoticeNode w n) c refl w (λ h. notice_node_step h n) (λ P kept h p. M.notice_node_step-kept P kept h n p))
   event_makes (Evict n o) handed e =
       silent (Evict n o) (happens c (Evict n o) handed) (changed_there c (Evict n o) n _ (λ node at p number q. inl q), none_made)
-  event_makes (Lose n o) handed e = silent (Lose n o) (happens c (Lose n o) handed) (changed_there c (Lose n o) n _ (λ node at p number q.
-      elim (without_keeps node.store o p number q) [ inl stored ↦ inl stored | inr same ↦ inr (inr (ap (Lose n) (sym same))) ]), none_made)
+  event_makes (Lose n o) handed e = silent (Lose n o) (happens c (Lose n o) handed) (
+    changed_there c (Lose n o) n _ (λ node at p number q.
+        elim (without_keeps node.store o p number q) [ inl stored ↦ inl stored | inr same ↦ inr (inr (ap (Lose n) (sym same))) ]),
+    none_made,
+  )
   event_makes (Kill w) handed e = silent (Kill w) (happens c (Kill w) handed) (killed_silent w (worker_at c w))
   event_makes (KillNode n) handed e =
       silent (KillNode n) (happens c (KillNode n) handed) (changed_there c (KillNode n) n _ (λ node at p number q. inl q), none_made)

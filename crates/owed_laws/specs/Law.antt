@@ -74,7 +74,8 @@ pub record IsReached (s : Setting) (slots : ℕ) (r : Running) : Type 0 where
 -- the opening is reached, and so is what comes of one more event
 pub record ReachedGoesOn : Type 0 where
   pub opening : (s : Setting) (slots : ℕ) → IsReached s slots (opening_run s.nodes slots)
-  pub next : (s : Setting) (slots : ℕ) (r : Running) (g : Handing) → IsReached s slots r → IsRight s r.whole g.event g.handed → IsReached s slots (after_event r g)
+  pub next : (s : Setting) (slots : ℕ) (r : Running) (g : Handing) → IsReached s slots r → IsRight s r.whole g.event g.handed →
+      IsReached s slots (after_event r g)
 
 -- of a run that was reached, each event is paid
 abbrev pub ReachedPays : Type 0

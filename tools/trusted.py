@@ -89,8 +89,7 @@ ROOTS = [
      ["protocol_board", "protocol_core", "seats", "history", "segment", "serial", "script_check", "script_syntax", "script_tokens",
       "event_files", "report_json", "log_text", "message_text", "story_text", "why_text", "lineage_text", "timeline", "lineage", "lease",
       "object_store", "borrow"]),
-    ("What the laws say in addition", ["meaning", "script_laws", "event_log", "meaning_laws", "kind_laws", "report_laws", "protocol_laws", "owed_laws",
-                                     "core_owed"]),
+    ("What the laws say in addition", ["meaning", "script_laws", "event_log", "meaning_laws", "kind_laws", "report_laws", "protocol_laws", "owed_laws"]),
 ]
 
 

@@ -61,7 +61,7 @@ bears-same h a (Task g args depth retries) =
     asks_same (holds_ids x o ids) o (new_task b)
     (holds_ids-same h.worker.node (length h.worker.objects + 1) h.me x o ids (record { node = refl; objects = length-append h.worker.objects _; number = refl }))
 
-next_birth : (h : Here) (a : Attempt) (b : Birth) → next_id_here (bears h a b) ≡ next_id (next_id_here h)
+pub next_birth : (h : Here) (a : Attempt) (b : Birth) → next_id_here (bears h a b) ≡ next_id (next_id_here h)
 next_birth h a b =
     let s = bears-same h a b in
     ap (λ w. own w (length (bears h a b).worker.objects + 1)) s.number ∙ ap (λ k. own h.me (k + 1)) s.objects

@@ -12,3 +12,12 @@ pub mod CommitCopies
 pub mod Made
 pub mod StoreEvents
 pub mod KeptCopies
+pub mod HoldMoves
+pub mod Speaking
+pub mod HoldCommits
+pub mod HoldFacts
+pub mod HoldEvents
+pub mod HoldHappens
+pub mod HoldCases
+pub mod HoldRuns
+pub mod Reports

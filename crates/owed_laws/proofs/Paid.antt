@@ -7,6 +7,7 @@ use Rattle.protocol.specs.Answers.{Step, Takes, answer}
 use Rattle.protocol.specs.Messages.{Letter, Missing, TheNode, TheWorker, letter}
 use Rattle.protocol.specs.Whole.{Whole}
 use Rattle.protocol_laws.specs.Coming.{IsRight}
+use Rattle.protocol_owed.specs.Ends.{EndsAreReported}
 use Rattle.protocol_owed.specs.Runs.{AcknowledgementsAreMade, Handing, Running, after_event, after_events, answer_to, opening_run, seen}
 use Rattle.protocol_owed.specs.Seen.{IsCalm}
 use Rattle.protocol_owed.specs.Turns.{AllSlotsAreRight, AsksAreAnswered, ClaimIsAnswered}
@@ -24,6 +25,7 @@ use Rattle.owed_asks.proofs.Needs.{copies_are_got}
 use Rattle.owed_asks.proofs.RightSlots.{run_uses, slots_are_all_right, there}
 use Rattle.owed_asks.proofs.UserEvents.{KeepsUses}
 use Rattle.owed_laws.proofs.KeptCopies.{KeepsMade, first_copy_kept, runs_keep_made}
+use Rattle.owed_laws.proofs.Reports.{ends_are_reported}
 use Rattle.owed_laws.proofs.Senders.{senders_are_there}
 use Rattle.owed_laws.proofs.NewWaits.{new_waits_are_tended}
 use Rattle.owed_laws.specs.Law.{AnswerPays, EventIsPaid, EventsArePaid, FetchesAreMet, ReachedGoesOn, ReachedPays}
@@ -85,6 +87,12 @@ module _ (s : Setting) (slots : ℕ) (some : 0 < s.nodes) (slot : 1 ≤ slots) (
         subst (λ q. R.IsPaid (record { before = seen s r; event = g.event; entries = step.entries; letters = step.letters; after = seen s q })) same_after
         (law_of_replies s slots some apart gs right (calm_so_far r g step taken calm) g is step taken)
 
+    ends_after : IsCalm (after_event r g).log → EndsAreReported (seen s (after_event r g))
+    ends_after calm =
+        subst (λ q. EndsAreReported (seen s q)) (one_more (opening_run s.nodes slots) gs g)
+        (ends_are_reported s slots some slot apart (gs ++ g ∷ []) (all_right s (opening_run s.nodes slots) gs g right is)
+        (subst (λ (q : Running). IsCalm q.log) (sym (one_more (opening_run s.nodes slots) gs g)) calm))
+
     -- what is acknowledged and handed on by the delivery of letter k
     made : IsCalm (after_event r g).log → (k : ℕ) → g.event ≡ Deliver k → AcknowledgementsAreMade (seen s r) k step.letters
     made calm k same = law_of_acknowledgements s slots some gs g.seat k g.handed step (calm_so_far r g step taken calm) (named (Deliver k) same)
@@ -107,6 +115,7 @@ module _ (s : Setting) (slots : ℕ) (some : 0 < s.nodes) (slot : 1 ≤ slots) (
             (record { brought = brings.2; place = places s r.log r.whole keeps.step.sound.between w x.0 x.1 });
         acknowledged = λ v w a n brings place. (made calm brings.0 brings.1).back v w n a (record { brought = brings.2; place = place });
         replies = replies calm;
+        ends = ends_after calm;
       };
     }
 

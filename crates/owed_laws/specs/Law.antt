@@ -7,6 +7,7 @@ use Rattle.meaning.specs.Values.{Id}
 use Rattle.protocol.specs.Answers.{Step, Takes}
 use Rattle.protocol.specs.Messages.{Fetch, TheNode, TheWorker}
 use Rattle.protocol_laws.specs.Coming.{IsRight}
+use Rattle.protocol_owed.specs.Ends.{EndsAreReported}
 use Rattle.protocol_owed.specs.Replies.{AcknowledgedGoesBack, BirthIsAsked, Brings, CopyIsGot, ElsewhereIsAsked, FetchIsAnswered, GiveIsBegun, Happening}
 use Rattle.protocol_owed.specs.Replies.{MissingIsHandedOn, NewWaitsAreTended}
 use Rattle.protocol_owed.specs.Runs.{Handing, Running, after_event, after_events, answer_to, opening_run, seen}
@@ -40,6 +41,8 @@ pub record RepliesArePaid (h : Happening) : Type 0 where
   pub acknowledged : AcknowledgedGoesBack h
   -- ends and answers to whoever asks
   pub replies : IsPaid h
+  -- after it each attempt that ended is reported, once its Holds are acknowledged
+  pub ends : EndsAreReported h.after
 
 -- what an accepted event owes, by log, network and slots before and after it
 pub record EventIsPaid (h : Happening) : Type 0 where

@@ -33,7 +33,7 @@ use Rattle.protocol.specs.Releases.{drops_copies, may_release, lets_go, lets_go_
 use Rattle.protocol_owed.proofs.Letters.{among-append_cases, among-push_cases}
 use Rattle.owed_replies.specs.Kept.{IsBornIn, IsOverInTime, RunIsRight}
 use Rattle.owed_replies.proofs.Objects.{Grows, pushed_grows, put_grows, same_grows, succeeds_alike, somewhere}
-use Rattle.owed_replies.proofs.Moves.{IsKept, answers_settled-kept, needs_own-kept, rests_if_waiting-kept}
+use Rattle.owed_replies.proofs.Moves.{IsKept, IsKeptWhere, answers_settled-kept, needs_own-kept, rests_if_waiting-kept}
 use Rattle.owed_replies.proofs.Paying.{Does, Pays, frees_does, leaves_pays, objects_does, pays_kept, run_does, said, says_to_node_does, writes_does}
 use Rattle.lease_discipline.proofs.Tame.{changed_here}
 
@@ -101,7 +101,7 @@ commits_end_own a b c o [] [] (Over d) (zero, e) = cc
 commits_end_own a b c o [] [] (Over d) (suc k, e) = absurd (cc)
 commits_end_own a b c o [] [] (Needs y) (k, e) = absurd (cc)
 
-held_among : (ks : List Holding) (k j : Holding) → Among j (with_holding ks k) → Among j ks ⊎ (j ≡ k)
+pub held_among : (ks : List Holding) (k j : Holding) → Among j (with_holding ks k) → Among j ks ⊎ (j ≡ k)
 held_among ks k j =
     at_test (λ b. Among j (if b then ks else ks ++ k ∷ []) → Among j ks ⊎ (j ≡ k)) (list_any (λ i. same_holding i k) ks)
     (λ _ i. inl i) (λ _ i. among-push_cases ks k j i)
@@ -126,7 +126,7 @@ accepted_object h a task n ids content x e =
     (with_content a.number n ids content)) a.object.serial else None) there.0 ∙ twice
 
 -- where the acceptance is kept, what follows it is
-pub finished_reached-kept : (P : Here → Type 0) → IsKept P → (h : Here) (w : ℕ) (a : Attempt) (n : ℕ) (ids : List Id) (content : Option Outcome) →
+pub finished_reached-kept : {AnyHold AnyPush : Type 0} (P : Here → Type 0) → IsKeptWhere AnyHold AnyPush P → (h : Here) (w : ℕ) (a : Attempt) (n : ℕ) (ids : List Id) (content : Option Outcome) →
     ((task : OwnTask) → P (accepts h a task n ids content)) → P h → P (finished_reached h w a n ids content)
 finished_reached-kept P kept h w a n ids content accept p = by_object (object_at h a.object) refl
   where

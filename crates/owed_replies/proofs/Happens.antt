@@ -144,7 +144,7 @@ module _ (h : Here) (run : Run) (e : h.worker.run ≡ Some run) (going : run.is_
 
   reached_steady : (p : Party) (m : Message) → T (release_step (reached h p m))
   reached_steady p m = steady_end h (reached h p m)
-      (reached-kept T (steady_kept h.worker.objects (attempt_by h.worker.run)) h p m (heard_from p m) (steady_start h))
+      (reached-kept T (steady_kept h.worker.objects (attempt_by h.worker.run)) h p m (heard_from p m) tt (steady_start h))
 
 -- ---- a claim and a commit
 
@@ -156,7 +156,7 @@ claim_steady h j = ap attempt_by (release_step-run (claim_step h j)) ∙ by_run 
     by_run (Some run) e = ap attempt_by (sym e)
 
 -- whatever a commit logs at first stays logged
-committed_logged : (h : Here) (d : Outcomes) (run : Run) → h.worker.run ≡ Some run → (x : Entry) →
+pub committed_logged : (h : Here) (d : Outcomes) (run : Run) → h.worker.run ≡ Some run → (x : Entry) →
     Among x (commit_entries run.attempt (next_id_here h) d.births d.prints (stop_of d.stop)) → Logged x (release_step (commit_step h d))
 committed_logged h d run e x i =
     let g : Here = logs_all (with_run h (with_outcomes run d)) (commit_entries run.attempt (next_id_here h) d.births d.prints (stop_of d.stop)) in
@@ -170,7 +170,7 @@ birth_logged a b o [] vs stop (k, e) = absurd (cc)
 birth_logged a b o (x ∷ bs) vs stop (zero, e) = let same : x ≡ b = cc in (o, (zero, ap (λ y. Some (Born o a y)) same))
 birth_logged a b o (x ∷ bs) vs stop (suc k, e) = let r = birth_logged a b (next_id o) bs vs stop (k, e) in (r.0, (suc r.1.0, r.1.1))
 
-end_logged : (a : Attempt) (c : Outcome) (o : Id) (bs : List Birth) (vs : List Value) → Among (Ended a c) (commit_entries a o bs vs (Over c))
+pub end_logged : (a : Attempt) (c : Outcome) (o : Id) (bs : List Birth) (vs : List Value) → Among (Ended a c) (commit_entries a o bs vs (Over c))
 end_logged a c o (b ∷ bs) vs = let r = end_logged a c (next_id o) bs vs in (suc r.0, r.1)
 end_logged a c o [] (v ∷ vs) = let r = end_logged a c o [] vs in (suc r.0, r.1)
 end_logged a c o [] [] = (zero, refl)
@@ -276,8 +276,8 @@ module _ (s : Setting) (log : List Entry) (c : Whole) (before : IsInStep s log c
       let n = home_of w x.worker x.at in
       let h : Here = here c w x.worker n.0 in
       does_advance (Tick w) c.jobs c.made c.delivered w x.worker x.at x.live n.0 n.1 tick_step (λ P kept g p. M.tick_step-kept P kept g p)
-      (λ q. tick_step-kept _ (pays_kept _ _ _ _ _ _) h q) (λ i v o m is. absurd (cc))
-      (λ run is _. (steady_end h (tick_step h) (tick_step-kept _ (steady_kept x.worker.objects (attempt_by x.worker.run)) h (steady_start h))).attempt ∙ ap attempt_by is)
+      (λ q. tick_step-kept _ (pays_kept _ _ _ _ _ _) h tt tt q) (λ i v o m is. absurd (cc))
+      (λ run is _. (steady_end h (tick_step h) (tick_step-kept _ (steady_kept x.worker.objects (attempt_by x.worker.run)) h tt tt (steady_start h))).attempt ∙ ap attempt_by is)
 
   notice_advances : (w v : ℕ) → or_code (no_worker c w) (unless (is_dead_worker (worker_at c v)) 35) ≡ None → Advances log c (Notice w v) seat (worker_does c w (λ h. notice_step h v))
   notice_advances w v e =
@@ -535,7 +535,7 @@ module _ (s : Setting) (log : List Entry) (c : Whole) (before : IsInStep s log c
     letter_advance : Advances log c (Deliver i) seat (worker_does (with_parts c.jobs c.made delivered) me hears)
     letter_advance =
         does_advance (Deliver i) c.jobs c.made delivered me x at live node home hears (λ P kept h p. M.reached-kept P kept h from m p)
-        (λ q. reached-kept Pay pay_kept first_here from m (heard_from_pays from m refl refl q) q) asks_here
+        (λ q. reached-kept Pay pay_kept first_here from m (heard_from_pays from m refl refl q) tt q) asks_here
         (λ run is going. (reached_steady first_here run is going from m).attempt ∙ ap attempt_by is)
 
   -- ---- events of no worker

@@ -14,7 +14,8 @@ use Rattle.protocol.specs.Tables.{knows_dead, without_place, Worker, Run, Phase,
 use Rattle.protocol.specs.Tables.{AtRest, AskedAt, RunsOn, Fetching, Holding, task_of, live_place, chosen_place, settled_number, needed_by}
 use Rattle.protocol.specs.Tables.{holders_of, released, with_dead_holder, with_holder, with_place, without_holder, without_places, has_content, is_nowhere}
 use Rattle.std.specs.List.{filter}
-use Rattle.std.proofs.lemmas.Bool.{not-true}
+use Rattle.std.proofs.lemmas.Bool.{eqb-true, not-true}
+use Rattle.meaning.proofs.BirthLaws.{at_test}
 use Rattle.protocol.specs.Steps.{Here, with_phase, with_run, logs_all, logs, says, says_to_node, with_worker, with_store, each_from, own_id}
 use Rattle.protocol.specs.Steps.{own_object, object_at, store_here, changes, is_own}
 use Rattle.protocol.specs.Runs.{with_answer, gives_slot_back, asks_for_slot, tells_stop, is_heard, leaves_if_free, faults_at, faults_by, faults}
@@ -82,18 +83,19 @@ pub record IsUnheard (h : Here) (a : Attempt) : Type 0 where
   pub over : run.is_over ≡ true
   pub unheard : run.is_acknowledged ≡ false
 
--- what is said to whom
-abbrev pub IsSaid : Here → ℕ → Message → Type 0
-IsSaid h w (Where y) = (w ≡ y.owner) × (is_own h y ≡ false) × Needs h y
-IsSaid h w (Missing y number n) = (w ≡ y.owner) × (is_own h y ≡ false)
-IsSaid h w (Hold e o) = (w ≡ o.owner) × Awaits h (holding e o)
-IsSaid h w (Finished a n ids kept) = (w ≡ a.object.owner) × IsUnheard h a
-IsSaid h w (At y number ns kept) = (is_empty ns && is_none kept) ≡ false
-IsSaid h w m = Unit {0}
+-- what is said to whom, where Holds and Pushes may be said
+abbrev pub IsSaid : Type 0 → Type 0 → Here → ℕ → Message → Type 0
+IsSaid AnyHold AnyPush h w (Where y) = (w ≡ y.owner) × (is_own h y ≡ false) × Needs h y
+IsSaid AnyHold AnyPush h w (Missing y number n) = (w ≡ y.owner) × (is_own h y ≡ false)
+IsSaid AnyHold AnyPush h w (Hold e o) = (w ≡ o.owner) × Awaits h (holding e o) × AnyHold
+IsSaid AnyHold AnyPush h w (Push a spec) = (a.object.owner ≡ h.me) × AnyPush
+IsSaid AnyHold AnyPush h w (Finished a n ids kept) = (w ≡ a.object.owner) × IsUnheard h a
+IsSaid AnyHold AnyPush h w (At y number ns kept) = (is_empty ns && is_none kept) ≡ false
+IsSaid AnyHold AnyPush h w m = Unit {0}
 
-pub record IsKept (P : Here → Type 0) : Type 0 where
+pub record IsKeptWhere (AnyHold AnyPush : Type 0) (P : Here → Type 0) : Type 0 where
   pub writes : (h : Here) (es : List Entry) → is_quiet es ≡ true → P h → P (logs_all h es)
-  pub says : (h : Here) (w : ℕ) (m : Message) → IsSaid h w m → P h → P (says h w m)
+  pub says : (h : Here) (w : ℕ) (m : Message) → IsSaid AnyHold AnyPush h w m → P h → P (says h w m)
   pub says_to_node : (h : Here) (n : ℕ) (m : Message) → P h → P (says_to_node h n m)
   pub objects : (h : Here) (ys : List Object) → Grows h.worker.objects ys → P h → P (with_worker h (record h.worker { objects = ys }))
   pub passes : (h : Here) (ks : List Holding) → P h → P (with_worker h (record h.worker { passed_on = ks }))
@@ -112,7 +114,11 @@ pub record IsKept (P : Here → Type 0) : Type 0 where
   pub acknowledged : (h : Here) (run : Run) (test : Holding → Bool) → h.worker.run ≡ Some run → P h →
       P (leaves_if_free (with_run h (record run { holds = filter test run.holds })))
 
-module _ (P : Here → Type 0) (kept : IsKept P) where
+-- whatever is said
+abbrev pub IsKept : (Here → Type 0) → Type 0
+IsKept P = IsKeptWhere (Unit {0}) (Unit {0}) P
+
+module _ {AnyHold AnyPush : Type 0} (P : Here → Type 0) (kept : IsKeptWhere AnyHold AnyPush P) where
   either : (b : Bool) (x y : Here) → P x → P y → P (if b then x else y)
   either true x y p q = p
   either false x y p q = q
@@ -219,20 +225,22 @@ module _ (P : Here → Type 0) (kept : IsKept P) where
   pub breaks-kept : (h : Here) (o : Id) (task : OwnTask) → P h → P (breaks h o task)
   breaks-kept h o task p = either _ _ _ (asks_at-kept h o (next_attempt task) _ _ p) (uses_up-kept h o task p)
 
-  pub pushes-kept : (h : Here) (o : Id) (task : OwnTask) (w : ℕ) → P h → P (pushes h o task w)
-  pushes-kept h o task w p = kept.says _ _ _ tt (kept.writes _ _ refl (kept.objects h _ (put_grows h o task) p))
+  pub pushes-kept : (h : Here) (o : Id) (task : OwnTask) (w : ℕ) → o.owner ≡ h.me → AnyPush → P h → P (pushes h o task w)
+  pushes-kept h o task w own may p = kept.says _ _ _ (own, may) (kept.writes _ _ refl (kept.objects h _ (put_grows h o task) p))
 
-  pub begins-kept : (h : Here) (o : Id) (task : OwnTask) (w n : ℕ) → P h → P (begins h o task w n)
-  begins-kept h o task w n p =
-      let q : P (pushes h o (with_begun task w n) w) = pushes-kept h o (with_begun task w n) w p in
+  pub begins-kept : (h : Here) (o : Id) (task : OwnTask) (w n : ℕ) → o.owner ≡ h.me → AnyPush → P h → P (begins h o task w n)
+  begins-kept h o task w n own may p =
+      let q : P (pushes h o (with_begun task w n) w) = pushes-kept h o (with_begun task w n) w own may p in
       either (knows_dead h.worker w) _ _ (breaks-kept (pushes h o (with_begun task w n) w) o (with_begun task w n) q) q
 
-  pub given_by-kept : (h : Here) (a : Attempt) (t w n : ℕ) (task : Option OwnTask) → P h → P (given_by h a t w n task)
-  given_by-kept h a t w n None p = p
-  given_by-kept h a t w n (Some task) p = either _ _ _ (begins-kept h a.object task w n p) p
+  pub given_by-kept : (h : Here) (a : Attempt) (t w n : ℕ) (task : Option OwnTask) → a.object.owner ≡ h.me → AnyPush → P h → P (given_by h a t w n task)
+  given_by-kept h a t w n None own may p = p
+  given_by-kept h a t w n (Some task) own may p = either _ _ _ (begins-kept h a.object task w n own may p) p
 
-  pub given_reached-kept : (h : Here) (n : ℕ) (a : Attempt) (t w : ℕ) → P h → P (given_reached h n a t w)
-  given_reached-kept h n a t w p = given_by-kept h a t w n (task_of (object_at h a.object)) p
+  pub given_reached-kept : (h : Here) (n : ℕ) (a : Attempt) (t w : ℕ) → AnyPush → P h → P (given_reached h n a t w)
+  given_reached-kept h n a t w may p =
+      at_test (λ b. is_own h a.object ≡ b → P (given_by h a t w n (task_of (if b then own_object h a.object.serial else None)))) (is_own h a.object)
+      (λ _ own. given_by-kept h a t w n (task_of (own_object h a.object.serial)) (eqb-true a.object.owner h.me own) may p) (λ _ _. p) refl
 
   pub elsewhere_by-kept : (h : Here) (a : Attempt) (t n : ℕ) (task : Option OwnTask) → P h → P (elsewhere_by h a t n task)
   elsewhere_by-kept h a t n None p = p
@@ -545,17 +553,17 @@ module _ (P : Here → Type 0) (kept : IsKept P) where
   pub notice_node_step-kept : (h : Here) (m : ℕ) → P h → P (notice_node_step h m)
   notice_node_step-kept h m p = either _ _ _ p (hears_of_node-kept h m p)
 
-  pub sends_task_at-kept : (h : Here) (o : Id) (task : OwnTask) (q : Progress) → P h → P (sends_task_at h o task q)
-  sends_task_at-kept h o task AtRest p = p
-  sends_task_at-kept h o task (AskedAt t n) p = kept.says_to_node h _ _ p
-  sends_task_at-kept h o task (RunsOn w n) p = kept.says h _ _ tt p
+  pub sends_task_at-kept : (h : Here) (o : Id) (task : OwnTask) (q : Progress) → o.owner ≡ h.me → AnyPush → P h → P (sends_task_at h o task q)
+  sends_task_at-kept h o task AtRest own may p = p
+  sends_task_at-kept h o task (AskedAt t n) own may p = kept.says_to_node h _ _ p
+  sends_task_at-kept h o task (RunsOn w n) own may p = kept.says h _ _ (own, may) p
 
-  pub sends_task-kept : (h : Here) (k : ℕ) (task : Option OwnTask) → P h → P (sends_task h k task)
-  sends_task-kept h k None p = p
-  sends_task-kept h k (Some task) p = sends_task_at-kept h (own_id h k) task task.progress p
+  pub sends_task-kept : (h : Here) (k : ℕ) (task : Option OwnTask) → AnyPush → P h → P (sends_task h k task)
+  sends_task-kept h k None may p = p
+  sends_task-kept h k (Some task) may p = sends_task_at-kept h (own_id h k) task task.progress refl may p
 
-  pub sends_tasks-kept : (h : Here) → P h → P (sends_tasks h)
-  sends_tasks-kept h p = each_from-kept (λ g k. sends_task g k (task_of (own_object g k))) (λ g k q. sends_task-kept g k (task_of (own_object g k)) q) h 1
+  pub sends_tasks-kept : (h : Here) → AnyPush → P h → P (sends_tasks h)
+  sends_tasks-kept h may p = each_from-kept (λ g k. sends_task g k (task_of (own_object g k))) (λ g k q. sends_task-kept g k (task_of (own_object g k)) may q) h 1
       (length h.worker.objects) p
 
   pub asks_place_again-kept : (h : Here) (y : Id) (f : Option Fetching) → Needs h y → P h → P (asks_place_again h y f)
@@ -569,12 +577,12 @@ module _ (P : Here → Type 0) (kept : IsKept P) where
   asks_again-kept h run (HasEnded d) e q p = p
   asks_again-kept h run (HasFaulted g) e q p = p
 
-  pub sends_holds-kept : (h : Here) (run : Run) (ks : List Holding) → h.worker.run ≡ Some run → ((k : Holding) → Among k ks → Among k run.holds) → P h →
+  pub sends_holds-kept : (h : Here) (run : Run) (ks : List Holding) → h.worker.run ≡ Some run → ((k : Holding) → Among k ks → Among k run.holds) → AnyHold → P h →
       P (sends_holds h ks)
-  sends_holds-kept h run [] e part p = p
-  sends_holds-kept h run (k ∷ ks) e part p =
-      sends_holds-kept (says h k.object.owner (Hold k.holder k.object)) run ks e (λ j i. part j (suc i.0, i.1))
-      (kept.says h _ _ (refl, record { run = run; at = e; listed = part k (zero, refl) }) p)
+  sends_holds-kept h run [] e part may p = p
+  sends_holds-kept h run (k ∷ ks) e part may p =
+      sends_holds-kept (says h k.object.owner (Hold k.holder k.object)) run ks e (λ j i. part j (suc i.0, i.1)) may
+      (kept.says h _ _ (refl, record { run = run; at = e; listed = part k (zero, refl) }, may) p)
 
   pub sends_stop-kept : (h : Here) (run : Run) → h.worker.run ≡ Some run → P h → P (sends_stop h run)
   sends_stop-kept h run e p = either_by (is_unheard run) (tells_stop h run run.phase) h
@@ -586,15 +594,16 @@ module _ (P : Here → Type 0) (kept : IsKept P) where
         unheard = not-true run.is_acknowledged (and_right run.is_over (not run.is_acknowledged) t);
       }) p) (λ _. p)
 
-  pub sends_run-kept : (h : Here) (r : Option Run) → h.worker.run ≡ r → P h → P (sends_run h r)
-  sends_run-kept h None e p = p
-  sends_run-kept h (Some run) e p = sends_stop-kept _ run
+  pub sends_run-kept : (h : Here) (r : Option Run) → h.worker.run ≡ r → AnyHold → P h → P (sends_run h r)
+  sends_run-kept h None e may p = p
+  sends_run-kept h (Some run) e may p = sends_stop-kept _ run
       (ap (λ (x : Worker). x.run) (sends_holds-worker (asks_again h run.phase) run.holds ∙ asks_again-worker h run.phase) ∙ e)
-      (sends_holds-kept (asks_again h run.phase) run run.holds (ap (λ (x : Worker). x.run) (asks_again-worker h run.phase) ∙ e) (λ k i. i)
+      (sends_holds-kept (asks_again h run.phase) run run.holds (ap (λ (x : Worker). x.run) (asks_again-worker h run.phase) ∙ e) (λ k i. i) may
       (asks_again-kept h run run.phase e refl p))
 
-  pub tick_step-kept : (h : Here) → P h → P (tick_step h)
-  tick_step-kept h p = sends_run-kept (sends_tasks h) h.worker.run (ap (λ (x : Worker). x.run) (sends_tasks-worker h)) (sends_tasks-kept h p)
+  pub tick_step-kept : (h : Here) → AnyHold → AnyPush → P h → P (tick_step h)
+  tick_step-kept h held pushed p =
+      sends_run-kept (sends_tasks h) h.worker.run (ap (λ (x : Worker). x.run) (sends_tasks-worker h)) held (sends_tasks-kept h pushed p)
 
   pub lets_go_of-kept : (h : Here) (e o : Id) → P h → P (lets_go_of h e o)
   lets_go_of-kept h e o p = either _ _ _ (unhold_reached-kept h e o WasReleased p) (kept.says h _ _ tt p)
@@ -653,30 +662,30 @@ module _ (P : Here → Type 0) (kept : IsKept P) where
   reached_from_worker-kept h w (HoldAck e o) s p = hold_ack_reached-kept h e o p
   reached_from_worker-kept h w (Unhold e o why) s p = unhold_reached-kept h e o why p
 
-  pub reached_from_node-kept : (h : Here) (n : ℕ) (m : Message) → P h → P (reached_from_node h n m)
-  reached_from_node-kept h n (Ask a t) p = p
-  reached_from_node-kept h n (Give a t w) p = given_reached-kept h n a t w p
-  reached_from_node-kept h n (Elsewhere a t m) p = elsewhere_reached-kept h a t m p
-  reached_from_node-kept h n (Wait a t) p = p
-  reached_from_node-kept h n (Back a) p = p
-  reached_from_node-kept h n (Push a spec) p = p
-  reached_from_node-kept h n (Finished a m ids kept) p = p
-  reached_from_node-kept h n (FinishedAck a) p = p
-  reached_from_node-kept h n (Failed a f) p = p
-  reached_from_node-kept h n (Where o) p = p
-  reached_from_node-kept h n (At o number ns kept) p = p
-  reached_from_node-kept h n (Gone o f) p = p
-  reached_from_node-kept h n (Fetch o number) p = p
-  reached_from_node-kept h n (CopyOf o number c) p = copy_reached-kept h o number c p
-  reached_from_node-kept h n (Missing o number m) p = missing_reached-kept h (TheNode n) o number m p
-  reached_from_node-kept h n (Hold e o) p = p
-  reached_from_node-kept h n (HoldAck e o) p = p
-  reached_from_node-kept h n (Unhold e o why) p = p
+  pub reached_from_node-kept : (h : Here) (n : ℕ) (m : Message) → AnyPush → P h → P (reached_from_node h n m)
+  reached_from_node-kept h n (Ask a t) may p = p
+  reached_from_node-kept h n (Give a t w) may p = given_reached-kept h n a t w may p
+  reached_from_node-kept h n (Elsewhere a t m) may p = elsewhere_reached-kept h a t m p
+  reached_from_node-kept h n (Wait a t) may p = p
+  reached_from_node-kept h n (Back a) may p = p
+  reached_from_node-kept h n (Push a spec) may p = p
+  reached_from_node-kept h n (Finished a m ids kept) may p = p
+  reached_from_node-kept h n (FinishedAck a) may p = p
+  reached_from_node-kept h n (Failed a f) may p = p
+  reached_from_node-kept h n (Where o) may p = p
+  reached_from_node-kept h n (At o number ns kept) may p = p
+  reached_from_node-kept h n (Gone o f) may p = p
+  reached_from_node-kept h n (Fetch o number) may p = p
+  reached_from_node-kept h n (CopyOf o number c) may p = copy_reached-kept h o number c p
+  reached_from_node-kept h n (Missing o number m) may p = missing_reached-kept h (TheNode n) o number m p
+  reached_from_node-kept h n (Hold e o) may p = p
+  reached_from_node-kept h n (HoldAck e o) may p = p
+  reached_from_node-kept h n (Unhold e o why) may p = p
 
   abbrev pub IsHeardFrom : Here → Party → Message → Type 0
   IsHeardFrom h (TheWorker w) m = IsHeard h w m
   IsHeardFrom h (TheNode n) m = Unit {0}
 
-  pub reached-kept : (h : Here) (from : Party) (m : Message) → IsHeardFrom h from m → P h → P (reached h from m)
-  reached-kept h (TheWorker w) m s p = reached_from_worker-kept h w m s p
-  reached-kept h (TheNode n) m s p = reached_from_node-kept h n m p
+  pub reached-kept : (h : Here) (from : Party) (m : Message) → IsHeardFrom h from m → AnyPush → P h → P (reached h from m)
+  reached-kept h (TheWorker w) m s may p = reached_from_worker-kept h w m s p
+  reached-kept h (TheNode n) m s may p = reached_from_node-kept h n m may p

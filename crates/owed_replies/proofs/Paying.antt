@@ -42,7 +42,7 @@ quiet_endless : (es : List Entry) (a : Attempt) (c : Outcome) → is_quiet es �
 quiet_endless es a c q i = let f : false ≡ true = quiet_each es (Ended a c) q i in cc
 
 -- what is filtered was there
-kept_among : (test : Holding → Bool) (ks : List Holding) (k : Holding) → Among k (filter test ks) → Among k ks
+pub kept_among : (test : Holding → Bool) (ks : List Holding) (k : Holding) → Among k (filter test ks) → Among k ks
 kept_among test [] k (i, e) = absurd (cc)
 kept_among test (j ∷ ks) k a =
     at_test (λ b. Among k (if b then j ∷ filter test ks else filter test ks) → Among k (j ∷ ks)) (test j)
@@ -167,7 +167,7 @@ module _ (log : List Entry) (net : List Letter) (me : ℕ) (old : List Object) (
       (at_test (λ b. same_attempt u.run.attempt main_attempt ≡ b → b ≡ false) (same_attempt u.run.attempt main_attempt)
       (λ _ e. let f = (d.run u.run u.at).main e u.over in let g = u.unheard in absurd (cc)) (λ _ _. refl) refl)
 
-  pub says_does : (h : Here) (w : ℕ) (m : Message) → IsSaid h w m → Does h → Does (says h w m)
+  pub says_does : (h : Here) (w : ℕ) (m : Message) → IsSaid (Unit {0}) (Unit {0}) h w m → Does h → Does (says h w m)
   says_does h w (Where y) s d = said h (TheWorker w) (Where y) (s.0, s.1, waits_born h y s.1 s.2 d) d
   says_does h w (Missing y number n) s d = said h (TheWorker w) (Missing y number n) s d
   says_does h w (Hold e o) s d = said h (TheWorker w) (Hold e o) (s.0, holds_born h _ s.1 d) d

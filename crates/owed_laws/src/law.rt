@@ -7,7 +7,7 @@ ghost use Rattle.owed_laws.specs.Law.{EventsArePaid, ReachedGoesOn, ReachedPays}
 /// first one was made there and neither lost nor released, and leaves the slots of each live node right. As long as nothing was killed or lost: it
 /// asks for each task that is born; where it leaves an attempt to wait, it asks for a foreign object and fetches an own accepted one, and never is
 /// that an own put; it follows an Elsewhere, begins what a Give gives, gets a copy, hands on what a node lacks, sends back the worker of a
-/// FinishedAck, and makes the replies of `owed_replies`.
+/// FinishedAck, and makes the replies of `owed_replies`; and after it each attempt that ended is reported, once its Holds are acknowledged.
 pub fn events_are_paid()
     ensures { EventsArePaid }
 {}

@@ -1,6 +1,6 @@
-// The law of what is owed, as far as it is proved.
+// The law of what is owed.
 
-ghost use Rattle.owed_laws.specs.Law.{EventsArePaid, ReachedGoesOn, ReachedPays};
+ghost use Rattle.owed_laws.specs.Law.{AllIsPaid, EventsArePaid, ReachedGoesOn, ReachedPays};
 
 /// In every run, of each event that comes, by log, network and slots before and after it. Whatever was killed or lost: a live worker's claim is
 /// answered 31 exactly where it isn't ready; an accepted event answers the ask or Fetch that it brings to a live node, the Fetch by a copy where a
@@ -10,6 +10,12 @@ ghost use Rattle.owed_laws.specs.Law.{EventsArePaid, ReachedGoesOn, ReachedPays}
 /// FinishedAck, and makes the replies of `owed_replies`; and after it each attempt that ended is reported, once its Holds are acknowledged.
 pub fn events_are_paid()
     ensures { EventsArePaid }
+{}
+
+/// In every run, of each event that is accepted: the whole of what is owed, as `protocol_owed` defines it, is paid, if the Fetch that the event brings,
+/// where it brings one, goes to a live node.
+pub fn all_is_paid()
+    ensures { AllIsPaid }
 {}
 
 /// For whoever goes on event by event: the opening is reached, and so is what comes of one more event, if what is handed in with a commit is what

@@ -1,37 +1,34 @@
 -- The events of a worker, one by one: claims, commits, deliveries, ticks and notices keep what is true of Pushes and Holds.
-use Rattle.std.proofs.Common.{◌≡◌, ◌≢◌, ℕ, zero, suc, ◌+◌, ◌<◌, ◌≤◌, List, [], ◌∷◌, ◌++◌, length, Some, None, Option, refl, ap, sym, subst, ◌∙◌, ◌⊎◌, inl, inr, arith}
+use Rattle.std.proofs.Common.{◌≡◌, ℕ, zero, suc, ◌+◌, ◌<◌, List, [], ◌∷◌, ◌++◌, length, Some, None, Option, refl, ap, sym, subst, ◌∙◌, inl, inr, arith}
 use Rattle.std.proofs.Common.{append-nil}
-use Rattle.std.specs.Prelude.{Bool, true, false, if◌then◌else◌, not, ◌&&◌, slice_get}
-use Rattle.std.specs.List.{list_any}
+use Rattle.std.specs.Prelude.{Bool, true, false, if◌then◌else◌}
 use Rattle.std.proofs.lemmas.Bool.{both_ways}
-use Rattle.sequence.proofs.Places.{and_left, and_right, list_any-push_cases}
+use Rattle.sequence.proofs.Places.{list_any-push_cases}
 use Rattle.meaning.proofs.BirthLaws.{at_test}
-use Rattle.meaning.specs.Births.{birth_at}
 use Rattle.meaning.specs.Readings.{IsBorn}
-use Rattle.meaning.specs.Runs.{Over}
 use Rattle.meaning.specs.Values.{Birth, Id, Outcome}
 use Rattle.event_log.specs.Breaks.{Among}
 use Rattle.event_log.specs.Commits.{commit_entries}
-use Rattle.event_log.specs.Entries.{Attempt, Claim, Commit, Deliver, Ended, Entry, Event, In, main_attempt}
+use Rattle.event_log.specs.Entries.{Attempt, Deliver, Ended, Entry, Event, In, main_attempt}
 use Rattle.event_log.specs.Events.{accepted_events}
 use Rattle.event_log.specs.Holding.{HasId, InBirth, InContent}
 use Rattle.event_log.specs.Legal as L
 use Rattle.event_log.specs.Rules.{Setting}
 use Rattle.event_log.specs.Sane.{Sane}
-use Rattle.event_log.specs.Words.{attempt, births, ends_of, next_serial, same_attempt}
+use Rattle.event_log.specs.Words.{attempt, births, next_serial, same_attempt}
 use Rattle.event_log.proofs.SaneLaws.{legal_logs_are_sane}
 use Rattle.event_log.proofs.WordLaws.{same_attempt-true}
 use Rattle.protocol.specs.Commits.{claim_by, claim_step, commit_step, next_id_here}
-use Rattle.protocol.specs.Deliveries.{reached, reached_from_worker}
+use Rattle.protocol.specs.Deliveries.{reached}
 use Rattle.protocol.specs.Ends.{accepts, finished_reached}
 use Rattle.protocol.specs.Holders.{hold_ack_reached, holding}
 use Rattle.protocol.specs.Jobs.{AtEnd, Given, Outcomes, stop_of}
-use Rattle.protocol.specs.Messages.{Ask, At, Back, CopyOf, Elsewhere, Failed, Fetch, Finished, FinishedAck, Give, Gone, Hold, HoldAck, Letter, Message, Missing, Party}
-use Rattle.protocol.specs.Messages.{Push, TheNode, TheWorker, Unhold, Wait, Where, letter}
+use Rattle.protocol.specs.Messages.{Hold, HoldAck, Letter, Message, Party}
+use Rattle.protocol.specs.Messages.{Push, TheNode, TheWorker, letter}
 use Rattle.protocol.specs.Nodes.{Node}
 use Rattle.protocol.specs.Numbered.{changed_at, item_at}
 use Rattle.protocol.specs.Releases.{release_step}
-use Rattle.protocol.specs.Runs.{begins_run, is_free, push_reached, tells_stop}
+use Rattle.protocol.specs.Runs.{begins_run, is_free, tells_stop}
 use Rattle.protocol.specs.Steps.{Here, with_phase}
 use Rattle.protocol.specs.Tables.{Holding, Out, OwnTask, Run, Worker, has_stopped, new_run}
 use Rattle.protocol.specs.Notices.{is_unheard}

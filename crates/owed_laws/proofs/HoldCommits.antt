@@ -2,7 +2,7 @@
 -- Hold behind the attempt's Push named before.
 use Rattle.std.proofs.Common.{◌≡◌, ℕ, zero, suc, ◌+◌, ◌<◌, ◌≤◌, List, [], ◌∷◌, ◌++◌, length, Some, None, Option, refl, ap, sym, subst, ◌∙◌, ◌⊎◌, inl, inr, arith}
 use Rattle.std.proofs.Common.{append_assoc, length-append}
-use Rattle.std.specs.Prelude.{Bool, true, false, if◌then◌else◌, ◌==◌}
+use Rattle.std.specs.Prelude.{Bool, true, false, if◌then◌else◌}
 use Rattle.std.proofs.lemmas.Bool.{both_ways}
 use Rattle.meaning.proofs.BirthLaws.{at_test, same_id-refl}
 use Rattle.meaning.specs.Births.{same_id}
@@ -15,16 +15,15 @@ use Rattle.event_log.specs.Entries.{Attempt, Born, Deliver, Ended, Entry, Event,
 use Rattle.event_log.specs.Holding.{ids_of_birth}
 use Rattle.event_log.specs.Words.{same_attempt}
 use Rattle.numbered.proofs.Lists.{changed-length}
-use Rattle.protocol.specs.Asking.{asks_at}
 use Rattle.protocol.specs.Commits.{bears, bears_all, commit_by, commit_step, next_id_here, stops, stops_by, with_object, with_outcomes}
 use Rattle.protocol.specs.Holders.{adds_holder, awaits_hold_by, holding, holds_id, holds_ids, passes_on, sends_hold, with_holding}
 use Rattle.protocol.specs.Jobs.{AtEnd, AtGet, Outcomes, Stopped, stop_of}
-use Rattle.protocol.specs.Messages.{Ask, Hold, HoldAck, Letter, Message, TheNode, TheWorker, letter}
+use Rattle.protocol.specs.Messages.{Hold, Letter, Message, TheNode, TheWorker, letter}
 use Rattle.protocol.specs.Nodes.{There}
 use Rattle.protocol.specs.Numbered.{item_at}
-use Rattle.protocol.specs.Runs.{gives_slot_back, leaves_if_free}
+use Rattle.protocol.specs.Runs.{leaves_if_free}
 use Rattle.protocol.specs.Steps.{Here, is_own, logs_all, says, says_to_node, store_here, with_phase, with_run, with_store, with_worker}
-use Rattle.protocol.specs.Stores.{Store, with_ended, with_primary}
+use Rattle.protocol.specs.Stores.{with_ended, with_primary}
 use Rattle.protocol.specs.Tables.{ByTask, HasEnded, Holding, Object, OwnTask, Run, Waits, knows_dead, new_object, new_task, put_object}
 use Rattle.owed_laws.proofs.CommitCopies.{next_birth}
 use Rattle.owed_laws.proofs.HoldMoves as H

@@ -1,48 +1,35 @@
 -- As long as nothing was killed or lost, every event keeps what is true of Pushes and Holds.
-use Rattle.std.proofs.Common.{◌≡◌, ◌≢◌, ℕ, zero, suc, ◌+◌, ◌<◌, ◌≤◌, List, [], ◌∷◌, ◌++◌, length, Some, None, Option, refl, ap, sym, subst, ◌∙◌, ◌⊎◌, inl, inr, arith}
-use Rattle.std.proofs.Common.{append-nil, length-append}
-use Rattle.std.specs.Prelude.{Bool, true, false, if◌then◌else◌, not, ◌&&◌}
-use Rattle.std.specs.List.{AllByRecursion, list_any}
-use Rattle.std.proofs.lemmas.Bool.{both_ways, false_from_ne_true}
-use Rattle.sequence.proofs.Places.{and_left, and_right}
-use Rattle.meaning.proofs.BirthLaws.{at_test}
-use Rattle.meaning.specs.Births.{birth_at}
+use Rattle.std.proofs.Common.{◌≡◌, ℕ, zero, suc, ◌+◌, ◌<◌, List, [], ◌∷◌, ◌++◌, length, Some, None, Option, refl, ap, sym, subst, ◌∙◌, ◌⊎◌, inl, inr, arith}
+use Rattle.std.proofs.Common.{length-append}
+use Rattle.std.specs.Prelude.{Bool, true, false}
 use Rattle.meaning.specs.Values.{Birth, Id, Outcome}
 use Rattle.event_log.specs.Breaks.{Among}
 use Rattle.event_log.specs.Entries.{Attempt, Born, Deliver, Ended, Entry, Event, In, main_attempt}
 use Rattle.event_log.specs.Events.{accepted_events}
 use Rattle.event_log.specs.Rules.{Setting}
-use Rattle.event_log.specs.Words.{births, same_attempt, worker_of}
-use Rattle.event_log.proofs.WordLaws.{same_attempt-true}
+use Rattle.event_log.specs.Words.{same_attempt, worker_of}
 use Rattle.numbered.specs.Counting.{item_of}
-use Rattle.protocol.specs.Messages.{Hold, HoldAck, Letter, Message, Party, Push, TheNode, TheWorker, letter}
-use Rattle.protocol.specs.Nodes.{Node}
+use Rattle.protocol.specs.Messages.{Hold, HoldAck, Letter, Message, Party, Push, TheWorker, letter}
 use Rattle.protocol.specs.Numbered.{changed_at, item_at}
-use Rattle.protocol.specs.Runs.{is_free}
 use Rattle.protocol.specs.Sets.{repeated}
 use Rattle.protocol.specs.Steps.{Here}
 use Rattle.protocol.specs.Tables.{Holding, Run, Worker, new_worker}
-use Rattle.protocol.specs.Whole.{Moved, Whole, after_worker, here, worker_at}
+use Rattle.protocol.specs.Whole.{Moved, Whole, worker_at}
 use Rattle.protocol_legal.specs.Past.{past}
 use Rattle.protocol_legal.specs.Says.{IsPushed, Says}
-use Rattle.protocol_legal.specs.Whole.{Between, setting_of}
+use Rattle.protocol_legal.specs.Whole.{Between}
 use Rattle.protocol_owed.specs.Courses.{has_begun}
 use Rattle.protocol_owed.specs.Seen.{IsCalm}
 use Rattle.protocol_owed.proofs.CourseEvents.{append_split, one_of}
-use Rattle.protocol_owed.proofs.Letters.{among-append_cases, among-more, among-nothing}
+use Rattle.protocol_owed.proofs.Letters.{among-append_cases, among-more}
 use Rattle.protocol_owed.proofs.Nodes.{changed_cases, there_more}
 use Rattle.lease_discipline.specs.Asks.{KeepsAsks, Touched}
 use Rattle.lease_discipline.specs.Told.{IsInStep}
 use Rattle.lease_discipline.proofs.Events.{among_at}
-use Rattle.lease_discipline.proofs.Heres.{by_number}
-use Rattle.lease_discipline.proofs.Laws.{pushes_find_free}
 use Rattle.owed_replies.specs.Kept.{KeepsReplies}
 use Rattle.owed_replies.proofs.Advancing.{all_among}
-use Rattle.owed_replies.proofs.Quiet.{all_live}
-use Rattle.owed_laws.proofs.HoldFacts.{never_main, only_first}
-use Rattle.owed_laws.proofs.HoldMoves as H
-use Rattle.owed_laws.proofs.HoldMoves.{IsHeld, IsHolder, RunHolds, ack_of, hold_of, item_cases, item_within, run_more}
-use Rattle.owed_laws.proofs.Speaking.{Speaks}
+use Rattle.owed_laws.proofs.HoldFacts.{only_first}
+use Rattle.owed_laws.proofs.HoldMoves.{IsHolder, RunHolds, ack_of, item_cases, item_within, run_more}
 
 -- ---- between two events
 

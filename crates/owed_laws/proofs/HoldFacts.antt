@@ -1,14 +1,13 @@
 -- What a calm run tells of Pushes and Holds: an attempt that was pushed is the first of its object, and there is a first letter of a kind.
-use Rattle.std.proofs.Common.{◌≡◌, ◌≢◌, ℕ, zero, suc, ◌+◌, ◌<◌, List, [], ◌∷◌, ◌++◌, length, Some, None, Option, refl, ap, sym, subst, ◌∙◌, ◌⊎◌, inl, inr, arith}
-use Rattle.std.specs.Prelude.{Bool, true, false, if◌then◌else◌, slice_get, ◌==◌, ◌&&◌}
+use Rattle.std.proofs.Common.{◌≡◌, ℕ, zero, suc, ◌+◌, ◌<◌, List, Some, None, Option, refl, ap, sym, subst, ◌∙◌, inl, inr, arith}
+use Rattle.std.specs.Prelude.{Bool, true, false, ◌==◌, ◌&&◌}
 use Rattle.std.proofs.lemmas.Bool.{and_parts, both_ways, eq-eqb, eqb-true}
 use Rattle.meaning.proofs.BirthLaws.{at_test, same_id-refl, same_id-true}
-use Rattle.meaning.specs.Births.{birth_at, same_id}
+use Rattle.meaning.specs.Births.{same_id}
 use Rattle.meaning.specs.Values.{Birth, Id}
-use Rattle.event_log.specs.Breaks.{Among}
-use Rattle.event_log.specs.Entries.{Attempt, Entry, main_attempt, main_object}
+use Rattle.event_log.specs.Entries.{Attempt, Entry, main_object}
 use Rattle.event_log.specs.Rules.{Setting}
-use Rattle.event_log.specs.Words.{attempt, births, runs_of, same_attempt, worker_of}
+use Rattle.event_log.specs.Words.{attempt, same_attempt, worker_of}
 use Rattle.event_log.proofs.WordLaws.{same_attempt-refl, same_attempt-true}
 use Rattle.protocol.specs.Messages.{Ask, At, Back, CopyOf, Elsewhere, Failed, Fetch, Finished, FinishedAck, Give, Gone, Hold, HoldAck, Letter, Message, Missing, Party}
 use Rattle.protocol.specs.Messages.{Push, TheNode, TheWorker, Unhold, Wait, Where, letter}
@@ -18,7 +17,7 @@ use Rattle.protocol.specs.Tables.{AskedAt, AtRest, ByTask, Maker, Object, OwnTas
 use Rattle.protocol.specs.Whole.{Whole, worker_at}
 use Rattle.protocol_legal.specs.Knows.{KnowsMaker, KnowsObject, KnowsProgress, KnowsTask}
 use Rattle.protocol_legal.specs.Past.{past}
-use Rattle.protocol_legal.specs.Whole.{Between, setting_of}
+use Rattle.protocol_legal.specs.Whole.{Between}
 use Rattle.protocol_owed.specs.Seen.{IsCalm}
 use Rattle.lease_discipline.specs.Asks.{KeepsAsks, Touched}
 use Rattle.lease_discipline.proofs.Heres.{by_number}

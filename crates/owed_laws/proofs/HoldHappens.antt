@@ -1,53 +1,43 @@
 -- As long as nothing was killed or lost, each event keeps what is true of Pushes and Holds: the events, one by one.
-use Rattle.std.proofs.Common.{◌≡◌, ◌≢◌, ℕ, zero, suc, ◌+◌, ◌<◌, ◌≤◌, List, [], ◌∷◌, ◌++◌, length, Some, None, Option, refl, ap, sym, subst, ◌∙◌, ◌⊎◌, inl, inr, arith}
-use Rattle.std.proofs.Common.{append-nil, length-append}
-use Rattle.std.specs.Prelude.{Bool, true, false, if◌then◌else◌, not, ◌&&◌, ◌||◌, is_some, slice_get}
-use Rattle.std.specs.List.{filter, list_any}
+use Rattle.std.proofs.Common.{◌≡◌, ℕ, zero, suc, ◌+◌, ◌<◌, List, [], ◌∷◌, ◌++◌, length, Some, None, Option, refl, ap, sym, subst, ◌∙◌}
+use Rattle.std.proofs.Common.{append-nil}
+use Rattle.std.specs.Prelude.{Bool, true, false, if◌then◌else◌, not, ◌&&◌}
+use Rattle.std.specs.List.{filter}
 use Rattle.std.proofs.lemmas.Bool.{both_ways}
-use Rattle.sequence.proofs.Places.{and_left, and_right}
 use Rattle.meaning.proofs.BirthLaws.{at_test, same_id-refl}
 use Rattle.meaning.specs.Births.{same_id}
-use Rattle.meaning.specs.Runs.{Over}
-use Rattle.meaning.specs.Values.{Birth, Id, Outcome}
+use Rattle.meaning.specs.Values.{Birth, Id}
 use Rattle.event_log.specs.Breaks.{Among}
-use Rattle.event_log.specs.Entries.{Accepted, Attempt, Ended, Deliver, Entry, Event, Fault, Faulted, Got, In, main_attempt}
+use Rattle.event_log.specs.Entries.{Attempt, Deliver, Entry, Event, Faulted, In, main_attempt}
 use Rattle.event_log.specs.Events.{accepted_events}
 use Rattle.event_log.specs.Rules.{Setting}
 use Rattle.event_log.specs.Words.{same_attempt, worker_of}
-use Rattle.protocol.specs.Asking.{rests}
-use Rattle.protocol.specs.Ends.{accepts, finished_reached}
-use Rattle.protocol.specs.Holders.{hold_ack_by, hold_ack_reached, holding, same_holding, without_holding}
+use Rattle.protocol.specs.Holders.{hold_ack_by, same_holding, without_holding}
 use Rattle.protocol.specs.Jobs.{Given}
-use Rattle.protocol.specs.Messages.{Ask, At, Back, CopyOf, Elsewhere, Failed, Fetch, Finished, FinishedAck, Give, Gone, Hold, HoldAck, Letter, Message, Missing, Party}
-use Rattle.protocol.specs.Messages.{Push, TheNode, TheWorker, Unhold, Wait, Where, letter}
+use Rattle.protocol.specs.Messages.{Hold, Letter, Message, Party}
+use Rattle.protocol.specs.Messages.{Push, TheWorker, letter}
 use Rattle.protocol.specs.Nodes.{Node}
-use Rattle.protocol.specs.Numbered.{changed_at, item_at}
+use Rattle.protocol.specs.Numbered.{item_at}
 use Rattle.protocol.specs.Releases.{release_step}
-use Rattle.protocol.specs.Runs.{gives_slot_back, is_free, is_heard, leaves, leaves_by, leaves_if_free, tells, with_answer}
+use Rattle.protocol.specs.Runs.{gives_slot_back, is_heard, leaves, leaves_by, leaves_if_free, tells, with_answer}
 use Rattle.protocol.specs.Sets.{is_empty}
-use Rattle.protocol.specs.Steps.{Here, changes, logs, with_phase, with_run, with_task_of}
-use Rattle.protocol.specs.Tables.{HasFaulted, Holding, OwnTask, Run, Waits, Worker, has_stopped, knows_dead, owner_of, with_content}
+use Rattle.protocol.specs.Steps.{Here, logs, with_phase, with_run}
+use Rattle.protocol.specs.Tables.{HasFaulted, Holding, Run, Waits, Worker, has_stopped, knows_dead, owner_of}
 use Rattle.protocol.specs.Whole.{Moved, Whole, after_worker, here, node_at, worker_at}
-use Rattle.protocol_legal.specs.Whole.{Between}
 use Rattle.protocol_owed.specs.Courses.{has_begun}
 use Rattle.protocol_owed.specs.Seen.{IsCalm}
 use Rattle.protocol_owed.proofs.Letters.{among-nothing}
-use Rattle.protocol_owed.proofs.Nodes.{there_more}
 use Rattle.protocol_owed.proofs.Untouched.{tells_stop-worker}
 use Rattle.lease_discipline.specs.Asks.{KeepsAsks}
 use Rattle.lease_discipline.specs.Told.{IsInStep}
-use Rattle.lease_discipline.proofs.Heres.{changed_now}
 use Rattle.owed_replies.specs.Kept.{KeepsReplies}
-use Rattle.owed_replies.proofs.Committing.{finished_reached-kept}
-use Rattle.owed_replies.proofs.Moves as R
-use Rattle.owed_replies.proofs.Moves.{IsKept, IsKeptWhere, release_step-kept}
+use Rattle.owed_replies.proofs.Moves.{IsKept, release_step-kept}
 use Rattle.owed_replies.proofs.Paying.{kept_among}
 use Rattle.owed_laws.proofs.HoldEvents as E
 use Rattle.owed_laws.proofs.HoldEvents.{HasEnd, KeepsHolds, RunKeeps, push_by, run_later}
 use Rattle.owed_laws.proofs.HoldMoves as H
 use Rattle.owed_laws.proofs.HoldMoves.{IsHolder, RunHolds, ack_of, item_within}
 use Rattle.owed_laws.proofs.Made.{runs_more}
-use Rattle.owed_laws.proofs.Speaking as P
 use Rattle.owed_laws.proofs.Speaking.{Speaks, speaks_kept}
 
 -- ---- a Hold that doesn't wait any more

@@ -2,14 +2,14 @@
 -- was delivered is younger than that.
 use Rattle.std.proofs.Common.{◌≡◌, ℕ, zero, suc, ◌+◌, ◌<◌, ◌≤◌, List, [], ◌∷◌, ◌++◌, length, Some, None, Option, refl, ap, sym, subst, ◌∙◌, ◌⊎◌, inl, inr, arith}
 use Rattle.std.proofs.Common.{append_assoc, length-append}
-use Rattle.std.specs.Prelude.{Bool, true, false, if◌then◌else◌, not, ◌&&◌, ◌==◌, slice_get}
+use Rattle.std.specs.Prelude.{Bool, true, false, if◌then◌else◌, not, ◌&&◌, slice_get}
 use Rattle.std.specs.List.{filter}
-use Rattle.std.proofs.lemmas.Bool.{both_ways, not-true}
-use Rattle.sequence.proofs.Places.{and_left, and_right}
+use Rattle.std.proofs.lemmas.Bool.{both_ways}
+use Rattle.sequence.proofs.Places.{and_right}
 use Rattle.meaning.proofs.BirthLaws.{at_test}
 use Rattle.meaning.specs.Values.{Birth, Id, Outcome}
 use Rattle.event_log.specs.Breaks.{Among}
-use Rattle.event_log.specs.Entries.{Attempt, Born, Deliver, Ended, Entry, Event, Fault, Faulted, Got, main_attempt}
+use Rattle.event_log.specs.Entries.{Attempt, Born, Deliver, Ended, Entry, Event, Faulted, Got, main_attempt}
 use Rattle.event_log.specs.Words.{same_attempt}
 use Rattle.protocol.specs.Messages.{Ask, At, Back, CopyOf, Elsewhere, Failed, Fetch, Finished, FinishedAck, Give, Gone, Hold, HoldAck, Letter, Message, Missing, Party}
 use Rattle.protocol.specs.Messages.{Push, TheNode, TheWorker, Unhold, Wait, Where, letter}
@@ -17,13 +17,13 @@ use Rattle.protocol.specs.Nodes.{There}
 use Rattle.protocol.specs.Numbered.{item_at}
 use Rattle.protocol.specs.Runs.{asks_for_slot, gives_slot_back, is_heard, leaves, leaves_by, leaves_if_free, tells, tells_stop, with_answer}
 use Rattle.protocol.specs.Sets.{is_empty}
-use Rattle.protocol.specs.Steps.{Here, logs, logs_all, says, says_to_node, with_phase, with_run, with_there, with_worker}
-use Rattle.protocol.specs.Tables.{Fetching, HasEnded, HasFaulted, Holding, Out, Phase, Ready, Run, Waits, Worker, has_stopped, knows_dead, owner_of}
+use Rattle.protocol.specs.Steps.{Here, logs, says, says_to_node, with_phase, with_run, with_there}
+use Rattle.protocol.specs.Tables.{HasEnded, HasFaulted, Holding, Out, Phase, Ready, Run, Waits, Worker, has_stopped, knows_dead, owner_of}
 use Rattle.protocol_owed.proofs.Letters.{among-append_cases, among-push_cases}
 use Rattle.protocol_owed.proofs.NodeMoves.{IsKeptThere, asks_slot-kept, frees-kept}
 use Rattle.protocol_owed.proofs.Nodes.{there_more}
 use Rattle.protocol_owed.proofs.Untouched.{tells_stop-worker}
-use Rattle.owed_replies.proofs.Moves.{Awaits, IsKept, IsSaid}
+use Rattle.owed_replies.proofs.Moves.{IsKept, IsSaid}
 use Rattle.owed_replies.proofs.Paying.{kept_among}
 
 -- ---- numbered letters

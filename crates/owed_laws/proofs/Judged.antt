@@ -1,5 +1,5 @@
 -- The worked examples of what is owed.
-use Rattle.std.proofs.Common.{◌≡◌, ℕ, zero, suc, Bool, true, false, List, [], ◌∷◌, Some, None, Option, refl, ap, sym, subst, ◌∙◌, inl, arith}
+use Rattle.std.proofs.Common.{◌≡◌, ◌<◌, ℕ, zero, suc, Bool, true, false, List, [], ◌∷◌, Some, None, Option, refl, ap, sym, subst, ◌∙◌, inl, arith}
 use Rattle.meaning.specs.Births.{birth_at, same_id}
 use Rattle.meaning.specs.Values.{Argument, Id, Name, Outcome, Put, Task, Val}
 use Rattle.values.specs.Cells.{is_small}
@@ -7,15 +7,16 @@ use Rattle.event_log.specs.Breaks.{Among}
 use Rattle.event_log.specs.Entries.{Accepted, Attempt, Born, Deliver, Ended, main_attempt}
 use Rattle.event_log.specs.Events.{accepted_events, node_of, was_lost}
 use Rattle.event_log.specs.Rules.{Setting}
-use Rattle.event_log.specs.Words.{attempt, births}
-use Rattle.protocol.specs.Messages.{Ask, CopyOf, Finished, FinishedAck, Letter, Missing, TheNode, TheWorker, Unhold, letter}
+use Rattle.event_log.specs.Words.{attempt, births, worker_of}
+use Rattle.protocol.specs.Messages.{Ask, CopyOf, Finished, FinishedAck, Hold, HoldAck, Letter, Missing, Push, TheNode, TheWorker, Unhold, letter}
 use Rattle.protocol.specs.Numbered.{item_at}
 use Rattle.protocol.specs.Sets.{object_id}
+use Rattle.protocol_owed.specs.Ends.{EndsAreReported, HoldsAreAcknowledged, IsHoldOf}
 use Rattle.protocol_owed.specs.Replies.{BirthIsAsked, FetchIsAnswered, FinishIsAcknowledged, HasFirstCopy, Says}
 use Rattle.protocol_owed.specs.Seen.{deliveries}
 use Rattle.protocol_owed.proofs.Letters.{among-nothing}
 use Rattle.lease_discipline.specs.Examples.{first_one, given_log, one_once}
-use Rattle.owed_laws.specs.Examples.{BirthsAreJudged, EndsAreJudged, FetchesAreJudged, acknowledged, birth_comes, empty_list, end_comes, ended_network}
+use Rattle.owed_laws.specs.Examples.{BirthsAreJudged, EndsAreJudged, FetchesAreJudged, ReportsAreJudged, report_scene, acknowledged, birth_comes, empty_list, end_comes, ended_network}
 use Rattle.owed_laws.specs.Examples.{fetch_comes, fetch_scene, put_log}
 
 -- ---- a birth
@@ -173,3 +174,86 @@ fetches_are_judged = record {
   withheld = λ s p. let r = p.first_copy (first_is_there s) in no_copy r.0 r.1;
   small = λ s p. not_both (is_small (Val empty_list)) is_little (p.big (Val empty_list) (8, refl));
 }
+
+-- ---- a report
+
+abbrev report_network : List Letter → List Letter
+report_network letters = letter (TheWorker 1) (TheWorker 2) (Push first_one one_once) ∷ letters
+
+abbrev one_hold : List Letter
+one_hold = letter (TheWorker 2) (TheWorker 3) (Hold (object_id 1 1) (object_id 3 1)) ∷ []
+
+not_main : first_one ≡ main_attempt → ⊥
+not_main e = let f : ◌≡◌ {A = ℕ} 1 0 = ap (λ (a : Attempt). a.object.serial) e in omega (arith, f)
+
+runs_first : (s : Setting) (letters : List Letter) → worker_of first_one (report_scene s letters).log ≡ Some 2
+unfolding same_id
+runs_first s letters = refl
+
+only_first : (s : Setting) (letters : List Letter) (a : Attempt) (c : Outcome) → Among (Ended a c) (report_scene s letters).log → first_one ≡ a
+only_first s letters a c (zero, e) = absurd (cc)
+only_first s letters a c (suc zero, e) = absurd (cc)
+only_first s letters a c (suc (suc zero), e) = absurd (cc)
+only_first s letters a c (suc (suc (suc zero)), e) = absurd (cc)
+only_first s letters a c (suc (suc (suc (suc zero))), e) = absurd (cc)
+only_first s letters a c (suc (suc (suc (suc (suc zero)))), e) = absurd (cc)
+only_first s letters a c (suc (suc (suc (suc (suc (suc zero))))), e) = absurd (cc)
+only_first s letters a c (suc (suc (suc (suc (suc (suc (suc zero)))))), e) = absurd (cc)
+only_first s letters a c (suc (suc (suc (suc (suc (suc (suc (suc zero))))))), e) = cc
+only_first s letters a c (suc (suc (suc (suc (suc (suc (suc (suc (suc k)))))))), e) = absurd (cc)
+
+no_hold : (k v : ℕ) (e o : Id) → item_at (report_network []) k ≡ Some (letter (TheWorker 2) (TheWorker v) (Hold e o)) → ⊥
+no_hold zero v e o f = cc
+no_hold (suc zero) v e o f =
+    let same : letter (TheWorker 1) (TheWorker 2) (Push first_one one_once) ≡ letter (TheWorker 2) (TheWorker v) (Hold e o) = cc in
+    let g : Push first_one one_once ≡ Hold e o = ap (λ (l : Letter). l.message) same in
+    absurd (cc)
+no_hold (suc (suc k)) v e o f = cc
+
+no_report : (n : ℕ) (ids : List Id) (kept : Option Outcome) → Among (letter (TheWorker 2) (TheWorker 1) (Finished first_one n ids kept)) (report_network []) → ⊥
+no_report n ids kept (zero, e) =
+    let same : letter (TheWorker 1) (TheWorker 2) (Push first_one one_once) ≡ letter (TheWorker 2) (TheWorker 1) (Finished first_one n ids kept) = cc in
+    let g : Push first_one one_once ≡ Finished first_one n ids kept = ap (λ (l : Letter). l.message) same in
+    absurd (cc)
+no_report n ids kept (suc k, e) = absurd (cc)
+
+untold_is_refused : (s : Setting) → EndsAreReported (report_scene s []) → ⊥
+untold_is_refused s p =
+    let r = p first_one (Val empty_list) 2 (8, refl) not_main (runs_first s []) (λ k e o h. absurd (no_hold k o.owner e o h.held.there)) in
+    no_report r.0 r.1 r.2 r.3
+
+hold_is_its : (s : Setting) → IsHoldOf (report_scene s one_hold) first_one 2 2 (object_id 1 1) (object_id 3 1)
+hold_is_its s = record {
+  spec = one_once;
+  push = 1;
+  pushed = record { there = refl; earlier = λ i less at. none i less at };
+  entry = inl refl;
+  held = record { there = refl; behind = omega arith; between = λ i far less at. absurd (omega (arith, far, less)) };
+}
+  where
+    none : (i : ℕ) → i < 1 → item_at (report_network one_hold) i ≡ Some (letter (TheWorker 1) (TheWorker 2) (Push first_one one_once)) → ⊥
+    none zero less at = cc
+    none (suc i) less at = omega (arith, less)
+
+no_younger : (n : ℕ) (l : Letter) → 2 < n → item_at (report_network one_hold) n ≡ Some l → ⊥
+no_younger zero l less at = omega (arith, less)
+no_younger (suc zero) l less at = omega (arith, less)
+no_younger (suc (suc zero)) l less at = omega (arith, less)
+no_younger (suc (suc (suc k))) l less at = cc
+
+never_told : (s : Setting) → HoldsAreAcknowledged (report_scene s one_hold) first_one 2 → ⊥
+never_told s all =
+    let ack = all 2 (object_id 1 1) (object_id 3 1) (hold_is_its s) in
+    no_younger ack.number (letter (TheWorker 3) (TheWorker 2) (HoldAck (object_id 1 1) (object_id 3 1))) ack.since ack.sent
+
+waiting_is_allowed : (s : Setting) → EndsAreReported (report_scene s one_hold)
+waiting_is_allowed s a c w ended other ran all =
+    let is : first_one ≡ a = only_first s one_hold a c ended in
+    let runner : 2 ≡ w = same_runner (sym (runs_first s one_hold) ∙ ap (λ b. worker_of b (report_scene s one_hold).log) is ∙ ran) in
+    absurd (never_told s (subst (λ b. HoldsAreAcknowledged (report_scene s one_hold) b 2) (sym is) (subst (λ v. HoldsAreAcknowledged (report_scene s one_hold) a v) (sym runner) all)))
+  where
+    same_runner : ◌≡◌ {A = Option ℕ} (Some 2) (Some w) → 2 ≡ w
+    same_runner e = cc
+
+pub reports_are_judged : ReportsAreJudged
+reports_are_judged = record { untold = untold_is_refused; waits = waiting_is_allowed }

@@ -1,6 +1,5 @@
 -- In every run what was made at a node is in its store, as long as no loss took it there and no word of the object's release came, whoever died.
 use Rattle.std.proofs.Common.{◌≡◌, ℕ, zero, suc, ◌+◌, ◌<◌, List, [], ◌∷◌, ◌++◌, length, Some, None, Option, refl, ap, sym, subst, ◌∙◌, ◌⊎◌, inl, inr, arith}
-use Rattle.std.proofs.Common.{append-nil}
 use Rattle.std.specs.Prelude.{Bool, true, false, if◌then◌else◌, ◌&&◌, ◌||◌, ◌==◌}
 use Rattle.std.specs.List.{find, flat_map, list_any}
 use Rattle.std.specs.Option.{option_map}
@@ -8,39 +7,38 @@ use Rattle.std.proofs.lemmas.Bool.{eq-eqb}
 use Rattle.std.proofs.lemmas.List.Concat.{flat_map-append}
 use Rattle.std.proofs.lemmas.List.Folds.{list_any-append}
 use Rattle.meaning.proofs.BirthLaws.{at_test, same_id-refl}
-use Rattle.meaning.specs.Births.{birth_at, same_id}
+use Rattle.meaning.specs.Births.{same_id}
 use Rattle.meaning.specs.Mains.{KeepsMainApart}
-use Rattle.meaning.specs.Values.{Birth, Id, Outcome, Put, Value, main_birth}
+use Rattle.meaning.specs.Values.{Id, Put, main_birth}
 use Rattle.event_log.specs.Breaks.{Among}
-use Rattle.event_log.specs.Entries.{Accepted, Attempt, Born, Claim, Commit, Deliver, Ended, Entry, Event, Evict, In, Join, Kill, KillNode, Lose, Notice, NoticeNode}
+use Rattle.event_log.specs.Entries.{Accepted, Attempt, Claim, Commit, Deliver, Entry, Event, Evict, In, Join, Kill, KillNode, Lose, Notice, NoticeNode}
 use Rattle.event_log.specs.Entries.{Refused, Tick, main_object}
 use Rattle.event_log.specs.Events.{accepted_events, from_one, loses, node_of, refused_next, was_lost}
 use Rattle.event_log.specs.Legal as L
 use Rattle.event_log.specs.Legal.{opening}
 use Rattle.event_log.specs.Rules.{Setting}
 use Rattle.event_log.specs.Sane.{Sane}
-use Rattle.event_log.specs.Words.{accepted_in, attempt, births, ended_in, ends_of}
+use Rattle.event_log.specs.Words.{accepted_in, attempt, ended_in, ends_of}
 use Rattle.event_log.proofs.EventLaws.{accepted-append, accepted-event}
 use Rattle.event_log.proofs.SaneLaws.{legal_logs_are_sane}
 use Rattle.event_log.proofs.WordLaws.{same_attempt-refl}
-use Rattle.protocol.specs.Answers.{Answer, Refuses, Takes, answer, decided, given_out, logged, takes, whole_after}
+use Rattle.protocol.specs.Answers.{Answer, Refuses, answer, decided, given_out, logged, takes, whole_after}
 use Rattle.protocol.specs.Events.{happens}
 use Rattle.protocol.specs.Jobs.{Handed}
 use Rattle.protocol.specs.Messages.{Letter, Party, Reason, TheNode, Unhold, letter}
 use Rattle.protocol.specs.Nodes.{Node}
 use Rattle.protocol.specs.Numbered.{item_at}
 use Rattle.protocol.specs.Refusals.{is_within_limits, refusal}
-use Rattle.protocol.specs.Stores.{Copy, copy_in, is_copy_of}
+use Rattle.protocol.specs.Stores.{Copy, is_copy_of}
 use Rattle.protocol.specs.Tables.{Worker}
 use Rattle.protocol.specs.Whole.{Moved, Whole, first_whole, node_at, worker_at}
-use Rattle.protocol_laws.specs.Coming.{IsRight}
-use Rattle.protocol_legal.specs.Made.{EndsSmall, IsEndedAt, IsMadeAt, IsPutAt}
+use Rattle.protocol_legal.specs.Made.{EndsSmall, IsMadeAt}
 use Rattle.protocol_legal.specs.Whole.{Between, setting_of}
 use Rattle.protocol_owed.specs.Replies.{HasFirstCopy}
 use Rattle.protocol_owed.specs.Runs.{Handing, Running, after_event, after_events, is_copy, keeps_in, opening_run, seen}
 use Rattle.protocol_owed.specs.Seen.{AcceptedAt, PutAt, delivered_in, letters_by}
 use Rattle.protocol_owed.proofs.Counting.{happens-counted, no_event, not_refused}
-use Rattle.protocol_owed.proofs.Letters.{among-append_cases, among-behind, among-more, among-nothing}
+use Rattle.protocol_owed.proofs.Letters.{among-behind, among-more, among-nothing}
 use Rattle.protocol_owed.proofs.Nodes.{there_more}
 use Rattle.lease_discipline.specs.Slots.{AreRight}
 use Rattle.lease_discipline.specs.Told.{IsInStep}
@@ -50,7 +48,7 @@ use Rattle.owed_replies.specs.Kept.{came_by}
 use Rattle.owed_replies.proofs.Advancing.{among_flat, flat_among}
 use Rattle.owed_laws.proofs.Made.{end_before, ended_entry, put_before}
 use Rattle.owed_laws.proofs.MadeCopies.{IsNewEnd, IsNewPut}
-use Rattle.owed_laws.proofs.StoreEvents.{Makes, TakesCopies, WasThere, event_makes}
+use Rattle.owed_laws.proofs.StoreEvents.{Makes, TakesCopies, event_makes}
 use Rattle.owed_laws.proofs.StoreMoves.{Stores}
 
 -- word of the object's release came to the node

@@ -28,7 +28,10 @@ use Rattle.owed_laws.proofs.KeptCopies.{KeepsMade, first_copy_kept, runs_keep_ma
 use Rattle.owed_laws.proofs.Reports.{ends_are_reported}
 use Rattle.owed_laws.proofs.Senders.{senders_are_there}
 use Rattle.owed_laws.proofs.NewWaits.{new_waits_are_tended}
-use Rattle.owed_laws.specs.Law.{AnswerPays, EventIsPaid, EventsArePaid, FetchesAreMet, ReachedGoesOn, ReachedPays}
+use Rattle.owed_laws.specs.Law.{AllIsPaid, AnswerPays, EventIsPaid, EventsArePaid, FetchesAreMet, FetchesReachNodes, ReachedGoesOn, ReachedPays}
+use Rattle.owed_laws.specs.Law.{RepliesArePaid}
+use Rattle.protocol_owed.specs.Owed.{RepliesAreMade}
+use Rattle.protocol_owed.specs.Replies.{Happening}
 use Rattle.owed_replies.specs.Law as R
 use Rattle.owed_replies.proofs.Laws.{law_of_replies}
 
@@ -124,6 +127,40 @@ events_are_paid s slots some slot apart gs right g is = record {
   claims = claims s slots some slot apart gs right g;
   accepted = paid s slots some slot apart gs right g is;
 }
+
+-- ---- the whole
+
+-- what is paid of replies is all
+all_replies : (h : Happening) → FetchesAreMet h → FetchesReachNodes h → RepliesArePaid h → RepliesAreMade h
+all_replies h met reach p = record {
+  births = p.births;
+  new_waits = p.waits;
+  elsewhere = p.elsewhere;
+  gives = p.gives;
+  requests = p.replies.requests;
+  accepted = p.replies.accepted;
+  owner = p.replies.owner;
+  places = p.replies.places;
+  copies = p.copies;
+  missing = p.missing;
+  fetches = λ n w y number brings. met n w number y brings (reach n w number y brings);
+  holds = p.replies.holds;
+  finishes = p.replies.finishes;
+  acknowledged = p.acknowledged;
+  ends = p.ends;
+}
+
+pub all_is_paid : AllIsPaid
+all_is_paid s slots some slot apart gs right g is step taken reach =
+    let r : Running = after_events (opening_run s.nodes slots) gs in
+    let all : AnswerPays s r g = events_are_paid s slots some slot apart gs right g is in
+    let paid : EventIsPaid (happening s r g step) = all.accepted step taken in
+    record {
+      claims = subst (λ es. ClaimIsAnswered (seen s r) g.event es) (ap entries_of taken) all.claims;
+      asks = λ _. paid.asks;
+      slots = paid.slots;
+      replies = λ _ calm. all_replies (happening s r g step) paid.fetches reach (paid.replies calm);
+    }
 
 -- ---- from one event to the next
 

@@ -1,18 +1,18 @@
 -- As long as nothing was killed or lost, an attempt that ended is reported to its owner once its Holds are acknowledged, by log and network alone.
-use Rattle.std.proofs.Common.{◌≡◌, ◌≢◌, ℕ, zero, suc, ◌+◌, ◌<◌, ◌≤◌, List, [], ◌∷◌, Some, None, Option, refl, ap, sym, subst, ◌∙◌, ◌⊎◌, inl, inr, arith}
-use Rattle.std.specs.Prelude.{Bool, true, false, ◌||◌, ◌==◌}
+use Rattle.std.proofs.Common.{◌≡◌, ℕ, zero, suc, ◌<◌, ◌≤◌, List, [], ◌∷◌, Some, Option, refl, ap, sym, subst, ◌∙◌, ◌⊎◌, inl, inr, arith}
+use Rattle.std.specs.Prelude.{true, false, ◌||◌}
 use Rattle.std.specs.List.{list_any}
 use Rattle.std.proofs.lemmas.Bool.{eqb-true, false_from_ne_true}
 use Rattle.meaning.proofs.BirthLaws.{at_test}
 use Rattle.meaning.specs.Mains.{KeepsMainApart}
-use Rattle.meaning.specs.Values.{Birth, Id, Outcome}
+use Rattle.meaning.specs.Values.{Birth}
 use Rattle.event_log.specs.Breaks.{Among}
-use Rattle.event_log.specs.Entries.{Attempt, Born, Claim, Commit, Deliver, Ended, Entry, Event, Evict, Join, Kill, KillNode, Lose, Notice, NoticeNode, Tick, main_attempt}
+use Rattle.event_log.specs.Entries.{Attempt, Born, Claim, Commit, Deliver, Event, Evict, Join, Kill, KillNode, Lose, Notice, NoticeNode, Tick, main_attempt}
 use Rattle.event_log.specs.Events.{accepted_events}
 use Rattle.event_log.specs.Rules.{Setting}
 use Rattle.event_log.specs.Words.{same_attempt, worker_of}
 use Rattle.event_log.proofs.WordLaws.{same_attempt-true}
-use Rattle.protocol.specs.Messages.{Finished, Hold, HoldAck, Letter, Push, TheWorker, letter}
+use Rattle.protocol.specs.Messages.{Finished, TheWorker, letter}
 use Rattle.protocol.specs.Numbered.{item_at}
 use Rattle.protocol.specs.Tables.{Holding, Run, Worker}
 use Rattle.protocol.specs.Whole.{worker_at}

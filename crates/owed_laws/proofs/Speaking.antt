@@ -1,28 +1,26 @@
 -- Which messages a worker says in a step: Holds and Pushes of its own objects, or none of these.
-use Rattle.std.proofs.Common.{◌≡◌, ℕ, zero, suc, List, [], ◌∷◌, ◌++◌, Some, None, Option, refl, ap, sym, subst, ◌∙◌, inl, inr}
+use Rattle.std.proofs.Common.{◌≡◌, ℕ, List, [], ◌∷◌, Some, None, Option, refl, ap, sym, subst, ◌∙◌, inl, inr}
 use Rattle.std.specs.Prelude.{Bool, true, false, if◌then◌else◌, not, ◌&&◌}
 use Rattle.std.specs.List.{filter}
-use Rattle.meaning.proofs.BirthLaws.{at_test}
-use Rattle.meaning.specs.Values.{Birth, Id, Outcome, Put, Task, Val}
+use Rattle.meaning.specs.Values.{Birth, Id, Put, Task}
 use Rattle.values.specs.Listed.{each_once, ids_in_outcome}
 use Rattle.event_log.specs.Breaks.{Among}
 use Rattle.event_log.specs.Commits.{commit_entries}
-use Rattle.event_log.specs.Entries.{Attempt, Entry, Faulted, Got, main_attempt}
+use Rattle.event_log.specs.Entries.{Attempt, Faulted, Got, main_attempt}
 use Rattle.event_log.specs.Holding.{ids_of_birth}
 use Rattle.event_log.specs.Words.{same_attempt}
-use Rattle.protocol.specs.Asking.{asks_at}
 use Rattle.protocol.specs.Commits.{bears, bears_all, commit_by, commit_step, next_id_here, stops, stops_by, with_object, with_outcomes}
-use Rattle.protocol.specs.Holders.{adds_holder, awaits_hold_by, holding, holds_id, holds_ids, passes_on, sends_hold}
+use Rattle.protocol.specs.Holders.{awaits_hold_by, holding, holds_id, holds_ids, passes_on, sends_hold}
 use Rattle.protocol.specs.Jobs.{AtEnd, AtGet, Outcomes, Stopped, stop_of}
 use Rattle.protocol.specs.Messages.{Ask, At, Back, CopyOf, Elsewhere, Failed, Fetch, Finished, FinishedAck, Give, Gone, Hold, HoldAck, Letter, Message, Missing, Party}
 use Rattle.protocol.specs.Messages.{Push, TheNode, TheWorker, Unhold, Wait, Where, letter}
 use Rattle.protocol.specs.Nodes.{There}
 use Rattle.protocol.specs.Runs.{asks_for_slot, gives_slot_back, is_heard, leaves, leaves_by, leaves_if_free, tells, tells_stop, with_answer}
 use Rattle.protocol.specs.Sets.{is_empty}
-use Rattle.protocol.specs.Steps.{Here, is_own, logs, logs_all, says, says_to_node, store_here, with_phase, with_run, with_store, with_there, with_worker}
-use Rattle.protocol.specs.Stores.{with_ended, with_primary}
-use Rattle.protocol.specs.Tables.{ByTask, HasEnded, HasFaulted, OwnTask, Out, Phase, Ready, Run, Waits, Worker, has_stopped, knows_dead, new_object, new_task, owner_of, put_object}
-use Rattle.protocol_owed.proofs.Letters.{among-append_cases, among-push_cases}
+use Rattle.protocol.specs.Steps.{Here, is_own, logs, logs_all, says, says_to_node, store_here, with_phase, with_run, with_store, with_worker}
+use Rattle.protocol.specs.Stores.{with_ended}
+use Rattle.protocol.specs.Tables.{ByTask, HasEnded, HasFaulted, Out, Phase, Ready, Run, Waits, Worker, has_stopped, knows_dead, new_object, new_task, owner_of}
+use Rattle.protocol_owed.proofs.Letters.{among-push_cases}
 use Rattle.protocol_owed.proofs.NodeMoves.{IsKeptThere, asks_slot-kept, frees-kept}
 use Rattle.owed_replies.proofs.Moves.{IsKeptWhere, IsSaid, asks_again-kept, needs-kept, sends_stop-kept, sends_tasks-kept}
 use Rattle.protocol.specs.Ticks.{asks_again, sends_holds, sends_run, sends_stop, sends_tasks, tick_step}

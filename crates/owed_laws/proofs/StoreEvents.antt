@@ -1,12 +1,11 @@
 -- Every event leaves the copies in the stores, but for those that an Unhold or a loss takes; and what it makes is in the store of its node.
-use Rattle.std.proofs.Common.{◌≡◌, ℕ, zero, suc, ◌+◌, ◌<◌, List, [], ◌∷◌, ◌++◌, length, Some, None, Option, refl, ap, sym, subst, ◌∙◌, ◌⊎◌, inl, inr, arith}
+use Rattle.std.proofs.Common.{◌≡◌, ℕ, ◌+◌, ◌<◌, List, [], ◌∷◌, ◌++◌, length, Some, None, Option, refl, ap, sym, subst, ◌∙◌, ◌⊎◌, inl, inr, arith}
 use Rattle.std.specs.Prelude.{Bool, true, false, if◌then◌else◌, not, ◌&&◌, ◌||◌}
 use Rattle.std.specs.List.{filter, list_any}
 use Rattle.sequence.proofs.Places.{and_right}
-use Rattle.meaning.proofs.BirthLaws.{at_test, same_id-refl, same_id-true}
+use Rattle.meaning.proofs.BirthLaws.{at_test, same_id-true}
 use Rattle.meaning.specs.Births.{same_id}
 use Rattle.meaning.specs.Values.{Id, Outcome}
-use Rattle.event_log.specs.Breaks.{Among}
 use Rattle.event_log.specs.Commits.{commit_entries}
 use Rattle.event_log.specs.Entries.{Claim, Commit, Deliver, Entry, Event, Evict, In, Join, Kill, KillNode, Lose, Notice, NoticeNode, Tick}
 use Rattle.event_log.specs.Events.{node_of}
@@ -15,7 +14,7 @@ use Rattle.event_log.specs.Words.{attempt, worker_of}
 use Rattle.event_log.proofs.Extending.{node_of-more}
 use Rattle.protocol.specs.Commits.{claim_step, commit_step, next_id_here}
 use Rattle.protocol.specs.Deliveries.{reached}
-use Rattle.protocol.specs.Events.{committed_by, dead, dead_node, delivered_by, delivered_to, happens, is_live_node, is_live_worker, killed_by, with_committed}
+use Rattle.protocol.specs.Events.{committed_by, dead, delivered_by, delivered_to, happens, is_live_node, is_live_worker, killed_by, with_committed}
 use Rattle.protocol.specs.Events.{with_delivered}
 use Rattle.protocol.specs.Jobs.{Given, Handed, Nothing, OfAnother, OfJob, Outcomes, stop_of}
 use Rattle.protocol.specs.Messages.{Ask, At, Back, CopyOf, Elsewhere, Failed, Fetch, Finished, FinishedAck, Give, Gone, Hold, HoldAck, Letter, Message, Missing}

@@ -4,8 +4,9 @@ use Rattle.meaning.specs.Values.{Items, Put, Val, Value, none}
 use Rattle.event_log.specs.Entries.{Accepted, Begun, Born, Claim, Commit, Deliver, Ended, Entry, In, main_attempt}
 use Rattle.event_log.specs.Rules.{Setting}
 use Rattle.event_log.specs.Legal.{opening}
-use Rattle.protocol.specs.Messages.{Ask, CopyOf, Fetch, Finished, FinishedAck, Letter, Message, Missing, TheNode, TheWorker, letter}
+use Rattle.protocol.specs.Messages.{Ask, CopyOf, Fetch, Finished, FinishedAck, Hold, Letter, Message, Missing, Push, TheNode, TheWorker, letter}
 use Rattle.protocol.specs.Sets.{object_id}
+use Rattle.protocol_owed.specs.Ends.{EndsAreReported}
 use Rattle.protocol_owed.specs.Replies.{BirthIsAsked, FetchIsAnswered, FinishIsAcknowledged, Happening, HasFirstCopy}
 use Rattle.protocol_owed.specs.Seen.{Scene}
 use Rattle.lease_discipline.specs.Examples.{first_one, given_log, one_once, scene}
@@ -94,3 +95,22 @@ pub record FetchesAreJudged : Type 0 where
   pub paid : (s : Setting) → FetchIsAnswered (fetch_comes s true (CopyOf (object_id 1 1) 0 (Val empty_list))) 1 2 (object_id 1 1) 0
   pub withheld : (s : Setting) → FetchIsAnswered (fetch_comes s false (Missing (object_id 1 1) 0 1)) 1 2 (object_id 1 1) 0 → ⊥
   pub small : (s : Setting) → HasFirstCopy (fetch_scene s ended_log false) 1 (object_id 1 1) 0 → ⊥
+
+-- ---- a report
+
+-- worker 2 was pushed the attempt, and that ended
+abbrev pub report_scene : Setting → List Letter → Scene
+report_scene s letters =
+    record {
+      setting = s;
+      slots = 1;
+      log = given_log ++ Begun first_one 2 ∷ Ended first_one (Val empty_list) ∷ [];
+      network = letter (TheWorker 1) (TheWorker 2) (Push first_one one_once) ∷ letters;
+      holders = λ n. [];
+      keeps = λ n o number. false;
+    }
+
+-- it isn't told, though no Hold was sent; and it needn't be yet, where a Hold for the attempt's object waits
+pub record ReportsAreJudged : Type 0 where
+  pub untold : (s : Setting) → EndsAreReported (report_scene s []) → ⊥
+  pub waits : (s : Setting) → EndsAreReported (report_scene s (letter (TheWorker 2) (TheWorker 3) (Hold (object_id 1 1) (object_id 3 1)) ∷ []))

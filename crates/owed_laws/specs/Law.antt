@@ -1,4 +1,4 @@
--- What is owed by an accepted event, as far as every event of every run is proved to pay it. The whole of what is owed is `Owed` of protocol_owed.
+-- What is owed by an accepted event, as every event of every run is proved to pay it. The whole of what is owed is `Owed` of protocol_owed.
 use Rattle.std.specs.Prelude.{◌≡◌, ◌<◌, ◌≤◌, ℕ, true, List}
 use Rattle.event_log.specs.Events.{node_lives}
 use Rattle.event_log.specs.Rules.{Setting}
@@ -8,6 +8,7 @@ use Rattle.protocol.specs.Answers.{Step, Takes}
 use Rattle.protocol.specs.Messages.{Fetch, TheNode, TheWorker}
 use Rattle.protocol_laws.specs.Coming.{IsRight}
 use Rattle.protocol_owed.specs.Ends.{EndsAreReported}
+use Rattle.protocol_owed.specs.Owed.{Owed}
 use Rattle.protocol_owed.specs.Replies.{AcknowledgedGoesBack, BirthIsAsked, Brings, CopyIsGot, ElsewhereIsAsked, FetchIsAnswered, GiveIsBegun, Happening}
 use Rattle.protocol_owed.specs.Replies.{MissingIsHandedOn, NewWaitsAreTended}
 use Rattle.protocol_owed.specs.Runs.{Handing, Running, after_event, after_events, answer_to, opening_run, seen}
@@ -65,6 +66,22 @@ EventsArePaid =
     (gs : List Handing) → AreRight s (opening_run s.nodes slots) gs → (g : Handing) →
     let r : Running = after_events (opening_run s.nodes slots) gs in
     IsRight s r.whole g.event g.handed → AnswerPays s r g
+
+-- ---- the whole
+
+-- the Fetch that the event brings, if it brings one, goes to a live node
+abbrev pub FetchesReachNodes : Happening → Type 0
+FetchesReachNodes h =
+    (n w number : ℕ) (y : Id) → Brings h (TheWorker w) (TheNode n) (Fetch y number) → node_lives h.before.setting.nodes n h.before.log ≡ true
+
+-- in every run, by each event that is accepted, the whole of what is owed is paid
+abbrev pub AllIsPaid : Type 0
+AllIsPaid =
+    (s : Setting) (slots : ℕ) → 0 < s.nodes → 1 ≤ slots → KeepsMainApart s.script →
+    (gs : List Handing) → AreRight s (opening_run s.nodes slots) gs → (g : Handing) →
+    let r : Running = after_events (opening_run s.nodes slots) gs in
+    IsRight s r.whole g.event g.handed → (step : Step) → answer_to r g ≡ Takes step → FetchesReachNodes (happening s r g step) →
+    Owed (happening s r g step)
 
 -- ---- from one event to the next
 

@@ -150,7 +150,7 @@ fn by_events<'a>(alloc: Global, name: &'a str, about: &'a str) -> Result<Command
     add_cluster(alloc, command)
 }
 
-fn sim<'a>(alloc: Global) -> Result<Command<'a>, AllocError>
+pub(crate) fn sim<'a>(alloc: Global) -> Result<Command<'a>, AllocError>
     ensures app { IfOk result (λ c. app_of c ≡ sim_app) }
     ensures local { IfOk result HasNoGlobals }
 {

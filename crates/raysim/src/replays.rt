@@ -3,8 +3,8 @@
 use crate::told::tell;
 use crate::views::{OUTPUT, View, Views};
 use raysim_commands::{
-    Cluster, Failure, Form, Refusal, Tracked, check, exit_status, migrate, read_at_most, read_script,
-    sim,
+    Cluster, Failure, Form, Refusal, Tracked, check, exit_status, migrate, read_at_most,
+    read_script, sim,
 };
 use raysim_options::ScriptOptions;
 use std::process::ExitCode;

@@ -34,13 +34,16 @@ begins_longer text more first (rest, is) = (rest ++ more, ap (λ t. t ++ more) i
 longer : (script : Script) (log : List Entry) (text more : List ℕ) (status : ℕ) → BeginsAsSerial script log text status →
     BeginsAsSerial script log (text ++ more) status
 longer script log text more status (inl (begins, same)) = inl (begins_longer text more _ begins, same)
-longer script log text more status (inr (part, same)) = inr (record {
-  prints = part.prints;
-  fault = part.fault;
-  begins = begins_longer text more _ part.begins;
-  first = part.first;
-  cause = part.cause;
-}, same)
+longer script log text more status (inr (part, same)) = inr (
+  record {
+    prints = part.prints;
+    fault = part.fault;
+    begins = begins_longer text more _ part.begins;
+    first = part.first;
+    cause = part.cause;
+  },
+  same,
+)
 
 -- what is written of a sound log begins so
 written_so : (form : Form) (script : Script) (a : Account) (report : List ℕ) (status : ℕ) → IsWellTyped script → MainBegins script a.log →

@@ -44,10 +44,7 @@ pub enum Form {
 }
 
 /// The report, and behind it the books of the seats.
-fn report_with_books<S: ScriptName>(
-    alloc: Global,
-    board: &Board<S>,
-) -> Result<String, AllocError>
+fn report_with_books<S: ScriptName>(alloc: Global, board: &Board<S>) -> Result<String, AllocError>
     ensures { IfOk result (λ text. string_bytes text ≡ report_text (log_of board.now.log) ++ book_lines (log_of board.now.log)) }
 {
     let mut text = board.report(alloc)?;

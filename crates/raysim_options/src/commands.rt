@@ -158,7 +158,8 @@ pub(crate) fn sim<'a>(alloc: Global) -> Result<Command<'a>, AllocError>
     let command = by_events(alloc, "sim", about)?;
     let command = add_json(alloc, command)?;
     let command = add_views(alloc, command)?;
-    let books = "Writes behind the report how many commits came from each seat, and the sum of their jobs";
+    let books =
+        "Writes behind the report how many commits came from each seat, and the sum of their jobs";
     add(command, flag(alloc, "books", books))
 }
 

@@ -106,11 +106,7 @@ fn replays(alloc: Global, case: &Case, cluster: Cluster, ran: &Ran) -> bool {
 }
 
 /// Adds a history. Of several threads it is left open which takes which turn, so that an S stands in place of each seat's number.
-fn add_history(
-    written: &mut Vec<u8>,
-    threads: u8,
-    history: &str,
-) -> Result<(), AllocError> {
+fn add_history(written: &mut Vec<u8>, threads: u8, history: &str) -> Result<(), AllocError> {
     for line in history.lines() {
         match line.split_once(' ') {
             Some((seat, event)) if threads > 1 && seat != "raysim" => {

@@ -121,7 +121,7 @@ fn asks_for_both(request: &Request<'_>) -> bool
 fn conflict(alloc: Global) -> Result<Error, AllocError>
     ensures { IfOk result (λ e. kind_of e ≡ ArgumentConflict) }
 {
-    let mut command = commands::sim(alloc)?;
+    let mut command = commands::sim(alloc)?.bin_name("raysim sim")?;
     let message = "the argument '--books' cannot be used with '--json'";
     command.error(ErrorKind::ArgumentConflict, message)
 }

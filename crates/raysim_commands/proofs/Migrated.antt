@@ -1,12 +1,17 @@
 -- What `migrate` reads, refuses and writes.
-use Rattle.std.proofs.Common.{◌≡◌, ◌×◌, ℕ, Bool, List, Option, None, Some, inl, inr, refl, sym, subst, take}
+use Rattle.std.proofs.Common.{◌≡◌, ◌≢◌, ◌∙◌, ◌+◌, ◌++◌, ℕ, Bool, false, List, [], ◌∷◌, Option, None, Some, inl, inr, refl, ap, sym, subst, take, length, codes}
 use Rattle.std.specs.Prelude.{IfSome}
 use Rattle.std.specs.Io.KnownBytes.{Appends}
 use Rattle.meaning.specs.Syntax.{Script}
 use Rattle.event_log.specs.Views.{log_of}
 use Rattle.event_log.specs.declared.entry.Entry.{Entry as CodeEntry}
+use Rattle.event_files.proofs.Readers.{line_in-text, reads_lines}
+use Rattle.event_files.proofs.Rows.{one_bad}
+use Rattle.event_files.specs.Files.{IsBadAt, IsRow, Passed, Row, Said, is_passed, row_text}
+use Rattle.event_files.specs.Lines.{IsLine, line_text}
 use Rattle.event_files.specs.Numbering.{line_numbers}
-use Rattle.event_files.specs.Recorded.{recorded_file}
+use Rattle.event_files.specs.Reading.{event_in, line_in}
+use Rattle.event_files.specs.Recorded.{header, recorded_file}
 use Rattle.event_files.specs.declared.event_file.EventFile.TheVariants as files
 use Rattle.event_files.specs.declared.line.Line.{Line}
 use Rattle.event_files.specs.declared.line.Line.TheVariants as lines
@@ -31,6 +36,25 @@ no_wrong_job_in script (lines.Settle workers) before after (inr (n, between, e, 
 
 pub no_wrong_job : (script : Script) (lines : List Line) (before after : Play) → PlayStops script lines before after stops.WrongJob → ⊥
 no_wrong_job script lines before after (n, line, between, stands, plays, stop) = no_wrong_job_in script line between after stop
+
+-- ---- the first line of format 2 is none of format 1
+
+abbrev first : List ℕ
+first = codes "raysim 2"
+
+no_line : line_in first ≡ None
+unfolding line_in event_in
+no_line = refl
+
+no_row : (r : Row Line) → IsRow IsLine r → row_text line_text r ≢ first
+no_row (Passed bytes) h e = let f : is_passed bytes ≡ false = ap is_passed e in let g = h.0 in absurd (cc)
+no_row (Said l) h e = let f : Some l ≡ None = sym (line_in-text l h) ∙ ap line_in e ∙ no_line in absurd (cc)
+
+-- so it is the first line of such a file that is none
+first_is_bad : (bytes : List ℕ) (n : ℕ) → IsBadAt IsLine line_text bytes n → (rest : List ℕ) → bytes ≡ header ++ rest → n ≡ 1
+first_is_bad bytes n h rest e =
+    h.place ∙ ap (λ i. i + 1) (one_bad IsLine line_text line_in reads_lines h.rows [] h.line h.rest first (10 ∷ rest) h.are_rows tt
+    h.in_a_line refl h.is_bad (refl, no_row) (sym h.written ∙ e))
 
 -- ---- what is written
 
@@ -100,7 +124,7 @@ bad_line : (size : Size) (known events : Option (List ℕ)) (a b w : Bool) (n : 
     ExplainsMigration size known events a b w (BadLine n)
 bad_line size None events a b w n is h = tt
 bad_line size (Some t) None a b w n is h = tt
-bad_line size (Some t) (Some e) a b w n is h = (is, h)
+bad_line size (Some t) (Some e) a b w n is h = record { allowed = is; bad = h; of_recorded = first_is_bad e n h }
 
 -- the lines aren't read
 pub explains_no_lines : (size : Size) (known events : Option (List ℕ)) (text : List ℕ) (script : Script) (a b w : Bool) (r : Refusal) →

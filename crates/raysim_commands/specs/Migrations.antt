@@ -1,12 +1,12 @@
 -- What `migrate` writes.
-use Rattle.std.specs.Prelude.{◌≡◌, ◌⊎◌, ℕ, Bool, true, List, Option, take, IfSome}
+use Rattle.std.specs.Prelude.{◌≡◌, ◌⊎◌, ◌++◌, ℕ, Bool, true, List, Option, take, IfSome}
 use Rattle.std.specs.Io.KnownBytes.{Appends}
 use Rattle.meaning.specs.Syntax.{Script}
 use Rattle.event_log.specs.Views.{log_of}
 use Rattle.event_log.specs.declared.entry.Entry.{Entry as CodeEntry}
 use Rattle.event_files.specs.Files.{IsBadAt, IsFile}
 use Rattle.event_files.specs.Lines.{IsLine, line_text}
-use Rattle.event_files.specs.Recorded.{recorded_file}
+use Rattle.event_files.specs.Recorded.{header, recorded_file}
 use Rattle.event_files.specs.declared.event_file.EventFile.TheVariants as files
 use Rattle.event_files.specs.declared.line.Line.{Line}
 use Rattle.histories.specs.Recorded.{recorded_in}
@@ -51,9 +51,11 @@ pub record IsMigrationBegun (size : Size) (text events : List ℕ) (before after
   pub count : ℕ
   pub written : Appends before after (take count history)
 
--- the text is a script, and the line of that number is the first of the other that is none of format 1; the first line of format 2 is none
-abbrev pub IsNoLine : ℕ → List ℕ → List ℕ → Type 0
-IsNoLine n text events = IsAllowed text × IsBadAt IsLine line_text events n
+-- the text is a script, and the line of that number is the first of the other that is none of format 1; of a file of format 2 that is the first
+pub record IsNoLine (n : ℕ) (text events : List ℕ) : Type 0 where
+  pub allowed : IsAllowed text
+  pub bad : IsBadAt IsLine line_text events n
+  pub of_recorded : (rest : List ℕ) → events ≡ header ++ rest → n ≡ 1
 
 -- why `migrate` refuses: as `sim` does, but that it takes files of format 1 alone, whose claims name no jobs
 abbrev pub ExplainsMigration : Size → Option (List ℕ) → Option (List ℕ) → Bool → Bool → Bool → Refusal → Type 0

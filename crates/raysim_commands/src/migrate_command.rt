@@ -46,14 +46,12 @@ fn migrate_script<S: ScriptName>(
     let core = Core::<S>::new(alloc, script.script(), cluster)?;
     let mut replay = Replay::new(alloc, core);
     match replay.play(alloc, script, lines) {
-        Ok(()) => {}
-        Err(Stopped::NoMemory) => return Err(Refusal::NoMemory),
-        Err(Stopped::TooLong) => return Err(Refusal::Stopped { code: 41 }),
+        Ok(()) => Ok(history(alloc, replay.board().log())?),
+        Err(Stopped::NoMemory) => Err(Refusal::NoMemory),
+        Err(Stopped::TooLong) => Err(Refusal::Stopped { code: 41 }),
         // No line of format 1 says which job a claim gives.
         Err(Stopped::WrongJob) => unreachable!(),
     }
-    let text = history(alloc, replay.board().log())?;
-    Ok(text)
 }
 
 /// Reads a script's text and then an event file of format 1, applies the file's events to a run of the script on this cluster, and writes the

@@ -61,8 +61,7 @@ pub record IsBadAt {A : Type 0} (is : A → Type 0) (text : A → List ℕ) (byt
   pub in_a_line : has 10 line ≡ false
   pub is_bad : IsNoRow is text line rest
 
--- why the bytes are refused; reading answers no 41
+-- why the bytes are refused
 abbrev pub IsRefusal : {A : Type 0} → (A → Type 0) → (A → List ℕ) → List ℕ → EventError → Type 0
 IsRefusal is text bytes (errors.BadLine n) = IsBadAt is text bytes n
-IsRefusal is text bytes errors.TooLong = ⊥
 IsRefusal is text bytes errors.NoMemory = Unit {0}

@@ -45,7 +45,6 @@ IsRecordedFile bytes events = (rest : List ℕ) × (bytes ≡ header ++ rest) ×
 -- why what stands behind the first line is refused; lines are counted from that line on
 abbrev pub IsRecordedRefusal : List ℕ → EventError → Type 0
 IsRecordedRefusal rest (errors.BadLine n) = (m : ℕ) × (n ≡ m + 1) × IsBadAt IsRecorded recorded_text rest m
-IsRecordedRefusal rest errors.TooLong = ⊥
 IsRecordedRefusal rest errors.NoMemory = Unit {0}
 
 -- ---- both formats

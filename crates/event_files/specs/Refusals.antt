@@ -5,5 +5,4 @@ use Rattle.event_files.specs.declared.error.EventError.TheVariants as errors
 
 abbrev pub refusal_number : EventError → ℕ
 refusal_number (errors.BadLine n) = 40
-refusal_number errors.TooLong = 41
 refusal_number errors.NoMemory = 39

@@ -11,20 +11,17 @@ use std::alloc::{AllocError, AllocFailed};
 pub enum EventError {
     /// 40: the line with this number, counted from 1, is none of the format.
     BadLine(u64),
-    /// 41: the file stands for more than 100,000 events. Reading never answers it, since only a run knows the events of a `settle`.
-    TooLong,
     /// 39: want of memory.
     NoMemory,
 }
 
 impl EventError {
-    /// The refusal's number: 40 or 41, and 39 for want of memory.
+    /// The refusal's number: 40, and 39 for want of memory.
     pub fn number(self) -> u16
         ensures { result ≡ refusal_number self }
     {
         match self {
             EventError::BadLine(_) => 40,
-            EventError::TooLong => 41,
             EventError::NoMemory => 39,
         }
     }

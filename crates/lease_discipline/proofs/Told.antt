@@ -219,7 +219,7 @@ node_at_work : (xs : List Worker) (w : ℕ) (x : Worker) → item_at xs w ≡ So
 node_at_work xs zero x e = absurd (cc)
 node_at_work xs (suc i) x e = from_mapped (λ y. y.node) xs i x e
 
-nowhere : (xs : List Worker) (w : ℕ) → item_at xs w ≡ None → from_one (map (λ (y : Worker). y.node) xs) w ≡ None
+pub nowhere : (xs : List Worker) (w : ℕ) → item_at xs w ≡ None → from_one (map (λ (y : Worker). y.node) xs) w ≡ None
 nowhere xs zero e = refl
 nowhere xs (suc i) e = none_mapped (λ y. y.node) xs i e
 

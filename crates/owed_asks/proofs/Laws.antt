@@ -148,7 +148,7 @@ killed_network : (c : Whole) (w : ℕ) (o : Option Worker) → (killed_by c w o)
 killed_network c w None = none_sent c.network
 killed_network c w (Some x) = node_network (record c { workers = changed_at c.workers w dead }) x.node (λ h. forgets h w)
 
-happens_network : (c : Whole) (e : Event) (handed : Handed) → (happens c e handed).whole.network ≡ c.network ++ (happens c e handed).out.letters
+pub happens_network : (c : Whole) (e : Event) (handed : Handed) → (happens c e handed).whole.network ≡ c.network ++ (happens c e handed).out.letters
 happens_network c (Claim w) handed =
     worker_network (record c { jobs = c.jobs ++ record { worker = w; is_committed = false } ∷ [] }) w (λ h. claim_step h (length c.jobs + 1))
 happens_network c (Commit j) handed = committed_network c j handed (item_at c.jobs j)

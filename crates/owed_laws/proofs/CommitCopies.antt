@@ -20,7 +20,7 @@ use Rattle.protocol.specs.Steps.{Here, logs_all, store_here, with_phase, with_ru
 use Rattle.protocol.specs.Tables.{ByTask, HasEnded, OwnTask, Run, new_object, new_task, put_object}
 use Rattle.protocol_legal.proofs.Bearing.{still_holds}
 use Rattle.protocol_owed.proofs.Owing.{IsSame, holds_ids-same}
-use Rattle.owed_laws.proofs.MadeCopies.{IsNewIn, Stays, stays_kept}
+use Rattle.owed_laws.proofs.MadeCopies.{IsNewEnd, IsNewIn, IsNewPut, Stays, stays_kept}
 use Rattle.owed_laws.proofs.SlotMoves as S
 use Rattle.owed_laws.proofs.StoreMoves as M
 use Rattle.owed_laws.proofs.StoreMoves.{IsKept, Stores, stores_now}
@@ -75,6 +75,13 @@ no_birth a b next o (v ∷ vs) stop x (suc k, e) = no_birth a b next o vs stop x
 no_birth a b next o [] (Over c) x (zero, e) = cc
 no_birth a b next o [] (Over c) x (suc k, e) = cc
 no_birth a b next o [] (Needs y) x (k, e) = cc
+
+-- what is born is of the owner whose ids come next
+born_own : (a b : Attempt) (next o : Id) (x : Birth) (bs : List Birth) (vs : List Value) (stop : Stop) → Among (Born o b x) (commit_entries a next bs vs stop) →
+    o.owner ≡ next.owner
+born_own a b next o x (y ∷ bs) vs stop (zero, e) = let same : next ≡ o = cc in ap (λ (i : Id). i.owner) (sym same)
+born_own a b next o x (y ∷ bs) vs stop (suc k, e) = born_own a b (next_id next) o x bs vs stop (k, e)
+born_own a b next o x [] vs stop i = absurd (no_birth a b next o vs stop x i)
 
 -- each put that the commit bears is in the store
 births_stored : (bs : List Birth) (h : Here) (a : Attempt) (vs : List Value) (stop : Stop) (o : Id) (b : Attempt) (v : Value) →
@@ -176,7 +183,16 @@ module _ (h : Here) (d : Outcomes) (run : Run) (at : h.worker.run ≡ Some run) 
       let kept = stays_kept (store_here h) es in
       let begun : Stays (store_here h) es logged = record {
         copies = λ o n q. q;
-        entries = λ o n q. subst (λ xs. IsNewIn (xs ++ es) o n) silent q;
+        puts = λ o n q. subst (λ xs. IsNewPut (xs ++ es) o n) silent q;
+        ends = λ o n q. subst (λ xs. IsNewEnd (xs ++ es) o n) silent q;
       } in
       subst (λ r. Stays (store_here h) es (commit_by h d r)) (sym at)
       (M.stops_by-kept (Stays (store_here h) es) kept borne d.stop borne.worker.run (M.bears_all-kept (Stays (store_here h) es) kept logged run.attempt d.births begun))
+
+  -- what is put is the worker's own
+  pub new_put_own : (o : Id) (n : ℕ) → IsNewPut es o n → o.owner ≡ h.me
+  new_put_own o n (a, v, i, z) = born_own run.attempt a (next_id_here h) o (Put v) d.births d.prints (stop_of d.stop) i
+
+  -- what ends is its attempt
+  pub new_end_own : (o : Id) (n : ℕ) → IsNewEnd es o n → run.attempt ≡ attempt o n
+  new_end_own o n (c, i, big) = (end_logged run.attempt (attempt o n) c (next_id_here h) d.births d.prints (stop_of d.stop) i).0

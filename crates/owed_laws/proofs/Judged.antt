@@ -1,18 +1,22 @@
 -- The worked examples of what is owed.
-use Rattle.std.proofs.Common.{◌≡◌, ℕ, zero, suc, List, [], ◌∷◌, Some, None, Option, refl, ap, sym, subst, ◌∙◌, arith}
-use Rattle.meaning.specs.Values.{Argument, Id, Name, Outcome, Task}
+use Rattle.std.proofs.Common.{◌≡◌, ℕ, zero, suc, Bool, true, false, List, [], ◌∷◌, Some, None, Option, refl, ap, sym, subst, ◌∙◌, inl, arith}
+use Rattle.meaning.specs.Births.{birth_at, same_id}
+use Rattle.meaning.specs.Values.{Argument, Id, Name, Outcome, Put, Task, Val}
+use Rattle.values.specs.Cells.{is_small}
 use Rattle.event_log.specs.Breaks.{Among}
-use Rattle.event_log.specs.Entries.{Accepted, Attempt, Born, Deliver, main_attempt}
-use Rattle.event_log.specs.Events.{node_of}
+use Rattle.event_log.specs.Entries.{Accepted, Attempt, Born, Deliver, Ended, main_attempt}
+use Rattle.event_log.specs.Events.{accepted_events, node_of, was_lost}
 use Rattle.event_log.specs.Rules.{Setting}
-use Rattle.event_log.specs.Words.{attempt}
-use Rattle.protocol.specs.Messages.{Ask, Finished, FinishedAck, Letter, TheNode, TheWorker, letter}
+use Rattle.event_log.specs.Words.{attempt, births}
+use Rattle.protocol.specs.Messages.{Ask, CopyOf, Finished, FinishedAck, Letter, Missing, TheNode, TheWorker, Unhold, letter}
 use Rattle.protocol.specs.Numbered.{item_at}
 use Rattle.protocol.specs.Sets.{object_id}
-use Rattle.protocol_owed.specs.Replies.{BirthIsAsked, FinishIsAcknowledged, Says}
+use Rattle.protocol_owed.specs.Replies.{BirthIsAsked, FetchIsAnswered, FinishIsAcknowledged, HasFirstCopy, Says}
+use Rattle.protocol_owed.specs.Seen.{deliveries}
 use Rattle.protocol_owed.proofs.Letters.{among-nothing}
 use Rattle.lease_discipline.specs.Examples.{first_one, given_log, one_once}
-use Rattle.owed_laws.specs.Examples.{BirthsAreJudged, EndsAreJudged, acknowledged, birth_comes, end_comes, ended_network}
+use Rattle.owed_laws.specs.Examples.{BirthsAreJudged, EndsAreJudged, FetchesAreJudged, acknowledged, birth_comes, empty_list, end_comes, ended_network}
+use Rattle.owed_laws.specs.Examples.{fetch_comes, fetch_scene, put_log}
 
 -- ---- a birth
 
@@ -101,4 +105,71 @@ ends_are_judged = record {
   paid = end_is_paid;
   unaccepted = λ s p. among-nothing _ ((p 2 1 first_one 1 [] None (1, refl, refl)).1 unaccepted_yet);
   unacknowledged = λ s p. among-nothing _ (p 2 1 first_one 1 [] None (1, refl, refl)).0;
+}
+
+-- ---- a Fetch
+
+not_lacked : true ≡ false → ⊥
+not_lacked e = cc
+
+fetch_is_paid : (s : Setting) → FetchIsAnswered (fetch_comes s true (CopyOf (object_id 1 1) 0 (Val empty_list))) 1 2 (object_id 1 1) 0
+fetch_is_paid s = record {
+  there = λ _. (Val empty_list, (zero, refl));
+  first_copy = λ _. (Val empty_list, (zero, refl));
+  lacking = λ e. absurd (not_lacked e);
+}
+
+no_end : (c : Outcome) → Among (Ended first_one c) put_log → ⊥
+no_end c (zero, e) = absurd (cc)
+no_end c (suc zero, e) = absurd (cc)
+no_end c (suc (suc zero), e) = absurd (cc)
+no_end c (suc (suc (suc zero)), e) = absurd (cc)
+no_end c (suc (suc (suc (suc zero))), e) = absurd (cc)
+no_end c (suc (suc (suc (suc (suc k)))), e) = absurd (cc)
+
+nothing_came : (s : Setting) → deliveries (fetch_scene s put_log false) ≡ []
+unfolding accepted_events
+nothing_came s = refl
+
+nothing_lost : was_lost 1 (object_id 1 1) put_log ≡ false
+unfolding was_lost accepted_events
+nothing_lost = refl
+
+was_put : birth_at (births put_log) (object_id 1 1) ≡ Some (Put empty_list)
+unfolding same_id
+was_put = refl
+
+first_is_there : (s : Setting) → HasFirstCopy (fetch_scene s put_log false) 1 (object_id 1 1) 0
+first_is_there s = record {
+  first = inl (record { value = empty_list; put = was_put; first = refl; place = refl });
+  big = λ c i. absurd (no_end c i);
+  unlost = nothing_lost;
+  kept = λ from e why came. among-nothing _ (subst (λ ls. Among (letter from (TheNode 1) (Unhold e (object_id 1 1) why)) ls) (nothing_came s) came);
+}
+
+no_copy : (c : Outcome) →
+    Among (letter (TheNode 1) (TheWorker 2) (CopyOf (object_id 1 1) 0 c)) (letter (TheNode 1) (TheWorker 2) (Missing (object_id 1 1) 0 1) ∷ []) → ⊥
+no_copy c (zero, e) = other (ap (λ (l : Letter). l.message) (same e))
+  where
+    same : ◌≡◌ {A = Option Letter} (Some (letter (TheNode 1) (TheWorker 2) (Missing (object_id 1 1) 0 1))) (Some (letter (TheNode 1) (TheWorker 2) (CopyOf
+        (object_id 1 1) 0 c))) →
+        letter (TheNode 1) (TheWorker 2) (Missing (object_id 1 1) 0 1) ≡ letter (TheNode 1) (TheWorker 2) (CopyOf (object_id 1 1) 0 c)
+    same f = cc
+
+    other : Missing (object_id 1 1) 0 1 ≡ CopyOf (object_id 1 1) 0 c → ⊥
+    other f = absurd (cc)
+no_copy c (suc k, e) = absurd (cc)
+
+is_little : is_small (Val empty_list) ≡ true
+unfolding is_small
+is_little = refl
+
+not_both : (b : Bool) → b ≡ true → b ≡ false → ⊥
+not_both b e f = cc
+
+pub fetches_are_judged : FetchesAreJudged
+fetches_are_judged = record {
+  paid = fetch_is_paid;
+  withheld = λ s p. let r = p.first_copy (first_is_there s) in no_copy r.0 r.1;
+  small = λ s p. not_both (is_small (Val empty_list)) is_little (p.big (Val empty_list) (8, refl));
 }

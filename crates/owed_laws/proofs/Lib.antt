@@ -10,3 +10,5 @@ pub mod Senders
 pub mod MadeCopies
 pub mod CommitCopies
 pub mod Made
+pub mod StoreEvents
+pub mod KeptCopies

@@ -23,7 +23,7 @@ use Rattle.protocol_legal.specs.Made.{EndsSmall, IsEndedAt, IsMadeAt, IsPutAt}
 use Rattle.protocol_legal.specs.Whole.{Between, setting_of}
 use Rattle.protocol_owed.proofs.Letters.{among-append_cases, among-nothing}
 use Rattle.owed_replies.proofs.Advancing.{flat_among}
-use Rattle.owed_laws.proofs.MadeCopies.{IsNewIn}
+use Rattle.owed_laws.proofs.MadeCopies.{IsNewEnd, IsNewPut}
 
 birth_behind : (xs ys : List Bearing) (o : Id) → birth_at xs o ≡ None → birth_at (xs ++ ys) o ≡ birth_at ys o
 birth_behind [] ys o e = refl
@@ -67,7 +67,7 @@ born_entry es o b i = let r = flat_among born_in es (record { object = o; birth 
     by_entry (Resolved p f) j k = none j
     by_entry (Released p) j k = none j
 
-ended_entry : (es : List Entry) (a : Attempt) (c : Outcome) → Among c (flat_map (ended_in a) es) → Among (Ended a c) es
+pub ended_entry : (es : List Entry) (a : Attempt) (c : Outcome) → Among c (flat_map (ended_in a) es) → Among (Ended a c) es
 ended_entry es a c i = let r = flat_among (ended_in a) es c i in by_entry r.0 r.2 r.1
   where
     none : {X : Type 0} → Among c [] → X
@@ -112,14 +112,11 @@ module _ (s : Setting) (log : List Entry) (c : Whole) (b : Between s log c) (e :
   behind {x} (zero, f) other = let g : In e seat ≡ x = cc in absurd (other (sym g))
   behind {x} (suc k, f) other = (k, f)
 
-  -- a content that was made before, or is new, or is small
-  abbrev WasMade : Id → ℕ → ℕ → Type 0
-  WasMade o number n = IsMadeAt log o number n ⊎ IsNewIn es o number ⊎ EndsSmall later (attempt o number)
-
-  put_before : (o : Id) (number n : ℕ) (p : IsPutAt later o number n) → WasMade o number n
+  -- what is put by then was put before, or by the event
+  pub put_before : (o : Id) (number n : ℕ) → IsPutAt later o number n → IsMadeAt log o number n ⊎ IsNewPut es o number
   put_before o number n p = by_birth (birth_at (births log) o) refl
     where
-      by_birth : (d : Option Birth) → birth_at (births log) o ≡ d → WasMade o number n
+      by_birth : (d : Option Birth) → birth_at (births log) o ≡ d → IsMadeAt log o number n ⊎ IsNewPut es o number
       by_birth (Some d) f =
           let home = b.knows.calm.homes o (d, f) in
           let same : d ≡ Put p.value = same_birth d (Put p.value)
@@ -130,9 +127,15 @@ module _ (s : Setting) (log : List Entry) (c : Whole) (b : Between s log c) (e :
           let i = birth_among (flat_map born_in (In e seat ∷ es)) o (Put p.value)
           (sym (birth_behind (births log) (flat_map born_in (In e seat ∷ es)) o f) ∙ ap (λ xs. birth_at xs o) (sym births_then) ∙ p.born) in
           let r = born_entry (In e seat ∷ es) o (Put p.value) i in
-          inr (inl (inl (r.0, p.value, behind r.1 (λ g. absurd (cc)), p.first)))
+          inr (r.0, p.value, behind r.1 (λ g. absurd (cc)), p.first)
 
-  end_before : (o : Id) (number n : ℕ) (p : IsEndedAt later o number n) → WasMade o number n
+  -- the worker of an attempt stays so
+  pub runs_more : (a : Attempt) (w : ℕ) → worker_of a log ≡ Some w → worker_of a later ≡ Some w
+  runs_more a w runs = ap (λ xs. slice_get xs a.number) (flat_map-append (run_in a.object) log (In e seat ∷ es)) ∙
+      slice_get-append (runs_of a.object log) (flat_map (run_in a.object) (In e seat ∷ es)) a.number w runs
+
+  -- an attempt that ended by then ended before, or in the event, or with a small content
+  pub end_before : (o : Id) (number n : ℕ) → IsEndedAt later o number n → IsMadeAt log o number n ⊎ IsNewEnd es o number ⊎ EndsSmall later (attempt o number)
   end_before o number n p =
       let a : Attempt = attempt o number in
       elim (among-append_cases (ends_of a log) (flat_map (ended_in a) (In e seat ∷ es)) p.content
@@ -140,18 +143,13 @@ module _ (s : Setting) (log : List Entry) (c : Whole) (b : Between s log c) (e :
         | inl old ↦
             let ran = sane.ended a old.0 p.content old.1 in
             let node = sane.opened o number ran.0 ran.1 in
-            let more : worker_of a later ≡ Some ran.0 = ap (λ xs. slice_get xs number) (flat_map-append (run_in o) log (In e seat ∷ es)) ∙
-            slice_get-append (runs_of o log) (flat_map (run_in o) (In e seat ∷ es)) number ran.0 ran.1 in
-            let worker : ran.0 ≡ p.worker = same_number ran.0 p.worker (sym more ∙ p.runs) in
+            let worker : ran.0 ≡ p.worker = same_number ran.0 p.worker (sym (runs_more a ran.0 ran.1) ∙ p.runs) in
             let place : node.0 ≡ n = same_number node.0 n (sym (node_of-more log (In e seat ∷ es) ran.0 node.0 node.1) ∙ ap (λ w. node_of w later) worker ∙ p.home) in
             inl (inr (record { worker = ran.0; runs = ran.1; home = node.1 ∙ ap (λ i. Some i) place; content = p.content; ended = old }))
         | inr new ↦ by_size new (is_small p.content) refl
       ]
     where
-      by_size : Among p.content (flat_map (ended_in (attempt o number)) (In e seat ∷ es)) → (t : Bool) → is_small p.content ≡ t → WasMade o number n
+      by_size : Among p.content (flat_map (ended_in (attempt o number)) (In e seat ∷ es)) → (t : Bool) → is_small p.content ≡ t →
+          IsMadeAt log o number n ⊎ IsNewEnd es o number ⊎ EndsSmall later (attempt o number)
       by_size new true small = inr (inr (p.content, p.ended, small))
-      by_size new false big = inr (inl (inr (p.content, behind (ended_entry (In e seat ∷ es) (attempt o number) p.content new) (λ g. absurd (cc)), big)))
-
-  pub made_before : (o : Id) (number n : ℕ) → IsMadeAt later o number n → WasMade o number n
-  made_before o number n (inl p) = put_before o number n p
-  made_before o number n (inr p) = end_before o number n p
+      by_size new false big = inr (inl (p.content, behind (ended_entry (In e seat ∷ es) (attempt o number) p.content new) (λ g. absurd (cc)), big))

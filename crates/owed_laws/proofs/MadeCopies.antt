@@ -14,9 +14,16 @@ use Rattle.protocol_owed.proofs.Letters.{among-append_cases}
 use Rattle.owed_laws.proofs.SlotMoves as S
 use Rattle.owed_laws.proofs.StoreMoves.{IsKept, Stores, is_mute, is_quiet}
 
--- the entries bear the put, or say that the attempt of that number ended with a content that isn't small
+-- the entries bear the put
+abbrev pub IsNewPut : List Entry → Id → ℕ → Type 0
+IsNewPut es o n = (a : Attempt) × (v : Value) × Among (Born o a (Put v)) es × (n ≡ 0)
+
+-- they say that the attempt of that number ended with a content that isn't small
+abbrev pub IsNewEnd : List Entry → Id → ℕ → Type 0
+IsNewEnd es o n = (c : Outcome) × Among (Ended (attempt o n) c) es × (is_small c ≡ false)
+
 abbrev pub IsNewIn : List Entry → Id → ℕ → Type 0
-IsNewIn es o n = ((a : Attempt) × (v : Value) × Among (Born o a (Put v)) es × (n ≡ 0)) ⊎ ((c : Outcome) × Among (Ended (attempt o n) c) es × (is_small c ≡ false))
+IsNewIn es o n = IsNewPut es o n ⊎ IsNewEnd es o n
 
 abbrev is_making : Entry → Bool
 is_making (Born o a b) = true
@@ -42,15 +49,16 @@ mute_there [] x q (k, e) = absurd (cc)
 mute_there (y ∷ es) x q (zero, e) = let same : y ≡ x = cc in subst (λ z. is_making z ≡ false) same (mute_makes_none y (and_left (is_mute y) (is_quiet es) q))
 mute_there (y ∷ es) x q (suc k, e) = mute_there es x (and_right (is_mute y) (is_quiet es) q) (k, e)
 
-new_before : (xs es : List Entry) → ((x : Entry) → Among x es → is_making x ≡ false) → (o : Id) (n : ℕ) → IsNewIn (xs ++ es) o n → IsNewIn xs o n
-new_before xs es none o n (inl (a, v, i, z)) = elim (among-append_cases xs es (Born o a (Put v)) i) [ inl old ↦ inl (a, v, old, z) | inr new ↦ absurd (never (none _ new)) ]
-  where
-    never : true ≡ false → ⊥
-    never e = cc
-new_before xs es none o n (inr (c, i, big)) = elim (among-append_cases xs es (Ended (attempt o n) c) i) [ inl old ↦ inr (c, old, big) | inr new ↦ absurd (never (none _ new)) ]
-  where
-    never : true ≡ false → ⊥
-    never e = cc
+never : true ≡ false → ⊥
+never e = cc
+
+put_before : (xs es : List Entry) → ((x : Entry) → Among x es → is_making x ≡ false) → (o : Id) (n : ℕ) → IsNewPut (xs ++ es) o n → IsNewPut xs o n
+put_before xs es none o n (a, v, i, z) =
+    elim (among-append_cases xs es (Born o a (Put v)) i) [ inl old ↦ (a, v, old, z) | inr new ↦ absurd (never (none _ new)) ]
+
+end_before : (xs es : List Entry) → ((x : Entry) → Among x es → is_making x ≡ false) → (o : Id) (n : ℕ) → IsNewEnd (xs ++ es) o n → IsNewEnd xs o n
+end_before xs es none o n (c, i, big) =
+    elim (among-append_cases xs es (Ended (attempt o n) c) i) [ inl old ↦ (c, old, big) | inr new ↦ absurd (never (none _ new)) ]
 
 opened_makes_none : (w n : ℕ) (x : Entry) → Among x (Opened w n ∷ []) → is_making x ≡ false
 opened_makes_none w n x (zero, e) = let same : Opened w n ≡ x = cc in subst (λ z. is_making z ≡ false) same refl
@@ -60,26 +68,35 @@ opened_makes_none w n x (suc k, e) = absurd (cc)
 module _ (before : Store) (made : List Entry) where
   pub record StaysThere (t : There) : Type 0 where
     pub copies : (o : Id) (n : ℕ) → Stores before o n → Stores t.node.store o n
-    pub entries : (o : Id) (n : ℕ) → IsNewIn t.out.entries o n → IsNewIn made o n
+    pub puts : (o : Id) (n : ℕ) → IsNewPut t.out.entries o n → IsNewPut made o n
+    pub ends : (o : Id) (n : ℕ) → IsNewEnd t.out.entries o n → IsNewEnd made o n
 
   abbrev pub Stays : Here → Type 0
   Stays h = StaysThere h.there
 
-  there_stays : S.IsKeptThere StaysThere
+  pub there_stays : S.IsKeptThere StaysThere
   there_stays = record {
-    opens = λ t w p. record { copies = p.copies; entries = λ o n q. p.entries o n (new_before t.out.entries (Opened w t.number ∷ []) (opened_makes_none w t.number) o n q) };
-    replies = λ t k x p. record { copies = p.copies; entries = p.entries };
-    scheduler = λ t s p. record { copies = p.copies; entries = p.entries };
+    opens = λ t w p. record {
+      copies = p.copies;
+      puts = λ o n q. p.puts o n (put_before t.out.entries (Opened w t.number ∷ []) (opened_makes_none w t.number) o n q);
+      ends = λ o n q. p.ends o n (end_before t.out.entries (Opened w t.number ∷ []) (opened_makes_none w t.number) o n q);
+    };
+    replies = λ t k x p. record { copies = p.copies; puts = p.puts; ends = p.ends };
+    scheduler = λ t s p. record { copies = p.copies; puts = p.puts; ends = p.ends };
   }
 
   -- every step of a worker but the first part of a commit keeps it
   pub stays_kept : IsKept Stays
   stays_kept = record {
-    logs = λ h es q p. record { copies = p.copies; entries = λ o n i. p.entries o n (new_before h.there.out.entries es (λ x. mute_there es x q) o n i) };
-    says = λ h w m p. record { copies = p.copies; entries = p.entries };
-    says_to_node = λ h n m p. record { copies = p.copies; entries = p.entries };
-    worker = λ h x _ _ p. record { copies = p.copies; entries = p.entries };
-    store = λ h s keeps p. record { copies = λ o n q. keeps o n (p.copies o n q); entries = p.entries };
+    logs = λ h es q p. record {
+      copies = p.copies;
+      puts = λ o n i. p.puts o n (put_before h.there.out.entries es (λ x. mute_there es x q) o n i);
+      ends = λ o n i. p.ends o n (end_before h.there.out.entries es (λ x. mute_there es x q) o n i);
+    };
+    says = λ h w m p. record { copies = p.copies; puts = p.puts; ends = p.ends };
+    says_to_node = λ h n m p. record { copies = p.copies; puts = p.puts; ends = p.ends };
+    worker = λ h x _ _ p. record { copies = p.copies; puts = p.puts; ends = p.ends };
+    store = λ h s keeps p. record { copies = λ o n q. keeps o n (p.copies o n q); puts = p.puts; ends = p.ends };
     frees = λ h p. S.frees-kept StaysThere there_stays h.there h.me p;
     asks = λ h p. S.asks_slot-kept StaysThere there_stays h.there h.me p;
   }

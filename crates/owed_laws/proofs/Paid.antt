@@ -23,9 +23,10 @@ use Rattle.owed_asks.proofs.Laws.{all_right}
 use Rattle.owed_asks.proofs.Needs.{copies_are_got}
 use Rattle.owed_asks.proofs.RightSlots.{run_uses, slots_are_all_right, there}
 use Rattle.owed_asks.proofs.UserEvents.{KeepsUses}
+use Rattle.owed_laws.proofs.KeptCopies.{KeepsMade, first_copy_kept, runs_keep_made}
 use Rattle.owed_laws.proofs.Senders.{senders_are_there}
 use Rattle.owed_laws.proofs.NewWaits.{new_waits_are_tended}
-use Rattle.owed_laws.specs.Law.{EventIsPaid, EventsArePaid, FetchesAreMet}
+use Rattle.owed_laws.specs.Law.{AnswerPays, EventIsPaid, EventsArePaid, FetchesAreMet, ReachedGoesOn, ReachedPays}
 use Rattle.owed_replies.specs.Law as R
 use Rattle.owed_replies.proofs.Laws.{law_of_replies}
 
@@ -39,6 +40,9 @@ module _ (s : Setting) (slots : ℕ) (some : 0 < s.nodes) (slot : 1 ≤ slots) (
 
   uses : KeepsUses r.whole
   uses = run_uses s slots some slot apart gs right
+
+  copies : KeepsMade r.log r.whole
+  copies = runs_keep_made s slots some apart gs right
 
   claims : ClaimIsAnswered (seen s r) g.event (entries_of (answer_to r g))
   claims = claims_are_answered s r.log r.whole keeps.step g.event g.handed
@@ -56,7 +60,12 @@ module _ (s : Setting) (slots : ℕ) (some : 0 < s.nodes) (slot : 1 ≤ slots) (
     fetches : FetchesAreMet (happening s r g step)
     fetches n w number y brings lives =
         let node = there s r keeps uses n lives in
-        law_of_fetches s slots gs g.seat g.handed brings.0 n w y number node.0 step brings.2 node.1 node.2 (named (Deliver brings.0) brings.1)
+        let met = law_of_fetches s slots gs g.seat g.handed brings.0 n w y number node.0 step brings.2 node.1 node.2 (named (Deliver brings.0) brings.1) in
+        record {
+          there = met.there;
+          first_copy = λ first. met.there (first_copy_kept s r keeps.step.sound.between copies n node.0 node.1 y number first);
+          lacking = met.lacking;
+        }
 
     slots_after : AllSlotsAreRight (seen s (after_event r g))
     slots_after =
@@ -106,3 +115,22 @@ events_are_paid s slots some slot apart gs right g is = record {
   claims = claims s slots some slot apart gs right g;
   accepted = paid s slots some slot apart gs right g is;
 }
+
+-- ---- from one event to the next
+
+pub reached_goes_on : ReachedGoesOn
+reached_goes_on = record {
+  opening = λ s slots. record { handings = []; right = tt; leads = refl };
+  next = λ s slots r g reached right. record {
+    handings = reached.handings ++ g ∷ [];
+    right = all_right s (opening_run s.nodes slots) reached.handings g reached.right
+        (subst (λ (q : Running). IsRight s q.whole g.event g.handed) (sym reached.leads) right);
+    leads = one_more (opening_run s.nodes slots) reached.handings g ∙ ap (λ q. after_event q g) reached.leads;
+  };
+}
+
+pub reached_pays : ReachedPays
+reached_pays s slots some slot apart r reached g right =
+    subst (λ q. AnswerPays s q g) reached.leads
+    (events_are_paid s slots some slot apart reached.handings reached.right g
+    (subst (λ (q : Running). IsRight s q.whole g.event g.handed) (sym reached.leads) right))

@@ -38,7 +38,7 @@ Stores s o n = list_any (is_copy_of o n) s.primaries ≡ true
 abbrev pub KeepsPrimaries : Store → Store → Type 0
 KeepsPrimaries s t = (o : Id) (n : ℕ) → Stores s o n → Stores t o n
 
-looked_keeps : (s : Store) (o : Id) (n : ℕ) → KeepsPrimaries s (looked_up s o n)
+pub looked_keeps : (s : Store) (o : Id) (n : ℕ) → KeepsPrimaries s (looked_up s o n)
 looked_keeps s o n p m h =
     at_test (λ b. Stores (if b then s else brought_to_front s (find (is_copy_of o n) s.secondaries)) p m) (list_any (is_copy_of o n) s.primaries) (λ _. h)
     (λ _. front (find (is_copy_of o n) s.secondaries))
@@ -52,7 +52,7 @@ secondary_keeps s o n c p m h =
     at_test (λ b. Stores (if b then s else record s { secondaries = take 16 (copy o n c ∷ filter (λ x. not (is_copy_of o n x)) s.secondaries) }) p m)
     (list_any (is_copy_of o n) s.primaries) (λ _. h) (λ _. h)
 
-copy_same : (o : Id) (i : ℕ) (x : Copy) → is_copy_of o i x ≡ true → (x.object ≡ o) × (x.number ≡ i)
+pub copy_same : (o : Id) (i : ℕ) (x : Copy) → is_copy_of o i x ≡ true → (x.object ≡ o) × (x.number ≡ i)
 copy_same o i x e = let t = and_parts (same_id x.object o) (x.number == i) e in (same_id-true x.object o t.0, eqb-true x.number i t.1)
 
 copy_is : (o : Id) (i : ℕ) (x : Copy) → x.object ≡ o → x.number ≡ i → is_copy_of o i x ≡ true

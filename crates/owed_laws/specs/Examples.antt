@@ -1,11 +1,13 @@
 -- Worked examples of what is owed: a birth and an end that pay, and altered ones in which the ask, or the acceptance, is missing.
-use Rattle.std.specs.Prelude.{List, None, [], ◌++◌, ◌∷◌}
-use Rattle.event_log.specs.Entries.{Accepted, Born, Claim, Commit, Deliver, Entry, In, main_attempt}
+use Rattle.std.specs.Prelude.{Bool, List, None, [], false, true, ◌++◌, ◌∷◌}
+use Rattle.meaning.specs.Values.{Items, Put, Val, Value, none}
+use Rattle.event_log.specs.Entries.{Accepted, Begun, Born, Claim, Commit, Deliver, Ended, Entry, In, main_attempt}
 use Rattle.event_log.specs.Rules.{Setting}
 use Rattle.event_log.specs.Legal.{opening}
-use Rattle.protocol.specs.Messages.{Ask, Finished, FinishedAck, Letter, TheNode, TheWorker, letter}
+use Rattle.protocol.specs.Messages.{Ask, CopyOf, Fetch, Finished, FinishedAck, Letter, Message, Missing, TheNode, TheWorker, letter}
 use Rattle.protocol.specs.Sets.{object_id}
-use Rattle.protocol_owed.specs.Replies.{BirthIsAsked, FinishIsAcknowledged, Happening}
+use Rattle.protocol_owed.specs.Replies.{BirthIsAsked, FetchIsAnswered, FinishIsAcknowledged, Happening, HasFirstCopy}
+use Rattle.protocol_owed.specs.Seen.{Scene}
 use Rattle.lease_discipline.specs.Examples.{first_one, given_log, one_once, scene}
 
 -- ---- a birth
@@ -51,3 +53,44 @@ pub record EndsAreJudged : Type 0 where
   pub paid : (s : Setting) → FinishIsAcknowledged (end_comes s (Accepted first_one ∷ []) acknowledged)
   pub unaccepted : (s : Setting) → FinishIsAcknowledged (end_comes s [] acknowledged) → ⊥
   pub unacknowledged : (s : Setting) → FinishIsAcknowledged (end_comes s (Accepted first_one ∷ []) []) → ⊥
+
+-- ---- a Fetch
+
+abbrev pub empty_list : Value
+empty_list = Items none
+
+-- main has put a list on node 1
+abbrev pub put_log : List Entry
+put_log = opening ++ In (Claim 1) 0 ∷ In (Commit 1) 0 ∷ Born (object_id 1 1) main_attempt (Put empty_list) ∷ []
+
+-- or it was a task, and that ended on node 1 with a small content
+abbrev pub ended_log : List Entry
+ended_log = given_log ++ Begun first_one 2 ∷ Ended first_one (Val empty_list) ∷ Accepted first_one ∷ []
+
+-- worker 2 has sent a Fetch to node 1, which has a copy or not
+abbrev pub fetch_scene : Setting → List Entry → Bool → Scene
+fetch_scene s log has =
+    record {
+      setting = s;
+      slots = 1;
+      log = log;
+      network = letter (TheWorker 2) (TheNode 1) (Fetch (object_id 1 1) 0) ∷ [];
+      holders = λ n. [];
+      keeps = λ n o number. has;
+    }
+
+abbrev pub fetch_comes : Setting → Bool → Message → Happening
+fetch_comes s has answer =
+    record {
+      before = fetch_scene s put_log has;
+      event = Deliver 1;
+      entries = [];
+      letters = letter (TheNode 1) (TheWorker 2) answer ∷ [];
+      after = fetch_scene s put_log has;
+    }
+
+-- the first copy answers it; and altered, by a node that lost it on its own and says so. What ended small is in no store.
+pub record FetchesAreJudged : Type 0 where
+  pub paid : (s : Setting) → FetchIsAnswered (fetch_comes s true (CopyOf (object_id 1 1) 0 (Val empty_list))) 1 2 (object_id 1 1) 0
+  pub withheld : (s : Setting) → FetchIsAnswered (fetch_comes s false (Missing (object_id 1 1) 0 1)) 1 2 (object_id 1 1) 0 → ⊥
+  pub small : (s : Setting) → HasFirstCopy (fetch_scene s ended_log false) 1 (object_id 1 1) 0 → ⊥

@@ -7,9 +7,9 @@ use Rattle.meaning.specs.Values.{Id}
 use Rattle.protocol.specs.Answers.{Step, Takes}
 use Rattle.protocol.specs.Messages.{Fetch, TheNode, TheWorker}
 use Rattle.protocol_laws.specs.Coming.{IsRight}
-use Rattle.protocol_owed.specs.Replies.{AcknowledgedGoesBack, BirthIsAsked, Brings, CopyIsGot, ElsewhereIsAsked, GiveIsBegun, Happening}
+use Rattle.protocol_owed.specs.Replies.{AcknowledgedGoesBack, BirthIsAsked, Brings, CopyIsGot, ElsewhereIsAsked, FetchIsAnswered, GiveIsBegun, Happening}
 use Rattle.protocol_owed.specs.Replies.{MissingIsHandedOn, NewWaitsAreTended}
-use Rattle.protocol_owed.specs.Runs.{FetchIsMet, Handing, Running, after_events, answer_to, opening_run, seen}
+use Rattle.protocol_owed.specs.Runs.{Handing, Running, after_event, after_events, answer_to, opening_run, seen}
 use Rattle.protocol_owed.specs.Seen.{IsCalm}
 use Rattle.protocol_owed.specs.Turns.{AllSlotsAreRight, AsksAreAnswered, ClaimIsAnswered}
 use Rattle.lease_discipline.specs.Slots.{AreRight}
@@ -17,11 +17,11 @@ use Rattle.lease_discipline.specs.Told.{entries_of}
 use Rattle.owed_asks.specs.Law.{happening}
 use Rattle.owed_replies.specs.Law.{IsPaid}
 
--- a Fetch that reaches a live node is answered by what its store has
+-- a Fetch that reaches a live node is answered: by a copy where the node has a first one, by log and network, or another; else by Missing
 abbrev pub FetchesAreMet : Happening → Type 0
 FetchesAreMet h =
     (n w number : ℕ) (y : Id) → Brings h (TheWorker w) (TheNode n) (Fetch y number) → node_lives h.before.setting.nodes n h.before.log ≡ true →
-    FetchIsMet h.before h.letters n w y number
+    FetchIsAnswered h n w y number
 
 -- as long as nothing was killed or lost
 pub record RepliesArePaid (h : Happening) : Type 0 where
@@ -62,3 +62,23 @@ EventsArePaid =
     (gs : List Handing) → AreRight s (opening_run s.nodes slots) gs → (g : Handing) →
     let r : Running = after_events (opening_run s.nodes slots) gs in
     IsRight s r.whole g.event g.handed → AnswerPays s r g
+
+-- ---- from one event to the next
+
+-- the opening leads to the run by handings that are right: what was handed in with each commit is what replays do
+pub record IsReached (s : Setting) (slots : ℕ) (r : Running) : Type 0 where
+  pub handings : List Handing
+  pub right : AreRight s (opening_run s.nodes slots) handings
+  pub leads : after_events (opening_run s.nodes slots) handings ≡ r
+
+-- the opening is reached, and so is what comes of one more event
+pub record ReachedGoesOn : Type 0 where
+  pub opening : (s : Setting) (slots : ℕ) → IsReached s slots (opening_run s.nodes slots)
+  pub next : (s : Setting) (slots : ℕ) (r : Running) (g : Handing) → IsReached s slots r → IsRight s r.whole g.event g.handed →
+      IsReached s slots (after_event r g)
+
+-- of a run that was reached, each event is paid
+abbrev pub ReachedPays : Type 0
+ReachedPays =
+    (s : Setting) (slots : ℕ) → 0 < s.nodes → 1 ≤ slots → KeepsMainApart s.script →
+    (r : Running) → IsReached s slots r → (g : Handing) → IsRight s r.whole g.event g.handed → AnswerPays s r g

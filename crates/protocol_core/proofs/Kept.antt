@@ -1,10 +1,10 @@
 -- What is kept of a run, event by event.
-use Rattle.std.proofs.Common.{◌≡◌, ℕ, ◌<◌, true, false, List, [], ◌++◌, Option, Some, None, IfSome, refl, sym, ap, ◌∙◌, subst}
+use Rattle.std.proofs.Common.{◌≡◌, ℕ, ◌<◌, ◌≤◌, true, false, List, [], ◌++◌, Option, Some, None, IfSome, refl, sym, ap, ◌∙◌, subst}
 use Rattle.meaning.specs.Syntax.{Script}
 use Rattle.std.specs.List.{AllByRecursion}
 use Rattle.script_check.specs.Scripts.{IsWellTyped}
 use Rattle.event_log.specs.Entries.{Entry, Event}
-use Rattle.event_log.specs.Legal.{Whole}
+use Rattle.event_log.specs.Legal as logs
 use Rattle.event_log.specs.Views.{code_of}
 use Rattle.event_log.specs.declared.refusal.Refusal.{Refusal}
 use Rattle.segment.specs.Jobs.{JobData, Done, IsBegun, IsTrueOf}
@@ -15,12 +15,16 @@ use Rattle.answers.specs.declared.reply.Outcome.TheVariants.{Taken, Refused}
 use Rattle.exchange.specs.Jobs.{job_in}
 use Rattle.protocol.specs.Answers.{Answer, Takes, Refuses, answer, logged, whole_after}
 use Rattle.protocol.specs.Jobs.{Handed, Job}
+use Rattle.protocol.specs.Whole.{Whole}
 use Rattle.protocol_laws.specs.Given.{ClaimsGiveGoodJobs, ClaimsGiveJobsOfTheLog, GivesGood, GivesOfLog, IsGood, IsGoodIfGiven, IsOfLog, IsOfLogIfGiven, JobsStayOfTheLog}
 use Rattle.protocol_laws.specs.Law.{EventsKeepSound, OpeningIsSound, SoundIsLegal}
 use Rattle.protocol_laws.specs.Sound.{IsSound}
 use Rattle.protocol_legal.specs.Whole.{setting_of}
 use Rattle.exchange.specs.Refusals.{HasUnknown, IsNoCode}
-use Rattle.protocol_core.specs.States.{RunState, IsLegal, IsSoundRun, beside, first_state}
+use Rattle.protocol_owed.specs.Runs.{Handing, Running, after_event, opening_run}
+use Rattle.owed_laws.specs.Law.{IsReached}
+use Rattle.owed_laws.proofs.Paid.{reached_goes_on}
+use Rattle.protocol_core.specs.States.{RunState, IsLegal, IsReachedRun, IsSoundRun, beside, first_state, run_of}
 use Rattle.protocol_core.specs.Steps.{Accepts, GivesJob, GivesThat, IsHanded, IsApplied, Applies, RunsOut, Tells}
 use Rattle.protocol_core.specs.Steps as told
 use Rattle.protocol_core.proofs.Jobs.{begun, gives_good, gives_own, right}
@@ -28,21 +32,41 @@ use Rattle.protocol_core.proofs.Known.{IsKnown, known_behind, none_unknown, refu
 
 -- ---- what is kept
 
-pub kept_of : (script : Script) (c : RunState) → SoundIsLegal → IsWellTyped script → 0 < c.first_nodes → IsSound (beside script c.first_nodes []) c.log c.whole → IsSoundRun script c
-kept_of script c law typed nodes sound = record {
+pub kept_of : (script : Script) (c : RunState) → SoundIsLegal → IsWellTyped script → 0 < c.first_nodes → IsReachedRun script c → IsSound (beside script c.first_nodes []) c.log c.whole →
+    IsSoundRun script c
+kept_of script c law typed nodes reached sound = record {
   typed = typed;
   nodes = nodes;
   legal = record {
     own = λ e. law (beside script c.first_nodes []) c.log c.whole sound;
     some = (c.whole.network, law (beside script c.first_nodes []) c.log c.whole sound);
   };
+  reached = reached;
   sound = λ e. sound;
 }
 
 -- a run that begins
-pub kept_first : (script : Script) (c : RunState) (nodes slots : ℕ) → OpeningIsSound → SoundIsLegal → IsWellTyped script → 0 < nodes → c ≡ first_state nodes slots → IsSoundRun script c
-kept_first script c nodes slots opening legal typed some e =
-    subst (λ x. IsSoundRun script x) (sym e) (kept_of script (first_state nodes slots) legal typed some (opening (beside script nodes []) slots some))
+reached_first : (script : Script) (nodes slots : ℕ) → 1 ≤ slots → IsReachedRun script (first_state nodes slots)
+reached_first script nodes slots slot = record {
+  slots = slots;
+  some = slot;
+  run = opening_run nodes slots;
+  reached = reached_goes_on.opening (beside script nodes []) slots;
+  log = refl;
+  whole = λ e. refl;
+}
+
+pub kept_first : (script : Script) (c : RunState) (nodes slots : ℕ) → OpeningIsSound → SoundIsLegal → IsWellTyped script → 0 < nodes → 1 ≤ slots → c ≡ first_state nodes slots → IsSoundRun script c
+kept_first script c nodes slots opening legal typed some slot e =
+    subst (λ x. IsSoundRun script x) (sym e)
+    (kept_of script (first_state nodes slots) legal typed some (reached_first script nodes slots slot) (opening (beside script nodes []) slots some))
+
+-- the run that was reached is this one, unless an event found no memory
+same_run : {c d : Whole} {k l : List Entry} → c ≡ d → k ≡ l → ◌≡◌ {A = Running} (record { whole = c; log = k }) (record { whole = d; log = l })
+same_run e f = cc
+
+pub reached_now : (script : Script) (c : RunState) → (r : IsReachedRun script c) → c.is_halted ≡ false → IsReached (beside script c.first_nodes []) r.slots (run_of c)
+reached_now script c r goes_on = subst (λ x. IsReached (beside script c.first_nodes []) r.slots x) (same_run (r.whole goes_on) r.log) r.reached
 
 -- a run that halted
 pub kept_halted : (script : Script) (before after : RunState) → IsSoundRun script before → after.log ≡ before.log → after.first_nodes ≡ before.first_nodes → after.is_halted ≡ true → IsSoundRun script after
@@ -52,6 +76,14 @@ kept_halted script before after kept same nodes halted = record {
   legal = record {
     own = λ f. absurd (true_false (sym halted ∙ f));
     some = subst (λ n. IsLegal script n after.log) (sym nodes) (subst (λ log. IsLegal script before.first_nodes log) (sym same) kept.legal.some);
+  };
+  reached = record {
+    slots = kept.reached.slots;
+    some = kept.reached.some;
+    run = kept.reached.run;
+    reached = subst (λ n. IsReached (beside script n []) kept.reached.slots kept.reached.run) (sym nodes) kept.reached.reached;
+    log = kept.reached.log ∙ sym same;
+    whole = λ f. absurd (true_false (sym halted ∙ f));
   };
   sound = λ f. absurd (true_false (sym halted ∙ f));
 }
@@ -67,6 +99,24 @@ module _ (script : Script) (before after : RunState) (e : Event) (seat : ℕ) (w
   sound_before : IsSound (beside script before.first_nodes []) before.log before.whole
   sound_before = kept.sound goes_on
 
+  -- the run behind it is reached
+  reached_behind : after.log ≡ before.log ++ logged e seat (answer before.whole e handed) → after.whole ≡ whole_after before.whole (answer before.whole e handed) →
+      after.first_nodes ≡ before.first_nodes → IsReachedRun script after
+  reached_behind log whole nodes =
+      let r : IsReachedRun script before = kept.reached in
+      let g : Handing = record { event = e; seat = seat; handed = handed } in
+      let s = beside script before.first_nodes [] in
+      let next : IsReached s r.slots (after_event (run_of before) g) =
+          reached_goes_on.next s r.slots (run_of before) g (reached_now script before r goes_on) (right script before.first_nodes before.whole e work handed is_handed is_true) in
+      record {
+        slots = r.slots;
+        some = r.some;
+        run = after_event (run_of before) g;
+        reached = subst (λ n. IsReached (beside script n []) r.slots (after_event (run_of before) g)) (sym nodes) next;
+        log = sym log;
+        whole = λ f. sym whole;
+      }
+
   -- the run is sound behind it
   pub kept_applied : EventsKeepSound → SoundIsLegal → after.log ≡ before.log ++ logged e seat (answer before.whole e handed) →
       after.whole ≡ whole_after before.whole (answer before.whole e handed) → after.first_nodes ≡ before.first_nodes → IsSoundRun script after
@@ -75,7 +125,7 @@ module _ (script : Script) (before after : RunState) (e : Event) (seat : ℕ) (w
       let a : Answer = answer before.whole e handed in
       let next = law s kept.typed.main_apart before.log before.whole e seat handed sound_before (right script before.first_nodes before.whole e work handed is_handed is_true) in
       let there : IsSound s after.log after.whole = subst (λ l. IsSound s l after.whole) (sym log) (subst (λ c. IsSound s (before.log ++ logged e seat a) c) (sym whole) next) in
-      kept_of script after legal kept.typed (subst (λ n. 0 < n) (sym nodes) kept.nodes) (subst (λ n. IsSound (beside script n []) after.log after.whole) (sym nodes) there)
+      kept_of script after legal kept.typed (subst (λ n. 0 < n) (sym nodes) kept.nodes) (reached_behind log whole nodes) (subst (λ n. IsSound (beside script n []) after.log after.whole) (sym nodes) there)
 
   -- nothing of it is a refusal of a number that none has
   pub known_applied : EventsKeepSound → SoundIsLegal → AllByRecursion IsKnown (logged e seat (answer before.whole e handed))
@@ -84,7 +134,7 @@ module _ (script : Script) (before after : RunState) (e : Event) (seat : ℕ) (w
       let s = beside script before.first_nodes [] in
       let next : IsSound s (before.log ++ logged e seat a) (whole_after before.whole a) =
       law s kept.typed.main_apart before.log before.whole e seat handed sound_before (right script before.first_nodes before.whole e work handed is_handed is_true) in
-      known_behind (setting_of s (whole_after before.whole a)) Whole before.log (logged e seat a) (legal s (before.log ++ logged e seat a) (whole_after before.whole a) next)
+      known_behind (setting_of s (whole_after before.whole a)) logs.Whole before.log (logged e seat a) (legal s (before.log ++ logged e seat a) (whole_after before.whole a) next)
 
   -- a job that it gives out may be run
   pub job_begun : ClaimsGiveGoodJobs → (job : JobData) → outcome_of (answer before.whole e handed) ≡ Taken (Some (job_in job)) → IsBegun script job

@@ -3,3 +3,4 @@ mod Kept
 mod Known
 mod Cursors
 mod Shown
+mod Paid

@@ -5,3 +5,4 @@ pub mod Steps
 pub mod Own
 pub mod Opening
 pub mod Pace
+pub mod Owed

@@ -1,5 +1,5 @@
 -- The state of a run.
-use Rattle.std.specs.Prelude.{◌≡◌, ◌<◌, ℕ, Bool, false, List, []}
+use Rattle.std.specs.Prelude.{◌≡◌, ◌<◌, ◌≤◌, ℕ, Bool, false, List, []}
 use Rattle.meaning.specs.Syntax.{Script}
 use Rattle.script_check.specs.Scripts.{IsWellTyped}
 use Rattle.event_log.specs.Entries.{Entry}
@@ -8,6 +8,8 @@ use Rattle.event_log.specs.Legal.{Legal, opening}
 use Rattle.protocol.specs.Messages.{Letter, receiver_in}
 use Rattle.protocol.specs.Whole.{Whole, first_whole}
 use Rattle.protocol_laws.specs.Sound.{IsSound}
+use Rattle.protocol_owed.specs.Runs.{Running}
+use Rattle.owed_laws.specs.Law.{IsReached}
 
 -- what the log is read beside: the script, how many nodes there were at first, and the messages that were sent
 abbrev pub beside : Script → ℕ → List Letter → Setting
@@ -33,9 +35,23 @@ pub record IsLegalRun (script : Script) (c : RunState) : Type 0 where
   pub own : c.is_halted ≡ false → Legal (beside script c.first_nodes c.whole.network) c.log
   pub some : IsLegal script c.first_nodes c.log
 
--- the script is well typed, there is a node, and the log is legal; unless an event found no memory, the run is sound
+-- workers, nodes, messages and log of a state
+abbrev pub run_of : RunState → Running
+run_of c = record { whole = c.whole; log = c.log }
+
+-- a run that was reached from its beginning, event by event, has this log; and these workers, nodes and messages, unless an event found no memory
+pub record IsReachedRun (script : Script) (c : RunState) : Type 0 where
+  pub slots : ℕ
+  pub some : 1 ≤ slots
+  pub run : Running
+  pub reached : IsReached (beside script c.first_nodes []) slots run
+  pub log : run.log ≡ c.log
+  pub whole : c.is_halted ≡ false → run.whole ≡ c.whole
+
+-- the script is well typed, there is a node, the log is legal, and the run was reached; unless an event found no memory, it is sound
 pub record IsSoundRun (script : Script) (c : RunState) : Type 0 where
   pub typed : IsWellTyped script
   pub nodes : 0 < c.first_nodes
   pub legal : IsLegalRun script c
+  pub reached : IsReachedRun script c
   pub sound : c.is_halted ≡ false → IsSound (beside script c.first_nodes []) c.log c.whole

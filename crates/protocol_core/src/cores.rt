@@ -6,7 +6,8 @@ ghost use Rattle.script_check.specs.Trees.{script_of};
 ghost use Rattle.event_log.specs.Views.{event_of, log_of};
 ghost use Rattle.protocol.specs.Settling.{next};
 ghost use Rattle.protocol_core.specs.Own.{GivesOwn, IsOwn};
-ghost use Rattle.protocol_core.specs.States.{IsLegalRun, first_state};
+ghost use Rattle.protocol_core.specs.Owed.{Pays};
+ghost use Rattle.protocol_core.specs.States.{IsLegalRun, IsReachedRun, first_state};
 ghost use Rattle.protocol_core.specs.Steps.{Answers, AnswersAsShown, reply_of};
 ghost use Rattle.protocol_core.specs.Views.{state_of};
 
@@ -77,6 +78,7 @@ impl<S: ScriptName> Core<S> {
     pub fn log(&self) -> &[Entry]
         ensures log { result.now ≡ self.now.log }
         ensures legal { IsLegalRun S.script (state_of self.now) }
+        ensures reached { IsReachedRun S.script (state_of self.now) }
     {
         self.state.log.as_slice()
     }
@@ -113,6 +115,8 @@ impl<S: ScriptName> Core<S> {
         ensures own { GivesOwn (log_of self.new.log) (reply_of result) }
         ensures legal { IsLegalRun S.script (state_of self.new) }
         ensures shown { AnswersAsShown S.script (state_of self.old) (event_of event) done (state_of self.new) (reply_of result) }
+        ensures reached { IsReachedRun S.script (state_of self.new) }
+        ensures paid { Pays S.script (state_of self.old) (event_of event) seat done (state_of self.new) (reply_of result) }
     {
         refusals_are_as_shown();
         if self.state.is_halted {
@@ -139,6 +143,8 @@ impl<S: ScriptName> Core<S> {
         ensures own { GivesOwn (log_of self.new.log) (reply_of result) }
         ensures legal { IsLegalRun S.script (state_of self.new) }
         ensures shown { AnswersAsShown S.script (state_of self.old) (event_of event) done (state_of self.new) (reply_of result) }
+        ensures reached { IsReachedRun S.script (state_of self.new) }
+        ensures paid { Pays S.script (state_of self.old) (event_of event) seat done (state_of self.new) (reply_of result) }
     {
         self.take(alloc, event, seat, done, false)
     }
@@ -157,6 +163,8 @@ impl<S: ScriptName> Core<S> {
         ensures own { GivesOwn (log_of self.new.log) (reply_of result) }
         ensures legal { IsLegalRun S.script (state_of self.new) }
         ensures shown { AnswersAsShown S.script (state_of self.old) (event_of event) done (state_of self.new) (reply_of result) }
+        ensures reached { IsReachedRun S.script (state_of self.new) }
+        ensures paid { Pays S.script (state_of self.old) (event_of event) seat done (state_of self.new) (reply_of result) }
     {
         self.take(alloc, event, seat, done, true)
     }

@@ -1,7 +1,8 @@
 // The events of a run that isn't halted.
 
-ghost use Rattle.std.specs.Prelude.{◌≡◌, false, true, IfOk, OnOk, OnErr};
+ghost use Rattle.std.specs.Prelude.{◌≡◌, false, true, IfOk, IfSome, OnOk, OnErr};
 ghost use Rattle.event_log.specs.Views.{event_of, log_of};
+ghost use Rattle.segment.specs.Jobs.{IsTrueOf};
 ghost use Rattle.protocol_core.specs.Own.{GivesOwn, IsOwn};
 ghost use Rattle.protocol_core.specs.States.{IsSoundRun};
 ghost use Rattle.protocol_core.specs.Steps.{Applies, Follows, RunsOut, reply_of};
@@ -45,6 +46,7 @@ fn try_step<S: ScriptName>(
     ensures own { IfOk result (λ told. GivesOwn (log_of state.new.log) (reply_of told)) }
     ensures same { OnErr result (state.new.log ≡ state.old.log) }
     ensures nodes { state.new.first_nodes ≡ state.old.first_nodes }
+    ensures is_true { IfSome done (λ d. IsTrueOf S.script d) }
 {
     event_keeps_sound();
     claims_give_good_jobs();
@@ -95,6 +97,7 @@ pub fn step<S: ScriptName>(
     ensures follows { Follows (state_of (data_of state.old)) (event_of event) seat done (state_of (data_of state.new)) (reply_of result) }
     ensures kept { IsSoundRun S.script (state_of (data_of state.new)) }
     ensures own { GivesOwn (log_of state.new.log) (reply_of result) }
+    ensures is_true { IfSome done (λ d. IsTrueOf S.script d) }
 {
     match try_step(alloc, state, event, seat, done, is_own) {
         Ok(told) => told,

@@ -125,7 +125,6 @@ fn read_events<E: Source>(alloc: Global, reader: &mut E) -> Result<EventLines, R
             Ok(EventLines { says, numbers })
         }
         Err(EventError::BadLine(line)) => Err(Refusal::BadLine { line }),
-        Err(EventError::TooLong) => unreachable!(),
         Err(EventError::NoMemory) => Err(Refusal::NoMemory),
     }
 }

@@ -27,7 +27,6 @@ fn read_plan<P: Source>(alloc: Global, reader: &mut P) -> Result<RunPlan, Refusa
     match parse_plan(alloc, text.as_slice()) {
         Ok(plan) => Ok(plan),
         Err(EventError::BadLine(line)) => Err(Refusal::BadLine { line }),
-        Err(EventError::TooLong) => unreachable!(),
         Err(EventError::NoMemory) => Err(Refusal::NoMemory),
     }
 }

@@ -6,10 +6,10 @@ pub invariant_of-self : goal.invariant_of-self
 invariant_of-self g c =
     let core = c.apply_own.new.self in
     let reads = c.legal_logs_read_as_serial.ensures in
-    meant g.S.ScriptName.script (state_of core) reads c.main_begins_the_serial_run.ensures c.apply_own.ensures.legal
+    meant g.S.ScriptName.script (state_of core) reads c.main_begins_the_serial_run.ensures c.apply_own.ensures.legal c.apply_own.ensures.reached
 
 pub returns-clause-meant : goal.returns-clause-meant
 returns-clause-meant g c =
     let core = c.apply_own.new.self in
     let reads = c.legal_logs_read_as_serial.ensures in
-    meant g.S.ScriptName.script (state_of core) reads c.main_begins_the_serial_run.ensures c.apply_own.ensures.legal
+    meant g.S.ScriptName.script (state_of core) reads c.main_begins_the_serial_run.ensures c.apply_own.ensures.legal c.apply_own.ensures.reached

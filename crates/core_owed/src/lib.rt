@@ -1,4 +1,0 @@
-//! What each event of a core owes and pays.
-#![tactic(auto)]
-
-pub mod law;

@@ -27,7 +27,6 @@ fn read_lines<E: Source>(alloc: Global, reader: &mut E) -> Result<Seq<Line>, Ref
     match parse_events(alloc, text.as_slice()) {
         Ok(lines) => Ok(lines),
         Err(EventError::BadLine(line)) => Err(Refusal::BadLine { line }),
-        Err(EventError::TooLong) => unreachable!(),
         Err(EventError::NoMemory) => Err(Refusal::NoMemory),
     }
 }

@@ -107,7 +107,7 @@ module _ (script : Script) (before after : RunState) (e : Event) (seat : ℕ) (w
       let g : Handing = record { event = e; seat = seat; handed = handed } in
       let s = beside script before.first_nodes [] in
       let next : IsReached s r.slots (after_event (run_of before) g) =
-          reached_goes_on.next s r.slots (run_of before) g (reached_now script before r goes_on) (right script before.first_nodes before.whole e work handed is_handed is_true) in
+      reached_goes_on.next s r.slots (run_of before) g (reached_now script before r goes_on) (right script before.first_nodes before.whole e work handed is_handed is_true) in
       record {
         slots = r.slots;
         some = r.some;

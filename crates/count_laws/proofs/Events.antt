@@ -1,0 +1,233 @@
+-- What each event adds to the workers and objects, in tables and log alike.
+use Rattle.std.proofs.Common.{◌≡◌, ℕ, zero, suc, ◌+◌, List, [], ◌∷◌, ◌++◌, length, map, Option, Some, None, refl, sym, ap, ◌∙◌, subst, arith, length-append}
+use Rattle.std.specs.Prelude.{Bool, true, false, if◌then◌else◌, not, ◌&&◌}
+use Rattle.std.specs.List.{flat_map}
+use Rattle.sequence.proofs.Places.{and_right}
+use Rattle.meaning.specs.Values.{Id, Outcome}
+use Rattle.event_log.specs.Entries.{Claim, Commit, Deliver, Entry, Event, Evict, Join, Kill, KillNode, Lose, Notice, NoticeNode, Tick}
+use Rattle.event_log.specs.Rules.{Setting}
+use Rattle.event_log.specs.Words.{born_in, opened}
+use Rattle.numbered.proofs.Lists.{changed-length}
+use Rattle.protocol.specs.Commits.{claim_step, commit_step}
+use Rattle.protocol.specs.Deliveries.{reached}
+use Rattle.protocol.specs.Events.{committed_by, dead, delivered_by, delivered_to, dies_with, happens, is_live_node, is_live_worker, killed_by, with_committed}
+use Rattle.protocol.specs.Events.{with_delivered}
+use Rattle.protocol.specs.Jobs.{Given, Handed, Nothing, OfAnother, OfJob}
+use Rattle.protocol.specs.Messages.{Ask, At, Back, CopyOf, Elsewhere, Failed, Fetch, Finished, FinishedAck, Give, Gone, Hold, HoldAck, Letter, Message, Missing}
+use Rattle.protocol.specs.Messages.{Party, Push, TheNode, TheWorker, Unhold, Wait, Where}
+use Rattle.protocol.specs.Nodes.{Node, There}
+use Rattle.protocol.specs.Notices.{notice_node_step, notice_step}
+use Rattle.protocol.specs.Numbered.{changed_at, item_at}
+use Rattle.protocol.specs.Refusals.{commit_refusal, is_of_job, is_out_by, or_code, refusal, unless}
+use Rattle.protocol.specs.Releases.{release_step}
+use Rattle.protocol.specs.Sets.{repeated}
+use Rattle.protocol.specs.Slots.{ask_key, fetched, forgets, node_reached, node_reached_from, reply_to}
+use Rattle.protocol.specs.Steps.{Here}
+use Rattle.protocol.specs.Stores.{copy_in}
+use Rattle.protocol.specs.Tables.{Worker, new_worker}
+use Rattle.protocol.specs.Ticks.{tick_step}
+use Rattle.protocol.specs.Whole.{Moved, Whole, after_node, after_worker, here, moved, node_at, node_does, node_does_by, there, worker_at, worker_does, worker_does_at}
+use Rattle.protocol.specs.Whole.{worker_does_by}
+use Rattle.protocol_laws.specs.Sound.{IsSound}
+use Rattle.protocol_owed.proofs.CourseAll.{LiveOne, both_passed, live_one, passed}
+use Rattle.protocol_owed.proofs.CourseRuns.{OutOf, out_of}
+use Rattle.owed_laws.proofs.SlotMoves as S
+use Rattle.owed_laws.proofs.StoreMoves as M
+use Rattle.owed_laws.proofs.StoreMoves.{IsKept}
+use Rattle.count_laws.specs.Counts.{borne}
+use Rattle.count_laws.proofs.Added.{Adds, commit_adds, here_adds, there_adds}
+use Rattle.count_laws.proofs.Claims.{claim_opens_none}
+
+-- so many objects more, each of them logged, and as many workers more as are logged
+pub record Grows (c : Whole) (k : ℕ) (m : Moved) : Type 0 where
+  pub workers : length m.whole.workers ≡ length c.workers + length (opened m.out.entries)
+  pub made : m.whole.made ≡ c.made + k
+  pub born : length (flat_map born_in m.out.entries) ≡ k
+
+long_repeated : (n : ℕ) (z : Worker) → length (repeated n z) ≡ n
+long_repeated zero z = refl
+long_repeated (suc n) z = ap suc (long_repeated n z)
+
+long_mapped : (f : Worker → Worker) (xs : List Worker) → length (map f xs) ≡ length xs
+long_mapped f [] = refl
+long_mapped f (x ∷ xs) = ap suc (long_mapped f xs)
+
+none_more : (n m : ℕ) → n ≡ m → n ≡ m + 0
+none_more n m e = omega (arith, e)
+
+module _ (c : Whole) where
+  still : (d : Whole) → length d.workers ≡ length c.workers → d.made ≡ c.made → Grows c 0 (moved d)
+  still d e f = record { workers = none_more _ _ e; made = none_more _ _ f; born = refl }
+
+  put_back : (d : Whole) (n k : ℕ) (t : There) → length d.workers ≡ length c.workers → d.made ≡ c.made + k → Adds k t → Grows c k (after_node d n t)
+  put_back d n k t long made p = record {
+    workers = counts (length c.workers) (length d.workers) t.opened (length (repeated t.opened (new_worker n))) (length (opened t.out.entries)) _ long p.opens
+        (long_repeated t.opened (new_worker n)) (length-append d.workers (repeated t.opened (new_worker n)));
+    made = made;
+    born = p.born;
+  }
+    where
+      counts : (n m i j k l : ℕ) → m ≡ n → k ≡ i → j ≡ i → l ≡ m + j → l ≡ n + k
+      counts n m i j k l e f g h = omega (arith, e, f, g, h)
+
+  begun : (d : Whole) (n : ℕ) (node : Node) → Adds 0 (there d n node)
+  begun d n node = record { born = refl; opens = refl }
+
+  node_grows : (d : Whole) (n : ℕ) (f : There → There) → length d.workers ≡ length c.workers → d.made ≡ c.made → ((node : Node) → Adds 0 (f (there d n node))) →
+      Grows c 0 (node_does d n f)
+  node_grows d n f long made step = by_node (node_at d n)
+    where
+      by_node : (o : Option Node) → Grows c 0 (node_does_by d n f o)
+      by_node None = still d long made
+      by_node (Some node) = put_back d n 0 (f (there d n node)) long (none_more _ _ made) (step node)
+
+  after_grows : (d : Whole) (w n k : ℕ) (h : Here) → length d.workers ≡ length c.workers → d.made ≡ c.made + k → Adds k h.there → Grows c k (after_worker d w n h)
+  after_grows d w n k h long made p =
+      put_back (record d { workers = changed_at d.workers w (λ _. h.worker) }) n k h.there (changed-length d.workers w (λ _. h.worker) ∙ long) made p
+
+  worker_grows : (d : Whole) (w : ℕ) (f : Here → Here) → length d.workers ≡ length c.workers → d.made ≡ c.made →
+      ((P : Here → Type 0) → IsKept P → (h : Here) → P h → P (f h)) → Grows c 0 (worker_does d w f)
+  worker_grows d w f long made step = by_worker (worker_at d w)
+    where
+      by_home : (x : Worker) (o : Option Node) → Grows c 0 (worker_does_at d w x f o)
+      by_home x None = still d long made
+      by_home x (Some node) =
+          let h : Here = here d w x node in
+          after_grows d w x.node 0 (release_step (f h)) long (none_more _ _ made)
+          (M.release_step-kept (λ g. Adds 0 g.there) (here_adds 0) (f h) (step (λ g. Adds 0 g.there) (here_adds 0) h (begun d x.node node)))
+
+      by_worker : (o : Option Worker) → Grows c 0 (worker_does_by d w f o)
+      by_worker None = still d long made
+      by_worker (Some x) = by_home x (node_at d x.node)
+
+  -- ---- deliveries
+
+  module _ (n : ℕ) (d : Whole) (node : Node) where
+    abbrev t : There
+    t = there d n node
+
+    start : Adds 0 t
+    start = begun d n node
+
+    by_fetch : (o : Id) (number w : ℕ) (x : Option Outcome) → Adds 0 (fetched t o number w x)
+    by_fetch o number w None = record { born = start.born; opens = start.opens }
+    by_fetch o number w (Some x) = record { born = start.born; opens = start.opens }
+
+    by_message : (w : ℕ) (m : Message) → Adds 0 (node_reached_from t w m)
+    by_message w (Ask a k) = S.asked_by-kept (Adds 0) (there_adds 0) t (ask_key a k) (reply_to node.scheduler (ask_key a k)) start
+    by_message w (Back a) = S.is_back-kept (Adds 0) (there_adds 0) t w a start
+    by_message w (Fetch o number) = by_fetch o number w (copy_in node.store o number)
+    by_message w (Unhold x o why) = record { born = start.born; opens = start.opens }
+    by_message w (Give a k v) = start
+    by_message w (Elsewhere a k m) = start
+    by_message w (Wait a k) = start
+    by_message w (Push a spec) = start
+    by_message w (Finished a m ids kept) = start
+    by_message w (FinishedAck a) = start
+    by_message w (Failed a g) = start
+    by_message w (Where o) = start
+    by_message w (At o number ns kept) = start
+    by_message w (Gone o g) = start
+    by_message w (CopyOf o number x) = start
+    by_message w (Missing o number m) = start
+    by_message w (Hold x o) = start
+    by_message w (HoldAck x o) = start
+
+    by_sender : (p : Party) (m : Message) → Adds 0 (node_reached t p m)
+    by_sender (TheWorker w) m = by_message w m
+    by_sender (TheNode k) m = start
+
+  if_grows : (b : Bool) (x y : Moved) → Grows c 0 x → Grows c 0 y → Grows c 0 (if b then x else y)
+  if_grows true x y p q = p
+  if_grows false x y p q = q
+
+  delivered_grows : (d : Whole) (l : Letter) (to : Party) → length d.workers ≡ length c.workers → d.made ≡ c.made → Grows c 0 (delivered_to d l to)
+  delivered_grows d l (TheWorker w) long made =
+      if_grows (is_live_worker (worker_at d w)) (worker_does d w (λ h. reached h l.sender l.message)) (moved d)
+      (worker_grows d w (λ h. reached h l.sender l.message) long made (λ P kept h p. M.reached-kept P kept h l.sender l.message p)) (still d long made)
+  delivered_grows d l (TheNode n) long made =
+      if_grows (is_live_node (node_at d n)) (node_does d n (λ h. node_reached h l.sender l.message)) (moved d)
+      (node_grows d n (λ h. node_reached h l.sender l.message) long made (λ node. by_sender n d node l.sender l.message)) (still d long made)
+
+  deliver_grows : (k : ℕ) (o : Option Letter) → Grows c 0 (delivered_by c k o)
+  deliver_grows k None = still c refl refl
+  deliver_grows k (Some l) = delivered_grows (with_delivered c k) l l.receiver refl refl
+
+  -- ---- a worker's death
+
+  death_grows : (w : ℕ) (o : Option Worker) → Grows c 0 (killed_by c w o)
+  death_grows w None = still c refl refl
+  death_grows w (Some x) =
+      let d : Whole = record c { workers = changed_at c.workers w dead } in
+      node_grows d x.node (λ h. forgets h w) (changed-length c.workers w dead) refl
+      (λ node. S.forgets-kept (Adds 0) (there_adds 0) (there d x.node node) w (begun d x.node node))
+
+-- ---- a commit, of a live worker
+
+module _ (s : Setting) (log : List Entry) (c : Whole) (sound : IsSound s log c) where
+  unhanded : (j : ℕ) (k : ℕ) (b d : Bool) (o : Option ℕ) → or_code (unless (d && false && b) 32) o ≡ None → Grows c k (moved c)
+  unhanded j k b true o f = absurd (cc)
+  unhanded j k b false o f = absurd (cc)
+
+  commit_grows : (j : ℕ) (handed : Handed) (g : Option Given) → commit_refusal c j handed g ≡ None → Grows c (borne (Commit j) handed) (committed_by c j handed g)
+  commit_grows j handed None e = absurd (cc)
+  commit_grows j Nothing (Some g) e = unhanded j 0 (is_out_by (worker_at c g.worker) j) (not g.is_committed) (unless (is_live_worker (worker_at c g.worker)) 33) e
+  commit_grows j OfAnother (Some g) e = unhanded j 0 (is_out_by (worker_at c g.worker) j) (not g.is_committed) (unless (is_live_worker (worker_at c g.worker)) 33) e
+  commit_grows j (OfJob o) (Some g) e =
+      let open_job : Bool = not g.is_committed && is_of_job (OfJob o) in
+      let both = both_passed (unless (open_job && is_out_by (worker_at c g.worker) j) 32) (unless (is_live_worker (worker_at c g.worker)) 33) e in
+      let out : is_out_by (worker_at c g.worker) j ≡ true =
+      and_right open_job (is_out_by (worker_at c g.worker) j) (passed (open_job && is_out_by (worker_at c g.worker) j) 32 both.0) in
+      let x : LiveOne (worker_at c g.worker) = live_one (worker_at c g.worker) (passed (is_live_worker (worker_at c g.worker)) 33 both.1) in
+      let n = sound.between.knows.housed g.worker x.worker x.at x.lives in
+      let run : OutOf x.worker.run j = out_of x.worker.run j (ap (λ y. is_out_by y j) (sym x.at) ∙ out) in
+      let d : Whole = with_committed c j (length o.births) in
+      let h : Here = here d g.worker x.worker n.0 in
+      let same : worker_does d g.worker (λ i. commit_step i o) ≡ after_worker d g.worker x.worker.node (release_step (commit_step h o)) =
+      ap (worker_does_by d g.worker (λ i. commit_step i o)) x.at ∙ ap (worker_does_at d g.worker x.worker (λ i. commit_step i o)) n.1 in
+      let k : ℕ = length o.births in
+      subst (Grows c k) (sym same)
+      (after_grows c d g.worker x.worker.node k (release_step (commit_step h o)) refl refl
+      (M.release_step-kept (λ i. Adds k i.there) (here_adds k) (commit_step h o) (commit_adds h o run.run run.at refl refl)))
+
+  -- ---- every event
+
+  pub event_grows : (e : Event) (handed : Handed) → refusal c e handed ≡ None → Grows c (borne e handed) (happens c e handed)
+  event_grows (Claim w) handed r =
+      worker_grows c (record c { jobs = c.jobs ++ record { worker = w; is_committed = false } ∷ [] }) w (λ h. claim_step h (length c.jobs + 1)) refl refl
+      (λ P kept h p. M.claim_step-kept P kept h (length c.jobs + 1) p)
+  event_grows (Commit j) handed r = commit_grows j handed (item_at c.jobs j) r
+  event_grows (Deliver k) handed r = deliver_grows c k (item_at c.network k)
+  event_grows (Tick w) handed r = worker_grows c c w tick_step refl refl (λ P kept h p. M.tick_step-kept P kept h p)
+  event_grows (Notice w v) handed r = worker_grows c c w (λ h. notice_step h v) refl refl (λ P kept h p. M.notice_step-kept P kept h v p)
+  event_grows (NoticeNode w n) handed r = worker_grows c c w (λ h. notice_node_step h n) refl refl (λ P kept h p. M.notice_node_step-kept P kept h n p)
+  event_grows (Evict n o) handed r = still c (happens c (Evict n o) handed).whole refl refl
+  event_grows (Lose n o) handed r = still c (happens c (Lose n o) handed).whole refl refl
+  event_grows (Kill w) handed r = death_grows c w (worker_at c w)
+  event_grows (KillNode n) handed r = still c (happens c (KillNode n) handed).whole (long_mapped (dies_with n) c.workers) refl
+  event_grows Join handed r = still c (happens c Join handed).whole refl refl
+
+-- ---- a claim opens nobody
+
+module _ (c : Whole) (w : ℕ) where
+  abbrev with_job : Whole
+  with_job = record c { jobs = c.jobs ++ record { worker = w; is_committed = false } ∷ [] }
+
+  abbrev claims : Here → Here
+  claims h = claim_step h (length c.jobs + 1)
+
+  pub claim_grows_none : (handed : Handed) → length (opened (happens c (Claim w) handed).out.entries) ≡ 0
+  claim_grows_none handed = by_worker (worker_at c w)
+    where
+      by_home : (x : Worker) (o : Option Node) → length (opened (worker_does_at with_job w x claims o).out.entries) ≡ 0
+      by_home x None = refl
+      by_home x (Some node) =
+          let h : Here = here with_job w x node in
+          let p : Adds 0 (release_step (claims h)).there =
+          M.release_step-kept (λ g. Adds 0 g.there) (here_adds 0) (claims h)
+          (M.claim_step-kept (λ g. Adds 0 g.there) (here_adds 0) h (length c.jobs + 1) (record { born = refl; opens = refl })) in
+          p.opens ∙ claim_opens_none h (length c.jobs + 1) refl
+
+      by_worker : (o : Option Worker) → length (opened (worker_does_by with_job w claims o).out.entries) ≡ 0
+      by_worker None = refl
+      by_worker (Some x) = by_home x (node_at c x.node)

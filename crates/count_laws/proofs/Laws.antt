@@ -1,0 +1,300 @@
+-- The counts of the log are those of the tables, event by event; so a refusal for a limit is one by the counts of the log.
+use Rattle.std.proofs.Common.{◌≡◌, ◌<◌, ◌≤◌, ℕ, zero, suc, ◌+◌, List, [], ◌∷◌, ◌++◌, length, map, Option, Some, None, refl, sym, ap, ◌∙◌, subst, arith, length-append}
+use Rattle.std.specs.Prelude.{Bool, true, false, if◌then◌else◌, ◌&&◌, nat_lt}
+use Rattle.std.specs.List.{flat_map}
+use Rattle.std.proofs.lemmas.Bool.{and_parts}
+use Rattle.std.proofs.lemmas.Bool.Decides.{nat_tests}
+use Rattle.std.proofs.lemmas.List.Concat.{flat_map-append}
+use Rattle.meaning.specs.Mains.{KeepsMainApart}
+use Rattle.event_log.specs.Breaks.{Among}
+use Rattle.event_log.specs.Causes.{shown}
+use Rattle.event_log.specs.Entries.{Claim, Commit, Deliver, Entry, Event, Evict, In, Join, Kill, KillNode, Lose, Notice, NoticeNode, Refused, Tick}
+use Rattle.event_log.specs.Events.{accepted_events, join_in, joins}
+use Rattle.event_log.specs.Legal.{opening}
+use Rattle.event_log.specs.Rules.{Setting}
+use Rattle.event_log.specs.Words.{births, born_in, opened, opened_in}
+use Rattle.event_log.proofs.EventLaws.{accepted-event, accepted-refused}
+use Rattle.protocol.specs.Answers.{Answer, Refuses, Step, Takes, answer, decided, given_out, logged, takes, whole_after}
+use Rattle.protocol.specs.Events.{happens}
+use Rattle.protocol.specs.Jobs.{Handed}
+use Rattle.protocol.specs.Refusals.{is_of_job, is_within_limits, refusal}
+use Rattle.protocol.specs.Tables.{Worker}
+use Rattle.protocol.specs.Whole.{Moved, Whole}
+use Rattle.protocol_laws.specs.Shown.{IsAsShown, hidden, number_of}
+use Rattle.protocol_laws.specs.Sound.{IsSound}
+use Rattle.protocol_laws.proofs.Shown.{refusals_are_as_shown}
+use Rattle.protocol_legal.specs.Whole.{setting_of}
+use Rattle.protocol_owed.specs.Runs.{Handing, Running, after_event, after_events, answer_to, opening_run}
+use Rattle.protocol_owed.proofs.Counting.{are_parts, happens-counted, no_event, not_refused}
+use Rattle.lease_discipline.specs.Slots.{AreRight}
+use Rattle.lease_discipline.specs.Told.{IsInStep}
+use Rattle.lease_discipline.proofs.Told.{events_stay_in_step, opening_is_in_step}
+use Rattle.owed_laws.specs.Law.{IsReached}
+use Rattle.count_laws.specs.Counts.{Counts, behind, borne, counted, is_within, would_open}
+use Rattle.count_laws.specs.Law.{AreCounted, EventsAreLimited, IsLimited, PassesLimit, RunsAreCounted, RunsAreWithin}
+use Rattle.count_laws.proofs.Added.{many}
+use Rattle.count_laws.proofs.Events.{Grows, claim_grows_none, event_grows}
+use Rattle.count_laws.proofs.Numbers.{refusal_is_no_limit, shown_is_no_limit}
+
+-- ---- counts
+
+same_counts : {a b : ℕ} {i j : ℕ} {k l : ℕ} → a ≡ b → i ≡ j → k ≡ l →
+    ◌≡◌ {A = Counts} (record { nodes = a; workers = i; objects = k }) (record { nodes = b; workers = j; objects = l })
+same_counts e f g = cc
+
+no_more : (n : ℕ) → n + 0 ≡ n
+no_more n = omega (arith)
+
+long : (xs : List Worker) → length (map (λ (x : Worker). x.node) xs) ≡ length xs
+long [] = refl
+long (x ∷ xs) = ap suc (long xs)
+
+long_nil : {X : Type 0} (xs : List X) → length (xs ++ []) ≡ length xs
+long_nil [] = refl
+long_nil (x ∷ xs) = ap suc (long_nil xs)
+
+-- the parts of an event that was accepted bring its join, if it is one
+joins_then : (log : List Entry) (e : Event) (seat : ℕ) (es : List Entry) → are_parts es ≡ true → length (joins (log ++ In e seat ∷ es)) ≡ length (joins log) + length (join_in e)
+joins_then log e seat es q =
+    let f : accepted_events (log ++ In e seat ∷ es) ≡ accepted_events log ++ e ∷ [] =
+    accepted-event log e seat es (no_event es q) ∙ ap (λ b. accepted_events log ++ (if b then [] else e ∷ [])) (not_refused es q) in
+    ap (λ xs. length (flat_map join_in xs)) f ∙ ap length (flat_map-append join_in (accepted_events log) (e ∷ []))
+    ∙ length-append (joins log) (join_in e ++ []) ∙ ap (λ k. length (joins log) + k) (long_nil (join_in e))
+
+refused_counts : (s : Setting) (log : List Entry) (e : Event) (seat code : ℕ) → counted s (log ++ In e seat ∷ Refused code ∷ []) ≡ counted s log
+refused_counts s log e seat code =
+    let es : List Entry = In e seat ∷ Refused code ∷ [] in
+    same_counts (ap (λ xs. s.nodes + length (flat_map join_in xs)) (accepted-refused log e seat code))
+    (many opened_in log es ∙ no_more (length (opened log))) (ap suc (many born_in log es ∙ no_more (length (flat_map born_in log))))
+
+-- ---- one event of a sound run whose objects are counted
+
+module _ (s : Setting) (log : List Entry) (c : Whole) (sound : IsSound s log c) (made : c.made ≡ length (births log)) where
+  workers_long : length c.workers ≡ length (opened log)
+  workers_long = sym (ap length sound.between.knows.opened ∙ long c.workers)
+
+  pub now_counted : AreCounted s (record { whole = c; log = log })
+  now_counted = record { nodes = sound.between.knows.nodes; workers = workers_long; objects = made }
+
+  module _ (e : Event) (seat : ℕ) (handed : Handed) where
+    abbrev m : Moved
+    m = happens c e handed
+
+    abbrev pub next : Counts
+    next = behind (counted s log) c e handed
+
+    taken_counts : refusal c e handed ≡ None → counted s (log ++ In e seat ∷ m.out.entries) ≡ next
+    taken_counts r =
+        let i = happens-counted c e handed in
+        let g = event_grows s log c sound e handed r in
+        let j = joins_then log e seat m.out.entries i.quiet in
+        let b = many born_in log (In e seat ∷ m.out.entries) in
+        let k = g.born in
+        same_counts (nodes_more s.nodes (length (joins log)) (length (join_in e)) _ j) (many opened_in log (In e seat ∷ m.out.entries))
+        (objects_more (length (flat_map born_in log)) (length (flat_map born_in m.out.entries)) (borne e handed) _ b k)
+      where
+        nodes_more : (a n k l : ℕ) → l ≡ n + k → a + l ≡ (a + n) + k
+        nodes_more a n k l f = omega (arith, f)
+
+        objects_more : (n i k l : ℕ) → l ≡ n + i → i ≡ k → suc l ≡ suc n + k
+        objects_more n i k l f g = omega (arith, f, g)
+
+    -- the tables after it have as many as the log would have
+    limits_as : refusal c e handed ≡ None → is_within_limits m.whole ≡ is_within next
+    limits_as r =
+        let i = happens-counted c e handed in
+        let g = event_grows s log c sound e handed r in
+        ap (λ n. nat_lt n 65 && nat_lt (length m.whole.workers) 1025 && nat_lt m.whole.made 1000001) (i.nodes ∙ ap (λ n. n + length (join_in e)) sound.between.knows.nodes)
+        ∙ ap (λ n. nat_lt next.nodes 65 && nat_lt n 1025 && nat_lt m.whole.made 1000001) (g.workers ∙ ap (λ n. n + would_open c e handed) workers_long)
+        ∙ ap (λ n. nat_lt next.nodes 65 && nat_lt next.workers 1025 && nat_lt n 1000001) (g.made ∙ ap (λ n. n + borne e handed) made)
+
+    -- what comes of an answer
+    pub record Comes (a : Answer) : Type 0 where
+      pub accepted : (step : Step) → a ≡ Takes step → counted s (log ++ logged e seat a) ≡ next
+      pub otherwise : (code : ℕ) → a ≡ Refuses code → counted s (log ++ logged e seat a) ≡ counted s log
+      pub within : is_within (counted s log) ≡ true → is_within (counted s (log ++ logged e seat a)) ≡ true
+      pub objects : (whole_after c a).made ≡ length (births (log ++ logged e seat a))
+
+    refused_comes : (code : ℕ) → Comes (Refuses code)
+    refused_comes code =
+        let f = refused_counts s log e seat code in
+        record {
+          accepted = λ step i. absurd (apart step i);
+          otherwise = λ k i. f;
+          within = λ i. ap is_within f ∙ i;
+          objects = made ∙ sym (ap (λ (n : Counts). n.objects) f);
+        }
+      where
+        apart : (step : Step) → Refuses code ≡ Takes step → ⊥
+        apart step i = cc
+
+    limited_comes : (t : Bool) → is_within_limits m.whole ≡ t → refusal c e handed ≡ None → Comes (if t then takes m (given_out c e) else Refuses 37)
+    limited_comes false w r = refused_comes 37
+    limited_comes true w r =
+        let f = taken_counts r in
+        record {
+          accepted = λ step i. f;
+          otherwise = λ code i. absurd (apart code i);
+          within = λ i. ap is_within f ∙ sym (limits_as r) ∙ w;
+          objects = (event_grows s log c sound e handed r).made ∙ ap (λ n. n + borne e handed) made ∙ sym (ap (λ (n : Counts). n.objects) f);
+        }
+      where
+        apart : (code : ℕ) → takes m (given_out c e) ≡ Refuses code → ⊥
+        apart code i = cc
+
+    decided_comes : (o : Option ℕ) → refusal c e handed ≡ o → Comes (decided c e handed o)
+    decided_comes (Some code) r = refused_comes code
+    decided_comes None r = limited_comes (is_within_limits m.whole) refl r
+
+    pub comes : Comes (answer c e handed)
+    comes = decided_comes (refusal c e handed) refl
+
+    -- ---- where it is refused 37
+
+    abbrev pub Passes : Type 0
+    Passes = PassesLimit s (record { whole = c; log = log }) (record { event = e; seat = seat; handed = handed })
+
+    same_code : (code k : ℕ) → Refuses code ≡ Refuses k → code ≡ k
+    same_code code k i = cc
+
+    differ : {X : Type 0} (t : Bool) → t ≡ true → t ≡ false → X
+    differ t i j = absurd (cc)
+
+    -- the log shows no cause where the number is 37
+    shows_no_cause : number_of (answer c e handed) ≡ Some 37 → shown (setting_of s c) log (is_of_job handed) e ≡ None
+    shows_no_cause i = go (shown (setting_of s c) log (is_of_job handed) e) refl (refusals_are_as_shown s log c sound e handed)
+      where
+        go : (o : Option ℕ) → shown (setting_of s c) log (is_of_job handed) e ≡ o → IsAsShown e o (number_of (answer c e handed)) → o ≡ None
+        go None f h = refl
+        go (Some code) f h = absurd (shown_is_no_limit (setting_of s c) log (is_of_job handed) e (f ∙ sym h ∙ i))
+
+    beyond : answer c e handed ≡ Refuses 37 → is_within next ≡ false
+    beyond i = go (refusal c e handed) refl i
+      where
+        by_test : (t : Bool) → is_within_limits m.whole ≡ t → refusal c e handed ≡ None → (if t then takes m (given_out c e) else Refuses 37) ≡ Refuses 37 → is_within next ≡ false
+        by_test true w r j = absurd (cc)
+        by_test false w r j = sym (limits_as r) ∙ w
+
+        go : (o : Option ℕ) → refusal c e handed ≡ o → decided c e handed o ≡ Refuses 37 → is_within next ≡ false
+        go (Some code) r j = absurd (refusal_is_no_limit c e handed (r ∙ ap (λ k. Some k) (same_code code 37 j)))
+        go None r j = by_test (is_within_limits m.whole) refl r j
+
+    pub refused_passes : answer c e handed ≡ Refuses 37 → Passes
+    refused_passes i = record { unshown = shows_no_cause (ap number_of i); beyond = beyond i }
+
+    -- where nothing is added, no limit is passed
+    adds_nothing : is_within (counted s log) ≡ true → length (join_in e) ≡ 0 → would_open c e handed ≡ 0 → borne e handed ≡ 0 → is_within next ≡ true
+    adds_nothing w i j k =
+        ap is_within (same_counts (none _ _ i) (none _ _ j) (none _ _ k)) ∙ w
+      where
+        none : (n l : ℕ) → l ≡ 0 → n + l ≡ n
+        none n l f = omega (arith, f)
+
+-- of an event that isn't refused for what the tables alone show, the only number that the log doesn't show is 37; the others add nothing
+only_limit : (code : ℕ) → Among code (37 ∷ []) → code ≡ 37
+only_limit code (zero, e) = cc
+only_limit code (suc k, e) = absurd (cc)
+
+module _ (s : Setting) (log : List Entry) (c : Whole) (sound : IsSound s log c) (made : c.made ≡ length (births log)) (w : is_within (counted s log) ≡ true) where
+  hidden_limit : (e : Event) (seat : ℕ) (handed : Handed) → is_within (behind (counted s log) c e handed) ≡ false → (code : ℕ) → Among code (hidden e) → code ≡ 37
+  hidden_limit (Claim v) seat handed b code h = differ s log c sound made (Claim v) seat handed _ (adds_nothing s log c sound made (Claim v) seat handed w refl (claim_grows_none c v handed) refl) b
+  hidden_limit (Evict n o) seat handed b code h = differ s log c sound made (Evict n o) seat handed _ (adds_nothing s log c sound made (Evict n o) seat handed w refl refl refl) b
+  hidden_limit (Lose n o) seat handed b code h = differ s log c sound made (Lose n o) seat handed _ (adds_nothing s log c sound made (Lose n o) seat handed w refl refl refl) b
+  hidden_limit (Commit j) seat handed b code h = only_limit code h
+  hidden_limit (Deliver k) seat handed b code h = only_limit code h
+  hidden_limit (Tick v) seat handed b code h = only_limit code h
+  hidden_limit (Notice v u) seat handed b code h = only_limit code h
+  hidden_limit (NoticeNode v n) seat handed b code h = only_limit code h
+  hidden_limit (Kill v) seat handed b code h = only_limit code h
+  hidden_limit (KillNode n) seat handed b code h = only_limit code h
+  hidden_limit Join seat handed b code h = only_limit code h
+
+  passes_refused : (e : Event) (seat : ℕ) (handed : Handed) → Passes s log c sound made e seat handed → answer c e handed ≡ Refuses 37
+  passes_refused e seat handed p =
+      go (refusal c e handed) refl
+      (subst (λ o. IsAsShown e o (number_of (answer c e handed))) p.unshown (refusals_are_as_shown s log c sound e handed))
+    where
+      by_test : (t : Bool) → is_within_limits (happens c e handed).whole ≡ t → refusal c e handed ≡ None → (if t then takes (happens c e handed) (given_out c e) else Refuses 37) ≡ Refuses 37
+      by_test false i r = refl
+      by_test true i r = differ s log c sound made e seat handed _ (sym (limits_as s log c sound made e seat handed r) ∙ i) p.beyond
+
+      go : (o : Option ℕ) → refusal c e handed ≡ o → IsAsShown e None (number_of (decided c e handed o)) → decided c e handed o ≡ Refuses 37
+      go (Some code) r h = ap (λ k. Refuses k) (hidden_limit e seat handed p.beyond code h)
+      go None r h = by_test (is_within_limits (happens c e handed).whole) refl r
+
+  -- ---- joins
+
+  full : nat_lt ((counted s log).nodes + 1) 65 && nat_lt ((counted s log).workers + 0) 1025 && nat_lt ((counted s log).objects + 0) 1000001 ≡ false → (counted s log).nodes ≡ 64
+  full b =
+      let p = and_parts (nat_lt (counted s log).nodes 65 && nat_lt (counted s log).workers 1025) (nat_lt (counted s log).objects 1000001) w in
+      let q = and_parts (nat_lt (counted s log).nodes 65) (nat_lt (counted s log).workers 1025) p.0 in
+      at_last (counted s log).nodes q.0 (only (nat_lt ((counted s log).nodes + 1) 65) _ _ (more (counted s log).workers 1025 q.1) (more (counted s log).objects 1000001 p.1) b)
+    where
+      more : (n k : ℕ) → nat_lt n k ≡ true → nat_lt (n + 0) k ≡ true
+      more n k e = ap (λ i. nat_lt i k) (no_more n) ∙ e
+
+      only : (t u v : Bool) → u ≡ true → v ≡ true → (t && u && v) ≡ false → t ≡ false
+      only true u v e f g = absurd (cc)
+      only false u v e f g = refl
+
+      at_last : (n : ℕ) → nat_lt n 65 ≡ true → nat_lt (n + 1) 65 ≡ false → n ≡ 64
+      at_last n e f = grind (arith, nat_tests)
+
+  fills : (counted s log).nodes ≡ 64 → nat_lt ((counted s log).nodes + 1) 65 && nat_lt ((counted s log).workers + 0) 1025 && nat_lt ((counted s log).objects + 0) 1000001 ≡ false
+  fills e = ap (λ n. nat_lt (n + 1) 65 && nat_lt ((counted s log).workers + 0) 1025 && nat_lt ((counted s log).objects + 0) 1000001) e
+
+  pub limited : (g : Handing) → IsLimited s (record { whole = c; log = log }) g
+  limited g =
+      let k = comes s log c sound made g.event g.seat g.handed in
+      record {
+        refused = refused_passes s log c sound made g.event g.seat g.handed;
+        passes = passes_refused g.event g.seat g.handed;
+        accepted = k.accepted;
+        otherwise = k.otherwise;
+        within = k.within w;
+        full = λ e i. full (subst (λ (x : Event). is_within (behind (counted s log) c x g.handed) ≡ false) e (refused_passes s log c sound made g.event g.seat g.handed i).beyond);
+        fills = λ e i. passes_refused g.event g.seat g.handed (record {
+          unshown = ap (shown (setting_of s c) log (is_of_job g.handed)) e;
+          beyond = subst (λ (x : Event). is_within (behind (counted s log) c x g.handed) ≡ false) (sym e) (fills i);
+        });
+      }
+
+-- ---- runs
+
+abbrev Objects : Running → Type 0
+Objects r = r.whole.made ≡ length (births r.log)
+
+-- what is true of each run that was reached
+record Counted (s : Setting) (r : Running) : Type 0 where
+  sound : IsSound s r.log r.whole
+  objects : Objects r
+  within : s.nodes ≤ 64 → is_within (counted s r.log) ≡ true
+
+stays_counted : (s : Setting) → KeepsMainApart s.script → (r : Running) (gs : List Handing) → AreRight s r gs → IsInStep s r.log r.whole → Objects r →
+    (s.nodes ≤ 64 → is_within (counted s r.log) ≡ true) → Counted s (after_events r gs)
+stays_counted s apart r [] right step made w = record { sound = step.sound; objects = made; within = w }
+stays_counted s apart r (g ∷ gs) right step made w =
+    let k = comes s r.log r.whole step.sound made g.event g.seat g.handed in
+    stays_counted s apart (after_event r g) gs right.1 (events_stay_in_step s apart r.log r.whole g.event g.seat g.handed step right.0) k.objects (λ n. k.within (w n))
+
+opening_within : (s : Setting) → s.nodes ≤ 64 → is_within (counted s opening) ≡ true
+unfolding accepted_events
+opening_within s few = ap (λ t. t && true && true) (below s.nodes few)
+  where
+    below : (n : ℕ) → n ≤ 64 → nat_lt (n + 0) 65 ≡ true
+    below n f = grind (arith, nat_tests, f)
+
+reached_counted : (s : Setting) (slots : ℕ) → 0 < s.nodes → KeepsMainApart s.script → (r : Running) → IsReached s slots r → Counted s r
+reached_counted s slots some apart r reached =
+    subst (Counted s) reached.leads
+    (stays_counted s apart (opening_run s.nodes slots) reached.handings reached.right (opening_is_in_step s slots some) refl (opening_within s))
+
+pub runs_are_counted : RunsAreCounted
+runs_are_counted s slots some apart r reached = let k = reached_counted s slots some apart r reached in now_counted s r.log r.whole k.sound k.objects
+
+pub runs_are_within : RunsAreWithin
+runs_are_within s slots some few apart r reached = (reached_counted s slots some apart r reached).within few
+
+pub events_are_limited : EventsAreLimited
+events_are_limited s slots some few apart r reached g =
+    let k = reached_counted s slots some apart r reached in limited s r.log r.whole k.sound k.objects (k.within few) g

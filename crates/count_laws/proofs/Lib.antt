@@ -1,0 +1,5 @@
+pub mod Added
+pub mod Claims
+pub mod Events
+pub mod Numbers
+pub mod Laws

@@ -1,0 +1,35 @@
+-- How many nodes, workers and objects there are by the log, and how many there would be behind an event.
+use Rattle.std.specs.Prelude.{ℕ, ◌+◌, Bool, ◌&&◌, List, length, nat_lt}
+use Rattle.event_log.specs.Entries.{Commit, Entry, Event}
+use Rattle.event_log.specs.Events.{join_in, joins}
+use Rattle.event_log.specs.Rules.{Setting}
+use Rattle.event_log.specs.Words.{births, opened}
+use Rattle.protocol.specs.Events.{happens}
+use Rattle.protocol.specs.Jobs.{Handed, OfJob}
+use Rattle.protocol.specs.Whole.{Whole}
+
+pub record Counts : Type 0 where
+  pub nodes : ℕ
+  pub workers : ℕ
+  pub objects : ℕ
+
+-- the nodes that there were at first and those that joined; the workers that were opened; main's object and those that were born
+abbrev pub counted : Setting → List Entry → Counts
+counted s log = record { nodes = s.nodes + length (joins log); workers = length (opened log); objects = length (births log) }
+
+-- at most 64 nodes, 1,024 workers and 1,000,000 objects
+abbrev pub is_within : Counts → Bool
+is_within n = nat_lt n.nodes 65 && nat_lt n.workers 1025 && nat_lt n.objects 1000001
+
+-- how many objects the event bears: a commit those that what was done on its job bore, any other event none
+abbrev pub borne : Event → Handed → ℕ
+borne (Commit j) (OfJob d) = length d.births
+borne e handed = 0
+
+-- how many workers the event would open
+abbrev pub would_open : Whole → Event → Handed → ℕ
+would_open c e handed = length (opened (happens c e handed).out.entries)
+
+-- how many there would be behind the event: one node more where it is a join, the workers that it would open, the objects that it bears
+abbrev pub behind : Counts → Whole → Event → Handed → Counts
+behind n c e handed = record { nodes = n.nodes + length (join_in e); workers = n.workers + would_open c e handed; objects = n.objects + borne e handed }

@@ -45,7 +45,8 @@ pub enum Form {
 
 /// The report, and behind it the books of the seats.
 fn report_with_books<S: ScriptName>(alloc: Global, board: &Board<S>) -> Result<String, AllocError>
-    ensures { IfOk result (λ text. string_bytes text ≡ report_text (log_of board.now.log) ++ book_lines (log_of board.now.log)) }
+    ensures text { IfOk result (λ text. string_bytes text ≡ report_text (log_of board.now.log) ++ book_lines (log_of board.now.log)) }
+    ensures meant { IsSoundLog S.script (state_of board.now) }
 {
     let mut text = board.report(alloc)?;
     let books = book_lines(alloc, board.log())?;

@@ -256,7 +256,7 @@ impl<S: ScriptName, P: RunName> Turning<S, P> {
     /// The entries so far, oldest first.
     pub fn log(&self) -> &[Entry]
         ensures log { result.now ≡ self.now.run.log }
-        ensures meant { IsSoundLog S.script self.now.run.first_nodes (log_of self.now.run.log) }
+        ensures meant { IsSoundLog S.script (state_of self.now.run) }
     {
         self.board.log()
     }

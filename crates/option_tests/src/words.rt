@@ -64,6 +64,48 @@ fn reads_a_simulation(rt: HostRuntime) -> Result<(), Fail> {
 }
 
 #[test]
+fn reads_a_simulation_with_books(rt: HostRuntime) -> Result<(), Fail> {
+    let alloc = rt.alloc();
+    let w = words(alloc, &["raysim", "sim", "sq.ray", "events", "--books"])?;
+    let Request::Sim(sim) = options(alloc, w.as_slice())? else {
+        return Err(Fail::from("a simulation"));
+    };
+    assert!(rt; sim.books);
+    assert!(rt; !sim.json);
+    let both = words(
+        alloc,
+        &["raysim", "sim", "sq.ray", "events", "--books", "--json"],
+    )?;
+    let Err(error) = options(alloc, both.as_slice()) else {
+        return Err(Fail::from("a fault"));
+    };
+    let text = format!(in alloc; "{error}")?;
+    assert!(rt;
+        text.as_str().starts_with("error: the argument '--books' cannot be used with '--json'")
+    );
+    Ok(())
+}
+
+#[test]
+fn reads_a_migration(rt: HostRuntime) -> Result<(), Fail> {
+    let alloc = rt.alloc();
+    let w = words(
+        alloc,
+        &["raysim", "migrate", "sq.ray", "events", "--slots", "2"],
+    )?;
+    let Request::Migrate(migrate) = options(alloc, w.as_slice())? else {
+        return Err(Fail::from("a migration"));
+    };
+    assert_eq!(rt; migrate.script, "sq.ray");
+    assert_eq!(rt; migrate.events, "events");
+    assert_eq!(rt; migrate.nodes, 1);
+    assert_eq!(rt; migrate.slots, 2);
+    let w = words(alloc, &["raysim", "migrate", "sq.ray"])?;
+    assert!(rt; options(alloc, w.as_slice()).is_err());
+    Ok(())
+}
+
+#[test]
 fn reads_what_is_to_be_told(rt: HostRuntime) -> Result<(), Fail> {
     let alloc = rt.alloc();
     let w = words(alloc, &["raysim", "log", "sq.ray", "--nodes", "2"])?;

@@ -1,10 +1,32 @@
 -- Events and lines, one after the other.
-use Rattle.std.proofs.Common.{◌≡◌, ℕ, zero, suc, ◌+◌, ◌<◌, List, [], ◌∷◌, take, length, get_or, Some, refl, sym, ap, subst, arith}
+use Rattle.std.proofs.Common.{◌≡◌, ℕ, zero, suc, ◌+◌, ◌<◌, false, List, [], ◌∷◌, ◌++◌, take, length, get_or, Option, Some, refl, sym, ap, subst, arith}
 use Rattle.std.specs.Prelude.{slice_get}
 use Rattle.meaning.specs.Syntax.{Script}
 use Rattle.event_log.specs.Entries.{Event}
 use Rattle.protocol.specs.Settling.{next}
-use Rattle.protocol_board.specs.Replays.{AllPlay, Play, Settles, Step}
+use Rattle.segment.specs.Jobs.{Done}
+use Rattle.protocol_core.specs.Steps.{Answers, Reply}
+use Rattle.protocol_board.specs.Replays.{AllPlay, Gives, IsDoneOn, Play, Settles, Step, found_no_memory, given_by, job_for, left_by, with_given}
+
+-- an event that is applied, with what it gives
+pub gives_so : (script : Script) (before after : Play) (e : Event) (seat : ℕ) (done : Option Done) (told : Reply) (given : Option ℕ) →
+    before.applied < 100000 → IsDoneOn script (job_for e before.jobs) done → Answers before.run e seat done after.run told → found_no_memory told ≡ false →
+    after.jobs ≡ with_given told (left_by e before.jobs) → after.applied ≡ before.applied + 1 → after.sent ≡ before.sent ++ length after.run.whole.network ∷ [] →
+    after.begun ≡ before.begun → after.lines ≡ before.lines ++ before.begun ∷ [] → given ≡ given_by e told → Gives script before e seat after given
+gives_so script before after e seat done told given within is_done answers goes_on jobs counted sent same_line lines is_given = (
+  record {
+    within = within;
+    told = told;
+    answered = (done, is_done, answers);
+    goes_on = goes_on;
+    jobs = jobs;
+    counted = counted;
+    sent = sent;
+    same_line = same_line;
+    lines = lines;
+  },
+  is_given,
+)
 
 pub no_event : (script : Script) (but : List ℕ) (p : Play) → Settles script but 0 p p
 unfolding Settles
@@ -65,3 +87,12 @@ item_there {A} items xs i x same h e = subst (λ l. slice_get l i ≡ Some x) sa
     there [] i h e = absurd (omega arith)
     there (y ∷ ys) zero h e = ap (λ z. Some z) (sym e)
     there (y ∷ ys) (suc i) h e = there ys i (omega arith) e
+
+-- the same of items that are copied
+pub item_copied : {A : Type 0} (items xs : List A) (i : ℕ) (default : A) → items ≡ xs → i < length items → slice_get xs i ≡ Some (get_or items i default)
+item_copied {A} items xs i default same h = subst (λ l. slice_get l i ≡ Some (get_or items i default)) same (there items i h)
+  where
+    there : (ys : List A) (i : ℕ) → i < length ys → slice_get ys i ≡ Some (get_or ys i default)
+    there [] i h = absurd (omega arith)
+    there (y ∷ ys) zero h = refl
+    there (y ∷ ys) (suc i) h = there ys i (omega arith)

@@ -5,6 +5,7 @@ ghost use Rattle.std.specs.Option.{option_map};
 ghost use Rattle.event_log.specs.Views.{event_of, log_of};
 ghost use Rattle.protocol.specs.Settling.{next};
 ghost use Rattle.protocol_core.specs.Own.{GivesOwn, IsOwn};
+ghost use Rattle.protocol_core.specs.Limits.{Limits};
 ghost use Rattle.protocol_core.specs.Owed.{Pays};
 ghost use Rattle.protocol_core.specs.Steps.{Answers, AnswersAsShown, reply_of};
 ghost use Rattle.protocol_core.specs.Views.{state_of};
@@ -72,6 +73,7 @@ impl<S: ScriptName> Board<S> {
         ensures answers { Answers (state_of self.old) (event_of event) seat done (state_of self.new) (reply_of result) }
         ensures shown { AnswersAsShown S.script (state_of self.old) (event_of event) done (state_of self.new) (reply_of result) }
         ensures paid { Pays S.script (state_of self.old) (event_of event) seat done (state_of self.new) (reply_of result) }
+        ensures limited { Limits S.script (state_of self.old) (event_of event) seat done (state_of self.new) (reply_of result) }
         ensures meant { IsSoundLog S.script (state_of self.new) }
     {
         legal_logs_read_as_serial();
@@ -91,6 +93,7 @@ impl<S: ScriptName> Board<S> {
         ensures answers { Answers (state_of self.old) (event_of event) seat done (state_of self.new) (reply_of result) }
         ensures shown { AnswersAsShown S.script (state_of self.old) (event_of event) done (state_of self.new) (reply_of result) }
         ensures paid { Pays S.script (state_of self.old) (event_of event) seat done (state_of self.new) (reply_of result) }
+        ensures limited { Limits S.script (state_of self.old) (event_of event) seat done (state_of self.new) (reply_of result) }
         ensures own { GivesOwn (log_of self.new.log) (reply_of result) }
         ensures meant { IsSoundLog S.script (state_of self.new) }
     {

@@ -241,13 +241,13 @@ impl<S: ScriptName> Replay<S> {
         &mut self,
         alloc: Global,
         script: &Compiled,
-        said: RecordedEvent,
+        said: &RecordedEvent,
     ) -> Result<(), Stopped>
         requires script { script_of script.now ≡ S.script }
         requires counts { self.old.begun + 1 < 2 ^ 64 }
         ensures counted { OnOk result (self.new.begun ≡ self.old.begun + 1) }
-        ensures plays { OnOk result (EventPlays S.script said (play_of self.old) (play_of self.new)) }
-        ensures stops { IfErr result (λ stopped. EventStops S.script said (play_of self.old) (play_of self.new) stopped) }
+        ensures plays { OnOk result (EventPlays S.script said.now (play_of self.old) (play_of self.new)) }
+        ensures stops { IfErr result (λ stopped. EventStops S.script said.now (play_of self.old) (play_of self.new) stopped) }
     {
         self.begun += 1;
         let given = self.apply(alloc, script, said.event, said.seat)?;
@@ -273,7 +273,7 @@ impl<S: ScriptName> Replay<S> {
     {
         self.restart();
         for said in &events.items {
-            self.play_event(alloc, script, *said)?;
+            self.play_event(alloc, script, said)?;
         }
         Ok(())
     }

@@ -32,11 +32,12 @@ use Rattle.protocol_core.proofs.Known.{IsKnown, known_behind, none_unknown, refu
 
 -- ---- what is kept
 
-pub kept_of : (script : Script) (c : RunState) → SoundIsLegal → IsWellTyped script → 0 < c.first_nodes → IsReachedRun script c → IsSound (beside script c.first_nodes []) c.log c.whole →
+pub kept_of : (script : Script) (c : RunState) → SoundIsLegal → IsWellTyped script → 0 < c.first_nodes → c.first_nodes ≤ 64 → IsReachedRun script c → IsSound (beside script c.first_nodes []) c.log c.whole →
     IsSoundRun script c
-kept_of script c law typed nodes reached sound = record {
+kept_of script c law typed nodes few reached sound = record {
   typed = typed;
   nodes = nodes;
+  few = few;
   legal = record {
     own = λ e. law (beside script c.first_nodes []) c.log c.whole sound;
     some = (c.whole.network, law (beside script c.first_nodes []) c.log c.whole sound);
@@ -56,10 +57,10 @@ reached_first script nodes slots slot = record {
   whole = λ e. refl;
 }
 
-pub kept_first : (script : Script) (c : RunState) (nodes slots : ℕ) → OpeningIsSound → SoundIsLegal → IsWellTyped script → 0 < nodes → 1 ≤ slots → c ≡ first_state nodes slots → IsSoundRun script c
-kept_first script c nodes slots opening legal typed some slot e =
+pub kept_first : (script : Script) (c : RunState) (nodes slots : ℕ) → OpeningIsSound → SoundIsLegal → IsWellTyped script → 0 < nodes → nodes ≤ 64 → 1 ≤ slots → c ≡ first_state nodes slots → IsSoundRun script c
+kept_first script c nodes slots opening legal typed some few slot e =
     subst (λ x. IsSoundRun script x) (sym e)
-    (kept_of script (first_state nodes slots) legal typed some (reached_first script nodes slots slot) (opening (beside script nodes []) slots some))
+    (kept_of script (first_state nodes slots) legal typed some few (reached_first script nodes slots slot) (opening (beside script nodes []) slots some))
 
 -- the run that was reached is this one, unless an event found no memory
 same_run : {c d : Whole} {k l : List Entry} → c ≡ d → k ≡ l → ◌≡◌ {A = Running} (record { whole = c; log = k }) (record { whole = d; log = l })
@@ -73,6 +74,7 @@ pub kept_halted : (script : Script) (before after : RunState) → IsSoundRun scr
 kept_halted script before after kept same nodes halted = record {
   typed = kept.typed;
   nodes = subst (λ n. 0 < n) (sym nodes) kept.nodes;
+  few = subst (λ n. n ≤ 64) (sym nodes) kept.few;
   legal = record {
     own = λ f. absurd (true_false (sym halted ∙ f));
     some = subst (λ n. IsLegal script n after.log) (sym nodes) (subst (λ log. IsLegal script before.first_nodes log) (sym same) kept.legal.some);
@@ -107,7 +109,7 @@ module _ (script : Script) (before after : RunState) (e : Event) (seat : ℕ) (w
       let g : Handing = record { event = e; seat = seat; handed = handed } in
       let s = beside script before.first_nodes [] in
       let next : IsReached s r.slots (after_event (run_of before) g) =
-          reached_goes_on.next s r.slots (run_of before) g (reached_now script before r goes_on) (right script before.first_nodes before.whole e work handed is_handed is_true) in
+      reached_goes_on.next s r.slots (run_of before) g (reached_now script before r goes_on) (right script before.first_nodes before.whole e work handed is_handed is_true) in
       record {
         slots = r.slots;
         some = r.some;
@@ -125,7 +127,7 @@ module _ (script : Script) (before after : RunState) (e : Event) (seat : ℕ) (w
       let a : Answer = answer before.whole e handed in
       let next = law s kept.typed.main_apart before.log before.whole e seat handed sound_before (right script before.first_nodes before.whole e work handed is_handed is_true) in
       let there : IsSound s after.log after.whole = subst (λ l. IsSound s l after.whole) (sym log) (subst (λ c. IsSound s (before.log ++ logged e seat a) c) (sym whole) next) in
-      kept_of script after legal kept.typed (subst (λ n. 0 < n) (sym nodes) kept.nodes) (reached_behind log whole nodes) (subst (λ n. IsSound (beside script n []) after.log after.whole) (sym nodes) there)
+      kept_of script after legal kept.typed (subst (λ n. 0 < n) (sym nodes) kept.nodes) (subst (λ n. n ≤ 64) (sym nodes) kept.few) (reached_behind log whole nodes) (subst (λ n. IsSound (beside script n []) after.log after.whole) (sym nodes) there)
 
   -- nothing of it is a refusal of a number that none has
   pub known_applied : EventsKeepSound → SoundIsLegal → AllByRecursion IsKnown (logged e seat (answer before.whole e handed))

@@ -26,6 +26,10 @@ pub as_shown : (script : Script) (before after : RunState) (e : Event) (seat : �
     (before.is_halted ≡ false → Follows before e seat work after told) → AnswersAsShown script before e work after told
 as_shown script before after e seat work told law kept follows goes on = elim (follows goes) [
   | inl r ↦ absurd (true_false (sym r.halted ∙ on))
-  | inr a ↦ (a.0, a.1, subst (IsAsShown e (shown (beside script before.first_nodes before.whole.network) before.log (is_of_job a.0) e)) (told_number (answer before.whole e a.0) told a.2.told_so)
-      (law (beside script before.first_nodes []) before.log before.whole (kept.sound goes) e a.0))
+  | inr a ↦ (
+    a.0,
+    a.1,
+    subst (IsAsShown e (shown (beside script before.first_nodes before.whole.network) before.log (is_of_job a.0) e)) (told_number (answer before.whole e a.0) told a.2.told_so)
+        (law (beside script before.first_nodes []) before.log before.whole (kept.sound goes) e a.0),
+  )
 ]

@@ -6,3 +6,4 @@ pub mod Own
 pub mod Opening
 pub mod Pace
 pub mod Owed
+pub mod Limits

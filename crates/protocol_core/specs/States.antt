@@ -48,10 +48,11 @@ pub record IsReachedRun (script : Script) (c : RunState) : Type 0 where
   pub log : run.log ≡ c.log
   pub whole : c.is_halted ≡ false → run.whole ≡ c.whole
 
--- the script is well typed, there is a node, the log is legal, and the run was reached; unless an event found no memory, it is sound
+-- the script is well typed, there are from 1 to 64 nodes at first, the log is legal, and the run was reached; unless an event found no memory, it is sound
 pub record IsSoundRun (script : Script) (c : RunState) : Type 0 where
   pub typed : IsWellTyped script
   pub nodes : 0 < c.first_nodes
+  pub few : c.first_nodes ≤ 64
   pub legal : IsLegalRun script c
   pub reached : IsReachedRun script c
   pub sound : c.is_halted ≡ false → IsSound (beside script c.first_nodes []) c.log c.whole

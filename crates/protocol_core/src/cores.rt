@@ -6,6 +6,7 @@ ghost use Rattle.script_check.specs.Trees.{script_of};
 ghost use Rattle.event_log.specs.Views.{event_of, log_of};
 ghost use Rattle.protocol.specs.Settling.{next};
 ghost use Rattle.protocol_core.specs.Own.{GivesOwn, IsOwn};
+ghost use Rattle.protocol_core.specs.Limits.{Limits};
 ghost use Rattle.protocol_core.specs.Owed.{Pays};
 ghost use Rattle.protocol_core.specs.States.{IsLegalRun, IsReachedRun, first_state};
 ghost use Rattle.protocol_core.specs.Steps.{Answers, AnswersAsShown, reply_of};
@@ -117,6 +118,7 @@ impl<S: ScriptName> Core<S> {
         ensures shown { AnswersAsShown S.script (state_of self.old) (event_of event) done (state_of self.new) (reply_of result) }
         ensures reached { IsReachedRun S.script (state_of self.new) }
         ensures paid { Pays S.script (state_of self.old) (event_of event) seat done (state_of self.new) (reply_of result) }
+        ensures limited { Limits S.script (state_of self.old) (event_of event) seat done (state_of self.new) (reply_of result) }
     {
         refusals_are_as_shown();
         if self.state.is_halted {
@@ -145,6 +147,7 @@ impl<S: ScriptName> Core<S> {
         ensures shown { AnswersAsShown S.script (state_of self.old) (event_of event) done (state_of self.new) (reply_of result) }
         ensures reached { IsReachedRun S.script (state_of self.new) }
         ensures paid { Pays S.script (state_of self.old) (event_of event) seat done (state_of self.new) (reply_of result) }
+        ensures limited { Limits S.script (state_of self.old) (event_of event) seat done (state_of self.new) (reply_of result) }
     {
         self.take(alloc, event, seat, done, false)
     }
@@ -165,6 +168,7 @@ impl<S: ScriptName> Core<S> {
         ensures shown { AnswersAsShown S.script (state_of self.old) (event_of event) done (state_of self.new) (reply_of result) }
         ensures reached { IsReachedRun S.script (state_of self.new) }
         ensures paid { Pays S.script (state_of self.old) (event_of event) seat done (state_of self.new) (reply_of result) }
+        ensures limited { Limits S.script (state_of self.old) (event_of event) seat done (state_of self.new) (reply_of result) }
     {
         self.take(alloc, event, seat, done, true)
     }

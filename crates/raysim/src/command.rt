@@ -2,7 +2,7 @@
 
 ghost use Rattle.raysim_options.specs.Reads.{AreThreads, IsCluster};
 
-use crate::replays::{Replayed, over_events};
+use crate::replays::{Replayed, migrate_events, over_events};
 use crate::scripts::{Command, over_script};
 use crate::threads::over_threads;
 use crate::told::{explain, fault};
@@ -10,7 +10,7 @@ use crate::views::Views;
 use ids::ObjectId;
 use raysim_commands::{Cluster, Form};
 use raysim_options::{
-    LogOptions, Request, RunOptions, ScriptOptions, SimOptions, WhyOptions, options,
+    LogOptions, MigrateOptions, Request, RunOptions, ScriptOptions, SimOptions, WhyOptions, options,
 };
 use std::io;
 use std::process::ExitCode;
@@ -37,6 +37,7 @@ pub fn answer<R: Files + Print + Eprint + AllocGlobal + Threads + Wait + Clock +
         Request::Run(options) => over_run(rt, &options),
         Request::Log(options) => over_log(rt, &options),
         Request::Why(options) => over_why(rt, &options),
+        Request::Migrate(options) => over_migrate(rt, &options),
         Request::Explain(number) => explain(rt, number),
     }
 }
@@ -54,6 +55,14 @@ fn cluster_of(nodes: u8, slots: u8) -> Cluster
 /// How a report is written.
 fn report_form(json: bool) -> Form {
     if json { Form::Json } else { Form::Text }
+}
+
+/// How the report of a replay is written.
+fn sim_form(options: &SimOptions<'_>) -> Form {
+    if options.books {
+        return Form::TextWithBooks;
+    }
+    report_form(options.json)
 }
 
 /// How a log is told.
@@ -103,7 +112,21 @@ fn over_sim<R: Files + Print + Eprint + AllocGlobal>(
         timeline: options.timeline,
         lineage: options.lineage,
     };
-    over_events(rt, &replayed, report_form(options.json), &views)
+    over_events(rt, &replayed, sim_form(options), &views)
+}
+
+fn over_migrate<R: Files + Print + Eprint + AllocGlobal>(
+    rt: &R,
+    options: &MigrateOptions<'_>,
+) -> io::Result<ExitCode>
+    requires { IsCluster options.now.nodes options.now.slots }
+{
+    let replayed = Replayed {
+        script: options.script,
+        events: options.events,
+        cluster: cluster_of(options.nodes, options.slots),
+    };
+    migrate_events(rt, &replayed)
 }
 
 fn over_log<R: Files + Print + Eprint + AllocGlobal>(

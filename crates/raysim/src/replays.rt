@@ -3,7 +3,8 @@
 use crate::told::tell;
 use crate::views::{OUTPUT, View, Views};
 use raysim_commands::{
-    Cluster, Failure, Form, Refusal, Tracked, check, exit_status, read_at_most, read_script, sim,
+    Cluster, Failure, Form, Refusal, Tracked, check, exit_status, migrate, read_at_most,
+    read_script, sim,
 };
 use raysim_options::ScriptOptions;
 use std::process::ExitCode;
@@ -53,6 +54,31 @@ pub fn over_events<R: Files + Print + Eprint + AllocGlobal>(
     }
     let status = exit_status(&done);
     with_views(rt, replayed, &texts, views, status)
+}
+
+/// Replays a list of events of format 1 and writes it as one of format 2; the refusal, where there is one, is told on standard error.
+pub fn migrate_events<R: Files + Print + Eprint + AllocGlobal>(
+    rt: &R,
+    replayed: &Replayed<'_>,
+) -> io::Result<ExitCode> {
+    let texts = match read_texts(rt, replayed) {
+        Ok(texts) => texts,
+        Err(refusal) => return refused(rt, refusal, replayed, OUTPUT),
+    };
+    let mut writer = Tracked::writer(io::writer(rt));
+    let mut script = Tracked::reader(texts.script.as_slice());
+    let mut events = Tracked::reader(texts.events.as_slice());
+    let done = migrate(
+        rt.alloc(),
+        &mut script,
+        &mut events,
+        replayed.cluster,
+        &mut writer,
+    );
+    if let Err(refusal) = &done {
+        return refused(rt, *refusal, replayed, OUTPUT);
+    }
+    Ok(ExitCode::from(exit_status(&done)))
 }
 
 /// Tells the refusal.

@@ -20,11 +20,11 @@ begins_so run sent size e f =
 
 -- it ends, and its report is written
 pub run_ends : (script named : Script) (size : Size) (form : Form) (before after : Course) (report : List ℕ) (status : ℕ) →
-    script ≡ named → before ≡ first_run size → EndsSo named before after → IsSoundLog named after.run.first_nodes after.run.log →
+    script ≡ named → before ≡ first_run size → EndsSo named before after → IsSoundLog named after.run →
     IsReportIn form (account_of after.run after.sent []) report → status ≡ status_of after.run.log → IsReportOf script size form report status
 run_ends script named size form before after report status own first ends meant written told =
     let driven = subst (λ s. EndsSo s (first_run size) after) (sym own) (subst (λ b. EndsSo named b after) first ends) in
-    let sound = subst (λ s. IsSoundLog s after.run.first_nodes after.run.log) (sym own) meant in
+    let sound = subst (λ s. IsSoundLog s after.run) (sym own) meant in
     (after, record { ends = driven; meant = sound }, written, told)
 
 -- it stops before its end

@@ -2,6 +2,7 @@ pub mod AsSerial
 pub mod Begun
 pub mod Driven
 pub mod Explained
+pub mod Migrated
 pub mod Reading
 pub mod Refused
 pub mod Simulated

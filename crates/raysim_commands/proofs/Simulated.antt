@@ -10,7 +10,6 @@ use Rattle.raysim_streams.specs.declared.Refusal.{Refusal}
 use Rattle.raysim_streams.specs.declared.Refusal.TheVariants.{At, NoMemory, Stopped, BadLine, WrongJob, Failed}
 use Rattle.raysim_commands.specs.declared.form.Form.{Form}
 use Rattle.raysim_commands.specs.Scripts.{Explains, IsScript}
-use Rattle.raysim_commands.specs.Reports.{account_of}
 use Rattle.raysim_commands.specs.SimReports.{AreEvents, ExplainsSim, IfBoth, IsSimBegun, IsSimReportOf, IsSimReported, lines_in_file}
 use Rattle.raysim_commands.proofs.AsSerial.{as_serial}
 use Rattle.raysim_commands.proofs.Reading.{known_whole}
@@ -74,6 +73,6 @@ sim_reported_so size form (Some b) (Some e) text script says numbers report byte
   is_script = subst (λ t. IsScript t script) same is;
   are_events = ls;
   reported = r;
-  as_serial = as_serial text form script r.0.run.first_nodes (account_of r.0.run r.0.sent (lines_in_file numbers r.0.lines)) report status is r.1.meant r.2 r.3;
+  as_serial = as_serial text form script r.0.run r.0.sent (lines_in_file numbers r.0.lines) report status is r.1.meant r.2 r.3;
   written = subst (λ l. Appends before after l) written a;
 }

@@ -1,3 +1,4 @@
+pub mod Migrations
 pub mod Reports
 pub mod RunReports
 pub mod Scripts

@@ -7,6 +7,7 @@ use Rattle.event_log.specs.Entries.{Entry}
 use Rattle.event_log.specs.Views.{log_of}
 use Rattle.event_log.specs.declared.entry.Entry.{Entry as CodeEntry}
 use Rattle.history.specs.Report.{report_text}
+use Rattle.books.specs.Lines.{book_lines}
 use Rattle.report_laws.specs.Begins.{BeginsAsSerial}
 use Rattle.report_laws.specs.Json.{SaysAsSerial}
 use Rattle.log_text.specs.Text.{log_text}
@@ -42,6 +43,7 @@ IsTimelineOf a text = (entries : List CodeEntry) × (log_of entries ≡ a.log) �
 abbrev pub IsReportIn : Form → Account → List ℕ → Type 0
 IsReportIn forms.Text a text = text ≡ report_text a.log
 IsReportIn forms.Json a text = text ≡ json_text a.log
+IsReportIn forms.TextWithBooks a text = text ≡ report_text a.log ++ book_lines a.log
 IsReportIn forms.Log a text = text ≡ log_text a.log
 IsReportIn forms.LogWithMessages a text = text ≡ log_with_messages a.log a.messages a.sent
 IsReportIn (forms.Why o) a text = text ≡ why_text a.log a.lines (id_of o)
@@ -49,10 +51,11 @@ IsReportIn forms.WhyMain a text = text ≡ why_main_text a.log a.lines
 IsReportIn forms.Timeline a text = IsTimelineOf a text
 IsReportIn forms.Lineage a text = text ≡ lineage_text a.log
 
--- as text or as JSON it says of main what `serial` writes of the script: the whole of it, or a first part, with a fault's cause in the log
+-- as text, with the books behind it too, or as JSON it says of main what `serial` writes of the script: the whole of it, or a first part, with a fault's cause in the log
 abbrev pub IsAsSerialIn : Form → Script → List Entry → List ℕ → ℕ → Type 0
 IsAsSerialIn forms.Text script log text status = BeginsAsSerial script log text status
 IsAsSerialIn forms.Json script log text status = SaysAsSerial script log text status
+IsAsSerialIn forms.TextWithBooks script log text status = BeginsAsSerial script log text status
 IsAsSerialIn forms.Log script log text status = Unit {0}
 IsAsSerialIn forms.LogWithMessages script log text status = Unit {0}
 IsAsSerialIn (forms.Why o) script log text status = Unit {0}

@@ -21,7 +21,7 @@ first_run size = record { run = first_state size.nodes size.slots; sent = [] }
 -- a run of the script ends so: it was driven until nothing was left to do, and what its log then means
 pub record IsEndOf (script : Script) (size : Size) (c : Course) : Type 0 where
   pub ends : EndsSo script (first_run size) c
-  pub meant : IsSoundLog script c.run.first_nodes c.run.log
+  pub meant : IsSoundLog script c.run
 
 -- the report of the run of the script, and its status
 abbrev pub IsReportOf : Script → Size → Form → List ℕ → ℕ → Type 0

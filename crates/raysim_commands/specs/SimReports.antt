@@ -48,7 +48,7 @@ first_play size = record { run = first_state size.nodes size.slots; jobs = []; a
 -- the lines make this of a run of the script that begins on the cluster, and what its log then means
 pub record IsReplayed (script : Script) (size : Size) (says : EventFile) (p : Play) : Type 0 where
   pub plays : PlaysFile script says (first_play size) p
-  pub meant : IsSoundLog script p.run.first_nodes p.run.log
+  pub meant : IsSoundLog script p.run
 
 -- the report of the replay of these lines, which have these numbers in their file, and its status
 abbrev pub IsSimReportOf : Script → Size → Form → EventFile → List ℕ → List ℕ → ℕ → Type 0

@@ -15,7 +15,7 @@ use Rattle.raysim_streams.specs.declared.Failure.TheVariants.{Read, Write, Close
 use Rattle.raysim_streams.specs.declared.Refusal.{Refusal}
 use Rattle.raysim_streams.specs.declared.Refusal.TheVariants.{At, NoMemory, Stopped as Stops, BadLine, WrongJob, Failed}
 use Rattle.raysim_commands.specs.declared.form.Form.{Form}
-use Rattle.raysim_commands.specs.Reports.{IsReportIn, account_of}
+use Rattle.raysim_commands.specs.Reports.{IsAsSerialIn, IsReportIn, account_of}
 use Rattle.raysim_commands.specs.Scripts.{IsAllowed, IsNoScriptFor, IsScript}
 use Rattle.raysim_commands.specs.SimReports.{IfBoth}
 use Rattle.histories.specs.Recorded.{recorded_in}
@@ -26,7 +26,7 @@ IsPlan bytes lines = IsFile IsPlanLine plan_line_text bytes lines
 
 -- what is written of a run of the script in that form, its history and its status are those of its log, and what that means
 pub record AreOutputs (script : Script) (run : RunData) (form : Form) (report history : List ℕ) (status : ℕ) : Type 0 where
-  pub meant : IsSoundLog script run.first_nodes (log_of run.log)
+  pub meant : IsSoundLog script (state_of run)
   pub reported : IsReportIn form (account_of (state_of run) [] []) report
   pub recorded : history ≡ recorded_file (recorded_in run.log)
   pub ends : status ≡ status_of (log_of run.log)
@@ -42,7 +42,7 @@ pub record IsRunOn (script : Script) (plan : List PlanLine) (size : Size) (threa
 -- why a run of the script on so many nodes at first gives neither: there was no memory, or it is at a limit
 abbrev pub IsStop : Script → ℕ → Refusal → Type 0
 IsStop script nodes NoMemory = Unit {0}
-IsStop script nodes (Stops code) = (code ≡ 37) × (run : RunState) × IsSoundLog script run.first_nodes run.log × IsAtLimit nodes run
+IsStop script nodes (Stops code) = (code ≡ 37) × (run : RunState) × IsSoundLog script run × IsAtLimit nodes run
 IsStop script nodes (At code span) = ⊥
 IsStop script nodes (BadLine n) = ⊥
 IsStop script nodes (WrongJob n) = ⊥
@@ -52,7 +52,7 @@ IsStop script nodes (Failed failure) = ⊥
 abbrev pub IsStoppedRun : Size → ℕ → List ℕ → Type 0
 IsStoppedRun size code text = (script : Script) × IsScript text script × IsStop script size.nodes (Stops code)
 
--- the texts are a script and a plan, and the history and the report of a run were written
+-- the texts are a script and a plan, and the history and the report of a run were written, which begins as what `serial` writes of that script
 pub record AreWritten (size : Size) (threads : ℕ) (form : Form) (text plan : List ℕ) (status : ℕ)
     (recorded recorded_now held held_now : Option (List ℕ)) : Type 0 where
   pub script : Script
@@ -62,6 +62,7 @@ pub record AreWritten (size : Size) (threads : ℕ) (form : Form) (text plan : L
   pub is_script : IsScript text script
   pub is_plan : IsPlan plan lines
   pub run : IsRunOn script lines size threads form report history status
+  pub as_serial : IsAsSerialIn form script (log_of run.run.log) report status
   pub history_out : Appends recorded recorded_now history
   pub report_out : Appends held held_now report
 

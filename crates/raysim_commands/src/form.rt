@@ -1,11 +1,14 @@
 // What is written of a run.
 
-ghost use Rattle.std.specs.Prelude.{◌≡◌, IfOk, string_bytes};
+ghost use Rattle.std.specs.Prelude.{◌≡◌, ◌++◌, IfOk, string_bytes};
 ghost use Rattle.event_log.specs.Views.{log_of};
+ghost use Rattle.books.specs.Lines.{book_lines};
+ghost use Rattle.history.specs.Report.{report_text};
 ghost use Rattle.protocol_board.specs.Meant.{IsSoundLog};
 ghost use Rattle.protocol_board.specs.Cores.{state_of};
 ghost use Rattle.raysim_commands.specs.Reports.{IsReportIn, account_of};
 
+use books::book_lines;
 use ids::ObjectId;
 use lineage_text::lineage_text;
 use log_text::log_text;
@@ -24,6 +27,8 @@ pub enum Form {
     Text,
     /// Its report, as one line of JSON.
     Json,
+    /// Its report, in lines, and behind it the books of its seats (docs/event-files.md, "Format 2").
+    TextWithBooks,
     /// What happened: a line for each entry of its log.
     Log,
     /// The same, and below each event the messages that it sent.
@@ -38,6 +43,17 @@ pub enum Form {
     Lineage,
 }
 
+/// The report, and behind it the books of the seats.
+fn report_with_books<S: ScriptName>(alloc: Global, board: &Board<S>) -> Result<String, AllocError>
+    ensures text { IfOk result (λ text. string_bytes text ≡ report_text (log_of board.now.log) ++ book_lines (log_of board.now.log)) }
+    ensures meant { IsSoundLog S.script (state_of board.now) }
+{
+    let mut text = board.report(alloc)?;
+    let books = book_lines(alloc, board.log())?;
+    text.push_str(books.as_str())?;
+    Ok(text)
+}
+
 /// What is written of a run, in a form, where `sent` is how many messages had been sent behind each event, and `lines` are the lines of the
 /// event file from which the events came, as far as they came from one.
 pub fn report<S: ScriptName>(
@@ -48,11 +64,12 @@ pub fn report<S: ScriptName>(
     form: Form,
 ) -> Result<String, AllocError>
     ensures text { IfOk result (λ text. IsReportIn form (account_of (state_of board.now) sent.now lines.now) (string_bytes text)) }
-    ensures meant { IsSoundLog S.script board.now.first_nodes (log_of board.now.log) }
+    ensures meant { IsSoundLog S.script (state_of board.now) }
 {
     match form {
         Form::Text => board.report(alloc),
         Form::Json => board.report_json(alloc),
+        Form::TextWithBooks => report_with_books(alloc, board),
         Form::Log => log_text(alloc, board.log()),
         Form::LogWithMessages => {
             log_with_messages(

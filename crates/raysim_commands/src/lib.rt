@@ -3,6 +3,7 @@
 
 mod checking;
 mod form;
+mod migrate_command;
 mod open_gate;
 mod run_command;
 mod script;
@@ -16,6 +17,7 @@ mod threads_command;
 
 pub use checking::check;
 pub use form::{Form, report};
+pub use migrate_command::migrate;
 pub use open_gate::OpenGate;
 pub use protocol_board::Cluster;
 pub use raysim_streams::{Failure, Refusal, Sink, Source, Tracked, put_all, read_at_most};

@@ -1,6 +1,6 @@
 // The command `sim`.
 
-ghost use Rattle.std.specs.Prelude.{◌≡◌, ◌⊎◌, IfOk, IfErr, IfSome, string_bytes};
+ghost use Rattle.std.specs.Prelude.{◌≡◌, ◌⊎◌, IfOk, IfErr, IfSome, drop, string_bytes};
 ghost use Rattle.script_check.specs.Trees.{script_of};
 ghost use Rattle.raysim_commands.specs.Scripts.{IsUnwritten};
 ghost use Rattle.raysim_commands.specs.SimReports.{AreEvents, ExplainsEvents, ExplainsSim, IfBoth, IsSimBegun, IsSimReported};
@@ -65,17 +65,27 @@ fn stop_refusal(stopped: Stopped, line: usize) -> Refusal
     }
 }
 
+fn without_first(numbers: &mut Seq<usize>)
+    ensures { numbers.new ≡ drop 1 numbers.old }
+{
+    if numbers.items.is_empty() {
+        return;
+    }
+    numbers.items.remove(0);
+}
+
 /// The numbers of a file's lines that say something.
 fn said_numbers(alloc: Global, says: &EventFile, text: &[u8]) -> Result<Seq<usize>, AllocError>
     ensures { IfOk result (λ numbers. numbers ≡ said_numbers says.now text.now) }
 {
     let mut numbers = line_numbers(alloc, text)?;
-    if let EventFile::Recorded(_) = says {
-        if !numbers.items.is_empty() {
-            numbers.items.remove(0);
+    match says {
+        EventFile::Lines(_) => Ok(numbers),
+        EventFile::Recorded(_) => {
+            without_first(&mut numbers);
+            Ok(numbers)
         }
     }
-    Ok(numbers)
 }
 
 /// The report of the run of a script by these lines.
@@ -119,14 +129,15 @@ fn read_events<E: Source>(alloc: Global, reader: &mut E) -> Result<EventLines, R
     }
 }
 
-/// Reads a script's text and then an event file, applies the file's events to a run of the script on this cluster, and writes the
-/// run's report (docs/runs.md, "The report"), or the same as one line of JSON. The status is 0 where main ends with a value, 1 where it
+/// Reads a script's text and then an event file of either format, applies the file's events to a run of the script on this cluster, and writes
+/// the run's report (docs/runs.md, "The report"), or the same as one line of JSON. The status is 0 where main ends with a value, 1 where it
 /// ends with a trap, and 2 where it is open or has a fault.
 ///
 /// Else the refusal says why: `At` where the text is no script that the rules allow, `BadLine` where a line is none of an event file,
-/// `Stopped` with 41 where the events are more than 100,000, `WrongJob` where a claim gave another job than its line of a history says, `NoMemory`, or `Failed` where a read or a write failed. The script is read
-/// and checked before the events are read, and these are read whole before the first is applied. After a failed write a beginning of the
-/// report is out; before any other refusal nothing is written.
+/// `Stopped` with 41 where the events are more than 100,000, `WrongJob` where a claim gave another job than its line of a recorded history
+/// says, `NoMemory`, or `Failed` where a read or a write failed. The script is read and checked before the events are read, and these are
+/// read whole before the first is applied. After a failed write a beginning of the report is out; before any other refusal nothing is
+/// written.
 pub fn sim<R: Source, E: Source, W: Sink>(
     alloc: Global,
     reader: &mut R,

@@ -150,7 +150,7 @@ fn by_events<'a>(alloc: Global, name: &'a str, about: &'a str) -> Result<Command
     add_cluster(alloc, command)
 }
 
-fn sim<'a>(alloc: Global) -> Result<Command<'a>, AllocError>
+pub(crate) fn sim<'a>(alloc: Global) -> Result<Command<'a>, AllocError>
     ensures app { IfOk result (λ c. app_of c ≡ sim_app) }
     ensures local { IfOk result HasNoGlobals }
 {
@@ -158,7 +158,8 @@ fn sim<'a>(alloc: Global) -> Result<Command<'a>, AllocError>
     let command = by_events(alloc, "sim", about)?;
     let command = add_json(alloc, command)?;
     let command = add_views(alloc, command)?;
-    let books = "Writes behind the report how many commits came from each seat, and the sum of their jobs";
+    let books =
+        "Writes behind the report how many commits came from each seat, and the sum of their jobs";
     add(command, flag(alloc, "books", books))
 }
 

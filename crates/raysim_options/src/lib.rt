@@ -1,17 +1,19 @@
 //! The words of the command line, read with `clap`.
 #![tactic(auto)]
 
-ghost use Rattle.std.specs.Prelude.{IfErr, IfOk, map, string_bytes};
-ghost use Rattle.clap.specs.Words.{FailsBy, fault_of, subcommand_of};
+ghost use Rattle.std.specs.Prelude.{◌≡◌, IfErr, IfOk, map, string_bytes};
+ghost use Rattle.clap.specs.Words.{kind_of, subcommand_of};
+ghost use Rattle.clap.specs.declared.error.kind.ErrorKind.TheVariants.{ArgumentConflict};
 ghost use Rattle.raysim_options.specs.App.{raysim_app};
-ghost use Rattle.raysim_options.specs.Reads.{Asks, HasCluster, Refuses};
+ghost use Rattle.raysim_options.specs.Reads.{Asks, FailsSo, HasCluster, IsOneForm, Refuses, asks_for_both};
 
 mod commands;
 mod read;
 
 use clap::Error;
+use clap::error::ErrorKind;
 pub use commands::{MOST_NODES, MOST_REFUSAL, MOST_SLOTS, MOST_THREADS};
-use std::alloc::Global;
+use std::alloc::{AllocError, Global};
 
 /// What the program was asked to do. Texts are paths of files, as the words have them.
 #[derive(Drop)]
@@ -43,7 +45,7 @@ pub struct ScriptOptions<'a> {
 
 /// The options of `sim`: the script, the list of events, how many nodes there are and how many slots each has (both from 1
 /// to 64, by default 1 and 4), whether the report is JSON, where the run's timeline and its lineage are written, and whether the books of the
-/// seats are written behind the report.
+/// seats are written behind the report, which is no JSON then.
 #[derive(Drop)]
 pub struct SimOptions<'a> {
     pub script: &'a str,
@@ -105,6 +107,25 @@ pub struct WhyOptions<'a> {
     pub slots: u8,
 }
 
+/// Whether the books of the seats are asked for, and JSON too.
+fn asks_for_both(request: &Request<'_>) -> bool
+    ensures { result ≡ asks_for_both request.now }
+{
+    match request {
+        Request::Sim(options) => options.json && options.books,
+        _ => false,
+    }
+}
+
+/// What is said of words that ask for books and JSON.
+fn conflict(alloc: Global) -> Result<Error, AllocError>
+    ensures { IfOk result (λ e. kind_of e ≡ ArgumentConflict) }
+{
+    let mut command = commands::sim(alloc)?.bin_name("raysim sim")?;
+    let message = "the argument '--books' cannot be used with '--json'";
+    command.error(ErrorKind::ArgumentConflict, message)
+}
+
 /// Reads the words of the command line, of which the first is the program's name. Where the words are at fault, ask for help or the
 /// version, or memory runs out, the error displays the text for standard error.
 pub fn options<'a>(alloc: Global, words: &'a [String]) -> Result<Request<'a>, Error>
@@ -112,15 +133,23 @@ pub fn options<'a>(alloc: Global, words: &'a [String]) -> Result<Request<'a>, Er
     ensures asked { IfOk result (Asks (subcommand_of raysim_app (map string_bytes words.entry.now))) }
     // A run that is asked for has from 1 to 64 nodes, with from 1 to 64 slots each, and on threads from 1 to 8 of them.
     ensures cluster { IfOk result HasCluster }
-    // Words that the command takes are refused for want of memory alone.
+    // A report is JSON, or has the books of the seats behind it, and not both.
+    ensures form { IfOk result IsOneForm }
+    // Words that the command takes are refused for want of memory, or where they ask for books and JSON.
     ensures refused { IfErr result (Refuses (map string_bytes words.entry.now)) }
-    // An error says what is at fault first in the words, or that memory ran out, and words at fault are refused.
-    ensures kinds { FailsBy (fault_of raysim_app (map string_bytes words.entry.now)) result }
+    // An error says what is at fault first in the words, that they ask for books and JSON, or that memory ran out, and words at fault are refused.
+    ensures kinds { FailsSo (map string_bytes words.entry.now) result }
 {
     let command = commands::raysim(alloc)?;
     let matches = command.try_get_matches_from(words)?;
     match matches.subcommand() {
-        Some((name, found)) => Ok(read::read(name, found)),
+        Some((name, found)) => {
+            let request = read::read(name, found);
+            if asks_for_both(&request) {
+                return Err(conflict(alloc)?);
+            }
+            Ok(request)
+        }
         None => unreachable!(),
     }
 }

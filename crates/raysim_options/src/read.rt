@@ -8,7 +8,9 @@ ghost use Rattle.raysim_options.specs.Reads.{IsFlag, IsLogOptions, IsNumber, IsR
 ghost use Rattle.raysim_options.specs.Reads.{asks_for_threads};
 
 use crate::commands::{MOST_NODES, MOST_REFUSAL, MOST_SLOTS, MOST_THREADS};
-use crate::{LogOptions, Request, RunOptions, ScriptOptions, SimOptions, WhyOptions, MigrateOptions};
+use crate::{
+    LogOptions, MigrateOptions, Request, RunOptions, ScriptOptions, SimOptions, WhyOptions,
+};
 use clap::ArgMatches;
 
 /// A number from 1 to `most`, or the default where the words leave it out.

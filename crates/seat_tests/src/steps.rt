@@ -1,6 +1,6 @@
 // A run whose events come from two seats, one by one.
 
-ghost use Rattle.std.specs.Prelude.{◌≡◌, []};
+ghost use Rattle.std.specs.Prelude.{◌≡◌, [], true};
 ghost use Rattle.protocol_core.specs.Views.{state_of};
 ghost use Rattle.script_check.specs.Trees.{script_of};
 ghost use Rattle.seat_books.specs.Holdings.{SameParts};
@@ -72,7 +72,9 @@ fn go_on<
     alloc: Global,
     shared: &Shared<S, P, E, G, C, J, V, H, D, M>,
     seat: &mut Seat<P, E, G, C, J, V, H, D, M>,
-) -> bool {
+) -> bool
+    requires { P.is_open ≡ true }
+{
     let events = [
         Event::Deliver(1),
         Event::Deliver(2),
@@ -107,7 +109,7 @@ fn report_of<
     R: Wait,
 >(rt: &R, alloc: Global, script: &Compiled, blanks: Blanks, further: Blanks) -> Result<String, Fail>
     requires script { script_of script.now ≡ S.script }
-    requires named { (P.plan ≡ []) × (P.size ≡ record { nodes = 1; slots = 4 }) }
+    requires named { (P.plan ≡ []) × (P.size ≡ record { nodes = 1; slots = 4 }) × (P.is_open ≡ true) }
     requires watched { P.watched ≡ 2 }
     requires parts { AreParts 2 E.parts × SameParts E.parts G.parts C.parts J.parts }
     requires further_parts { (V.parts ≡ 1) × SameParts V.parts H.parts D.parts M.parts }

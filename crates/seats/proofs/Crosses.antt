@@ -5,7 +5,6 @@ use denote.Param.Send.{IsSend, IsSync, sendable}
 use denote.Param.SendFields.{as_row_send, declared_send}
 use Rattle.std.proofs.Crossing.{crosses}
 use Rattle.std.proofs.marker.PhantomData.TheSendSync as phantom
-use Rattle.std.proofs.sync.ledger.Book.TheSendSync as book
 use Rattle.std.specs.declared.sync.ledger.Ledger as ledger
 use Rattle.sequence.specs.contracts.Seq as Seq
 use Rattle.values.proofs.value.RunValue.TheLaws.TheKnot as value
@@ -36,6 +35,9 @@ use Rattle.protocol_data.specs.contracts.tables.Worker as Worker
 use Rattle.protocol_data.specs.contracts.whole.Whole as Whole
 use Rattle.protocol_board.specs.Cores.Core as Core
 use Rattle.protocol_board.specs.contracts.board.Board as Board
+use Rattle.seat_books.proofs.ledgers.Ledgers.TheSendSync as ledgers
+use Rattle.seat_books.specs.contracts.ledgers.Ledgers as Ledgers
+use Rattle.seat_books.specs.declared.watching.Watching as watching
 use Rattle.seats.specs.contracts.outs.JobOut as JobOut
 use Rattle.seats.specs.declared.run_name.RunName as run_name
 use Rattle.seats.specs.contracts.turning.Turning as Turning
@@ -110,16 +112,17 @@ module _ (S : RattleType) (n : script_name.Ghosts S.Denot) (s : IsSend S) where
   board_send : IsSend (Board.the_row S n)
   board_send = search (core_send, crosses, sendable) depth 60 fits 20000
 
-  module _ (P : RattleType) (m : run_name.Ghosts P.Denot) (p : IsSend P) where
-    turning_send : IsSend (Turning.the_row S P n m)
+  module _ (P : RattleType) (m : run_name.Ghosts P.Denot) (w : watching.Ghosts P.Denot) (p : IsSend P) where
+    turning_send : IsSend (Turning.the_row S P n m w)
     turning_send = search (board_send, lines_send, outs_send, phantom.the_field_send, crosses, sendable) depth 60 fits 20000
 
-    module _ (E G C J : RattleType) (e : ledger.Ghosts E.Denot) (g : ledger.Ghosts G.Denot) (c : ledger.Ghosts C.Denot) (j : ledger.Ghosts J.Denot) where
-      locked_send : IsSend (Locked.the_row S P E G C J n m e g c j)
-      locked_send = declared_send (Locked.the_type S P E G C J n m e g c j) (
-        as_row_send (Turning.the_field S P n m) turning_send,
-        (book.the_send E e, (book.the_send G g, (book.the_send C c, (book.the_send J j, tt)))),
+    module _ (E G C J V H D M : RattleType) (e : ledger.Ghosts E.Denot) (g : ledger.Ghosts G.Denot) (c : ledger.Ghosts C.Denot) (j : ledger.Ghosts J.Denot)
+        (v : ledger.Ghosts V.Denot) (h : ledger.Ghosts H.Denot) (d : ledger.Ghosts D.Denot) (k : ledger.Ghosts M.Denot) where
+      locked_send : IsSend (Locked.the_row S P E G C J V H D M n m w e g c j v h d k)
+      locked_send = declared_send (Locked.the_type S P E G C J V H D M n m w e g c j v h d k) (
+        as_row_send (Turning.the_field S P n m w) turning_send,
+        (as_row_send (Ledgers.the_field P E G C J V H D M w e g c j v h d k) (ledgers.the_send P E G C J V H D M w e g c j v h d k), tt),
       )
 
-      pub shared_sync : IsSync (Shared.the_row S P E G C J n m e g c j)
+      pub shared_sync : IsSync (Shared.the_row S P E G C J V H D M n m w e g c j v h d k)
       shared_sync = search (locked_send, crosses, sendable) depth 60 fits 20000

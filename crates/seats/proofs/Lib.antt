@@ -3,6 +3,7 @@ pub mod Counted
 mod Crosses
 pub mod Few
 pub mod Jobs
+mod Outside
 mod Planned
 mod Sizes
 mod Standing

@@ -1,7 +1,8 @@
 -- A plan's line that is taken stands in the log behind the lines before it.
 use Rattle.std.proofs.Common.{◌≡◌, ◌⊎◌, ◌+◌, ◌<◌, ℕ, zero, suc, true, false, Bool, List, [], ◌∷◌, ◌++◌, length, Option, Some, None, refl, sym, ap, ◌∙◌, subst, inl, inr, arith}
-use Rattle.std.specs.Prelude.{nat_lt, if◌then◌else◌, is_some, slice_get}
+use Rattle.std.specs.Prelude.{nat_lt, if◌then◌else◌, slice_get}
 use Rattle.std.proofs.lemmas.Bool.Decides.{nat_tests}
+use Rattle.segment.specs.Jobs.{Done}
 use Rattle.event_files.specs.declared.plan.PlanLine.{PlanLine}
 use Rattle.event_log.specs.Books.{totals_of}
 use Rattle.event_log.specs.Entries.{Entry, Event, Claim, Commit, Deliver, In, Refused}
@@ -14,9 +15,10 @@ use Rattle.protocol.specs.Jobs.{Job}
 use Rattle.protocol.specs.Settling.{next}
 use Rattle.protocol_board.specs.Cores.{RunState, GivesThat, Reply, Refuses, Tells, Answers, Follows}
 use Rattle.seats.specs.Ends.{AreIn, Stands, first_events}
-use Rattle.seats.specs.Turns.{Choice, Ends, Plans, Takes, Told, TurnState, busy, choice, due, given_up_by, or_claim, or_message, or_plan, or_wait}
+use Rattle.seats.specs.Outside.{Passes}
+use Rattle.seats.specs.Turns.{Choice, Ends, Plans, TurnState, busy, choice, due, given_up_by, or_claim, or_message, or_plan, or_wait}
 use Rattle.seats.specs.Turns.{past_line}
-use Rattle.seats.proofs.Standing.{in_last, limited_now, stands_kept}
+use Rattle.seats.proofs.Standing.{in_last, limited_now, stands_behind}
 
 -- ---- which line it is
 
@@ -125,11 +127,12 @@ answered_in es log e seat (answers.Refuses code) told (refusal, told_so, same) h
     (subst (λ t. Stands (es ++ e ∷ []) (log ++ In e seat ∷ Refused (code_of refusal) ∷ []) (given_up_by t None)) (sym told_so)
     (refused_in es log e seat refusal h))
 
-event_in : (es : List Event) (before after : RunState) (e : Event) (seat : ℕ) (told : Reply) → Answers before e seat None after told → AreIn es before.log →
+event_in : (es : List Event) (before after : RunState) (e : Event) (seat : ℕ) (done : Option Done) (told : Reply) → Answers before e seat done after told →
+    AreIn es before.log →
     Stands (es ++ e ∷ []) after.log (given_up_by told None)
-event_in es before after e seat told answers h = by_halt before.is_halted refl
+event_in es before after e seat done told answers h = by_halt before.is_halted refl
   where
-    follows : Follows before e seat None after told → Stands (es ++ e ∷ []) after.log (given_up_by told None)
+    follows : Follows before e seat done after told → Stands (es ++ e ∷ []) after.log (given_up_by told None)
     follows (inl out) = subst (λ t. Stands (es ++ e ∷ []) after.log (given_up_by t None)) (sym out.told_so) tt
     follows (inr (handed, is_handed, is)) =
         subst (λ l. Stands (es ++ e ∷ []) l (given_up_by told None)) (sym is.log) (answered_in es before.log e seat (answer before.whole e handed) told is.told_so h)
@@ -138,22 +141,18 @@ event_in es before after e seat told answers h = by_halt before.is_halted refl
     by_halt true f = subst (λ t. Stands (es ++ e ∷ []) after.log (given_up_by t None)) (sym (answers.halted f).1) tt
     by_halt false f = follows (answers.follows f)
 
--- the plan's next line was taken
-pub line_in : (before after : TurnState) (e : Event) (seat : ℕ) (told : Told) → choice before ≡ Plans e → before.given_up ≡ None →
-    AreIn (first_events before.taken before.plan) before.run.log → Takes before e seat after told →
-    Stands (first_events (past_line after.plan after.taken) after.plan) after.run.log after.given_up
-line_in before after e seat told chosen free h takes =
-    let es = first_events before.taken before.plan in
-    let now : Stands (es ++ e ∷ []) after.run.log (given_up_by takes.reply None) = event_in es before.run after.run e seat takes.reply takes.answers h in
-    let same : Stands (es ++ e ∷ []) after.run.log (given_up_by takes.reply before.given_up) =
-    subst (λ g. Stands (es ++ e ∷ []) after.run.log (given_up_by takes.reply g)) (sym free) now in
-    let kept = stands_kept (es ++ e ∷ []) after.run.log e takes.reply before.out before.given_up after.out after.given_up same takes.follows.kept in
-    let more = past_events before.plan before.taken e (plans_line before e chosen) in
-    let through : first_events (past_line after.plan after.taken) after.plan ≡ es ++ e ∷ [] =
-    ap (λ p. first_events (past_line p after.taken) p) takes.follows.plan
-    ∙ (ap (λ k. first_events (past_line before.plan k) before.plan) takes.follows.taken ∙ more) in
-    subst (λ xs. Stands xs after.run.log after.given_up) (sym through) kept
-
-pub none_if : (g : Option Refusal) → is_some g ≡ false → g ≡ None
-none_if None h = refl
-none_if (Some refusal) h = absurd cc
+-- behind an event with its answer, by the lines that are taken
+pub stands_past : (is_open : Bool) (t : TurnState) (after : RunState) (e : Event) (seat : ℕ) (done : Option Done) (told : Reply) (taken : ℕ) →
+    Passes is_open t e taken → Answers t.run e seat done after told → Stands (first_events t.taken t.plan) t.run.log t.given_up →
+    Stands (first_events taken t.plan) after.log (given_up_by told t.given_up)
+stands_past is_open t after e seat done told taken (inl (same, may)) answers h =
+    subst (λ n. Stands (first_events n t.plan) after.log (given_up_by told t.given_up)) (sym same)
+    (stands_behind (first_events t.taken t.plan) t.run after e seat done told t.given_up answers h)
+stands_past is_open t after e seat done told taken (inr (same, chosen, free)) answers h =
+    let es = first_events t.taken t.plan in
+    let now : Stands (es ++ e ∷ []) after.log (given_up_by told None) =
+    event_in es t.run after e seat done told answers (subst (Stands es t.run.log) free h) in
+    let kept = subst (λ g. Stands (es ++ e ∷ []) after.log (given_up_by told g)) (sym free) now in
+    let through : first_events taken t.plan ≡ es ++ e ∷ [] =
+    ap (λ n. first_events n t.plan) same ∙ past_events t.plan t.taken e (plans_line t e chosen) in
+    subst (λ xs. Stands xs after.log (given_up_by told t.given_up)) (sym through) kept

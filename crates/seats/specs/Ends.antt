@@ -1,5 +1,5 @@
 -- How a run on threads ends, and what is known of it on the way.
-use Rattle.std.specs.Prelude.{◌≡◌, ℕ, List, [], ◌∷◌, ◌++◌, length, map, take, Option, Some, None, IfSome}
+use Rattle.std.specs.Prelude.{◌≡◌, ℕ, Bool, false, List, [], ◌∷◌, ◌++◌, length, map, take, Option, Some, None, IfSome}
 use Rattle.event_files.specs.declared.plan.PlanLine.{PlanLine}
 use Rattle.event_log.specs.Books.{totals_of}
 use Rattle.event_log.specs.Breaks.{Among}
@@ -12,6 +12,7 @@ use Rattle.protocol.specs.Whole.{Whole}
 use Rattle.protocol_board.specs.Cores.{RunState, Size, state_of}
 use Rattle.books.specs.SeatTotals.{seat_totals}
 use Rattle.seat_books.specs.Seats.{SeatOf, book_of, sums}
+use Rattle.seats.specs.Outside.{HasNoOther}
 use Rattle.seats.specs.declared.end.Ended.{Ended}
 use Rattle.seats.specs.declared.end.Ended.TheVariants as ends
 
@@ -40,11 +41,20 @@ events_of lines = map (λ l. event_of l.event) lines
 abbrev pub size_of : RunState → Size
 size_of r = record { nodes = r.first_nodes; slots = r.whole.slots }
 
--- a run beside the plan on such a cluster is over: the settle rule names no event, and the plan's stand in the log
-pub record IsOver (plan : List PlanLine) (size : Size) (r : RunState) : Type 0 where
+-- the events stand in the log in their order, and no others from outside do, unless the run is open
+abbrev pub ArePlanned : Bool → List Event → List Entry → Type 0
+ArePlanned is_open es log = AreIn es log × HasNoOther is_open es log
+
+-- a run beside the plan on such a cluster is over: the settle rule names no event, and of the events from outside the plan's, and, unless the run is
+-- open, no others, stand in the log
+pub record IsOverBeside (is_open : Bool) (plan : List PlanLine) (size : Size) (r : RunState) : Type 0 where
   pub settled : next r.whole [] ≡ None
-  pub planned : AreIn (events_of plan) r.log
+  pub planned : ArePlanned is_open (events_of plan) r.log
   pub on_cluster : size_of r ≡ size
+
+-- and no others
+abbrev pub IsOver : List PlanLine → Size → RunState → Type 0
+IsOver plan size r = IsOverBeside false plan size r
 
 -- a run on so many nodes at first is at a limit: an event was refused for that
 pub record IsAtLimit (nodes : ℕ) (r : RunState) : Type 0 where
@@ -52,10 +62,10 @@ pub record IsAtLimit (nodes : ℕ) (r : RunState) : Type 0 where
   pub on_nodes : r.first_nodes ≡ nodes
 
 -- how a run beside the plan on such a cluster ends
-abbrev pub HasEnded : {X : Type 0} → List PlanLine → Size → Ended X → Type 0
-HasEnded plan size (ends.Over board) = IsOver plan size (state_of board)
-HasEnded plan size (ends.AtLimit board) = IsAtLimit size.nodes (state_of board)
-HasEnded plan size ends.NoMemory = Unit {0}
+abbrev pub HasEnded : {X : Type 0} → Bool → List PlanLine → Size → Ended X → Type 0
+HasEnded is_open plan size (ends.Over board) = IsOverBeside is_open plan size (state_of board)
+HasEnded is_open plan size (ends.AtLimit board) = IsAtLimit size.nodes (state_of board)
+HasEnded is_open plan size ends.NoMemory = Unit {0}
 
 -- the log of a run that ended, unless there was no memory
 abbrev pub log_at : {X : Type 0} → Ended X → Option (List Entry)
@@ -64,8 +74,12 @@ log_at (ends.AtLimit board) = Some (log_of board.log)
 log_at ends.NoMemory = None
 
 -- and the books of its seats add up
+abbrev pub IsEndBeside : {X : Type 0} → Bool → ℕ → ℕ → List PlanLine → Size → Ended X → Type 0
+IsEndBeside is_open seats watched plan size end = HasEnded is_open plan size end × IfSome (log_at end) (AddsUp seats watched)
+
+-- of a run that isn't open
 abbrev pub IsEnd : {X : Type 0} → ℕ → ℕ → List PlanLine → Size → Ended X → Type 0
-IsEnd seats watched plan size end = HasEnded plan size end × IfSome (log_at end) (AddsUp seats watched)
+IsEnd seats watched plan size end = IsEndBeside false seats watched plan size end
 
 -- what a log has of a plan's events that were taken, and of why the run is given up, if it is: an event of it was refused at a limit, or there was no
 -- memory

@@ -1,4 +1,5 @@
 pub mod Counted
 pub mod Ends
+pub mod Outside
 pub mod Turns
 pub mod Views

@@ -1,24 +1,29 @@
 // Names of runs.
 
-ghost use Rattle.std.specs.Prelude.{List};
+ghost use Rattle.std.specs.Prelude.{Bool, List};
 ghost use Rattle.event_files.specs.declared.plan.PlanLine.{PlanLine};
 ghost use Rattle.protocol_board.specs.Cores.{Size};
 
 use seat_books::Watching;
 use std::marker::Brand;
 
-/// A type that stands for one run on threads in contracts: which of its seats is watched, the plan beside it, and the cluster on which it begins. Of a
-/// run under a lock nothing is known but what its type says.
+/// A type that stands for one run on threads in contracts: which of its seats is watched, the plan beside it, the cluster on which it begins, and
+/// whether it is open: calls may then apply events from outside that the plan doesn't have. Of a run under a lock nothing is known but what its type
+/// says.
 pub trait RunName: Watching {
     ghost plan: { List PlanLine };
 
     ghost size: { Size };
+
+    ghost is_open: { Bool };
 }
 
 impl RunName for Brand {
-    ghost use Rattle.std.specs.Prelude.{[]};
+    ghost use Rattle.std.specs.Prelude.{[], false};
 
     ghost plan = { [] };
 
     ghost size = { record { nodes = 1; slots = 1 } };
+
+    ghost is_open = { false };
 }

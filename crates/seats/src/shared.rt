@@ -10,7 +10,8 @@ ghost use Rattle.protocol_board.specs.Cores.{reply_of, state_of};
 ghost use Rattle.seat_books.specs.Holdings.{SameParts};
 ghost use Rattle.seat_books.specs.Seats.{AreParts, book_of, new_seats, sums, with_more};
 ghost use Rattle.seats.specs.Counted.{IsFresh, counted};
-ghost use Rattle.seats.specs.Ends.{IsEnd, size_of};
+ghost use Rattle.seats.specs.Ends.{IsEndBeside, size_of};
+ghost use Rattle.seats.specs.Outside.{MayApply};
 ghost use Rattle.seats.specs.Turns.{turn_counted};
 ghost use Rattle.seats.specs.Views.{told_of};
 
@@ -109,6 +110,7 @@ impl<
         event: Event,
         done: Option<Done<S>>,
     ) -> Reply<S>
+        requires { MayApply P.is_open (event_of event) }
         ensures { seat.new ≡ with_more (counted (event_of event) (reply_of result)) seat.old }
     {
         let Locked { turning, ledgers } = self;
@@ -252,7 +254,7 @@ impl<
         alloc: Global,
         seats: Vec<Seat<P, E, G, C, J, V, H, D, M>>,
     ) -> Result<Ended<S>, (Self, Vec<Seat<P, E, G, C, J, V, H, D, M>>)>
-        ensures ended { IfOk result (IsEnd self P.watched P.plan P.size) }
+        ensures ended { IfOk result (IsEndBeside P.is_open self P.watched P.plan P.size) }
         ensures back { IfErr result (λ e. (e.0 ≡ self) × (e.1 ≡ seats)) }
     {
         if seats.len() != self.seats {
@@ -270,7 +272,8 @@ impl<
         Ok(locked.gathered(seats).into_end())
     }
 
-    /// Applies one event from the seat, with nothing done on a job, under the lock, and counts it in the seat's book. The log names the seat.
+    /// Applies one event from the seat, with nothing done on a job, under the lock, and counts it in the seat's book. The log names the seat. One
+    /// from outside may be applied to an open run alone: elsewhere such an event stands for a line of the plan, which a turn takes.
     pub fn step<R: Wait>(
         &self,
         rt: &R,
@@ -278,6 +281,7 @@ impl<
         seat: &mut Seat<P, E, G, C, J, V, H, D, M>,
         event: Event,
     ) -> Reply<S>
+        requires { MayApply P.is_open (event_of event) }
         ensures { seat.new ≡ with_more (counted (event_of event) (reply_of result)) seat.old }
     {
         self.locked.lock(rt).apply(alloc, seat, event, None)

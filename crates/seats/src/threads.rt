@@ -3,7 +3,7 @@
 ghost use Rattle.std.specs.Prelude.{◌≡◌, ◌≤◌, IfOk};
 ghost use Rattle.protocol_board.specs.Cores.{state_of};
 ghost use Rattle.script_check.specs.Trees.{script_of};
-ghost use Rattle.seats.specs.Ends.{IsEnd, size_of};
+ghost use Rattle.seats.specs.Ends.{IsEnd, IsEndBeside, size_of};
 ghost use Rattle.seats.specs.Counted.{IsFresh};
 ghost use Rattle.seat_books.specs.Holdings.{SameParts};
 ghost use Rattle.seat_books.specs.Seats.{AreParts};
@@ -97,7 +97,7 @@ fn run_shared<
     requires further_given { (further.given.name ≡ H.name) × (further.given.parts ≡ H.parts) }
     requires further_commits { (further.commits.name ≡ D.name) × (further.commits.parts ≡ D.parts) }
     requires further_committed { (further.committed.name ≡ M.name) × (further.committed.parts ≡ M.parts) }
-    ensures { IfOk result (IsEnd n 1 P.plan P.size) }
+    ensures { IfOk result (IsEndBeside P.is_open n 1 P.plan P.size) }
 {
     let (mut shared, mut seats) = Shared::<S, P, E, G, C, J, V, H, D, M>::new(
         alloc, blanks, further, board, plan, n, 1,

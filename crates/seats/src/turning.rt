@@ -9,8 +9,9 @@ ghost use Rattle.protocol_board.specs.Cores.{Answers, reply_of, state_of};
 ghost use Rattle.protocol_board.specs.Meant.{IsSoundLog};
 ghost use Rattle.books.specs.SeatTotals.{seat_totals};
 ghost use Rattle.seats.specs.Counted.{AddsFrom, IsFresh, counted};
-ghost use Rattle.seats.specs.Ends.{HasEnded, IsOver, Stands, first_events, log_at, size_of};
-ghost use Rattle.seats.specs.Turns.{Follows, Takes, Turned, choice, due, is_at_end, or_first, past_line, turn_counted};
+ghost use Rattle.seats.specs.Ends.{HasEnded, IsOverBeside, log_at, size_of};
+ghost use Rattle.seats.specs.Outside.{MayApply, Passes};
+ghost use Rattle.seats.specs.Turns.{Follows, Plans, Takes, Turned, choice, due, is_at_end, or_first, past_line, turn_counted};
 ghost use Rattle.seats.specs.Views.{choice_of, told_of, turn_of};
 
 use crate::choice::{Choice, behind_plan, due};
@@ -51,6 +52,7 @@ impl<S: ScriptName, P: RunName> Model for Turning<S, P> {
     ghost use Rattle.protocol_board.specs.Cores.{state_of};
     ghost use Rattle.seats.specs.Counted.{ClaimsGaveJobs};
     ghost use Rattle.seats.specs.Ends.{HasSlots, Stands, first_events};
+    ghost use Rattle.seats.specs.Outside.{KeepsToThem};
     ghost use Rattle.seats.specs.Views.{TurnData};
 
     ghost Value = { TurnData };
@@ -61,7 +63,8 @@ impl<S: ScriptName, P: RunName> Model for Turning<S, P> {
 
     ghost invariant = { λ t. ClaimsGaveJobs (state_of t.board) × (t.commits ≡ (totals_of (log_of t.board.log)).commits)
         × (t.plan ≡ P.plan) × (t.board.first_nodes ≡ P.size.nodes) × HasSlots P.size.slots t.board.whole t.given_up
-        × Stands (first_events t.taken t.plan) (log_of t.board.log) t.given_up };
+        × Stands (first_events t.taken t.plan) (log_of t.board.log) t.given_up
+        × KeepsToThem P.is_open (first_events t.taken t.plan) (log_of t.board.log) t.given_up };
 }
 
 /// How many commits were accepted, behind one event more; no more than the log has entries.
@@ -102,6 +105,29 @@ impl<S: ScriptName, P: RunName> Turning<S, P> {
         }
     }
 
+    /// One event, behind which so many of the plan's lines are taken.
+    fn apply_past(
+        &mut self,
+        alloc: Global,
+        event: Event,
+        seat: u8,
+        done: Option<Done<S>>,
+        taken: usize,
+    ) -> Reply<S>
+        requires { Passes P.is_open (turn_of self.old) (event_of event) taken }
+        ensures answers { Answers (state_of self.old.run) (event_of event) seat done (state_of self.new.run) (reply_of result) }
+        ensures counted { totals_of (log_of self.new.run.log) ≡ plus (totals_of (log_of self.old.run.log)) (counted (event_of event) (reply_of result)) }
+        ensures watched { AddsFrom P.watched seat (counted (event_of event) (reply_of result)) (log_of self.old.run.log) (log_of self.new.run.log) }
+        ensures follows { Follows (record (turn_of self.old) { taken = taken }) (event_of event) (reply_of result) (turn_of self.new) }
+    {
+        let told = self.board.apply(alloc, event, seat, done);
+        let most = entries_of(&self.board);
+        self.commits = commits_behind(self.commits, event, &told, most);
+        keep_or_give_up(&mut self.out, &mut self.given_up, event, &told);
+        self.taken = taken;
+        told
+    }
+
     /// One event: see `Board::apply`. What it adds to the totals of the log is what its answer says, and to
     /// those of the watched seat, if it came from that.
     pub fn apply(
@@ -111,16 +137,14 @@ impl<S: ScriptName, P: RunName> Turning<S, P> {
         seat: u8,
         done: Option<Done<S>>,
     ) -> Reply<S>
+        requires { MayApply P.is_open (event_of event) }
         ensures answers { Answers (state_of self.old.run) (event_of event) seat done (state_of self.new.run) (reply_of result) }
         ensures counted { totals_of (log_of self.new.run.log) ≡ plus (totals_of (log_of self.old.run.log)) (counted (event_of event) (reply_of result)) }
         ensures watched { AddsFrom P.watched seat (counted (event_of event) (reply_of result)) (log_of self.old.run.log) (log_of self.new.run.log) }
         ensures follows { Follows (turn_of self.old) (event_of event) (reply_of result) (turn_of self.new) }
     {
-        let told = self.board.apply(alloc, event, seat, done);
-        let most = entries_of(&self.board);
-        self.commits = commits_behind(self.commits, event, &told, most);
-        keep_or_give_up(&mut self.out, &mut self.given_up, event, &told);
-        told
+        let taken = self.taken;
+        self.apply_past(alloc, event, seat, done, taken)
     }
 
     /// The plan's next line.
@@ -133,14 +157,14 @@ impl<S: ScriptName, P: RunName> Turning<S, P> {
         None
     }
 
-    /// Goes past the plan's next line, if there is one, whose event was applied.
-    fn pass_line(&mut self)
-        requires { Stands (first_events (past_line self.old.plan self.old.taken) self.old.plan) (log_of self.old.run.log) self.old.given_up }
-        ensures { self.new ≡ record self.old { taken = past_line self.old.plan self.old.taken } }
+    /// How many of the plan's lines are taken behind its next one, if there is one.
+    fn past_line(&self) -> usize
+        ensures { result ≡ past_line self.now.plan self.now.taken }
     {
         if self.taken < self.plan.len() {
-            self.taken += 1;
+            return self.taken + 1;
         }
+        self.taken
     }
 
     /// The plan's next line, if so many commits were accepted.
@@ -167,13 +191,31 @@ impl<S: ScriptName, P: RunName> Turning<S, P> {
         Ok(behind_plan(claim, first, self.line()))
     }
 
-    /// The event that was chosen.
+    /// The event of the run's own that was chosen.
     fn take(&mut self, alloc: Global, seat: u8, event: Event) -> Turn<S>
+        requires { MayApply P.is_open (event_of event) }
         ensures takes { Takes (turn_of self.old) (event_of event) seat (turn_of self.new) (told_of result) }
         ensures counted { totals_of (log_of self.new.run.log) ≡ plus (totals_of (log_of self.old.run.log)) (turn_counted (told_of result)) }
         ensures watched { AddsFrom P.watched seat (turn_counted (told_of result)) (log_of self.old.run.log) (log_of self.new.run.log) }
     {
         match self.apply(alloc, event, seat, None) {
+            Reply::Job(job) => Turn::Job(job),
+            Reply::Ok => Turn::Did,
+            Reply::Refused(refusal) => Turn::Refused(refusal),
+        }
+    }
+
+    /// The event of the plan's next line, which was chosen.
+    fn take_line(&mut self, alloc: Global, seat: u8, event: Event) -> Turn<S>
+        requires chosen { choice (turn_of self.old) ≡ Plans (event_of event) }
+        requires goes_on { self.old.given_up ≡ None }
+        ensures takes { Takes (record (turn_of self.old) { taken = past_line self.old.plan self.old.taken }) (event_of event) seat
+            (turn_of self.new) (told_of result) }
+        ensures counted { totals_of (log_of self.new.run.log) ≡ plus (totals_of (log_of self.old.run.log)) (turn_counted (told_of result)) }
+        ensures watched { AddsFrom P.watched seat (turn_counted (told_of result)) (log_of self.old.run.log) (log_of self.new.run.log) }
+    {
+        let past = self.past_line();
+        match self.apply_past(alloc, event, seat, None, past) {
             Reply::Job(job) => Turn::Job(job),
             Reply::Ok => Turn::Did,
             Reply::Refused(refusal) => Turn::Refused(refusal),
@@ -199,11 +241,7 @@ impl<S: ScriptName, P: RunName> Turning<S, P> {
         };
         match choice {
             Choice::Does(event) => self.take(alloc, seat, event),
-            Choice::Plans(event) => {
-                let told = self.take(alloc, seat, event);
-                self.pass_line();
-                told
-            }
+            Choice::Plans(event) => self.take_line(alloc, seat, event),
             Choice::Waits => Turn::Again,
             Choice::Ends => Turn::End,
         }
@@ -226,7 +264,7 @@ impl<S: ScriptName, P: RunName> Turning<S, P> {
     /// Whether the run is at its end: it was given up, or nothing is left to do, nor of the plan.
     pub fn is_at_end(&self, alloc: Global) -> bool
         ensures at_end { result ≡ is_at_end (turn_of self.now) }
-        ensures over { result ≡ true → self.now.given_up ≡ None → IsOver P.plan P.size (state_of self.now.run) }
+        ensures over { result ≡ true → self.now.given_up ≡ None → IsOverBeside P.is_open P.plan P.size (state_of self.now.run) }
     {
         if self.given_up.is_some() {
             return true;
@@ -240,8 +278,8 @@ impl<S: ScriptName, P: RunName> Turning<S, P> {
 
     /// How the run ended.
     pub fn into_end(self) -> Ended<S>
-        requires { self.given_up ≡ None → IsOver P.plan P.size (state_of self.run) }
-        ensures ended { HasEnded P.plan P.size result }
+        requires { self.given_up ≡ None → IsOverBeside P.is_open P.plan P.size (state_of self.run) }
+        ensures ended { HasEnded P.is_open P.plan P.size result }
         ensures log { IfSome (log_at result) (λ log. log ≡ log_of self.run.log) }
     {
         let given_up = self.given_up;
@@ -256,7 +294,7 @@ impl<S: ScriptName, P: RunName> Turning<S, P> {
     /// The entries so far, oldest first.
     pub fn log(&self) -> &[Entry]
         ensures log { result.now ≡ self.now.run.log }
-        ensures meant { IsSoundLog S.script self.now.run.first_nodes (log_of self.now.run.log) }
+        ensures meant { IsSoundLog S.script (state_of self.now.run) }
     {
         self.board.log()
     }

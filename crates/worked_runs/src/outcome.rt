@@ -3,7 +3,7 @@
 use crate::case::{Case, Outcome};
 use crate::threaded::{ran_on_threads, threads_asked};
 use ids::ObjectId;
-use raysim_commands::{Cluster, Form, Refusal, Tracked, check, run, serial, sim};
+use raysim_commands::{Cluster, Form, Refusal, Tracked, check, migrate, run, serial, sim};
 use script_syntax::{parse, print_program};
 use std::alloc::{AllocError, Global};
 use std::rt::Clock;
@@ -22,6 +22,15 @@ fn replayed(
     let mut events = Tracked::reader(case.events.as_bytes());
     let mut writer = Tracked::writer(written);
     Some(sim(alloc, &mut reader, &mut events, cluster, form, &mut writer))
+}
+
+/// Writes the case's events as a file of format 2.
+fn migrated(alloc: Global, case: &Case, written: &mut Vec<u8>) -> Option<Result<u8, Refusal>> {
+    let cluster = Cluster::new(case.nodes, case.slots)?;
+    let mut reader = Tracked::reader(case.script.as_bytes());
+    let mut events = Tracked::reader(case.events.as_bytes());
+    let mut writer = Tracked::writer(written);
+    Some(migrate(alloc, &mut reader, &mut events, cluster, &mut writer))
 }
 
 /// Runs the case's script on its cluster.
@@ -60,6 +69,7 @@ fn form_of(command: &str) -> Option<Form> {
     match command {
         "sim" => Some(Form::Text),
         "sim --json" => Some(Form::Json),
+        "sim --books" => Some(Form::TextWithBooks),
         "sim --timeline" => Some(Form::Timeline),
         "sim --lineage" => Some(Form::Lineage),
         "log" => Some(Form::Log),
@@ -98,6 +108,9 @@ fn done<R: Threads + Wait + Clock + AllocGlobal + Sync>(
     }
     if let Some(form) = form_of_run(command) {
         return ran(alloc, case, form, written);
+    }
+    if command == "migrate" {
+        return migrated(alloc, case, written);
     }
     if let Some(asked) = threads_asked(command) {
         return ran_on_threads(rt, case, asked, written);

@@ -9,14 +9,24 @@ use std::rt::Clock;
 use std::sync::Wait;
 use std::thread::Threads;
 
-/// What a case asks of a run on threads: how many there are, and whether its history is written in front of its report.
+/// What a case wants to see of a run on threads.
+#[derive(Clone, Copy, PartialEq, Eq)]
+enum Shown {
+    Report,
+    /// The history in front of the report.
+    HistoryToo,
+    /// The books of the seats behind the report.
+    BooksToo,
+}
+
+/// What a case asks of a run on threads: how many there are, and what is written.
 #[derive(Clone, Copy)]
 pub struct Threaded {
     pub threads: u8,
-    pub history: bool,
+    shown: Shown,
 }
 
-/// What a run on threads wrote, and its status.
+/// What a run on threads wrote, the report with the books of its seats, and its status.
 #[derive(Drop)]
 struct Ran {
     history: Vec<u8>,
@@ -24,17 +34,24 @@ struct Ran {
     status: u8,
 }
 
-/// `run --threads N`, or `run --threads N --history`.
+/// What stands in front of the option at the words' end, and what the option shows.
+fn shown_by(words: &str) -> (&str, Shown) {
+    if let Some(front) = words.strip_suffix(" --history") {
+        return (front, Shown::HistoryToo);
+    }
+    if let Some(front) = words.strip_suffix(" --books") {
+        return (front, Shown::BooksToo);
+    }
+    (words, Shown::Report)
+}
+
+/// `run --threads N`, with `--history` or `--books` behind it or without.
 pub fn threads_asked(command: &str) -> Option<Threaded>
     ensures { IfSome result (λ asked. (1 ≤ asked.threads) × (asked.threads ≤ 8)) }
 {
-    let rest = command.strip_prefix("run --threads ")?;
-    let (number, history) = match rest.strip_suffix(" --history") {
-        Some(number) => (number, true),
-        None => (rest, false),
-    };
+    let (number, shown) = shown_by(command.strip_prefix("run --threads ")?);
     match number.parse::<u8>() {
-        Ok(threads) if threads >= 1 && threads <= 8 => Some(Threaded { threads, history }),
+        Ok(threads) if threads >= 1 && threads <= 8 => Some(Threaded { threads, shown }),
         _ => None,
     }
 }
@@ -56,7 +73,7 @@ fn run_case<R: Threads + Wait + Clock + AllocGlobal + Sync>(
         &mut Tracked::reader(case.script.as_bytes()),
         &mut Tracked::reader(case.events.as_bytes()),
         cluster,
-        Form::Text,
+        Form::TextWithBooks,
         threads,
         &OpenGate,
         &mut Tracked::writer(&mut history),
@@ -69,7 +86,7 @@ fn run_case<R: Threads + Wait + Clock + AllocGlobal + Sync>(
     })
 }
 
-/// Whether the history, replayed, gives the same report and status.
+/// Whether the history, replayed, gives the same report, the same books of the seats, and the same status.
 fn replays(alloc: Global, case: &Case, cluster: Cluster, ran: &Ran) -> bool {
     let mut again = Vec::new(alloc);
     let mut reader = Tracked::reader(case.script.as_bytes());
@@ -80,12 +97,38 @@ fn replays(alloc: Global, case: &Case, cluster: Cluster, ran: &Ran) -> bool {
         &mut reader,
         &mut events,
         cluster,
-        Form::Text,
+        Form::TextWithBooks,
         &mut writer,
     ) {
         Ok(status) => status == ran.status && again.as_slice() == ran.report.as_slice(),
         Err(_) => false,
     }
+}
+
+/// Adds a history. Of several threads it is left open which takes which turn, so that an S stands in place of each seat's number.
+fn add_history(written: &mut Vec<u8>, threads: u8, history: &str) -> Result<(), AllocError> {
+    for line in history.lines() {
+        match line.split_once(' ') {
+            Some((seat, event)) if threads > 1 && seat != "raysim" => {
+                written.extend_from_slice(b"S ")?;
+                written.extend_from_slice(event.as_bytes())?;
+            }
+            _ => written.extend_from_slice(line.as_bytes())?,
+        }
+        written.push(b'\n')?;
+    }
+    Ok(())
+}
+
+/// Adds a report, and the books behind it if they are asked for.
+fn add_report(written: &mut Vec<u8>, books: bool, report: &str) -> Result<(), AllocError> {
+    for line in report.lines() {
+        if books || !line.starts_with("book ") {
+            written.extend_from_slice(line.as_bytes())?;
+            written.push(b'\n')?;
+        }
+    }
+    Ok(())
 }
 
 /// Adds what a run wrote, as far as the case asks for it.
@@ -95,10 +138,12 @@ fn add_written(
     same: bool,
     ran: &Ran,
 ) -> Result<(), AllocError> {
-    if asked.history {
-        written.extend_from_slice(ran.history.as_slice())?;
+    if asked.shown == Shown::HistoryToo {
+        let history = str::from_utf8(ran.history.as_slice()).unwrap_or("no text");
+        add_history(written, asked.threads, history)?;
     }
-    written.extend_from_slice(ran.report.as_slice())?;
+    let report = str::from_utf8(ran.report.as_slice()).unwrap_or("no text");
+    add_report(written, asked.shown == Shown::BooksToo, report)?;
     if !same {
         written.extend_from_slice(b"the history replays to another report\n")?;
     }

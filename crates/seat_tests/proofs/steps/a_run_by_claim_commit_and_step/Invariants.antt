@@ -1,4 +1,4 @@
-use Rattle.std.proofs.Common.{[]}
+use Rattle.std.proofs.Common.{[], true}
 use Rattle.script_check.specs.Trees.{script_of}
 use Rattle.seat_tests.proofs.steps.a_run_by_claim_commit_and_step.Given as goal
 
@@ -6,7 +6,7 @@ abbrev pub ghosts-report_of-S-ScriptName : goal.ghosts-report_of-S-ScriptName
 ghosts-report_of-S-ScriptName g a = record { script = script_of a.script.now }
 
 abbrev pub ghosts-report_of-P-RunName : goal.ghosts-report_of-P-RunName
-ghosts-report_of-P-RunName g a = record { plan = []; size = record { nodes = 1; slots = 4 } }
+ghosts-report_of-P-RunName g a = record { plan = []; size = record { nodes = 1; slots = 4 }; is_open = true }
 
 abbrev pub ghosts-report_of-E-Ledger : goal.ghosts-report_of-E-Ledger
 ghosts-report_of-E-Ledger g a = record { name = a.blanks.events.name; parts = a.blanks.events.parts }

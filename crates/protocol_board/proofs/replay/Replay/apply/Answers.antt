@@ -1,8 +1,10 @@
-use Rattle.std.proofs.Common.{subst, sym}
+use Rattle.std.proofs.Common.{rules, subst, sym}
 use Rattle.event_log.specs.Views.{event_of, log_of}
 use Rattle.protocol_core.specs.Steps.{reply_of}
 use Rattle.protocol_core.specs.Views.{state_of}
 use Rattle.protocol_board.specs.Own.{JobsAreOwn}
+use Rattle.protocol_board.specs.Views.{play_of}
+use Rattle.protocol_board.proofs.Playing.{gives_so}
 use Rattle.protocol_board.proofs.Own.{all_behind, all_handed, done_own, job_agrees, own_job, own_with}
 use Rattle.protocol_board.proofs.replay.Replay.apply.Goals as goal
 
@@ -39,3 +41,9 @@ invariant_of-self-2 g c =
     let all = all_behind (state_of c.self.inside.board) after c.hand_in-job.new.jobs c.run_job.new.frames c.apply_own-told.ensures.answers handed in
     let jobs = own_with after.log (reply_of c.apply_own-told.result) c.hand_in-job.new.jobs all.0 c.apply_own-told.ensures.own in
     (subst (JobsAreOwn after.log) (sym c.in_ok-keep.ensures.jobs) jobs, all.1)
+
+pub returns-clause-gives : goal.returns-clause-gives
+returns-clause-gives g c =
+    gives_so g.S.ScriptName.script (play_of c.args.self.now) (play_of c.note.new.self) (event_of c.args.event) c.args.seat c.in_ok-done.done
+    (reply_of c.apply_own-told.result) c.given_by-given.result
+    (search rules) (search rules) (search rules) (search rules) (search rules) (search rules) (search rules) (search rules) (search rules) (search rules)

@@ -1,7 +1,9 @@
-use Rattle.std.proofs.Common.{◌+◌, [], rules, sym, ap, subst, ◌∙◌}
+use Rattle.std.proofs.Common.{◌+◌, [], None, ap, get_or, rules, subst, sym, ◌∙◌}
+use Rattle.event_files.specs.declared.recorded.RecordedEvent.{RecordedEvent}
+use Rattle.event_log.specs.declared.event.Event.TheVariants as events
 use Rattle.protocol_board.specs.Replays.{EventPlays, HistoryStops, PlaysHistory, from_first}
 use Rattle.protocol_board.specs.Views.{play_of}
-use Rattle.protocol_board.proofs.Playing.{item_there, no_item, one_more_item}
+use Rattle.protocol_board.proofs.Playing.{item_copied, no_item, one_more_item}
 use Rattle.protocol_board.proofs.replay.Replay.play_history.Goals as goal
 
 pub loop-said-init : goal.loop-said-init
@@ -12,26 +14,32 @@ loop-said-init g c =
       counted = c.restart.ensures.begun;
     }
 
+-- what the code takes for an item where there is none
+abbrev none_said : RecordedEvent
+none_said = record { seat = 0; event = events.Claim (record { 0 = 0 }); given = None }
+
 pub returns-in_err-play_event-clause-stops : goal.returns-in_err-play_event-clause-stops
 returns-in_err-play_event-clause-stops g c =
     let lines = c.deref-said-items.result.now in
     let same = c.deref-said-items.ensures.value ∙ c.events.view_is in
-    let at = item_there lines c.args.events.now c.loop-said.said-index c.said-item.result same c.loop-said-test.true c.said-item.is in
+    let said : RecordedEvent = get_or lines c.loop-said.said-index none_said in
+    let at = item_copied lines c.args.events.now c.loop-said.said-index none_said same c.loop-said-test.true in
     let why : HistoryStops g.S.ScriptName.script c.args.events.now (from_first (play_of c.args.self.now)) (play_of c.play_event.new.self) c.in_err-play_event.field-0.0 =
-    (c.loop-said.said-index, c.said-item.result, play_of c.loop-said.self, at, c.loop-said.invariant.plays, c.in_err-play_event.ensures.stops) in
+    (c.loop-said.said-index, said, play_of c.loop-said.self, at, c.loop-said.invariant.plays, c.in_err-play_event.ensures.stops) in
     search (rules, why)
 
 pub loop-said-preserved : goal.loop-said-preserved
 loop-said-preserved g c =
     let lines = c.deref-said-items.result.now in
     let same = c.deref-said-items.ensures.value ∙ c.events.view_is in
-    let at = item_there lines c.args.events.now c.loop-said.said-index c.said-item.result same c.loop-said-test.true c.said-item.is in
+    let said : RecordedEvent = get_or lines c.loop-said.said-index none_said in
+    let at = item_copied lines c.args.events.now c.loop-said.said-index none_said same c.loop-said-test.true in
     let before = from_first (play_of c.args.self.now) in
     let between = play_of c.loop-said.self in
     let after = play_of c.play_event.new.self in
     let plays = c.in_ok-play_event.ensures.plays in
     let h = c.loop-said.invariant in
     record {
-      plays = one_more_item (EventPlays g.S.ScriptName.script) c.args.events.now c.loop-said.said-index c.said-item.result before between after at h.plays plays;
+      plays = one_more_item (EventPlays g.S.ScriptName.script) c.args.events.now c.loop-said.said-index said before between after at h.plays plays;
       counted = c.in_ok-play_event.ensures.counted ∙ ap (λ k. k + 1) h.counted;
     }

@@ -1,10 +1,11 @@
 use Rattle.std.proofs.Common.{subst}
 use Rattle.event_log.specs.Views.{event_of}
+use Rattle.protocol_core.specs.Limits.{Limits}
 use Rattle.protocol_core.specs.Owed.{Pays}
 use Rattle.protocol_core.specs.Steps.{AnswersAsShown, reply_of}
 use Rattle.protocol_core.specs.Views.{data_of, state_of}
 use Rattle.protocol_core.proofs.Cursors.{past_behind}
-use Rattle.protocol_core.proofs.Paid.{paid}
+use Rattle.protocol_core.proofs.Paid.{limited, paid}
 use Rattle.protocol_core.proofs.Shown.{as_shown}
 use Rattle.protocol_core.proofs.cores.Core.take.Goals as goal
 
@@ -26,3 +27,10 @@ returns-clause-paid g c =
     c.self.view_is
     (paid g.S.ScriptName.script (state_of (data_of c.self.inside.state)) (state_of (data_of c.step-told.new.state)) (event_of c.args.event) c.args.seat c.args.done
     (reply_of c.step-told.result) c.self.invariant.0 c.step-told.ensures.is_true (λ goes. c.step-told.ensures.follows))
+
+pub returns-clause-limited : goal.returns-clause-limited
+returns-clause-limited g c =
+    subst (λ d. Limits g.S.ScriptName.script (state_of d) (event_of c.args.event) c.args.seat c.args.done (state_of (data_of c.step-told.new.state)) (reply_of c.step-told.result))
+    c.self.view_is
+    (limited g.S.ScriptName.script (state_of (data_of c.self.inside.state)) (state_of (data_of c.step-told.new.state)) (event_of c.args.event) c.args.seat c.args.done
+    (reply_of c.step-told.result) c.self.invariant.0 (λ goes. c.step-told.ensures.follows))

@@ -2,6 +2,7 @@ use Rattle.std.proofs.Common.{ap, sym}
 use Rattle.event_log.specs.Books.{Totals}
 use Rattle.protocol_board.specs.Cores.{Size, state_of}
 use Rattle.seats.proofs.Counted.{fresh_claims, fresh_seat_totals, fresh_totals}
+use Rattle.seats.proofs.Outside.{none_yet}
 use Rattle.seats.proofs.Standing.{none_in}
 use Rattle.seats.proofs.turning.Turning.new.Goals as goal
 
@@ -14,6 +15,7 @@ invariant_of-result g c =
       ap (λ (z : Size). z.nodes) c.requires.named.1,
       ap (λ (z : Size). z.slots) c.requires.named.1,
       none_in r.log,
+      none_yet g.P.RunName.is_open r.log c.requires.fresh.0,
     )
 
 pub returns-clause-totals : goal.returns-clause-totals

@@ -5,12 +5,15 @@ use Rattle.event_log.specs.Views.{event_of, log_of}
 use Rattle.protocol_board.specs.Cores.{reply_of, state_of}
 use Rattle.seats.specs.Counted.{AddsFrom, counted}
 use Rattle.seats.specs.Ends.{first_events}
-use Rattle.seats.specs.Views.{TurnData}
+use Rattle.seats.specs.Outside.{Passes}
+use Rattle.seats.specs.Views.{TurnData, turn_of}
 use Rattle.seats.proofs.Counted.{answers_counted}
 use Rattle.seats.proofs.Few.{commits_now, few_behind}
+use Rattle.seats.proofs.Outside.{keeps_kept, keeps_past}
+use Rattle.seats.proofs.Planned.{stands_past}
 use Rattle.seats.proofs.Sizes.{same_nodes, slots_behind, slots_kept}
-use Rattle.seats.proofs.Standing.{stands_behind, stands_kept}
-use Rattle.seats.proofs.turning.Turning.apply.Goals as goal
+use Rattle.seats.proofs.Standing.{stands_kept}
+use Rattle.seats.proofs.turning.Turning.apply_past.Goals as goal
 
 pub commits_behind-self-inside-requires : goal.commits_behind-self-inside-requires
 commits_behind-self-inside-requires g c =
@@ -28,8 +31,12 @@ invariant_of-self g c =
     let after = c.apply-told.new.self in
     let e = event_of c.args.event in
     let told = reply_of c.apply-told.result in
-    let es = first_events c.self.inside.taken c.self.inside.plan in
-    let h = answers_counted (state_of before) (state_of after) e c.args.seat c.args.done told c.self.invariant.0 c.apply-told.ensures.answers in (
+    let is_open = g.P.RunName.is_open in
+    let t : TurnData = record { run = before; plan = c.self.inside.plan; taken = c.self.inside.taken; out = c.self.inside.out; given_up = c.self.inside.given_up } in
+    let es = first_events c.args.taken c.self.inside.plan in
+    let h = answers_counted (state_of before) (state_of after) e c.args.seat c.args.done told c.self.invariant.0 c.apply-told.ensures.answers in
+    let passes : Passes is_open (turn_of t) e c.args.taken =
+    subst (λ (r : TurnData). Passes is_open (turn_of r) e c.args.taken) (sym c.self.view_is) c.requires in (
       h.jobs,
       commits_now (totals_of (log_of before.log)) (counted e told) after.log c.self.inside.commits c.commits_behind-self-inside.result
           h.totals c.self.invariant.1 c.commits_behind-self-inside.ensures,
@@ -40,7 +47,10 @@ invariant_of-self g c =
           c.self.invariant.4)
           c.keep_or_give_up.ensures,
       stands_kept es (log_of after.log) e told c.self.inside.out c.self.inside.given_up c.keep_or_give_up.new.out c.keep_or_give_up.new.given_up
-          (stands_behind es (state_of before) (state_of after) e c.args.seat c.args.done told c.self.inside.given_up c.apply-told.ensures.answers c.self.invariant.5)
+          (stands_past is_open (turn_of t) (state_of after) e c.args.seat c.args.done told c.args.taken passes c.apply-told.ensures.answers c.self.invariant.5)
+          c.keep_or_give_up.ensures,
+      keeps_kept is_open es (log_of after.log) e told c.self.inside.out c.self.inside.given_up c.keep_or_give_up.new.out c.keep_or_give_up.new.given_up
+          (keeps_past is_open (turn_of t) (state_of after) e c.args.seat c.args.done told c.args.taken passes c.apply-told.ensures.answers c.self.invariant.6)
           c.keep_or_give_up.ensures,
     )
 

@@ -1,0 +1,158 @@
+-- What `migrate` reads, refuses and writes.
+use Rattle.std.proofs.Common.{◌≡◌, ◌≢◌, ◌∙◌, ◌+◌, ◌++◌, ℕ, Bool, false, List, [], ◌∷◌, Option, None, Some, inl, inr, refl, ap, sym, subst, take, length, codes}
+use Rattle.std.specs.Prelude.{IfSome}
+use Rattle.std.specs.Io.KnownBytes.{Appends}
+use Rattle.meaning.specs.Syntax.{Script}
+use Rattle.event_log.specs.Views.{log_of}
+use Rattle.event_log.specs.declared.entry.Entry.{Entry as CodeEntry}
+use Rattle.event_files.proofs.Readers.{line_in-text, reads_lines}
+use Rattle.event_files.proofs.Rows.{one_bad}
+use Rattle.event_files.specs.Files.{IsBadAt, IsRow, Passed, Row, Said, is_passed, row_text}
+use Rattle.event_files.specs.Lines.{IsLine, line_text}
+use Rattle.event_files.specs.Numbering.{line_numbers}
+use Rattle.event_files.specs.Reading.{event_in, line_in}
+use Rattle.event_files.specs.Recorded.{header, recorded_file}
+use Rattle.event_files.specs.declared.event_file.EventFile.TheVariants as files
+use Rattle.event_files.specs.declared.line.Line.{Line}
+use Rattle.event_files.specs.declared.line.Line.TheVariants as lines
+use Rattle.histories.specs.Recorded.{recorded_in}
+use Rattle.protocol_board.specs.Cores.{Size}
+use Rattle.protocol_board.specs.Meant.{IsSoundLog}
+use Rattle.protocol_board.specs.Replays.{LineStops, Play, PlayStops, Plays}
+use Rattle.protocol_board.specs.declared.stopped.Stopped.TheVariants as stops
+use Rattle.raysim_streams.specs.declared.Failure.TheVariants.{Read, Write, Closed}
+use Rattle.raysim_streams.specs.declared.Refusal.{Refusal}
+use Rattle.raysim_streams.specs.declared.Refusal.TheVariants.{At, NoMemory, Stopped, BadLine, WrongJob, Failed}
+use Rattle.raysim_commands.specs.Migrations.{ExplainsLines, ExplainsMigration, IsHistoryOf, IsLinesFile, IsLinesStop, IsMigrated, IsMigrationBegun}
+use Rattle.raysim_commands.specs.Scripts.{Explains, IsAllowed, IsScript}
+use Rattle.raysim_commands.specs.SimReports.{IfBoth, first_play}
+
+-- ---- no line of format 1 says which job a claim gives
+
+no_wrong_job_in : (script : Script) (line : Line) (before after : Play) → LineStops script line before after stops.WrongJob → ⊥
+no_wrong_job_in script (lines.Event e) before after h = h
+no_wrong_job_in script (lines.Settle workers) before after (inl (same, other)) = cc
+no_wrong_job_in script (lines.Settle workers) before after (inr (n, between, e, settles, comes, stop)) = stop
+
+pub no_wrong_job : (script : Script) (lines : List Line) (before after : Play) → PlayStops script lines before after stops.WrongJob → ⊥
+no_wrong_job script lines before after (n, line, between, stands, plays, stop) = no_wrong_job_in script line between after stop
+
+-- ---- the first line of format 2 is none of format 1
+
+abbrev first : List ℕ
+first = codes "raysim 2"
+
+no_line : line_in first ≡ None
+unfolding line_in event_in
+no_line = refl
+
+no_row : (r : Row Line) → IsRow IsLine r → row_text line_text r ≢ first
+no_row (Passed bytes) h e = let f : is_passed bytes ≡ false = ap is_passed e in let g = h.0 in absurd (cc)
+no_row (Said l) h e = let f : Some l ≡ None = sym (line_in-text l h) ∙ ap line_in e ∙ no_line in absurd (cc)
+
+-- so it is the first line of such a file that is none
+first_is_bad : (bytes : List ℕ) (n : ℕ) → IsBadAt IsLine line_text bytes n → (rest : List ℕ) → bytes ≡ header ++ rest → n ≡ 1
+first_is_bad bytes n h rest e =
+    h.place ∙ ap (λ i. i + 1) (one_bad IsLine line_text line_in reads_lines h.rows [] h.line h.rest first (10 ∷ rest) h.are_rows tt
+    h.in_a_line refl h.is_bad (refl, no_row) (sym h.written ∙ e))
+
+-- ---- what is written
+
+-- the replay's history
+pub history_so : (script named : Script) (size : Size) (lines : List Line) (first after : Play) (log : List CodeEntry) (text : List ℕ) →
+    script ≡ named → first ≡ first_play size → Plays named lines first after → IsSoundLog named after.run → log_of log ≡ after.run.log →
+    text ≡ recorded_file (recorded_in log) → IsHistoryOf script size lines text
+history_so script named size lines first after log text own begins plays meant of_log written =
+    let played = subst (λ s. Plays s lines (first_play size) after) (sym own) (subst (λ p. Plays named lines p after) begins plays) in
+    let sound = subst (λ s. IsSoundLog s after.run) (sym own) meant in
+    record { play = after; replayed = record { plays = played; meant = sound }; log = log; of_log = of_log; written = written }
+
+-- all of it was written, where what was read is known
+pub migrated_so : (size : Size) (known events : Option (List ℕ)) (text : List ℕ) (script : Script) (lines : List Line) (history bytes : List ℕ)
+    (before after : Option (List ℕ)) → IfSome known (λ b. text ≡ b) → IsScript text script → IfSome events (λ e. IsLinesFile e lines) →
+    IsHistoryOf script size lines history → bytes ≡ history → Appends before after bytes → IfBoth known events (λ t e. IsMigrated size t e before after)
+migrated_so size None events text script lines history bytes before after same is ls h written a = tt
+migrated_so size (Some t) None text script lines history bytes before after same is ls h written a = tt
+migrated_so size (Some t) (Some e) text script lines history bytes before after same is ls h written a = record {
+  script = script;
+  lines = lines;
+  history = history;
+  is_script = subst (λ b. IsScript b script) same is;
+  are_lines = ls;
+  migrated = h;
+  written = subst (λ l. Appends before after l) written a;
+}
+
+-- a beginning of it was
+pub migration_begun_so : (size : Size) (known events : Option (List ℕ)) (text : List ℕ) (script : Script) (lines : List Line) (history bytes : List ℕ)
+    (before after : Option (List ℕ)) → IfSome known (λ b. text ≡ b) → IsScript text script → IfSome events (λ e. IsLinesFile e lines) →
+    IsHistoryOf script size lines history → bytes ≡ history → (k : ℕ) × Appends before after (take k bytes) →
+    IfBoth known events (λ t e. (after ≡ before) ⊎ IsMigrationBegun size t e before after)
+migration_begun_so size None events text script lines history bytes before after same is ls h written a = tt
+migration_begun_so size (Some t) None text script lines history bytes before after same is ls h written a = tt
+migration_begun_so size (Some t) (Some e) text script lines history bytes before after same is ls h written (k, a) = inr (record {
+  script = script;
+  lines = lines;
+  history = history;
+  is_script = subst (λ b. IsScript b script) same is;
+  are_lines = ls;
+  migrated = h;
+  count = k;
+  written = subst (λ l. Appends before after (take k l)) written a;
+})
+
+-- ---- why nothing is
+
+-- a script is refused for the other commands' causes
+pub explains_no_script : (size : Size) (known events : Option (List ℕ)) (a b w : Bool) (r : Refusal) → Explains known a w r →
+    ExplainsMigration size known events a b w r
+explains_no_script size known events a b w (At code span) h = h
+explains_no_script size known events a b w NoMemory h = tt
+explains_no_script size known events a b w (Stopped code) h = absurd h
+explains_no_script size known events a b w (BadLine line) h = absurd h
+explains_no_script size known events a b w (WrongJob line) h = absurd h
+explains_no_script size known events a b w (Failed Read) h = inl h
+explains_no_script size known events a b w (Failed Write) h = h
+explains_no_script size known events a b w (Failed Closed) h = h
+
+-- what was read is a script that the rules allow, where it is known
+allowed : (known : Option (List ℕ)) (text : List ℕ) (script : Script) → IfSome known (λ b. text ≡ b) → IsScript text script → IfSome known IsAllowed
+allowed None text script same is = tt
+allowed (Some t) text script same is = (script, subst (λ b. IsScript b script) same is)
+
+bad_line : (size : Size) (known events : Option (List ℕ)) (a b w : Bool) (n : ℕ) → IfSome known IsAllowed → ExplainsLines events b (BadLine n) →
+    ExplainsMigration size known events a b w (BadLine n)
+bad_line size None events a b w n is h = tt
+bad_line size (Some t) None a b w n is h = tt
+bad_line size (Some t) (Some e) a b w n is h = record { allowed = is; bad = h; of_recorded = first_is_bad e n h }
+
+-- the lines aren't read
+pub explains_no_lines : (size : Size) (known events : Option (List ℕ)) (text : List ℕ) (script : Script) (a b w : Bool) (r : Refusal) →
+    IfSome known (λ t. text ≡ t) → IsScript text script → ExplainsLines events b r → ExplainsMigration size known events a b w r
+explains_no_lines size known events text script a b w (BadLine n) same is h = bad_line size known events a b w n (allowed known text script same is) h
+explains_no_lines size known events text script a b w NoMemory same is h = tt
+explains_no_lines size known events text script a b w (Failed Read) same is h = inr (h, allowed known text script same is)
+explains_no_lines size known events text script a b w (Failed Write) same is h = absurd h
+explains_no_lines size known events text script a b w (Failed Closed) same is h = absurd h
+explains_no_lines size known events text script a b w (At code span) same is h = absurd h
+explains_no_lines size known events text script a b w (Stopped code) same is h = absurd h
+explains_no_lines size known events text script a b w (WrongJob n) same is h = absurd h
+
+too_long : (size : Size) (known events : Option (List ℕ)) (text : List ℕ) (script : Script) (lines : List Line) (a b w : Bool) (code : ℕ) →
+    IfSome known (λ t. text ≡ t) → IsScript text script → IfSome events (λ e. IsLinesFile e lines) → IsLinesStop script size lines (Stopped code) →
+    ExplainsMigration size known events a b w (Stopped code)
+too_long size None events text script lines a b w code same is ls h = tt
+too_long size (Some t) None text script lines a b w code same is ls h = tt
+too_long size (Some t) (Some e) text script lines a b w code same is ls h =
+    (h.0, script, files.Lines lines, line_numbers e, subst (λ x. IsScript x script) same is, (ls, refl), h.1)
+
+-- the lines' replay stops
+pub explains_stop : (size : Size) (known events : Option (List ℕ)) (text : List ℕ) (script : Script) (lines : List Line) (a b w : Bool) (r : Refusal) →
+    IfSome known (λ t. text ≡ t) → IsScript text script → IfSome events (λ e. IsLinesFile e lines) → IsLinesStop script size lines r →
+    ExplainsMigration size known events a b w r
+explains_stop size known events text script lines a b w (Stopped code) same is ls h = too_long size known events text script lines a b w code same is ls h
+explains_stop size known events text script lines a b w NoMemory same is ls h = tt
+explains_stop size known events text script lines a b w (At code span) same is ls h = absurd h
+explains_stop size known events text script lines a b w (BadLine n) same is ls h = absurd h
+explains_stop size known events text script lines a b w (WrongJob n) same is ls h = absurd h
+explains_stop size known events text script lines a b w (Failed failure) same is ls h = absurd h

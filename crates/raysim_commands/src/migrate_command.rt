@@ -1,0 +1,94 @@
+// The command `migrate`.
+
+ghost use Rattle.std.specs.Prelude.{◌≡◌, ◌⊎◌, IfOk, IfErr, IfSome, string_bytes};
+ghost use Rattle.script_check.specs.Trees.{script_of};
+ghost use Rattle.event_files.specs.Files.{IsFile};
+ghost use Rattle.event_files.specs.Lines.{IsLine, line_text};
+ghost use Rattle.raysim_commands.specs.Scripts.{IsUnwritten};
+ghost use Rattle.raysim_commands.specs.SimReports.{IfBoth};
+ghost use Rattle.raysim_commands.specs.Migrations.{ExplainsLines, ExplainsMigration, IsHistoryOf, IsLinesStop, IsMigrated, IsMigrationBegun};
+
+use crate::script::{compiled_script, read_script};
+use event_files::{EventError, Line, parse_events};
+use histories::history;
+use protocol_board::{Cluster, Core, Replay, Stopped};
+use raysim_streams::{Refusal, Sink, Source, put_all, read_at_most};
+use segment::{Compiled, ScriptName};
+use sequence::Seq;
+use std::alloc::Global;
+use std::marker::Brand;
+
+/// The lines of an event file of format 1. The first line of a file of format 2 is none of format 1.
+fn read_lines<E: Source>(alloc: Global, reader: &mut E) -> Result<Seq<Line>, Refusal>
+    ensures read { IfOk result (λ lines. IfSome (E.left reader.old) (λ bytes. IsFile IsLine line_text bytes lines)) }
+    ensures refused { IfErr result (λ refusal. ExplainsLines (E.left reader.old) (E.has_failed reader.new) refusal) }
+{
+    let text = read_at_most(alloc, reader, usize::MAX)?;
+    match parse_events(alloc, text.as_slice()) {
+        Ok(lines) => Ok(lines),
+        Err(EventError::BadLine(line)) => Err(Refusal::BadLine { line }),
+        Err(EventError::NoMemory) => Err(Refusal::NoMemory),
+    }
+}
+
+/// The history of the run of a script by these lines.
+fn migrate_script<S: ScriptName>(
+    alloc: Global,
+    script: &Compiled,
+    lines: &Seq<Line>,
+    cluster: Cluster,
+) -> Result<String, Refusal>
+    requires { script_of script.now ≡ S.script }
+    ensures written { IfOk result (λ text. IsHistoryOf (script_of script.now) cluster lines.now (string_bytes text)) }
+    ensures stopped { IfErr result (IsLinesStop (script_of script.now) cluster lines.now) }
+{
+    let core = Core::<S>::new(alloc, script.script(), cluster)?;
+    let mut replay = Replay::new(alloc, core);
+    match replay.play(alloc, script, lines) {
+        Ok(()) => Ok(history(alloc, replay.board().log())?),
+        Err(Stopped::NoMemory) => Err(Refusal::NoMemory),
+        Err(Stopped::TooLong) => Err(Refusal::Stopped { code: 41 }),
+        // No line of format 1 says which job a claim gives.
+        Err(Stopped::WrongJob) => unreachable!(),
+    }
+}
+
+/// Reads a script's text and then an event file of format 1, applies the file's events to a run of the script on this cluster, and writes the
+/// history of that run as an event file of format 2 (docs/event-files.md): each event with its seat, which is 0, a claim with the number of the job
+/// that it gave, and in place of each settle line the events for which it stands. Replayed by `sim` on the same cluster, the history gives the same
+/// run, and so the same report. The status is 0.
+///
+/// Else the refusal says why, as for `sim`. `BadLine` with line 1 comes where the file is of format 2. After a failed write a beginning of the
+/// history is out; before any other refusal nothing is written.
+pub fn migrate<R: Source, E: Source, W: Sink>(
+    alloc: Global,
+    reader: &mut R,
+    events: &mut E,
+    cluster: Cluster,
+    writer: &mut W,
+) -> Result<u8, Refusal>
+    ensures status { IfOk result (λ status. status ≡ 0) }
+    ensures migrated { IfOk result (λ status. IfBoth (R.left reader.old) (E.left events.old) (λ text file.
+        IsMigrated cluster text file (W.held writer.old) (W.held writer.new))) }
+    ensures refused { IfErr result (λ refusal. ExplainsMigration cluster (R.left reader.old) (E.left events.old)
+        (R.has_failed reader.new) (E.has_failed events.new) (W.has_failed writer.new) refusal) }
+    ensures unwritten { IfErr result (λ refusal. IsUnwritten refusal → W.held writer.new ≡ W.held writer.old) }
+    ensures beginning { IfErr result (λ refusal. IfBoth (R.left reader.old) (E.left events.old) (λ text file.
+        (W.held writer.new ≡ W.held writer.old) ⊎ IsMigrationBegun cluster text file (W.held writer.old) (W.held writer.new))) }
+{
+    let text = read_script(alloc, reader)?;
+    let script = match compiled_script(alloc, text.as_slice()) {
+        Ok(script) => script,
+        Err(refusal) => return Err(refusal),
+    };
+    let lines = match read_lines(alloc, events) {
+        Ok(lines) => lines,
+        Err(refusal) => return Err(refusal),
+    };
+    let history = match migrate_script::<Brand>(alloc, &script, &lines, cluster) {
+        Ok(history) => history,
+        Err(refusal) => return Err(refusal),
+    };
+    put_all(writer, history.as_bytes())?;
+    Ok(0)
+}

@@ -1,0 +1,180 @@
+-- The events from outside in a log, behind each event.
+use Rattle.std.proofs.Common.{◌≡◌, ℕ, true, false, Bool, List, [], ◌∷◌, ◌++◌, Option, Some, None, refl, sym, ap, ◌∙◌, subst, inl, inr}
+use Rattle.std.specs.Prelude.{if◌then◌else◌, slice_get}
+use Rattle.std.proofs.lemmas.List.{append-nil}
+use Rattle.std.proofs.lemmas.List.Concat.{flat_map-append}
+use Rattle.std.proofs.lemmas.List.Elements.{filter-append}
+use Rattle.segment.specs.Jobs.{Done}
+use Rattle.event_files.specs.declared.plan.PlanLine.{PlanLine}
+use Rattle.event_log.specs.Books.{totals_of}
+use Rattle.event_log.specs.Entries.{Entry, Event, Claim, Commit, Deliver, In, Refused}
+use Rattle.event_log.specs.Legal.{has_event, opening}
+use Rattle.event_log.specs.Words.{came_in, events}
+use Rattle.event_log.specs.declared.refusal.Refusal.{Refusal}
+use Rattle.event_log.specs.declared.refusal.Refusal.TheVariants as refusals
+use Rattle.protocol.specs.Answers.{Answer, answer, decided, given_out, logged, takes}
+use Rattle.protocol.specs.Answers as answers
+use Rattle.protocol.specs.Events.{happens}
+use Rattle.protocol.specs.Jobs.{Handed}
+use Rattle.protocol.specs.Refusals.{is_within_limits, refusal}
+use Rattle.protocol.specs.Settling.{next}
+use Rattle.protocol.specs.Whole.{Whole}
+use Rattle.protocol_owed.proofs.Counting.{happens-counted, no_event}
+use Rattle.protocol_board.specs.Cores.{RunState, Reply, Refuses, Answers, Follows}
+use Rattle.seats.specs.Ends.{first_events}
+use Rattle.seats.specs.Outside.{HasNoOther, KeepsToThem, MayApply, Passes, is_outside, outside}
+use Rattle.seats.specs.Turns.{Choice, Does, Ends, KeepsOut, TurnState, busy, choice, due, given_up_by, or_claim, or_first, or_message, or_plan, or_wait}
+use Rattle.seats.specs.declared.outs.JobOut.{JobOut}
+use Rattle.seats.proofs.Planned.{past_events, plans_line}
+
+-- ---- the events of the log
+
+no_events : (es : List Entry) → has_event es ≡ false → events es ≡ []
+no_events [] h = refl
+no_events (In e seat ∷ es) h = absurd (cc)
+no_events (x ∷ es) h = no_events es h
+
+one_more : (log : List Entry) (e : Event) (seat : ℕ) (es : List Entry) → has_event es ≡ false → events (log ++ In e seat ∷ es) ≡ events log ++ e ∷ []
+one_more log e seat es h = flat_map-append came_in log (In e seat ∷ es) ∙ ap (λ xs. events log ++ (e ∷ xs)) (no_events es h)
+
+limited_more : (log : List Entry) (c : Whole) (e : Event) (seat : ℕ) (handed : Handed) (b : Bool) →
+    events (log ++ logged e seat (if b then takes (happens c e handed) (given_out c e) else answers.Refuses 37)) ≡ events log ++ e ∷ []
+limited_more log c e seat handed true =
+    one_more log e seat (happens c e handed).out.entries (no_event (happens c e handed).out.entries (happens-counted c e handed).quiet)
+limited_more log c e seat handed false = one_more log e seat (Refused 37 ∷ []) refl
+
+decided_more : (log : List Entry) (c : Whole) (e : Event) (seat : ℕ) (handed : Handed) (o : Option ℕ) →
+    events (log ++ logged e seat (decided c e handed o)) ≡ events log ++ e ∷ []
+decided_more log c e seat handed None = limited_more log c e seat handed (is_within_limits (happens c e handed).whole)
+decided_more log c e seat handed (Some code) = one_more log e seat (Refused code ∷ []) refl
+
+-- ---- those from outside
+
+outside_more : (xs : List Event) (e : Event) → outside (xs ++ e ∷ []) ≡ outside xs ++ outside (e ∷ [])
+outside_more xs e = filter-append is_outside xs (e ∷ [])
+
+-- so much more of the plan is taken as the event is from outside
+abbrev IsMore : Bool → List Event → List Event → Event → Type 0
+IsMore is_open es es_now e = is_open ≡ false → outside es_now ≡ outside es ++ outside (e ∷ [])
+
+heeded : (is_open : Bool) (es : List Event) (log : List Entry) (told : Reply) → HasNoOther is_open es log → KeepsToThem is_open es log (given_up_by told None)
+heeded is_open es log (Refuses refusals.Limit) h = tt
+heeded is_open es log (Refuses refusals.Halted) h = tt
+heeded is_open es log (Refuses refusals.NoMemory) h = tt
+heeded is_open es log told h = h
+
+given_up : (is_open : Bool) (es : List Event) (log : List Entry) (told : Reply) (x : Refusal) → KeepsToThem is_open es log (given_up_by told (Some x))
+given_up is_open es log (Refuses refusals.Limit) x = tt
+given_up is_open es log (Refuses refusals.Halted) x = tt
+given_up is_open es log (Refuses refusals.NoMemory) x = tt
+given_up is_open es log told x = tt
+
+pub first_refused : (is_open : Bool) (es : List Event) (log : List Entry) (g : Option Refusal) (x : Refusal) → KeepsToThem is_open es log (or_first g x)
+first_refused is_open es log None x = tt
+first_refused is_open es log (Some y) x = tt
+
+goes_on : (is_open : Bool) (es es_now : List Event) (before after : RunState) (e : Event) (seat : ℕ) (done : Option Done) (told : Reply) →
+    IsMore is_open es es_now e → Answers before e seat done after told → HasNoOther is_open es before.log →
+    KeepsToThem is_open es_now after.log (given_up_by told None)
+goes_on is_open es es_now before after e seat done told more answers h = by_halt before.is_halted refl
+  where
+    follows : Follows before e seat done after told → KeepsToThem is_open es_now after.log (given_up_by told None)
+    follows (inl out) = subst (λ t. KeepsToThem is_open es_now after.log (given_up_by t None)) (sym out.told_so) tt
+    follows (inr (handed, is_handed, is)) =
+        let same : events after.log ≡ events before.log ++ e ∷ [] =
+        ap (λ l. events l) is.log ∙ decided_more before.log before.whole e seat handed (refusal before.whole e handed) in
+        heeded is_open es_now after.log told (λ closed.
+        ap outside same ∙ (outside_more (events before.log) e ∙ (ap (λ xs. xs ++ outside (e ∷ [])) (h closed) ∙ sym (more closed))))
+
+    by_halt : (b : Bool) → before.is_halted ≡ b → KeepsToThem is_open es_now after.log (given_up_by told None)
+    by_halt true f = subst (λ t. KeepsToThem is_open es_now after.log (given_up_by t None)) (sym (answers.halted f).1) tt
+    by_halt false f = follows (answers.follows f)
+
+keeps_behind : (is_open : Bool) (es es_now : List Event) (before after : RunState) (e : Event) (seat : ℕ) (done : Option Done) (told : Reply)
+    (g : Option Refusal) →
+    IsMore is_open es es_now e → Answers before e seat done after told → KeepsToThem is_open es before.log g →
+    KeepsToThem is_open es_now after.log (given_up_by told g)
+keeps_behind is_open es es_now before after e seat ran told None more answers h = goes_on is_open es es_now before after e seat ran told more answers h
+keeps_behind is_open es es_now before after e seat ran told (Some x) more answers h = given_up is_open es_now after.log told x
+
+-- ---- by the lines that are taken
+
+closed_own : (b is_open : Bool) → (b ≡ true → is_open ≡ true) → is_open ≡ false → b ≡ false
+closed_own false is_open may closed = refl
+closed_own true is_open may closed = sym (may refl) ∙ closed
+
+own_more : (is_open : Bool) (es : List Event) (e : Event) → MayApply is_open e → IsMore is_open es es e
+own_more is_open es e may closed =
+    let own : outside (e ∷ []) ≡ [] = ap (λ (b : Bool). if b then e ∷ [] else []) (closed_own (is_outside e) is_open may closed) in
+    sym (ap (λ xs. outside es ++ xs) own ∙ append-nil (outside es))
+
+passes_more : (is_open : Bool) (t : TurnState) (e : Event) (taken : ℕ) → Passes is_open t e taken →
+    IsMore is_open (first_events t.taken t.plan) (first_events taken t.plan) e
+passes_more is_open t e taken (inl (same, may)) =
+    subst (λ n. IsMore is_open (first_events t.taken t.plan) (first_events n t.plan) e) (sym same) (own_more is_open (first_events t.taken t.plan) e may)
+passes_more is_open t e taken (inr (same, chosen, free)) = λ closed.
+    ap (λ n. outside (first_events n t.plan)) same
+    ∙ (ap outside (past_events t.plan t.taken e (plans_line t e chosen)) ∙ outside_more (first_events t.taken t.plan) e)
+
+-- behind an event with its answer
+pub keeps_past : (is_open : Bool) (t : TurnState) (after : RunState) (e : Event) (seat : ℕ) (done : Option Done) (told : Reply) (taken : ℕ) →
+    Passes is_open t e taken → Answers t.run e seat done after told → KeepsToThem is_open (first_events t.taken t.plan) t.run.log t.given_up →
+    KeepsToThem is_open (first_events taken t.plan) after.log (given_up_by told t.given_up)
+keeps_past is_open t after e seat done told taken passes answers h =
+    keeps_behind is_open (first_events t.taken t.plan) (first_events taken t.plan) t.run after e seat done told t.given_up
+    (passes_more is_open t e taken passes) answers h
+
+-- and where there is no memory to keep that a job is out
+pub keeps_kept : (is_open : Bool) (es : List Event) (log : List Entry) (e : Event) (told : Reply) (out : List JobOut) (g : Option Refusal)
+    (out_now : List JobOut) (g_now : Option Refusal) →
+    KeepsToThem is_open es log (given_up_by told g) → KeepsOut e told out g out_now g_now → KeepsToThem is_open es log g_now
+keeps_kept is_open es log e told out g out_now g_now h (inl kept) = subst (KeepsToThem is_open es log) (sym kept.1) h
+keeps_kept is_open es log e told out g out_now g_now h (inr kept) =
+    subst (KeepsToThem is_open es log) (sym kept.1) (first_refused is_open es log (given_up_by told g) refusals.NoMemory)
+
+-- a run that begins
+pub none_yet : (is_open : Bool) (log : List Entry) → log ≡ opening → HasNoOther is_open [] log
+none_yet is_open log h = λ closed. ap (λ l. outside (events l)) h
+
+-- ---- what a turn does of itself
+
+abbrev done_event : Event → Choice → Event
+done_event other (Does e) = e
+done_event other _ = other
+
+own_last : (o : Option Event) (slot : Option PlanLine) (e : Event) → or_wait o (or_plan slot Ends) ≡ Does e → is_outside e ≡ false
+own_last None None e h = absurd cc
+own_last None (Some line) e h = absurd cc
+own_last (Some (Commit j)) slot e h = absurd cc
+own_last (Some x) None e h = absurd cc
+own_last (Some x) (Some line) e h = absurd cc
+
+own_claim : (o first : Option Event) (slot : Option PlanLine) (e : Event) → or_claim o (or_wait first (or_plan slot Ends)) ≡ Does e → is_outside e ≡ false
+own_claim (Some (Claim w)) first slot e h = sym (ap is_outside (ap (done_event e) h))
+own_claim None first slot e h = own_last first slot e h
+own_claim (Some x) first slot e h = own_last first slot e h
+
+own_plan : (o : Option PlanLine) (other : Choice) (e : Event) → (other ≡ Does e → is_outside e ≡ false) → or_plan o other ≡ Does e → is_outside e ≡ false
+own_plan None other e next h = next h
+own_plan (Some line) other e next h = absurd cc
+
+own_message : (o : Option Event) (other : Choice) (e : Event) → (other ≡ Does e → is_outside e ≡ false) → or_message o other ≡ Does e → is_outside e ≡ false
+own_message (Some (Deliver k)) other e next h = sym (ap is_outside (ap (done_event e) h))
+own_message None other e next h = next h
+own_message (Some x) other e next h = next h
+
+does_own : (t : TurnState) (e : Event) → choice t ≡ Does e → is_outside e ≡ false
+does_own t e h =
+    let slot = slice_get t.plan t.taken in
+    let first = next t.run.whole [] in
+    let claim = next t.run.whole (busy t.out) in
+    let claims = or_claim claim (or_wait first (or_plan slot Ends)) in
+    let planned = or_plan (due (totals_of t.run.log).commits slot) claims in
+    own_message first planned e (own_plan (due (totals_of t.run.log).commits slot) claims e (own_claim claim first slot e)) h
+
+true_or_false : {A : Type 0} (b : Bool) → b ≡ false → b ≡ true → A
+true_or_false b f t = absurd cc
+
+-- a turn may apply it
+pub does_may : (is_open : Bool) (t : TurnState) (e : Event) → choice t ≡ Does e → MayApply is_open e
+does_may is_open t e h = λ from_outside. true_or_false (is_outside e) (does_own t e h) from_outside

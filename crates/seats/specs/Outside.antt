@@ -1,0 +1,36 @@
+-- Events from outside: those that a plan may have.
+use Rattle.std.specs.Prelude.{◌≡◌, ◌⊎◌, ℕ, Bool, true, false, List, Option, Some, None}
+use Rattle.std.specs.List.{filter}
+use Rattle.event_log.specs.Entries.{Entry, Event, Claim, Commit, Deliver}
+use Rattle.event_log.specs.Words.{events}
+use Rattle.event_log.specs.declared.refusal.Refusal.{Refusal}
+use Rattle.seats.specs.Turns.{Plans, TurnState, choice, past_line}
+
+-- claims, commits and deliveries are the run's own
+abbrev pub is_outside : Event → Bool
+is_outside (Claim w) = false
+is_outside (Commit j) = false
+is_outside (Deliver m) = false
+is_outside _ = true
+
+-- those of the events that come from outside
+abbrev pub outside : List Event → List Event
+outside es = filter is_outside es
+
+-- the log's events from outside, refused ones among them, are those of these events, in their order; of an open run nothing is said
+abbrev pub HasNoOther : Bool → List Event → List Entry → Type 0
+HasNoOther is_open es log = is_open ≡ false → outside (events log) ≡ outside es
+
+-- nor of one that is given up
+abbrev pub KeepsToThem : Bool → List Event → List Entry → Option Refusal → Type 0
+KeepsToThem is_open es log None = HasNoOther is_open es log
+KeepsToThem is_open es log (Some refusal) = Unit {0}
+
+-- a call may apply the event: it is the run's own, or the run is open
+abbrev pub MayApply : Bool → Event → Type 0
+MayApply is_open e = is_outside e ≡ true → is_open ≡ true
+
+-- behind the event so many of the plan's lines are taken: those before it, where a call may apply it; or one more, whose event it is
+abbrev pub Passes : Bool → TurnState → Event → ℕ → Type 0
+Passes is_open t e taken =
+    ((taken ≡ t.taken) × MayApply is_open e) ⊎ ((taken ≡ past_line t.plan t.taken) × (choice t ≡ Plans e) × (t.given_up ≡ None))

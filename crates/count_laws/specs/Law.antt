@@ -7,7 +7,6 @@ use Rattle.meaning.specs.Mains.{KeepsMainApart}
 use Rattle.owed_laws.specs.Law.{IsReached}
 use Rattle.protocol.specs.Answers.{Refuses, Step, Takes}
 use Rattle.protocol.specs.Refusals.{is_of_job}
-use Rattle.protocol_laws.specs.Coming.{IsRight}
 use Rattle.protocol_legal.specs.Whole.{setting_of}
 use Rattle.protocol_owed.specs.Runs.{Handing, Running, after_event, answer_to}
 use Rattle.count_laws.specs.Counts.{Counts, behind, borne, counted, is_within, would_open}

@@ -24,7 +24,7 @@ use Rattle.protocol_laws.specs.Shown.{IsAsShown, hidden, number_of}
 use Rattle.protocol_laws.specs.Sound.{IsSound}
 use Rattle.protocol_laws.proofs.Shown.{refusals_are_as_shown}
 use Rattle.protocol_legal.specs.Whole.{setting_of}
-use Rattle.protocol_owed.specs.Runs.{Handing, Running, after_event, after_events, answer_to, opening_run}
+use Rattle.protocol_owed.specs.Runs.{Handing, Running, after_event, after_events, opening_run}
 use Rattle.protocol_owed.proofs.Counting.{are_parts, happens-counted, no_event, not_refused}
 use Rattle.lease_discipline.specs.Slots.{AreRight}
 use Rattle.lease_discipline.specs.Told.{IsInStep}
@@ -33,7 +33,7 @@ use Rattle.owed_laws.specs.Law.{IsReached}
 use Rattle.count_laws.specs.Counts.{Counts, behind, borne, counted, is_within, would_open}
 use Rattle.count_laws.specs.Law.{AreCounted, EventsAreLimited, IsFull, IsLimited, PassesLimit, RunsAreCounted, RunsAreWithin}
 use Rattle.count_laws.proofs.Added.{many}
-use Rattle.count_laws.proofs.Events.{Grows, claim_grows_none, event_grows}
+use Rattle.count_laws.proofs.Events.{claim_grows_none, event_grows}
 use Rattle.count_laws.proofs.Numbers.{refusal_is_no_limit, shown_is_no_limit}
 
 -- ---- counts

@@ -16,6 +16,9 @@ use Rattle.event_files.specs.declared.event_file.EventFile.TheVariants as files
 use Rattle.event_files.specs.declared.line.Line.{Line}
 use Rattle.event_files.specs.declared.line.Line.TheVariants as lines
 use Rattle.histories.specs.Recorded.{recorded_in}
+use Rattle.migration.proofs.Alike.{migrated_is_same}
+use Rattle.migration.proofs.Migrating.{histories_replay}
+use Rattle.migration.specs.Migration.{Begins}
 use Rattle.protocol_board.specs.Cores.{Size}
 use Rattle.protocol_board.specs.Meant.{IsSoundLog}
 use Rattle.protocol_board.specs.Replays.{LineStops, Play, PlayStops, Plays}
@@ -65,7 +68,18 @@ pub history_so : (script named : Script) (size : Size) (lines : List Line) (firs
 history_so script named size lines first after log text own begins plays meant of_log written =
     let played = subst (λ s. Plays s lines (first_play size) after) (sym own) (subst (λ p. Plays named lines p after) begins plays) in
     let sound = subst (λ s. IsSoundLog s after.run) (sym own) meant in
-    record { play = after; replayed = record { plays = played; meant = sound }; log = log; of_log = of_log; written = written }
+    let start : Begins (first_play size) = record { log = refl; jobs = refl; goes_on = refl } in
+    let h = histories_replay script lines (first_play size) after log start played of_log in
+    record {
+      play = after;
+      replayed = record { plays = played; meant = sound };
+      log = log;
+      of_log = of_log;
+      written = written;
+      again = h.0;
+      replays = h.1;
+      same = λ other p. migrated_is_same script lines (first_play size) after other log start played of_log p;
+    }
 
 -- all of it was written, where what was read is known
 pub migrated_so : (size : Size) (known events : Option (List ℕ)) (text : List ℕ) (script : Script) (lines : List Line) (history bytes : List ℕ)

@@ -11,24 +11,28 @@ use Rattle.event_files.specs.declared.event_file.EventFile.TheVariants as files
 use Rattle.event_files.specs.declared.line.Line.{Line}
 use Rattle.histories.specs.Recorded.{recorded_in}
 use Rattle.protocol_board.specs.Cores.{Size}
-use Rattle.protocol_board.specs.Replays.{Play}
+use Rattle.protocol_board.specs.Replays.{Play, PlaysFile}
 use Rattle.raysim_streams.specs.declared.Failure.TheVariants.{Read, Write, Closed}
 use Rattle.raysim_streams.specs.declared.Refusal.{Refusal}
 use Rattle.raysim_streams.specs.declared.Refusal.TheVariants.{At, NoMemory, Stopped as Stops, BadLine, WrongJob, Failed}
 use Rattle.raysim_commands.specs.Scripts.{IsAllowed, IsScript}
-use Rattle.raysim_commands.specs.SimReports.{ExplainsSim, IfBoth, IsReplayed, IsTooLong}
+use Rattle.raysim_commands.specs.SimReports.{ExplainsSim, IfBoth, IsReplayed, IsTooLong, first_play}
 
 -- the bytes are an event file of format 1 with these lines
 abbrev pub IsLinesFile : List ℕ → List Line → Type 0
 IsLinesFile bytes lines = IsFile IsLine line_text bytes lines
 
--- the text is the history of the replay of these lines: the events of its log, each with its seat, and a claim with the job that it gave
+-- the text is the history of the replay of these lines: the events of its log, each with its seat, and a claim with the job that it gave; and the replay
+-- of these events is that same run
 pub record IsHistoryOf (script : Script) (size : Size) (lines : List Line) (text : List ℕ) : Type 0 where
   pub play : Play
   pub replayed : IsReplayed script size (files.Lines lines) play
   pub log : List CodeEntry
   pub of_log : log_of log ≡ play.run.log
   pub written : text ≡ recorded_file (recorded_in log)
+  pub again : Play
+  pub replays : PlaysFile script (files.Recorded (recorded_in log)) (first_play size) again
+  pub same : (other : Play) → PlaysFile script (files.Recorded (recorded_in log)) (first_play size) other → other.run ≡ play.run
 
 -- the texts are a script and an event file of format 1, and the history of the replay was written
 pub record IsMigrated (size : Size) (text events : List ℕ) (before after : Option (List ℕ)) : Type 0 where

@@ -22,7 +22,7 @@ use Rattle.protocol.specs.Answers as answers
 use Rattle.event_log.specs.declared.refusal.Refusal.{Refusal}
 use Rattle.event_log.specs.declared.refusal.Refusal.TheVariants as refusals
 use Rattle.protocol_board.specs.Cores.{RunState, Reply, Refuses, Answers, Follows}
-use Rattle.seats.specs.Ends.{HasSlots}
+use Rattle.seats.specs.Ends.{GoesOn}
 use Rattle.seats.specs.Turns.{KeepsOut, given_up_by, or_first}
 use Rattle.seats.specs.declared.outs.JobOut.{JobOut}
 
@@ -97,39 +97,40 @@ decided-slots c e handed (Some code) = refl
 
 -- ---- behind an event
 
-still : (slots : ℕ) (before after : Whole) (g : Option Refusal) → after.slots ≡ before.slots → HasSlots slots before g → HasSlots slots after g
-still slots before after None same h = same ∙ h
-still slots before after (Some refusal) same h = tt
+still : (slots : ℕ) (before after : RunState) (g : Option Refusal) → after.whole.slots ≡ before.whole.slots → after.is_halted ≡ false → GoesOn slots before g →
+    GoesOn slots after g
+still slots before after None same goes h = (same ∙ h.0, goes)
+still slots before after (Some refusal) same goes h = tt
 
-no_memory : (slots : ℕ) (c : Whole) (g : Option Refusal) (r : Refusal) → HasSlots slots c (or_first g r)
+no_memory : (slots : ℕ) (c : RunState) (g : Option Refusal) (r : Refusal) → GoesOn slots c (or_first g r)
 no_memory slots c None r = tt
 no_memory slots c (Some refusal) r = tt
 
-heeded : (slots : ℕ) (c : Whole) (told : Reply) (g : Option Refusal) → HasSlots slots c g → HasSlots slots c (given_up_by told g)
+heeded : (slots : ℕ) (c : RunState) (told : Reply) (g : Option Refusal) → GoesOn slots c g → GoesOn slots c (given_up_by told g)
 heeded slots c (Refuses refusals.Limit) g h = no_memory slots c g refusals.Limit
 heeded slots c (Refuses refusals.Halted) g h = no_memory slots c g refusals.Halted
 heeded slots c (Refuses refusals.NoMemory) g h = no_memory slots c g refusals.NoMemory
 heeded slots c told g h = h
 
 pub slots_behind : (slots : ℕ) (before after : RunState) (e : Event) (seat : ℕ) (done : Option Done) (told : Reply) (g : Option Refusal) →
-    Answers before e seat done after told → HasSlots slots before.whole g → HasSlots slots after.whole (given_up_by told g)
+    Answers before e seat done after told → GoesOn slots before g → GoesOn slots after (given_up_by told g)
 slots_behind slots before after e seat done told g answers h = by_halt before.is_halted refl
   where
-    follows : Follows before e seat done after told → HasSlots slots after.whole (given_up_by told g)
-    follows (inl out) = subst (λ t. HasSlots slots after.whole (given_up_by t g)) (sym out.told_so) (no_memory slots after.whole g refusals.NoMemory)
+    follows : Follows before e seat done after told → GoesOn slots after (given_up_by told g)
+    follows (inl out) = subst (λ t. GoesOn slots after (given_up_by t g)) (sym out.told_so) (no_memory slots after g refusals.NoMemory)
     follows (inr (handed, is_handed, is)) =
         let same = ap (λ (c : Whole). c.slots) is.whole ∙ decided-slots before.whole e handed (refusal before.whole e handed) in
-        heeded slots after.whole told g (still slots before.whole after.whole g same h)
+        heeded slots after told g (still slots before after g same is.goes_on h)
 
-    by_halt : (b : Bool) → before.is_halted ≡ b → HasSlots slots after.whole (given_up_by told g)
-    by_halt true f = subst (λ t. HasSlots slots after.whole (given_up_by t g)) (sym (answers.halted f).1) (no_memory slots after.whole g refusals.Halted)
+    by_halt : (b : Bool) → before.is_halted ≡ b → GoesOn slots after (given_up_by told g)
+    by_halt true f = subst (λ t. GoesOn slots after (given_up_by t g)) (sym (answers.halted f).1) (no_memory slots after g refusals.Halted)
     by_halt false f = follows (answers.follows f)
 
 -- and where there is no memory to keep that a job is out
-pub slots_kept : (slots : ℕ) (c : Whole) (e : Event) (told : Reply) (out : List JobOut) (g : Option Refusal) (out_now : List JobOut) (g_now : Option Refusal) →
-    HasSlots slots c (given_up_by told g) → KeepsOut e told out g out_now g_now → HasSlots slots c g_now
-slots_kept slots c e told out g out_now g_now h (inl kept) = subst (HasSlots slots c) (sym kept.1) h
-slots_kept slots c e told out g out_now g_now h (inr kept) = subst (HasSlots slots c) (sym kept.1) (no_memory slots c (given_up_by told g) refusals.NoMemory)
+pub slots_kept : (slots : ℕ) (c : RunState) (e : Event) (told : Reply) (out : List JobOut) (g : Option Refusal) (out_now : List JobOut) (g_now : Option Refusal) →
+    GoesOn slots c (given_up_by told g) → KeepsOut e told out g out_now g_now → GoesOn slots c g_now
+slots_kept slots c e told out g out_now g_now h (inl kept) = subst (GoesOn slots c) (sym kept.1) h
+slots_kept slots c e told out g out_now g_now h (inr kept) = subst (GoesOn slots c) (sym kept.1) (no_memory slots c (given_up_by told g) refusals.NoMemory)
 
 -- ---- the nodes at first
 

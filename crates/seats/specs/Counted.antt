@@ -38,4 +38,4 @@ ClaimsGaveJobs r = r.is_halted ≡ false → length (claims r.log) ≡ length r.
 
 -- the run has begun, and there was no event yet
 abbrev pub IsFresh : RunState → Type 0
-IsFresh r = (r.log ≡ opening) × (r.whole.jobs ≡ [])
+IsFresh r = (r.log ≡ opening) × (r.whole.jobs ≡ []) × (r.is_halted ≡ false)

@@ -8,7 +8,6 @@ use Rattle.event_log.specs.Views.{event_of, log_of}
 use Rattle.event_log.specs.declared.refusal.Refusal.{Refusal}
 use Rattle.event_log.specs.declared.refusal.Refusal.TheVariants as refusals
 use Rattle.protocol.specs.Settling.{next}
-use Rattle.protocol.specs.Whole.{Whole}
 use Rattle.protocol_board.specs.Cores.{RunState, Size, state_of}
 use Rattle.books.specs.SeatTotals.{seat_totals}
 use Rattle.seat_books.specs.Seats.{SeatOf, book_of, sums}
@@ -51,6 +50,8 @@ pub record IsOverBeside (is_open : Bool) (plan : List PlanLine) (size : Size) (r
   pub settled : next r.whole [] ≡ None
   pub planned : ArePlanned is_open (events_of plan) r.log
   pub on_cluster : size_of r ≡ size
+  -- each event found memory, so that these are the workers, nodes and messages to which the log led
+  pub goes_on : r.is_halted ≡ false
 
 -- and no others
 abbrev pub IsOver : List PlanLine → Size → RunState → Type 0
@@ -90,10 +91,10 @@ Stands es log (Some refusals.Halted) = Unit {0}
 Stands es log (Some refusals.NoMemory) = Unit {0}
 Stands es log (Some refusal) = ⊥
 
--- a node has so many slots, unless the run is given up
-abbrev pub HasSlots : ℕ → Whole → Option Refusal → Type 0
-HasSlots slots c None = c.slots ≡ slots
-HasSlots slots c (Some refusal) = Unit {0}
+-- unless the run is given up, a node has so many slots, and each event found memory
+abbrev pub GoesOn : ℕ → RunState → Option Refusal → Type 0
+GoesOn slots r None = (r.whole.slots ≡ slots) × (r.is_halted ≡ false)
+GoesOn slots r (Some refusal) = Unit {0}
 
 -- the events of the first lines
 abbrev pub first_events : ℕ → List PlanLine → List Event

@@ -51,7 +51,7 @@ impl<S: ScriptName, P: RunName> Model for Turning<S, P> {
     ghost use Rattle.event_log.specs.Views.{log_of};
     ghost use Rattle.protocol_board.specs.Cores.{state_of};
     ghost use Rattle.seats.specs.Counted.{ClaimsGaveJobs};
-    ghost use Rattle.seats.specs.Ends.{HasSlots, Stands, first_events};
+    ghost use Rattle.seats.specs.Ends.{GoesOn, Stands, first_events};
     ghost use Rattle.seats.specs.Outside.{KeepsToThem};
     ghost use Rattle.seats.specs.Views.{TurnData};
 
@@ -62,7 +62,7 @@ impl<S: ScriptName, P: RunName> Model for Turning<S, P> {
     ghost view = { λ t. record { run = t.board; plan = t.plan; taken = t.taken; out = t.out; given_up = t.given_up } };
 
     ghost invariant = { λ t. ClaimsGaveJobs (state_of t.board) × (t.commits ≡ (totals_of (log_of t.board.log)).commits)
-        × (t.plan ≡ P.plan) × (t.board.first_nodes ≡ P.size.nodes) × HasSlots P.size.slots t.board.whole t.given_up
+        × (t.plan ≡ P.plan) × (t.board.first_nodes ≡ P.size.nodes) × GoesOn P.size.slots (state_of t.board) t.given_up
         × Stands (first_events t.taken t.plan) (log_of t.board.log) t.given_up
         × KeepsToThem P.is_open (first_events t.taken t.plan) (log_of t.board.log) t.given_up };
 }

@@ -42,7 +42,7 @@ invariant_of-self g c =
           h.totals c.self.invariant.1 c.commits_behind-self-inside.ensures,
       c.self.invariant.2,
       same_nodes (state_of before) (state_of after) e c.args.seat c.args.done told c.apply-told.ensures.answers ∙ c.self.invariant.3,
-      slots_kept g.P.RunName.size.slots after.whole e told c.self.inside.out c.self.inside.given_up c.keep_or_give_up.new.out c.keep_or_give_up.new.given_up
+      slots_kept g.P.RunName.size.slots (state_of after) e told c.self.inside.out c.self.inside.given_up c.keep_or_give_up.new.out c.keep_or_give_up.new.given_up
           (slots_behind g.P.RunName.size.slots (state_of before) (state_of after) e c.args.seat c.args.done told c.self.inside.given_up c.apply-told.ensures.answers
           c.self.invariant.4)
           c.keep_or_give_up.ensures,

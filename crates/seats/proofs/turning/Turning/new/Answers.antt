@@ -13,7 +13,7 @@ invariant_of-result g c =
       sym (ap (λ (t : Totals). t.commits) (fresh_totals r c.requires.fresh)),
       c.requires.named.0,
       ap (λ (z : Size). z.nodes) c.requires.named.1,
-      ap (λ (z : Size). z.slots) c.requires.named.1,
+      (ap (λ (z : Size). z.slots) c.requires.named.1, c.requires.fresh.2),
       none_in r.log,
       none_yet g.P.RunName.is_open r.log c.requires.fresh.0,
     )

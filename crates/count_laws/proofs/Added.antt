@@ -1,6 +1,6 @@
 -- What a step logs of births and openings: none of births but a commit's own, and of openings one for each worker that its node opened.
-use Rattle.std.proofs.Common.{◌≡◌, ℕ, zero, suc, ◌+◌, List, [], ◌∷◌, ◌++◌, length, Option, Some, None, refl, sym, ap, ◌∙◌, subst, arith, length-append}
-use Rattle.std.specs.Prelude.{true, ◌&&◌}
+use Rattle.std.proofs.Common.{◌≡◌, ℕ, suc, ◌+◌, List, [], ◌∷◌, ◌++◌, length, Some, refl, sym, ap, ◌∙◌, subst, arith, length-append}
+use Rattle.std.specs.Prelude.{true}
 use Rattle.std.specs.List.{flat_map}
 use Rattle.std.proofs.lemmas.List.Concat.{flat_map-append}
 use Rattle.sequence.proofs.Places.{and_left, and_right}
@@ -9,7 +9,7 @@ use Rattle.meaning.specs.Values.{Birth, Id, Value}
 use Rattle.event_log.specs.Commits.{commit_entries}
 use Rattle.event_log.specs.Entries.{Accepted, Attempt, Begun, Born, Ended, Entry, Faulted, Got, In, Opened, Printed, Refused, Released, Resolved}
 use Rattle.event_log.specs.Words.{born_in, opened, opened_in}
-use Rattle.protocol.specs.Commits.{bears_all, commit_by, commit_step, next_id_here, stops_by, with_outcomes}
+use Rattle.protocol.specs.Commits.{bears_all, commit_by, commit_step, next_id_here, with_outcomes}
 use Rattle.protocol.specs.Jobs.{Outcomes, stop_of}
 use Rattle.protocol.specs.Nodes.{There, no_out}
 use Rattle.protocol.specs.Steps.{Here, logs_all, with_run}

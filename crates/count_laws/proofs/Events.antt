@@ -1,5 +1,5 @@
 -- What each event adds to the workers and objects, in tables and log alike.
-use Rattle.std.proofs.Common.{◌≡◌, ℕ, zero, suc, ◌+◌, List, [], ◌∷◌, ◌++◌, length, map, Option, Some, None, refl, sym, ap, ◌∙◌, subst, arith, length-append}
+use Rattle.std.proofs.Common.{◌≡◌, ◌≤◌, ℕ, zero, suc, ◌+◌, List, [], ◌∷◌, ◌++◌, length, map, Option, Some, None, refl, sym, ap, ◌∙◌, subst, arith, length-append}
 use Rattle.std.specs.Prelude.{Bool, true, false, if◌then◌else◌, not, ◌&&◌}
 use Rattle.std.specs.List.{flat_map}
 use Rattle.sequence.proofs.Places.{and_right}
@@ -7,8 +7,13 @@ use Rattle.meaning.specs.Values.{Id, Outcome}
 use Rattle.event_log.specs.Entries.{Claim, Commit, Deliver, Entry, Event, Evict, Join, Kill, KillNode, Lose, Notice, NoticeNode, Tick}
 use Rattle.event_log.specs.Rules.{Setting}
 use Rattle.event_log.specs.Words.{born_in, opened}
+use Rattle.limit_laws.specs.Opens.{one_if}
+use Rattle.limit_laws.proofs.Openings.{death_open, reached_open}
 use Rattle.numbered.proofs.Lists.{changed-length}
-use Rattle.protocol.specs.Commits.{claim_step, commit_step}
+use Rattle.opening_laws.proofs.Committing.{commit_opens}
+use Rattle.opening_laws.proofs.OneOpens.{claim_opens, notice_node_opens, notice_opens, reached_opens, tick_opens}
+use Rattle.opening_laws.proofs.Releasing.{release_opens_none}
+use Rattle.protocol.specs.Commits.{claim_by, claim_step, commit_step}
 use Rattle.protocol.specs.Deliveries.{reached}
 use Rattle.protocol.specs.Events.{committed_by, dead, delivered_by, delivered_to, dies_with, happens, is_live_node, is_live_worker, killed_by, with_committed}
 use Rattle.protocol.specs.Events.{with_delivered}
@@ -24,7 +29,7 @@ use Rattle.protocol.specs.Sets.{repeated}
 use Rattle.protocol.specs.Slots.{ask_key, fetched, forgets, node_reached, node_reached_from, reply_to}
 use Rattle.protocol.specs.Steps.{Here}
 use Rattle.protocol.specs.Stores.{copy_in}
-use Rattle.protocol.specs.Tables.{Worker, new_worker}
+use Rattle.protocol.specs.Tables.{Run, Worker, new_worker}
 use Rattle.protocol.specs.Ticks.{tick_step}
 use Rattle.protocol.specs.Whole.{Moved, Whole, after_node, after_worker, here, moved, node_at, node_does, node_does_by, there, worker_at, worker_does, worker_does_at}
 use Rattle.protocol.specs.Whole.{worker_does_by}
@@ -36,13 +41,13 @@ use Rattle.owed_laws.proofs.StoreMoves as M
 use Rattle.owed_laws.proofs.StoreMoves.{IsKept}
 use Rattle.count_laws.specs.Counts.{borne}
 use Rattle.count_laws.proofs.Added.{Adds, commit_adds, here_adds, there_adds}
-use Rattle.count_laws.proofs.Claims.{claim_opens_none}
 
--- so many objects more, each of them logged, and as many workers more as are logged
+-- so many objects more, each of them logged, and as many workers more as are logged, one at most
 pub record Grows (c : Whole) (k : ℕ) (m : Moved) : Type 0 where
   pub workers : length m.whole.workers ≡ length c.workers + length (opened m.out.entries)
   pub made : m.whole.made ≡ c.made + k
   pub born : length (flat_map born_in m.out.entries) ≡ k
+  pub few : length (opened m.out.entries) ≤ 1
 
 long_repeated : (n : ℕ) (z : Worker) → length (repeated n z) ≡ n
 long_repeated zero z = refl
@@ -52,21 +57,29 @@ long_mapped : (f : Worker → Worker) (xs : List Worker) → length (map f xs) �
 long_mapped f [] = refl
 long_mapped f (x ∷ xs) = ap suc (long_mapped f xs)
 
+one_at_most : (b : Bool) (n : ℕ) → n ≡ 0 + one_if b → n ≤ 1
+one_at_most true n e = omega (arith, e)
+one_at_most false n e = omega (arith, e)
+
 none_more : (n m : ℕ) → n ≡ m → n ≡ m + 0
 none_more n m e = omega (arith, e)
 
 module _ (c : Whole) where
   still : (d : Whole) → length d.workers ≡ length c.workers → d.made ≡ c.made → Grows c 0 (moved d)
-  still d e f = record { workers = none_more _ _ e; made = none_more _ _ f; born = refl }
+  still d e f = record { workers = none_more _ _ e; made = none_more _ _ f; born = refl; few = omega (arith) }
 
-  put_back : (d : Whole) (n k : ℕ) (t : There) → length d.workers ≡ length c.workers → d.made ≡ c.made + k → Adds k t → Grows c k (after_node d n t)
-  put_back d n k t long made p = record {
+  put_back : (d : Whole) (n k : ℕ) (t : There) → length d.workers ≡ length c.workers → d.made ≡ c.made + k → Adds k t → t.opened ≤ 1 → Grows c k (after_node d n t)
+  put_back d n k t long made p few = record {
     workers = counts (length c.workers) (length d.workers) t.opened (length (repeated t.opened (new_worker n))) (length (opened t.out.entries)) _ long p.opens
         (long_repeated t.opened (new_worker n)) (length-append d.workers (repeated t.opened (new_worker n)));
     made = made;
     born = p.born;
+    few = no_more_than (length (opened t.out.entries)) t.opened p.opens few;
   }
     where
+      no_more_than : (n m : ℕ) → n ≡ m → m ≤ 1 → n ≤ 1
+      no_more_than n m e f = omega (arith, e, f)
+
       counts : (n m i j k l : ℕ) → m ≡ n → k ≡ i → j ≡ i → l ≡ m + j → l ≡ n + k
       counts n m i j k l e f g h = omega (arith, e, f, g, h)
 
@@ -74,20 +87,24 @@ module _ (c : Whole) where
   begun d n node = record { born = refl; opens = refl }
 
   node_grows : (d : Whole) (n : ℕ) (f : There → There) → length d.workers ≡ length c.workers → d.made ≡ c.made → ((node : Node) → Adds 0 (f (there d n node))) →
-      Grows c 0 (node_does d n f)
-  node_grows d n f long made step = by_node (node_at d n)
+      ((node : Node) → (f (there d n node)).opened ≤ 1) → Grows c 0 (node_does d n f)
+  node_grows d n f long made step few = by_node (node_at d n)
     where
       by_node : (o : Option Node) → Grows c 0 (node_does_by d n f o)
       by_node None = still d long made
-      by_node (Some node) = put_back d n 0 (f (there d n node)) long (none_more _ _ made) (step node)
+      by_node (Some node) = put_back d n 0 (f (there d n node)) long (none_more _ _ made) (step node) (few node)
 
-  after_grows : (d : Whole) (w n k : ℕ) (h : Here) → length d.workers ≡ length c.workers → d.made ≡ c.made + k → Adds k h.there → Grows c k (after_worker d w n h)
-  after_grows d w n k h long made p =
-      put_back (record d { workers = changed_at d.workers w (λ _. h.worker) }) n k h.there (changed-length d.workers w (λ _. h.worker) ∙ long) made p
+  after_grows : (d : Whole) (w n k : ℕ) (h : Here) → length d.workers ≡ length c.workers → d.made ≡ c.made + k → Adds k h.there → h.there.opened ≤ 1 →
+      Grows c k (after_worker d w n h)
+  after_grows d w n k h long made p few =
+      put_back (record d { workers = changed_at d.workers w (λ _. h.worker) }) n k h.there (changed-length d.workers w (λ _. h.worker) ∙ long) made p few
+
+  released_few : (h : Here) → h.there.opened ≤ 1 → (release_step h).there.opened ≤ 1
+  released_few h few = subst (λ n. n ≤ 1) (sym (release_opens_none h)) few
 
   worker_grows : (d : Whole) (w : ℕ) (f : Here → Here) → length d.workers ≡ length c.workers → d.made ≡ c.made →
-      ((P : Here → Type 0) → IsKept P → (h : Here) → P h → P (f h)) → Grows c 0 (worker_does d w f)
-  worker_grows d w f long made step = by_worker (worker_at d w)
+      ((P : Here → Type 0) → IsKept P → (h : Here) → P h → P (f h)) → ((h : Here) → (f h).there.opened ≤ h.there.opened + 1) → Grows c 0 (worker_does d w f)
+  worker_grows d w f long made step few = by_worker (worker_at d w)
     where
       by_home : (x : Worker) (o : Option Node) → Grows c 0 (worker_does_at d w x f o)
       by_home x None = still d long made
@@ -95,6 +112,7 @@ module _ (c : Whole) where
           let h : Here = here d w x node in
           after_grows d w x.node 0 (release_step (f h)) long (none_more _ _ made)
           (M.release_step-kept (λ g. Adds 0 g.there) (here_adds 0) (f h) (step (λ g. Adds 0 g.there) (here_adds 0) h (begun d x.node node)))
+          (released_few (f h) (few h))
 
       by_worker : (o : Option Worker) → Grows c 0 (worker_does_by d w f o)
       by_worker None = still d long made
@@ -144,10 +162,12 @@ module _ (c : Whole) where
   delivered_grows : (d : Whole) (l : Letter) (to : Party) → length d.workers ≡ length c.workers → d.made ≡ c.made → Grows c 0 (delivered_to d l to)
   delivered_grows d l (TheWorker w) long made =
       if_grows (is_live_worker (worker_at d w)) (worker_does d w (λ h. reached h l.sender l.message)) (moved d)
-      (worker_grows d w (λ h. reached h l.sender l.message) long made (λ P kept h p. M.reached-kept P kept h l.sender l.message p)) (still d long made)
+      (worker_grows d w (λ h. reached h l.sender l.message) long made (λ P kept h p. M.reached-kept P kept h l.sender l.message p)
+      (λ h. reached_opens h l.sender l.message)) (still d long made)
   delivered_grows d l (TheNode n) long made =
       if_grows (is_live_node (node_at d n)) (node_does d n (λ h. node_reached h l.sender l.message)) (moved d)
-      (node_grows d n (λ h. node_reached h l.sender l.message) long made (λ node. by_sender n d node l.sender l.message)) (still d long made)
+      (node_grows d n (λ h. node_reached h l.sender l.message) long made (λ node. by_sender n d node l.sender l.message)
+      (λ node. one_at_most _ _ (reached_open (there d n node) l.sender l.message))) (still d long made)
 
   deliver_grows : (k : ℕ) (o : Option Letter) → Grows c 0 (delivered_by c k o)
   deliver_grows k None = still c refl refl
@@ -161,6 +181,7 @@ module _ (c : Whole) where
       let d : Whole = record c { workers = changed_at c.workers w dead } in
       node_grows d x.node (λ h. forgets h w) (changed-length c.workers w dead) refl
       (λ node. S.forgets-kept (Adds 0) (there_adds 0) (there d x.node node) w (begun d x.node node))
+      (λ node. one_at_most _ _ (death_open (there d x.node node) w))
 
 -- ---- a commit, of a live worker
 
@@ -188,19 +209,20 @@ module _ (s : Setting) (log : List Entry) (c : Whole) (sound : IsSound s log c) 
       let k : ℕ = length o.births in
       subst (Grows c k) (sym same)
       (after_grows c d g.worker x.worker.node k (release_step (commit_step h o)) refl refl
-      (M.release_step-kept (λ i. Adds k i.there) (here_adds k) (commit_step h o) (commit_adds h o run.run run.at refl refl)))
+      (M.release_step-kept (λ i. Adds k i.there) (here_adds k) (commit_step h o) (commit_adds h o run.run run.at refl refl))
+      (released_few c (commit_step h o) (commit_opens h o)))
 
   -- ---- every event
 
   pub event_grows : (e : Event) (handed : Handed) → refusal c e handed ≡ None → Grows c (borne e handed) (happens c e handed)
   event_grows (Claim w) handed r =
       worker_grows c (record c { jobs = c.jobs ++ record { worker = w; is_committed = false } ∷ [] }) w (λ h. claim_step h (length c.jobs + 1)) refl refl
-      (λ P kept h p. M.claim_step-kept P kept h (length c.jobs + 1) p)
+      (λ P kept h p. M.claim_step-kept P kept h (length c.jobs + 1) p) (λ h. claim_opens h (length c.jobs + 1))
   event_grows (Commit j) handed r = commit_grows j handed (item_at c.jobs j) r
   event_grows (Deliver k) handed r = deliver_grows c k (item_at c.network k)
-  event_grows (Tick w) handed r = worker_grows c c w tick_step refl refl (λ P kept h p. M.tick_step-kept P kept h p)
-  event_grows (Notice w v) handed r = worker_grows c c w (λ h. notice_step h v) refl refl (λ P kept h p. M.notice_step-kept P kept h v p)
-  event_grows (NoticeNode w n) handed r = worker_grows c c w (λ h. notice_node_step h n) refl refl (λ P kept h p. M.notice_node_step-kept P kept h n p)
+  event_grows (Tick w) handed r = worker_grows c c w tick_step refl refl (λ P kept h p. M.tick_step-kept P kept h p) tick_opens
+  event_grows (Notice w v) handed r = worker_grows c c w (λ h. notice_step h v) refl refl (λ P kept h p. M.notice_step-kept P kept h v p) (λ h. notice_opens h v)
+  event_grows (NoticeNode w n) handed r = worker_grows c c w (λ h. notice_node_step h n) refl refl (λ P kept h p. M.notice_node_step-kept P kept h n p) (λ h. notice_node_opens h n)
   event_grows (Evict n o) handed r = still c (happens c (Evict n o) handed).whole refl refl
   event_grows (Lose n o) handed r = still c (happens c (Lose n o) handed).whole refl refl
   event_grows (Kill w) handed r = death_grows c w (worker_at c w)
@@ -219,6 +241,10 @@ module _ (c : Whole) (w : ℕ) where
   pub claim_grows_none : (handed : Handed) → length (opened (happens c (Claim w) handed).out.entries) ≡ 0
   claim_grows_none handed = by_worker (worker_at c w)
     where
+      opens_none : (h : Here) (r : Option Run) → (claim_by h (length c.jobs + 1) r).there.opened ≡ h.there.opened
+      opens_none h None = refl
+      opens_none h (Some run) = refl
+
       by_home : (x : Worker) (o : Option Node) → length (opened (worker_does_at with_job w x claims o).out.entries) ≡ 0
       by_home x None = refl
       by_home x (Some node) =
@@ -226,7 +252,7 @@ module _ (c : Whole) (w : ℕ) where
           let p : Adds 0 (release_step (claims h)).there =
           M.release_step-kept (λ g. Adds 0 g.there) (here_adds 0) (claims h)
           (M.claim_step-kept (λ g. Adds 0 g.there) (here_adds 0) h (length c.jobs + 1) (record { born = refl; opens = refl })) in
-          p.opens ∙ claim_opens_none h (length c.jobs + 1) refl
+          p.opens ∙ release_opens_none (claims h) ∙ opens_none h x.run
 
       by_worker : (o : Option Worker) → length (opened (worker_does_by with_job w claims o).out.entries) ≡ 0
       by_worker None = refl

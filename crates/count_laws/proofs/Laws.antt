@@ -1,5 +1,5 @@
 -- The counts of the log are those of the tables, event by event; so a refusal for a limit is one by the counts of the log.
-use Rattle.std.proofs.Common.{◌≡◌, ◌<◌, ◌≤◌, ℕ, zero, suc, ◌+◌, List, [], ◌∷◌, ◌++◌, length, map, Option, Some, None, refl, sym, ap, ◌∙◌, subst, arith, length-append}
+use Rattle.std.proofs.Common.{◌≡◌, ◌<◌, ◌≤◌, ◌⊎◌, inl, inr, ℕ, zero, suc, ◌+◌, List, [], ◌∷◌, ◌++◌, length, map, Option, Some, None, refl, sym, ap, ◌∙◌, subst, arith, length-append}
 use Rattle.std.specs.Prelude.{Bool, true, false, if◌then◌else◌, ◌&&◌, nat_lt}
 use Rattle.std.specs.List.{flat_map}
 use Rattle.std.proofs.lemmas.Bool.{and_parts}
@@ -16,7 +16,7 @@ use Rattle.event_log.specs.Words.{births, born_in, opened, opened_in}
 use Rattle.event_log.proofs.EventLaws.{accepted-event, accepted-refused}
 use Rattle.protocol.specs.Answers.{Answer, Refuses, Step, Takes, answer, decided, given_out, logged, takes, whole_after}
 use Rattle.protocol.specs.Events.{happens}
-use Rattle.protocol.specs.Jobs.{Handed}
+use Rattle.protocol.specs.Jobs.{Handed, Nothing}
 use Rattle.protocol.specs.Refusals.{is_of_job, is_within_limits, refusal}
 use Rattle.protocol.specs.Tables.{Worker}
 use Rattle.protocol.specs.Whole.{Moved, Whole}
@@ -24,16 +24,16 @@ use Rattle.protocol_laws.specs.Shown.{IsAsShown, hidden, number_of}
 use Rattle.protocol_laws.specs.Sound.{IsSound}
 use Rattle.protocol_laws.proofs.Shown.{refusals_are_as_shown}
 use Rattle.protocol_legal.specs.Whole.{setting_of}
-use Rattle.protocol_owed.specs.Runs.{Handing, Running, after_event, after_events, answer_to, opening_run}
+use Rattle.protocol_owed.specs.Runs.{Handing, Running, after_event, after_events, opening_run}
 use Rattle.protocol_owed.proofs.Counting.{are_parts, happens-counted, no_event, not_refused}
 use Rattle.lease_discipline.specs.Slots.{AreRight}
 use Rattle.lease_discipline.specs.Told.{IsInStep}
 use Rattle.lease_discipline.proofs.Told.{events_stay_in_step, opening_is_in_step}
 use Rattle.owed_laws.specs.Law.{IsReached}
 use Rattle.count_laws.specs.Counts.{Counts, behind, borne, counted, is_within, would_open}
-use Rattle.count_laws.specs.Law.{AreCounted, EventsAreLimited, IsLimited, PassesLimit, RunsAreCounted, RunsAreWithin}
+use Rattle.count_laws.specs.Law.{AreCounted, EventsAreLimited, IsFull, IsLimited, PassesLimit, RunsAreCounted, RunsAreWithin}
 use Rattle.count_laws.proofs.Added.{many}
-use Rattle.count_laws.proofs.Events.{Grows, claim_grows_none, event_grows}
+use Rattle.count_laws.proofs.Events.{claim_grows_none, event_grows}
 use Rattle.count_laws.proofs.Numbers.{refusal_is_no_limit, shown_is_no_limit}
 
 -- ---- counts
@@ -114,6 +114,7 @@ module _ (s : Setting) (log : List Entry) (c : Whole) (sound : IsSound s log c) 
       pub otherwise : (code : ℕ) → a ≡ Refuses code → counted s (log ++ logged e seat a) ≡ counted s log
       pub within : is_within (counted s log) ≡ true → is_within (counted s (log ++ logged e seat a)) ≡ true
       pub objects : (whole_after c a).made ≡ length (births (log ++ logged e seat a))
+      pub few : (step : Step) → a ≡ Takes step → would_open c e handed ≤ 1
 
     refused_comes : (code : ℕ) → Comes (Refuses code)
     refused_comes code =
@@ -123,6 +124,7 @@ module _ (s : Setting) (log : List Entry) (c : Whole) (sound : IsSound s log c) 
           otherwise = λ k i. f;
           within = λ i. ap is_within f ∙ i;
           objects = made ∙ sym (ap (λ (n : Counts). n.objects) f);
+          few = λ step i. absurd (apart step i);
         }
       where
         apart : (step : Step) → Refuses code ≡ Takes step → ⊥
@@ -137,6 +139,7 @@ module _ (s : Setting) (log : List Entry) (c : Whole) (sound : IsSound s log c) 
           otherwise = λ code i. absurd (apart code i);
           within = λ i. ap is_within f ∙ sym (limits_as r) ∙ w;
           objects = (event_grows s log c sound e handed r).made ∙ ap (λ n. n + borne e handed) made ∙ sym (ap (λ (n : Counts). n.objects) f);
+          few = λ step i. (event_grows s log c sound e handed r).few;
         }
       where
         apart : (code : ℕ) → takes m (given_out c e) ≡ Refuses code → ⊥
@@ -167,6 +170,17 @@ module _ (s : Setting) (log : List Entry) (c : Whole) (sound : IsSound s log c) 
         go : (o : Option ℕ) → shown (setting_of s c) log (is_of_job handed) e ≡ o → IsAsShown e o (number_of (answer c e handed)) → o ≡ None
         go None f h = refl
         go (Some code) f h = absurd (shown_is_no_limit (setting_of s c) log (is_of_job handed) e (f ∙ sym h ∙ i))
+
+    -- no other number refuses it then
+    untold : answer c e handed ≡ Refuses 37 → refusal c e handed ≡ None
+    untold i = go (refusal c e handed) refl i
+      where
+        go : (o : Option ℕ) → refusal c e handed ≡ o → decided c e handed o ≡ Refuses 37 → refusal c e handed ≡ None
+        go (Some code) r j = absurd (refusal_is_no_limit c e handed (r ∙ ap (λ k. Some k) (same_code code 37 j)))
+        go None r j = r
+
+    pub opens_few : answer c e handed ≡ Refuses 37 → would_open c e handed ≤ 1
+    opens_few i = (event_grows s log c sound e handed (untold i)).few
 
     beyond : answer c e handed ≡ Refuses 37 → is_within next ≡ false
     beyond i = go (refusal c e handed) refl i
@@ -222,26 +236,86 @@ module _ (s : Setting) (log : List Entry) (c : Whole) (sound : IsSound s log c) 
       go (Some code) r h = ap (λ k. Refuses k) (hidden_limit e seat handed p.beyond code h)
       go None r h = by_test (is_within_limits (happens c e handed).whole) refl r
 
-  -- ---- joins
+  -- ---- by the log alone
 
-  full : nat_lt ((counted s log).nodes + 1) 65 && nat_lt ((counted s log).workers + 0) 1025 && nat_lt ((counted s log).objects + 0) 1000001 ≡ false → (counted s log).nodes ≡ 64
-  full b =
-      let p = and_parts (nat_lt (counted s log).nodes 65 && nat_lt (counted s log).workers 1025) (nat_lt (counted s log).objects 1000001) w in
-      let q = and_parts (nat_lt (counted s log).nodes 65) (nat_lt (counted s log).workers 1025) p.0 in
-      at_last (counted s log).nodes q.0 (only (nat_lt ((counted s log).nodes + 1) 65) _ _ (more (counted s log).workers 1025 q.1) (more (counted s log).objects 1000001 p.1) b)
+  within_nodes : nat_lt (counted s log).nodes 65 ≡ true
+  within_nodes = (and_parts _ _ (and_parts (nat_lt (counted s log).nodes 65 && nat_lt (counted s log).workers 1025) (nat_lt (counted s log).objects 1000001) w).0).0
+
+  within_workers : nat_lt (counted s log).workers 1025 ≡ true
+  within_workers = (and_parts (nat_lt (counted s log).nodes 65) (nat_lt (counted s log).workers 1025) (and_parts (nat_lt (counted s log).nodes 65 && nat_lt (counted s log).workers 1025) (nat_lt (counted s log).objects 1000001) w).0).1
+
+  within_objects : nat_lt (counted s log).objects 1000001 ≡ true
+  within_objects = (and_parts (nat_lt (counted s log).nodes 65 && nat_lt (counted s log).workers 1025) (nat_lt (counted s log).objects 1000001) w).1
+
+  -- one of three tests fails
+  which : (t u v : Bool) → (t && u && v) ≡ false → (t ≡ false) ⊎ (u ≡ false) ⊎ (v ≡ false)
+  which false u v e = inl refl
+  which true false v e = inr (inl refl)
+  which true true v e = inr (inr e)
+
+  last_node : (n : ℕ) → nat_lt n 65 ≡ true → nat_lt (n + 1) 65 ≡ false → n ≡ 64
+  last_node n e f = grind (arith, nat_tests)
+
+  unjoined : {X : Type 0} (n : ℕ) → nat_lt n 65 ≡ true → nat_lt (n + 0) 65 ≡ false → X
+  unjoined n e f = absurd (apart (nat_lt n 65) e (ap (λ i. nat_lt i 65) (sym (no_more n)) ∙ f))
     where
-      more : (n k : ℕ) → nat_lt n k ≡ true → nat_lt (n + 0) k ≡ true
-      more n k e = ap (λ i. nat_lt i k) (no_more n) ∙ e
+      apart : (t : Bool) → t ≡ true → t ≡ false → ⊥
+      apart t i j = cc
 
-      only : (t u v : Bool) → u ≡ true → v ≡ true → (t && u && v) ≡ false → t ≡ false
-      only true u v e f g = absurd (cc)
-      only false u v e f g = refl
+  -- one node more is too many where there are 64, and none more never is
+  by_join : (e : Event) → nat_lt ((counted s log).nodes + length (join_in e)) 65 ≡ false → (e ≡ Join) × ((counted s log).nodes ≡ 64)
+  by_join Join f = (refl, last_node (counted s log).nodes within_nodes f)
+  by_join (Claim v) f = unjoined (counted s log).nodes within_nodes f
+  by_join (Commit j) f = unjoined (counted s log).nodes within_nodes f
+  by_join (Deliver k) f = unjoined (counted s log).nodes within_nodes f
+  by_join (Tick v) f = unjoined (counted s log).nodes within_nodes f
+  by_join (Notice v u) f = unjoined (counted s log).nodes within_nodes f
+  by_join (NoticeNode v n) f = unjoined (counted s log).nodes within_nodes f
+  by_join (Evict n o) f = unjoined (counted s log).nodes within_nodes f
+  by_join (Lose n o) f = unjoined (counted s log).nodes within_nodes f
+  by_join (Kill v) f = unjoined (counted s log).nodes within_nodes f
+  by_join (KillNode n) f = unjoined (counted s log).nodes within_nodes f
 
-      at_last : (n : ℕ) → nat_lt n 65 ≡ true → nat_lt (n + 1) 65 ≡ false → n ≡ 64
-      at_last n e f = grind (arith, nat_tests)
+  full : (g : Handing) → answer c g.event g.handed ≡ Refuses 37 → IsFull (counted s log) g
+  full g i =
+      elim (which (nat_lt ((counted s log).nodes + length (join_in g.event)) 65) (nat_lt ((counted s log).workers + would_open c g.event g.handed) 1025)
+      (nat_lt ((counted s log).objects + borne g.event g.handed) 1000001) (refused_passes s log c sound made g.event g.seat g.handed i).beyond) [
+        | inl f ↦ inl (by_join g.event f)
+        | inr (inl f) ↦ inr (inl (last_worker (counted s log).workers (would_open c g.event g.handed) within_workers (opens_few s log c sound made g.event g.seat g.handed i) f))
+        | inr (inr f) ↦ inr (inr (too_many ((counted s log).objects + borne g.event g.handed) f))
+      ]
+    where
+      last_worker : (n k : ℕ) → nat_lt n 1025 ≡ true → k ≤ 1 → nat_lt (n + k) 1025 ≡ false → n ≡ 1024
+      last_worker n k e f h = grind (arith, nat_tests, f)
 
-  fills : (counted s log).nodes ≡ 64 → nat_lt ((counted s log).nodes + 1) 65 && nat_lt ((counted s log).workers + 0) 1025 && nat_lt ((counted s log).objects + 0) 1000001 ≡ false
+      too_many : (n : ℕ) → nat_lt n 1000001 ≡ false → 1000000 < n
+      too_many n e = grind (arith, nat_tests)
+
+  -- a join opens and bears nothing
+  join_full : is_within (behind (counted s log) c Join Nothing) ≡ false → (counted s log).nodes ≡ 64
+  join_full f =
+      elim (which (nat_lt ((counted s log).nodes + 1) 65) (nat_lt ((counted s log).workers + 0) 1025) (nat_lt ((counted s log).objects + 0) 1000001) f) [
+        | inl i ↦ last_node (counted s log).nodes within_nodes i
+        | inr (inl i) ↦ clash _ (ap (λ n. nat_lt n 1025) (no_more (counted s log).workers) ∙ within_workers) i
+        | inr (inr i) ↦ clash _ (ap (λ n. nat_lt n 1000001) (no_more (counted s log).objects) ∙ within_objects) i
+      ]
+    where
+      clash : {X : Type 0} (t : Bool) → t ≡ true → t ≡ false → X
+      clash t i j = absurd (cc)
+
+  fills : (counted s log).nodes ≡ 64 → is_within (behind (counted s log) c Join Nothing) ≡ false
   fills e = ap (λ n. nat_lt (n + 1) 65 && nat_lt ((counted s log).workers + 0) 1025 && nat_lt ((counted s log).objects + 0) 1000001) e
+
+  bears_beyond : (t u : Bool) (n : ℕ) → 1000000 < n → (t && u && nat_lt n 1000001) ≡ false
+  bears_beyond t u n f = only t u (nat_lt n 1000001) (too_many n f)
+    where
+      too_many : (n : ℕ) → 1000000 < n → nat_lt n 1000001 ≡ false
+      too_many n f = grind (arith, nat_tests, f)
+
+      only : (t u v : Bool) → v ≡ false → (t && u && v) ≡ false
+      only true true v e = e
+      only true false v e = refl
+      only false u v e = refl
 
   pub limited : (g : Handing) → IsLimited s (record { whole = c; log = log }) g
   limited g =
@@ -249,14 +323,17 @@ module _ (s : Setting) (log : List Entry) (c : Whole) (sound : IsSound s log c) 
       record {
         refused = refused_passes s log c sound made g.event g.seat g.handed;
         passes = passes_refused g.event g.seat g.handed;
-        accepted = k.accepted;
-        otherwise = k.otherwise;
-        within = k.within w;
-        full = λ e i. full (subst (λ (x : Event). is_within (behind (counted s log) c x g.handed) ≡ false) e (refused_passes s log c sound made g.event g.seat g.handed i).beyond);
-        fills = λ e i. passes_refused g.event g.seat g.handed (record {
+        full = full g;
+        joins = λ e i. join_full (subst (λ (x : Event). is_within (behind (counted s log) c x g.handed) ≡ false) e (refused_passes s log c sound made g.event g.seat g.handed i).beyond);
+        no_join = λ e i. passes_refused g.event g.seat g.handed (record {
           unshown = ap (shown (setting_of s c) log (is_of_job g.handed)) e;
           beyond = subst (λ (x : Event). is_within (behind (counted s log) c x g.handed) ≡ false) (sym e) (fills i);
         });
+        no_births = λ u f. passes_refused g.event g.seat g.handed (record { unshown = u; beyond = bears_beyond (nat_lt ((counted s log).nodes + length (join_in g.event)) 65) (nat_lt ((counted s log).workers + would_open c g.event g.handed) 1025) ((counted s log).objects + borne g.event g.handed) f });
+        accepted = k.accepted;
+        one_opens = k.few;
+        otherwise = k.otherwise;
+        within = k.within w;
       }
 
 -- ---- runs

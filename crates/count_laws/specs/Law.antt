@@ -1,16 +1,15 @@
 -- The log counts what there is, and an event is refused 37 exactly where it would lead past a limit of these counts.
-use Rattle.std.specs.Prelude.{◌≡◌, ◌<◌, ◌≤◌, ℕ, ◌+◌, true, false, List, length, Option, None}
+use Rattle.std.specs.Prelude.{◌≡◌, ◌<◌, ◌≤◌, ◌⊎◌, ℕ, ◌+◌, true, false, length, None}
 use Rattle.event_log.specs.Causes.{shown}
-use Rattle.event_log.specs.Entries.{Entry, Join}
+use Rattle.event_log.specs.Entries.{Join}
 use Rattle.event_log.specs.Rules.{Setting}
 use Rattle.meaning.specs.Mains.{KeepsMainApart}
 use Rattle.owed_laws.specs.Law.{IsReached}
 use Rattle.protocol.specs.Answers.{Refuses, Step, Takes}
 use Rattle.protocol.specs.Refusals.{is_of_job}
-use Rattle.protocol_laws.specs.Coming.{IsRight}
 use Rattle.protocol_legal.specs.Whole.{setting_of}
 use Rattle.protocol_owed.specs.Runs.{Handing, Running, after_event, answer_to}
-use Rattle.count_laws.specs.Counts.{Counts, behind, counted, is_within}
+use Rattle.count_laws.specs.Counts.{Counts, behind, borne, counted, is_within, would_open}
 
 -- the tables have as many nodes and workers as the log, and count as many objects
 pub record AreCounted (s : Setting) (r : Running) : Type 0 where
@@ -23,19 +22,27 @@ pub record PassesLimit (s : Setting) (r : Running) (g : Handing) : Type 0 where
   pub unshown : shown (setting_of s r.whole) r.log (is_of_job g.handed) g.event ≡ None
   pub beyond : is_within (behind (counted s r.log) r.whole g.event g.handed) ≡ false
 
+-- by the log alone: it has 64 nodes, and one would join; or it has 1,024 workers; or more than 1,000,000 objects with those that the event bears
+abbrev pub IsFull : Counts → Handing → Type 0
+IsFull n g = ((g.event ≡ Join) × (n.nodes ≡ 64)) ⊎ (n.workers ≡ 1024) ⊎ (1000000 < n.objects + borne g.event g.handed)
+
 -- one event
 pub record IsLimited (s : Setting) (r : Running) (g : Handing) : Type 0 where
   -- it is refused 37 exactly where it would pass a limit
   pub refused : answer_to r g ≡ Refuses 37 → PassesLimit s r g
   pub passes : PassesLimit s r g → answer_to r g ≡ Refuses 37
-  -- behind it there are as many as there would be, if it is accepted, else as many as before
+  -- by the log alone: only where that is full; a join exactly where there are 64 nodes; and always what bears too many objects, unless for another cause
+  pub full : answer_to r g ≡ Refuses 37 → IsFull (counted s r.log) g
+  pub joins : g.event ≡ Join → answer_to r g ≡ Refuses 37 → (counted s r.log).nodes ≡ 64
+  pub no_join : g.event ≡ Join → (counted s r.log).nodes ≡ 64 → answer_to r g ≡ Refuses 37
+  pub no_births : shown (setting_of s r.whole) r.log (is_of_job g.handed) g.event ≡ None → 1000000 < (counted s r.log).objects + borne g.event g.handed →
+      answer_to r g ≡ Refuses 37
+  -- behind it there are as many as there would be, if it is accepted, with one worker more at most; else as many as before
   pub accepted : (step : Step) → answer_to r g ≡ Takes step → counted s (after_event r g).log ≡ behind (counted s r.log) r.whole g.event g.handed
+  pub one_opens : (step : Step) → answer_to r g ≡ Takes step → would_open r.whole g.event g.handed ≤ 1
   pub otherwise : (code : ℕ) → answer_to r g ≡ Refuses code → counted s (after_event r g).log ≡ counted s r.log
   -- which is within the limits
   pub within : is_within (counted s (after_event r g).log) ≡ true
-  -- of a join: there are 64 nodes
-  pub full : g.event ≡ Join → answer_to r g ≡ Refuses 37 → (counted s r.log).nodes ≡ 64
-  pub fills : g.event ≡ Join → (counted s r.log).nodes ≡ 64 → answer_to r g ≡ Refuses 37
 
 -- in every run that was reached by commits of what replays do
 abbrev pub RunsAreCounted : Type 0

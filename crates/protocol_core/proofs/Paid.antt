@@ -1,11 +1,12 @@
 -- An event pays what it owes, and is refused for a limit exactly where it would pass one.
-use Rattle.std.proofs.Common.{◌≡◌, ℕ, true, false, [], Option, IfSome, inl, inr, sym, ◌∙◌}
+use Rattle.std.proofs.Common.{◌≡◌, ℕ, true, false, List, [], Option, IfSome, inl, inr, sym, ◌∙◌, subst}
 use Rattle.meaning.specs.Syntax.{Script}
-use Rattle.event_log.specs.Entries.{Event}
+use Rattle.event_log.specs.Entries.{Entry, Event}
 use Rattle.segment.specs.Jobs.{Done, IsTrueOf}
 use Rattle.owed_laws.proofs.Paid.{reached_pays}
-use Rattle.count_laws.proofs.Laws.{events_are_limited}
-use Rattle.protocol_core.specs.Limits.{Limits}
+use Rattle.count_laws.specs.Counts.{counted, is_within}
+use Rattle.count_laws.proofs.Laws.{events_are_limited, runs_are_within}
+use Rattle.protocol_core.specs.Limits.{IsWithin, Limits}
 use Rattle.protocol_core.specs.Owed.{Pays}
 use Rattle.protocol_core.specs.States.{IsSoundRun, RunState, beside, run_of}
 use Rattle.protocol_core.specs.Steps.{Follows, Reply}
@@ -41,3 +42,9 @@ limited script before after e seat work told kept follows goes on = elim (follow
         (reached_now script before kept.reached goes) (record { event = e; seat = seat; handed = a.0 });
   }
 ]
+
+-- also where an event found no memory
+pub within : (script : Script) (c : RunState) → IsSoundRun script c → IsWithin script c
+within script c kept =
+    subst (λ (log : List Entry). is_within (counted (beside script c.first_nodes []) log) ≡ true) kept.reached.log
+    (runs_are_within (beside script c.first_nodes []) kept.reached.slots kept.nodes kept.few kept.typed.main_apart kept.reached.run kept.reached.reached)

@@ -6,7 +6,7 @@ ghost use Rattle.script_check.specs.Trees.{script_of};
 ghost use Rattle.event_log.specs.Views.{event_of, log_of};
 ghost use Rattle.protocol.specs.Settling.{next};
 ghost use Rattle.protocol_core.specs.Own.{GivesOwn, IsOwn};
-ghost use Rattle.protocol_core.specs.Limits.{Limits};
+ghost use Rattle.protocol_core.specs.Limits.{IsWithin, Limits};
 ghost use Rattle.protocol_core.specs.Owed.{Pays};
 ghost use Rattle.protocol_core.specs.States.{IsLegalRun, IsReachedRun, first_state};
 ghost use Rattle.protocol_core.specs.Steps.{Answers, AnswersAsShown, reply_of};
@@ -80,6 +80,7 @@ impl<S: ScriptName> Core<S> {
         ensures log { result.now ≡ self.now.log }
         ensures legal { IsLegalRun S.script (state_of self.now) }
         ensures reached { IsReachedRun S.script (state_of self.now) }
+        ensures within { IsWithin S.script (state_of self.now) }
     {
         self.state.log.as_slice()
     }

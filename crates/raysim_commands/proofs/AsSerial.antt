@@ -25,7 +25,7 @@ use Rattle.raysim_commands.specs.Scripts.{IsScript}
 use Rattle.raysim_commands.specs.Reports.{Account, IsReportIn, IsAsSerialIn, account_of}
 use Rattle.raysim_commands.specs.RunReports.{IsReportOf, IsRunReported}
 use Rattle.raysim_commands.specs.SimReports.{IfBoth}
-use Rattle.raysim_commands.specs.ThreadReports.{AreWritten, IsPlan, IsRunOn}
+use Rattle.raysim_commands.specs.ThreadReports.{AreBegun, AreWritten, IsBegun, IsPlan, IsRunOn}
 
 -- a text begins so with more behind it
 begins_longer : (text more first : List ℕ) → BeginsWith text first → BeginsWith (text ++ more) first
@@ -105,3 +105,23 @@ threads_written_so size threads form (Some t) (Some p) script lines report histo
   history_out = a;
   report_out = b;
 }
+
+-- a beginning of them was
+pub threads_begun_so : (size : Size) (threads : ℕ) (form : Form) (known plan : Option (List ℕ)) (script : Script) (lines : List PlanLine)
+    (report history : List ℕ) (status : ℕ) (recorded recorded_now held held_now : Option (List ℕ)) →
+    IfSome known (λ t. IsScript t script) → IfSome plan (λ p. IsPlan p lines) → IsRunOn script lines size threads form report history status →
+    AreBegun history report recorded recorded_now held held_now →
+    IfBoth known plan (λ t p. IsBegun size threads form t p recorded recorded_now held held_now)
+threads_begun_so size threads form None plan script lines report history status recorded recorded_now held held_now is has run out = tt
+threads_begun_so size threads form (Some t) None script lines report history status recorded recorded_now held held_now is has run out = tt
+threads_begun_so size threads form (Some t) (Some p) script lines report history status recorded recorded_now held held_now is has run out = inr (record {
+  script = script;
+  lines = lines;
+  report = report;
+  history = history;
+  status = status;
+  is_script = is;
+  is_plan = has;
+  run = run;
+  out = out;
+})

@@ -1,16 +1,16 @@
 -- What `migrate` reads, refuses and writes.
-use Rattle.std.proofs.Common.{◌≡◌, ◌≢◌, ◌∙◌, ◌+◌, ◌++◌, ℕ, Bool, false, List, [], ◌∷◌, Option, None, Some, inl, inr, refl, ap, sym, subst, take, length, codes}
-use Rattle.std.specs.Prelude.{IfSome}
+use Rattle.std.proofs.Common.{◌≡◌, ◌≢◌, ◌⊎◌, ◌∙◌, ◌+◌, ◌++◌, ℕ, Bool, true, false, List, [], ◌∷◌, Option, None, Some, inl, inr, refl, ap, sym, subst, take, length, codes}
+use Rattle.std.specs.Prelude.{IfSome, ◌==◌}
 use Rattle.std.specs.Io.KnownBytes.{Appends}
 use Rattle.meaning.specs.Syntax.{Script}
+use Rattle.event_log.specs.Texts.{event_text}
 use Rattle.event_log.specs.Views.{log_of}
 use Rattle.event_log.specs.declared.entry.Entry.{Entry as CodeEntry}
-use Rattle.event_files.proofs.Readers.{line_in-text, reads_lines}
-use Rattle.event_files.proofs.Rows.{one_bad}
+use Rattle.event_log.specs.declared.event.Event.{Event}
+use Rattle.event_log.specs.declared.event.Event.TheVariants as events
 use Rattle.event_files.specs.Files.{IsBadAt, IsRow, Passed, Row, Said, is_passed, row_text}
 use Rattle.event_files.specs.Lines.{IsLine, line_text}
 use Rattle.event_files.specs.Numbering.{line_numbers}
-use Rattle.event_files.specs.Reading.{event_in, line_in}
 use Rattle.event_files.specs.Recorded.{header, recorded_file}
 use Rattle.event_files.specs.declared.event_file.EventFile.TheVariants as files
 use Rattle.event_files.specs.declared.line.Line.{Line}
@@ -45,19 +45,56 @@ no_wrong_job script lines before after (n, line, between, stands, plays, stop) =
 abbrev first : List ℕ
 first = codes "raysim 2"
 
-no_line : line_in first ≡ None
-unfolding line_in event_in
-no_line = refl
+-- no line of format 1 begins with its first letter
+begins_with_r : List ℕ → Bool
+begins_with_r [] = false
+begins_with_r (b ∷ rest) = b == 114
+
+no_event : (e : Event) → begins_with_r (event_text e) ≡ false
+unfolding begins_with_r
+no_event (events.Claim w) = refl
+no_event (events.Commit j) = refl
+no_event (events.Deliver m) = refl
+no_event (events.Tick w) = refl
+no_event (events.Notice w v) = refl
+no_event (events.NoticeNode w n) = refl
+no_event (events.Evict n o) = refl
+no_event (events.Lose n o) = refl
+no_event (events.Kill w) = refl
+no_event (events.KillNode n) = refl
+no_event events.Join = refl
+
+no_line : (l : Line) → begins_with_r (line_text l) ≡ false
+unfolding begins_with_r
+no_line (lines.Event e) = no_event e
+no_line (lines.Settle []) = refl
+no_line (lines.Settle (w ∷ ws)) = refl
+
+so_it_begins : begins_with_r first ≡ true
+unfolding begins_with_r
+so_it_begins = refl
 
 no_row : (r : Row Line) → IsRow IsLine r → row_text line_text r ≢ first
 no_row (Passed bytes) h e = let f : is_passed bytes ≡ false = ap is_passed e in let g = h.0 in absurd (cc)
-no_row (Said l) h e = let f : Some l ≡ None = sym (line_in-text l h) ∙ ap line_in e ∙ no_line in absurd (cc)
+no_row (Said l) h e = let f : true ≡ false = sym so_it_begins ∙ ap begins_with_r (sym e) ∙ no_line l in absurd (cc)
+
+-- one line is the first that is none of the format
+abbrev pub OneIsBad : Type 0
+OneIsBad = (bytes : List ℕ) (m n : ℕ) → IsBadAt IsLine line_text bytes m → IsBadAt IsLine line_text bytes n → m ≡ n
 
 -- so it is the first line of such a file that is none
-first_is_bad : (bytes : List ℕ) (n : ℕ) → IsBadAt IsLine line_text bytes n → (rest : List ℕ) → bytes ≡ header ++ rest → n ≡ 1
-first_is_bad bytes n h rest e =
-    h.place ∙ ap (λ i. i + 1) (one_bad IsLine line_text line_in reads_lines h.rows [] h.line h.rest first (10 ∷ rest) h.are_rows tt
-    h.in_a_line refl h.is_bad (refl, no_row) (sym h.written ∙ e))
+first_is_bad : OneIsBad → (bytes : List ℕ) (n : ℕ) → IsBadAt IsLine line_text bytes n → (rest : List ℕ) → bytes ≡ header ++ rest → n ≡ 1
+first_is_bad one bytes n h rest e =
+    one bytes n 1 h (record {
+      rows = [];
+      line = first;
+      rest = 10 ∷ rest;
+      are_rows = tt;
+      written = e;
+      place = refl;
+      in_a_line = refl;
+      is_bad = (refl, no_row);
+    })
 
 -- ---- what is written
 
@@ -80,6 +117,12 @@ history_so script named size lines first after log text own begins plays meant o
       replays = h.1;
       same = λ other p. migrated_is_same script lines (first_play size) after other log start played of_log p;
     }
+
+-- the replay stops before an event more than it may apply
+pub too_long_so : (script named : Script) (size : Size) (lines : List Line) (begun first after : Play) → script ≡ named → begun ≡ first → first ≡ first_play size →
+    PlayStops named lines begun after stops.TooLong → PlayStops script lines (first_play size) after stops.TooLong
+too_long_so script named size lines begun first after own same begins stop =
+    subst (λ s. PlayStops s lines (first_play size) after stops.TooLong) (sym own) (subst (λ p. PlayStops named lines p after stops.TooLong) (same ∙ begins) stop)
 
 -- all of it was written, where what was read is known
 pub migrated_so : (size : Size) (known events : Option (List ℕ)) (text : List ℕ) (script : Script) (lines : List Line) (history bytes : List ℕ)
@@ -134,23 +177,23 @@ allowed : (known : Option (List ℕ)) (text : List ℕ) (script : Script) → If
 allowed None text script same is = tt
 allowed (Some t) text script same is = (script, subst (λ b. IsScript b script) same is)
 
-bad_line : (size : Size) (known events : Option (List ℕ)) (a b w : Bool) (n : ℕ) → IfSome known IsAllowed → ExplainsLines events b (BadLine n) →
+bad_line : OneIsBad → (size : Size) (known events : Option (List ℕ)) (a b w : Bool) (n : ℕ) → IfSome known IsAllowed → ExplainsLines events b (BadLine n) →
     ExplainsMigration size known events a b w (BadLine n)
-bad_line size None events a b w n is h = tt
-bad_line size (Some t) None a b w n is h = tt
-bad_line size (Some t) (Some e) a b w n is h = record { allowed = is; bad = h; of_recorded = first_is_bad e n h }
+bad_line one size None events a b w n is h = tt
+bad_line one size (Some t) None a b w n is h = tt
+bad_line one size (Some t) (Some e) a b w n is h = record { allowed = is; bad = h; of_recorded = first_is_bad one e n h }
 
 -- the lines aren't read
-pub explains_no_lines : (size : Size) (known events : Option (List ℕ)) (text : List ℕ) (script : Script) (a b w : Bool) (r : Refusal) →
+pub explains_no_lines : OneIsBad → (size : Size) (known events : Option (List ℕ)) (text : List ℕ) (script : Script) (a b w : Bool) (r : Refusal) →
     IfSome known (λ t. text ≡ t) → IsScript text script → ExplainsLines events b r → ExplainsMigration size known events a b w r
-explains_no_lines size known events text script a b w (BadLine n) same is h = bad_line size known events a b w n (allowed known text script same is) h
-explains_no_lines size known events text script a b w NoMemory same is h = tt
-explains_no_lines size known events text script a b w (Failed Read) same is h = inr (h, allowed known text script same is)
-explains_no_lines size known events text script a b w (Failed Write) same is h = absurd h
-explains_no_lines size known events text script a b w (Failed Closed) same is h = absurd h
-explains_no_lines size known events text script a b w (At code span) same is h = absurd h
-explains_no_lines size known events text script a b w (Stopped code) same is h = absurd h
-explains_no_lines size known events text script a b w (WrongJob n) same is h = absurd h
+explains_no_lines one size known events text script a b w (BadLine n) same is h = bad_line one size known events a b w n (allowed known text script same is) h
+explains_no_lines one size known events text script a b w NoMemory same is h = tt
+explains_no_lines one size known events text script a b w (Failed Read) same is h = inr (h, allowed known text script same is)
+explains_no_lines one size known events text script a b w (Failed Write) same is h = absurd h
+explains_no_lines one size known events text script a b w (Failed Closed) same is h = absurd h
+explains_no_lines one size known events text script a b w (At code span) same is h = absurd h
+explains_no_lines one size known events text script a b w (Stopped code) same is h = absurd h
+explains_no_lines one size known events text script a b w (WrongJob n) same is h = absurd h
 
 too_long : (size : Size) (known events : Option (List ℕ)) (text : List ℕ) (script : Script) (lines : List Line) (a b w : Bool) (code : ℕ) →
     IfSome known (λ t. text ≡ t) → IsScript text script → IfSome events (λ e. IsLinesFile e lines) → IsLinesStop script size lines (Stopped code) →

@@ -1,18 +1,37 @@
 -- What `sim` reads, refuses and writes.
-use Rattle.std.proofs.Common.{◌≡◌, ◌⊎◌, ◌<◌, ◌*◌, ℕ, Bool, List, Option, None, Some, inl, inr, subst, take, length, arith}
+use Rattle.std.proofs.Common.{◌≡◌, ◌∙◌, ◌⊎◌, ◌<◌, ◌*◌, ℕ, Bool, List, Option, None, Some, inl, inr, subst, sym, take, length, arith}
 use Rattle.std.specs.Prelude.{IfSome}
 use Rattle.std.specs.Io.KnownBytes.{Appends}
 use Rattle.meaning.specs.Syntax.{Script}
 use Rattle.event_files.specs.declared.event_file.EventFile.{EventFile}
+use Rattle.history.specs.Main.{status_of}
 use Rattle.protocol_board.specs.Cores.{Size}
+use Rattle.protocol_board.specs.Meant.{IsSoundLog}
+use Rattle.protocol_board.specs.Replays.{Play, PlaysFile}
+use Rattle.raysim_commands.specs.Reports.{IsReportIn, account_of}
 use Rattle.raysim_streams.specs.declared.Failure.TheVariants.{Read, Write, Closed}
 use Rattle.raysim_streams.specs.declared.Refusal.{Refusal}
 use Rattle.raysim_streams.specs.declared.Refusal.TheVariants.{At, NoMemory, Stopped, BadLine, WrongJob, Failed}
 use Rattle.raysim_commands.specs.declared.form.Form.{Form}
 use Rattle.raysim_commands.specs.Scripts.{Explains, IsScript}
-use Rattle.raysim_commands.specs.SimReports.{AreEvents, ExplainsSim, IfBoth, IsSimBegun, IsSimReportOf, IsSimReported, lines_in_file}
+use Rattle.raysim_commands.specs.SimReports.{AreEvents, ExplainsSim, IfBoth, IsSimBegun, IsSimReportOf, IsSimReported, first_play, lines_in_file}
 use Rattle.raysim_commands.proofs.AsSerial.{as_serial}
 use Rattle.raysim_commands.proofs.Reading.{known_whole}
+
+-- the replay of a file's lines, which began so, was reported
+pub replay_reported_so : (script named : Script) (size : Size) (form : Form) (says : EventFile) (numbers : List ℕ) (begun first after : Play) (report : List ℕ)
+    (status : ℕ) → script ≡ named → begun ≡ first → first ≡ first_play size → PlaysFile named says begun after → IsSoundLog named after.run →
+    IsReportIn form (account_of after.run after.sent (lines_in_file numbers after.lines)) report → status ≡ status_of after.run.log →
+    IsSimReportOf script size form says numbers report status
+replay_reported_so script named size form says numbers begun first after report status own same begins plays meant told ends = (
+  after,
+  record {
+    plays = subst (λ s. PlaysFile s says (first_play size) after) (sym own) (subst (λ p. PlaysFile named says p after) (same ∙ begins) plays);
+    meant = subst (λ s. IsSoundLog s after.run) (sym own) meant;
+  },
+  told,
+  ends,
+)
 
 of_known : (P : List ℕ → Type 0) (known : Option (List ℕ)) (text : List ℕ) → IfSome known (λ b. text ≡ b) → P text → IfSome known P
 of_known P None text same h = tt

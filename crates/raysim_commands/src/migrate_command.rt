@@ -9,6 +9,7 @@ ghost use Rattle.raysim_commands.specs.SimReports.{IfBoth};
 ghost use Rattle.raysim_commands.specs.Migrations.{ExplainsLines, ExplainsMigration, IsHistoryOf, IsLinesStop, IsMigrated, IsMigrationBegun};
 
 use crate::script::{compiled_script, read_script};
+use event_files::laws::one_bad_line;
 use event_files::{EventError, Line, parse_events};
 use histories::history;
 use protocol_board::{Cluster, Core, Replay, Stopped};
@@ -76,6 +77,7 @@ pub fn migrate<R: Source, E: Source, W: Sink>(
     ensures beginning { IfErr result (λ refusal. IfBoth (R.left reader.old) (E.left events.old) (λ text file.
         (W.held writer.new ≡ W.held writer.old) ⊎ IsMigrationBegun cluster text file (W.held writer.old) (W.held writer.new))) }
 {
+    one_bad_line();
     let text = read_script(alloc, reader)?;
     let script = match compiled_script(alloc, text.as_slice()) {
         Ok(script) => script,

@@ -22,14 +22,14 @@ pub returns-in-Err-read_lines-clause-refused : goal.returns-in-Err-read_lines-cl
 returns-in-Err-read_lines-clause-refused g c =
     let script = script_of c.in-Ok.script in
     let is = subst (λ t. IsScript t script) c.as_slice.ensures.value c.in-Ok.ensures.found in
-    explains_no_lines c.args.cluster _ _ c.in_ok-text.text.items script _ _ _ c.in-Err-read_lines.refusal c.in_ok-text.ensures.ok is
+    explains_no_lines c.one_bad_line.ensures c.args.cluster _ _ c.in_ok-text.text.items script _ _ _ c.in-Err-read_lines.refusal c.in_ok-text.ensures.ok is
     c.in-Err-read_lines.ensures.refused
 
 pub returns-in-Err-migrate_script-clause-refused : goal.returns-in-Err-migrate_script-clause-refused
 returns-in-Err-migrate_script-clause-refused g c =
     let script = script_of c.in-Ok.script in
     let is = subst (λ t. IsScript t script) c.as_slice.ensures.value c.in-Ok.ensures.found in
-    explains_stop c.args.cluster _ _ c.in_ok-text.text.items script c.in-Ok-read_lines.lines.items _ _ _ c.in-Err-migrate_script.refusal c.in_ok-text.ensures.ok is
+    explains_stop c.args.cluster _ _ c.in_ok-text.text.items script c.in-Ok-read_lines.lines _ _ _ c.in-Err-migrate_script.refusal c.in_ok-text.ensures.ok is
     c.in-Ok-read_lines.ensures.read c.in-Err-migrate_script.ensures.stopped
 
 pub returns-in_err-put_all-clause-beginning : goal.returns-in_err-put_all-clause-beginning
@@ -37,7 +37,7 @@ returns-in_err-put_all-clause-beginning g c =
     let script = script_of c.in-Ok.script in
     let is = subst (λ t. IsScript t script) c.as_slice.ensures.value c.in-Ok.ensures.found in
     let begun =
-    migration_begun_so c.args.cluster _ _ c.in_ok-text.text.items script c.in-Ok-read_lines.lines.items _ _ _ _ c.in_ok-text.ensures.ok is
+    migration_begun_so c.args.cluster _ _ c.in_ok-text.text.items script c.in-Ok-read_lines.lines _ _ _ _ c.in_ok-text.ensures.ok is
     c.in-Ok-read_lines.ensures.read c.in-Ok-migrate_script.ensures.written c.as_bytes.ensures.value c.in_err-put_all.ensures.beginning in
     always_err c.from_residual-in_err-put_all.result _ begun
 
@@ -45,5 +45,5 @@ pub returns-clause-migrated : goal.returns-clause-migrated
 returns-clause-migrated g c =
     let script = script_of c.in-Ok.script in
     let is = subst (λ t. IsScript t script) c.as_slice.ensures.value c.in-Ok.ensures.found in
-    migrated_so c.args.cluster _ _ c.in_ok-text.text.items script c.in-Ok-read_lines.lines.items _ _ _ _ c.in_ok-text.ensures.ok is
+    migrated_so c.args.cluster _ _ c.in_ok-text.text.items script c.in-Ok-read_lines.lines _ _ _ _ c.in_ok-text.ensures.ok is
     c.in-Ok-read_lines.ensures.read c.in-Ok-migrate_script.ensures.written c.as_bytes.ensures.value c.in_ok-put_all.ensures.ok

@@ -170,7 +170,7 @@ at_first script first h = record {
   begun = first.begun;
   lines = first.lines;
   plays = subst (λ l. AllPlay (SaidPlays script) (said_from 0 l) first first) (sym h.log) (none_play (SaidPlays script) first);
-  jobs = fresh_claims first.run (h.log, h.jobs);
+  jobs = fresh_claims first.run (h.log, h.jobs, h.goes_on);
   goes_on = h.goes_on;
 }
 

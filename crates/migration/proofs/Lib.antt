@@ -1,2 +1,2 @@
-mod Migrating
-mod Alike
+pub mod Migrating
+pub mod Alike

@@ -1,0 +1,8 @@
+use Rattle.run_examples.proofs.Ruled.{limits_are_true, opening_is_not_over}
+use Rattle.run_examples.proofs.examples.examples.Goals as goal
+
+pub returns-clause-over : goal.returns-clause-over
+returns-clause-over c = opening_is_not_over
+
+pub returns-clause-limits : goal.returns-clause-limits
+returns-clause-limits c = limits_are_true

@@ -1,0 +1,28 @@
+-- Logs that no run on threads ends with.
+use Rattle.std.specs.Prelude.{◌≡◌, ◌<◌, ◌≤◌, Bool, List, [], ◌∷◌, ◌++◌}
+use Rattle.meaning.specs.Syntax.{Script}
+use Rattle.event_files.specs.declared.plan.PlanLine.{PlanLine}
+use Rattle.script_check.specs.Scripts.{IsWellTyped}
+use Rattle.event_log.specs.Entries.{Entry, In, Refused, Tick}
+use Rattle.event_log.specs.Legal.{opening}
+use Rattle.protocol_core.specs.Clusters.{IsCluster, Size}
+use Rattle.protocol_core.specs.States.{RunState}
+use Rattle.protocol_board.specs.Meant.{IsSoundLog}
+use Rattle.seats.specs.Ends.{IsOverBeside, WasLimited}
+
+-- where the log is still the opening, the run isn't over, whatever the plan: main has its first job to do
+abbrev pub OpeningIsNotOver : Type 0
+OpeningIsNotOver =
+    (script : Script) (is_open : Bool) (plan : List PlanLine) (size : Size) → IsCluster size →
+    (r : RunState) → IsSoundLog script r → IsOverBeside is_open plan size r → r.log ≡ opening → ⊥
+
+-- worker 1 ticks as the run opens, and is refused for a limit
+abbrev pub early_limit : List Entry
+early_limit = opening ++ In (Tick 1) 1 ∷ Refused 37 ∷ []
+
+pub record LimitsAreTrue : Type 0 where
+  -- an event of it was refused for that
+  pub says_so : WasLimited early_limit
+  -- and it is the log of no run: there are one worker and one object
+  pub is_of_none : (script : Script) → IsWellTyped script → (r : RunState) → 0 < r.first_nodes → r.first_nodes ≤ 64 →
+      IsSoundLog script r → r.log ≡ early_limit → ⊥

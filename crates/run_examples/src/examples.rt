@@ -1,0 +1,11 @@
+// Logs that no run on threads ends with.
+
+ghost use Rattle.run_examples.specs.Examples.{LimitsAreTrue, OpeningIsNotOver};
+
+/// By what the type of a board keeps, and how a run on threads ends: a log that is still the opening isn't that of a run that is over, whatever the plan
+/// and the cluster; and with at most 64 nodes at first, a log in which the first event is a tick, refused 37, and which ends there, is that of no run,
+/// though it has an event that was refused so.
+pub fn examples()
+    ensures over { OpeningIsNotOver }
+    ensures limits { LimitsAreTrue }
+{}

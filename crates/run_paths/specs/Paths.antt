@@ -1,9 +1,10 @@
 -- A run that came of events.
-use Rattle.std.specs.Prelude.{◌≡◌, ℕ, zero, suc, Option, Some, None}
+use Rattle.std.specs.Prelude.{◌≡◌, ℕ, zero, suc, false, Option, Some, None}
 use Rattle.meaning.specs.Syntax.{Script}
 use Rattle.segment.specs.Jobs.{Done, IsTrueOf}
 use Rattle.event_log.specs.Entries.{Event}
-use Rattle.protocol_board.specs.Cores.{Answers, Reply, RunState}
+use Rattle.event_log.specs.Legal.{opening}
+use Rattle.protocol_board.specs.Cores.{Answers, IsReachedRun, Reply, RunState, first_state}
 
 -- what is handed in, if anything is, is true of its job
 abbrev pub IsTrueDone : Script → Option Done → Type 0
@@ -30,3 +31,8 @@ abbrev pub OneMoreLeads : Type 0
 OneMoreLeads =
     (script : Script) (first before after : RunState) (e : Event) (seat : ℕ) (done : Option Done) (told : Reply) →
     Comes script first before → IsTrueDone script done → Answers before e seat done after told → Comes script first after
+
+-- where no event came yet, the state is the first one of its nodes and slots
+abbrev pub NoneCame : Type 0
+NoneCame =
+    (script : Script) (r : RunState) → IsReachedRun script r → r.log ≡ opening → r.is_halted ≡ false → r ≡ first_state r.first_nodes r.whole.slots

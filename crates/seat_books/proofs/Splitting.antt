@@ -3,7 +3,7 @@ use Rattle.std.proofs.Common.{◌≡◌, ◌⊎◌, inl, inr, ℕ, zero, suc, �
 use Rattle.std.proofs.lemmas.Bool.{eqb-true, eqb-false}
 use Rattle.std.specs.Prelude.{◌==◌, if◌then◌else◌}
 use Rattle.event_log.specs.Laws.{nothing}
-use Rattle.seat_books.specs.Seats.{new_seats, seat_at, parts_at, parts_to, further_parts, further_parts_to, AreParts}
+use Rattle.seat_books.specs.Seats.{new_seats, seat_at, parts_at, parts_to, further_parts, further_parts_to, AreParts, IsSeat}
 
 further : (from n k : ℕ) → k ≡ from + n → new_seats from n ++ seat_at k nothing ∷ [] ≡ new_seats from (suc n)
 further from zero k e = ap (λ i. seat_at i nothing ∷ []) (let f : k ≡ from = omega (arith, e) in f)
@@ -71,3 +71,7 @@ enough_further w n t q first last more left =
     further_fits : Taken w (suc t) → further_parts_to w (suc t) ≤ 1
     further_fits (inl (before, parts, further)) = omega (arith, further)
     further_fits (inr (behind, parts, further)) = omega (arith, further)
+
+-- of so many seats
+pub is_next : (n t seats : ℕ) → t < n → n ≡ seats → IsSeat seats (t + 1)
+is_next n t seats more same = (omega arith, omega (arith, more, same))

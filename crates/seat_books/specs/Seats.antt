@@ -1,5 +1,5 @@
 -- What seats hold.
-use Rattle.std.specs.Prelude.{◌≡◌, ℕ, zero, suc, ◌+◌, ◌*◌, ◌==◌, if◌then◌else◌, List, [], ◌∷◌, Option, Some, None, sum_by}
+use Rattle.std.specs.Prelude.{◌≡◌, ◌≤◌, ℕ, zero, suc, ◌+◌, ◌*◌, ◌==◌, if◌then◌else◌, List, [], ◌∷◌, Option, Some, None, sum_by}
 use Rattle.event_log.specs.Books.{Totals}
 use Rattle.event_log.specs.Laws.{nothing, plus}
 use Rattle.books.specs.Laws.{from_seat}
@@ -50,6 +50,10 @@ further_parts watched number = if number == watched then 1 else 0
 -- so many parts have the ledgers of so many seats
 abbrev pub AreParts : ℕ → ℕ → Type 0
 AreParts seats parts = 2 * seats ≡ parts + 1
+
+-- the number is one of so many seats, counted from 1
+abbrev pub IsSeat : ℕ → ℕ → Type 0
+IsSeat seats number = (1 ≤ number) × (number ≤ seats)
 
 -- how many parts the first seats have, so many
 abbrev pub parts_to : ℕ → ℕ → ℕ

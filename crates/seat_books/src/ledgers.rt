@@ -76,6 +76,7 @@ fn split_all<
     requires few { n ≤ 8 }
     requires watched { (watched ≡ P.watched) × (1 ≤ watched) × (watched ≤ n) }
     requires parts { AreParts n pots.all.parts × (pots.further.parts ≡ 1) }
+    requires seats { n ≡ P.seats }
     requires empty { (pots.all.book ≡ nothing) × (pots.further.book ≡ nothing) }
     ensures { IfOk result (λ v. v.items ≡ new_seats 1 n) }
 {
@@ -107,6 +108,7 @@ impl<
         watched: u8,
     ) -> Result<(Self, Vec<Seat<P, E, G, C, J, V, H, D, M>>), AllocError>
         requires few { n ≤ 8 }
+        requires seats { n ≡ P.seats }
         requires watched { (watched ≡ P.watched) × (1 ≤ watched) × (watched ≤ n) }
         requires parts { AreParts n E.parts × SameParts E.parts G.parts C.parts J.parts }
         requires further_parts { (V.parts ≡ 1) × SameParts V.parts H.parts D.parts M.parts }

@@ -3,7 +3,7 @@
 ghost use Rattle.std.specs.Prelude.{◌≡◌, ◌+◌, ◌≤◌, ◌<◌, ◌==◌, if◌then◌else◌, length, sum_by, IsSome, IfSome};
 ghost use Rattle.event_log.specs.Laws.{nothing, plus};
 ghost use Rattle.seat_books.specs.Holdings.{holding, together};
-ghost use Rattle.seat_books.specs.Seats.{further_at, further_parts, parts_at, seat_at};
+ghost use Rattle.seat_books.specs.Seats.{IsSeat, further_at, further_parts, parts_at, seat_at};
 
 use crate::seat::Seat;
 use crate::shares::Shares;
@@ -69,6 +69,7 @@ impl<E: Ledger, G: Ledger, C: Ledger, J: Ledger, V: Ledger, H: Ledger, D: Ledger
         watched: u8,
     ) -> Seat<P, E, G, C, J, V, H, D, M>
         requires watched { watched ≡ P.watched }
+        requires within { IsSeat P.seats number }
         requires parts { parts_at watched number ≤ self.old.all.parts }
         requires further_parts { further_parts watched number ≤ self.old.further.parts }
         requires empty { (self.old.all.book ≡ nothing) × (self.old.further.book ≡ nothing) }

@@ -3,7 +3,7 @@
 ghost use Rattle.std.specs.Prelude.{◌≡◌};
 ghost use Rattle.event_log.specs.Laws.{plus};
 ghost use Rattle.books.specs.Laws.{from_seat};
-ghost use Rattle.seat_books.specs.Seats.{with_more};
+ghost use Rattle.seat_books.specs.Seats.{IsSeat, with_more};
 ghost use Rattle.seat_books.specs.Tallies.{totals_in};
 
 use crate::account::Books;
@@ -45,13 +45,14 @@ impl<
     M: Ledger,
 > Model for Seat<P, E, G, C, J, V, H, D, M> {
     ghost use Rattle.std.specs.Prelude.{◌≡◌};
-    ghost use Rattle.seat_books.specs.Seats.{SeatOf, further_at, parts_at, seat_at};
+    ghost use Rattle.seat_books.specs.Seats.{IsSeat, SeatOf, further_at, parts_at, seat_at};
 
     ghost Value = { SeatOf };
 
     ghost view = { λ s. seat_at s.number s.shares.book };
 
-    ghost invariant = { λ s. (s.shares.parts ≡ parts_at P.watched s.number) × (s.further ≡ further_at P.watched (seat_at s.number s.shares.book)) };
+    ghost invariant = { λ s. (s.shares.parts ≡ parts_at P.watched s.number) × (s.further ≡ further_at P.watched (seat_at s.number s.shares.book))
+        × IsSeat P.seats s.number };
 }
 
 impl<
@@ -67,7 +68,8 @@ impl<
 > Seat<P, E, G, C, J, V, H, D, M> {
     /// Its number, counted from 1.
     pub fn number(&self) -> u8
-        ensures { result ≡ self.now.number }
+        ensures number { result ≡ self.now.number }
+        ensures within { IsSeat P.seats result }
     {
         self.number
     }

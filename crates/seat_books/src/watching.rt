@@ -1,14 +1,18 @@
-// The watched seat.
+// The seats of a run.
 
 ghost use Rattle.std.specs.Prelude.{ℕ};
 
 use std::marker::Brand;
 
-/// A type that says, in contracts, which of a run's seats is watched.
+/// A type that says, in contracts, how many seats a run has, numbered from 1, and which of them is watched.
 pub trait Watching {
+    ghost seats: { ℕ };
+
     ghost watched: { ℕ };
 }
 
 impl Watching for Brand {
+    ghost seats = { 1 };
+
     ghost watched = { 1 };
 }

@@ -110,6 +110,7 @@ fn report_of<
 >(rt: &R, alloc: Global, script: &Compiled, blanks: Blanks, further: Blanks) -> Result<String, Fail>
     requires script { script_of script.now ≡ S.script }
     requires named { (P.plan ≡ []) × (P.size ≡ record { nodes = 1; slots = 4 }) × (P.is_open ≡ true) }
+    requires seats { P.seats ≡ 2 }
     requires watched { P.watched ≡ 2 }
     requires parts { AreParts 2 E.parts × SameParts E.parts G.parts C.parts J.parts }
     requires further_parts { (V.parts ≡ 1) × SameParts V.parts H.parts D.parts M.parts }

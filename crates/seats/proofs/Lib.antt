@@ -1,9 +1,11 @@
 pub mod Codes
 pub mod Counted
+mod Came
 mod Crosses
 pub mod Few
 pub mod Jobs
 mod Outside
 mod Planned
+mod Seated
 mod Sizes
 mod Standing

@@ -8,20 +8,19 @@ use Rattle.event_log.specs.Views.{event_of, log_of}
 use Rattle.event_log.specs.declared.refusal.Refusal.{Refusal}
 use Rattle.event_log.specs.declared.refusal.Refusal.TheVariants as refusals
 use Rattle.protocol.specs.Settling.{next}
-use Rattle.protocol_board.specs.Cores.{RunState, Size, state_of}
+use Rattle.meaning.specs.Syntax.{Script}
+use Rattle.protocol_board.specs.Cores.{RunState, Size, first_state, state_of}
+use Rattle.run_paths.specs.Paths.{Comes}
 use Rattle.books.specs.SeatTotals.{seat_totals}
 use Rattle.seat_books.specs.Seats.{SeatOf, book_of, sums}
 use Rattle.seats.specs.Outside.{HasNoOther}
+use Rattle.seats.specs.Seated.{AreFrom}
 use Rattle.seats.specs.declared.end.Ended.{Ended}
 use Rattle.seats.specs.declared.end.Ended.TheVariants as ends
 
 -- the books of the seats add up to the totals of the log, and the watched one's is what came from that seat
 abbrev pub AddUp : ℕ → List SeatOf → List Entry → Type 0
 AddUp watched seats log = (totals_of log ≡ sums seats) × (book_of watched seats ≡ Some (seat_totals watched log))
-
--- so do the books of so many seats
-abbrev pub AddsUp : ℕ → ℕ → List Entry → Type 0
-AddsUp n watched log = (seats : List SeatOf) × (length seats ≡ n) × AddUp watched seats log
 
 -- an event of the log was refused since it would have made an object, worker or node past its limit
 abbrev pub WasLimited : List Entry → Type 0
@@ -44,29 +43,31 @@ size_of r = record { nodes = r.first_nodes; slots = r.whole.slots }
 abbrev pub ArePlanned : Bool → List Event → List Entry → Type 0
 ArePlanned is_open es log = AreIn es log × HasNoOther is_open es log
 
--- a run beside the plan on such a cluster is over: the settle rule names no event, and of the events from outside the plan's, and, unless the run is
--- open, no others, stand in the log
-pub record IsOverBeside (is_open : Bool) (plan : List PlanLine) (size : Size) (r : RunState) : Type 0 where
+-- a run of the script beside the plan on such a cluster is over: the settle rule names no event, and of the events from outside the plan's, and, unless
+-- the run is open, no others, stand in the log
+pub record IsOverBeside (script : Script) (is_open : Bool) (plan : List PlanLine) (size : Size) (r : RunState) : Type 0 where
   pub settled : next r.whole [] ≡ None
   pub planned : ArePlanned is_open (events_of plan) r.log
   pub on_cluster : size_of r ≡ size
   -- each event found memory, so that these are the workers, nodes and messages to which the log led
   pub goes_on : r.is_halted ≡ false
+  -- and that came of events, one after the other, each with what was handed in, true of its job
+  pub came : Comes script (first_state size.nodes size.slots) r
 
 -- and no others
-abbrev pub IsOver : List PlanLine → Size → RunState → Type 0
-IsOver plan size r = IsOverBeside false plan size r
+abbrev pub IsOver : Script → List PlanLine → Size → RunState → Type 0
+IsOver script plan size r = IsOverBeside script false plan size r
 
 -- a run on so many nodes at first is at a limit: an event was refused for that
 pub record IsAtLimit (nodes : ℕ) (r : RunState) : Type 0 where
   pub limited : WasLimited r.log
   pub on_nodes : r.first_nodes ≡ nodes
 
--- how a run beside the plan on such a cluster ends
-abbrev pub HasEnded : {X : Type 0} → Bool → List PlanLine → Size → Ended X → Type 0
-HasEnded is_open plan size (ends.Over board) = IsOverBeside is_open plan size (state_of board)
-HasEnded is_open plan size (ends.AtLimit board) = IsAtLimit size.nodes (state_of board)
-HasEnded is_open plan size ends.NoMemory = Unit {0}
+-- how a run of the script beside the plan on such a cluster ends
+abbrev pub HasEnded : {X : Type 0} → Script → Bool → List PlanLine → Size → Ended X → Type 0
+HasEnded script is_open plan size (ends.Over board) = IsOverBeside script is_open plan size (state_of board)
+HasEnded script is_open plan size (ends.AtLimit board) = IsAtLimit size.nodes (state_of board)
+HasEnded script is_open plan size ends.NoMemory = Unit {0}
 
 -- the log of a run that ended, unless there was no memory
 abbrev pub log_at : {X : Type 0} → Ended X → Option (List Entry)
@@ -74,13 +75,18 @@ log_at (ends.Over board) = Some (log_of board.log)
 log_at (ends.AtLimit board) = Some (log_of board.log)
 log_at ends.NoMemory = None
 
--- and the books of its seats add up
-abbrev pub IsEndBeside : {X : Type 0} → Bool → ℕ → ℕ → List PlanLine → Size → Ended X → Type 0
-IsEndBeside is_open seats watched plan size end = HasEnded is_open plan size end × IfSome (log_at end) (AddsUp seats watched)
+-- and the books of these seats, which are all, add up
+abbrev pub IsEndBeside : {X : Type 0} → Script → Bool → List SeatOf → ℕ → List PlanLine → Size → Ended X → Type 0
+IsEndBeside script is_open seats watched plan size end =
+    HasEnded script is_open plan size end × IfSome (log_at end) (λ log. AddUp watched seats log × AreFrom (length seats) log)
+
+-- so, where each event came from one of so many seats
+abbrev pub IsEndAt : {X : Type 0} → Script → Bool → ℕ → List PlanLine → Size → Ended X → Type 0
+IsEndAt script is_open seats plan size end = HasEnded script is_open plan size end × IfSome (log_at end) (AreFrom seats)
 
 -- of a run that isn't open
-abbrev pub IsEnd : {X : Type 0} → ℕ → ℕ → List PlanLine → Size → Ended X → Type 0
-IsEnd seats watched plan size end = IsEndBeside false seats watched plan size end
+abbrev pub IsEnd : {X : Type 0} → Script → ℕ → List PlanLine → Size → Ended X → Type 0
+IsEnd script seats plan size end = IsEndAt script false seats plan size end
 
 -- what a log has of a plan's events that were taken, and of why the run is given up, if it is: an event of it was refused at a limit, or there was no
 -- memory

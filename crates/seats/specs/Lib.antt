@@ -1,5 +1,6 @@
 pub mod Counted
 pub mod Ends
 pub mod Outside
+pub mod Seated
 pub mod Turns
 pub mod Views

@@ -12,6 +12,7 @@ ghost use Rattle.seat_books.specs.Seats.{AreParts, book_of, new_seats, sums, wit
 ghost use Rattle.seats.specs.Counted.{IsFresh, counted};
 ghost use Rattle.seats.specs.Ends.{IsEndBeside, size_of};
 ghost use Rattle.seats.specs.Outside.{MayApply};
+ghost use Rattle.seats.specs.Seated.{AreFrom};
 ghost use Rattle.seats.specs.Turns.{turn_counted};
 ghost use Rattle.seats.specs.Views.{told_of};
 
@@ -68,7 +69,7 @@ impl<
 
     ghost view = { λ s. s.seats };
 
-    ghost invariant = { λ s. (1 ≤ s.seats) × AreParts s.seats E.parts };
+    ghost invariant = { λ s. (1 ≤ s.seats) × (s.seats ≡ P.seats) × AreParts s.seats E.parts };
 }
 
 /// The run, and the ledgers of its seats.
@@ -89,6 +90,7 @@ struct Locked<
     ledgers: Ledgers<P, E, G, C, J, V, H, D, M>,
     ghost all_add_up: { totals_of (log_of turning.run.log) ≡ ledgers.all },
     ghost watched_add_up: { seat_totals P.watched (log_of turning.run.log) ≡ ledgers.watched },
+    ghost seated: { AreFrom P.seats (log_of turning.run.log) },
 }
 
 impl<
@@ -143,6 +145,7 @@ impl<
         ensures same { result ≡ self.turning }
         ensures adds_up { totals_of (log_of result.run.log) ≡ sums seats.items }
         ensures watched { book_of P.watched seats.items ≡ Some (seat_totals P.watched (log_of result.run.log)) }
+        ensures seated { AreFrom P.seats (log_of result.run.log) }
     {
         let Locked { turning, ledgers } = self;
         ledgers.close(seats);
@@ -202,6 +205,7 @@ impl<
         watched: u8,
     ) -> Result<(Self, Vec<Seat<P, E, G, C, J, V, H, D, M>>), AllocError>
         requires few { n ≤ 8 }
+        requires seats { n ≡ P.seats }
         requires watched { (watched ≡ P.watched) × (1 ≤ watched) × (watched ≤ n) }
         requires fresh { IsFresh (state_of board) }
         requires named { (plan.lines ≡ P.plan) × (size_of (state_of board) ≡ P.size) }
@@ -230,13 +234,14 @@ impl<
     }
 
     /// Gives the board where all seats are there, and else hands both back. The seats' books add up, number by number, to the totals of the
-    /// board's log; and the watched seat's book is exactly the totals of what came from that seat.
+    /// board's log; the watched seat's book is exactly the totals of what came from that seat; and each event of the log came from a seat of so many.
     pub fn close(
         self,
         seats: Vec<Seat<P, E, G, C, J, V, H, D, M>>,
     ) -> Result<Board<S>, (Self, Vec<Seat<P, E, G, C, J, V, H, D, M>>)>
         ensures adds_up { IfOk result (λ b. totals_of (log_of b.log) ≡ sums seats.items) }
         ensures watched { IfOk result (λ b. book_of P.watched seats.items ≡ Some (seat_totals P.watched (log_of b.log))) }
+        ensures seated { IfOk result (λ b. AreFrom self (log_of b.log)) }
         ensures all { length seats.items ≡ self → IsOk result }
         ensures back { IfErr result (λ e. (e.0 ≡ self) × (e.1 ≡ seats)) }
     {
@@ -254,7 +259,7 @@ impl<
         alloc: Global,
         seats: Vec<Seat<P, E, G, C, J, V, H, D, M>>,
     ) -> Result<Ended<S>, (Self, Vec<Seat<P, E, G, C, J, V, H, D, M>>)>
-        ensures ended { IfOk result (IsEndBeside P.is_open self P.watched P.plan P.size) }
+        ensures ended { IfOk result (IsEndBeside S.script P.is_open seats.items P.watched P.plan P.size) }
         ensures back { IfErr result (λ e. (e.0 ≡ self) × (e.1 ≡ seats)) }
     {
         if seats.len() != self.seats {

@@ -3,7 +3,7 @@
 ghost use Rattle.std.specs.Prelude.{◌≡◌, ◌≤◌, IfOk};
 ghost use Rattle.protocol_board.specs.Cores.{state_of};
 ghost use Rattle.script_check.specs.Trees.{script_of};
-ghost use Rattle.seats.specs.Ends.{IsEnd, IsEndBeside, size_of};
+ghost use Rattle.seats.specs.Ends.{IsEnd, IsEndAt, size_of};
 ghost use Rattle.seats.specs.Counted.{IsFresh};
 ghost use Rattle.seat_books.specs.Holdings.{SameParts};
 ghost use Rattle.seat_books.specs.Seats.{AreParts};
@@ -86,6 +86,7 @@ fn run_shared<
     requires fresh { IsFresh (state_of board) }
     requires named { (plan.lines ≡ P.plan) × (size_of (state_of board) ≡ P.size) }
     requires script { script_of script.now ≡ S.script }
+    requires seats { n ≡ P.seats }
     requires watched { P.watched ≡ 1 }
     requires parts { AreParts n E.parts × SameParts E.parts G.parts C.parts J.parts }
     requires further_parts { (V.parts ≡ 1) × SameParts V.parts H.parts D.parts M.parts }
@@ -97,7 +98,7 @@ fn run_shared<
     requires further_given { (further.given.name ≡ H.name) × (further.given.parts ≡ H.parts) }
     requires further_commits { (further.commits.name ≡ D.name) × (further.commits.parts ≡ D.parts) }
     requires further_committed { (further.committed.name ≡ M.name) × (further.committed.parts ≡ M.parts) }
-    ensures { IfOk result (IsEndBeside P.is_open n 1 P.plan P.size) }
+    ensures { IfOk result (IsEndAt S.script P.is_open n P.plan P.size) }
 {
     let (mut shared, mut seats) = Shared::<S, P, E, G, C, J, V, H, D, M>::new(
         alloc, blanks, further, board, plan, n, 1,
@@ -135,7 +136,7 @@ pub fn run_on_threads<
     requires some { (1 ≤ n) × (n ≤ 8) }
     requires fresh { IsFresh (state_of board) }
     requires script { script_of script.now ≡ S.script }
-    ensures { IfOk result (IsEnd n 1 plan.lines (size_of (state_of board))) }
+    ensures { IfOk result (IsEnd S.script n plan.lines (size_of (state_of board))) }
 {
     let blanks = Blanks::new(2 * u64::from(n) - 1);
     let further = Blanks::new(1);

@@ -1,6 +1,6 @@
 // Runs on threads, beside a plan.
 
-ghost use Rattle.std.specs.Prelude.{◌≡◌, ◌+◌, ◌≤◌, [], None, true, IfOk, IfSome, length, slice_get};
+ghost use Rattle.std.specs.Prelude.{◌≡◌, ◌+◌, ◌≤◌, ℕ, [], None, true, IfOk, IfSome, length, slice_get};
 ghost use Rattle.event_log.specs.Books.{totals_of};
 ghost use Rattle.event_log.specs.Laws.{nothing, plus};
 ghost use Rattle.event_log.specs.Views.{event_of, log_of};
@@ -8,9 +8,11 @@ ghost use Rattle.event_log.specs.declared.refusal.Refusal.TheVariants.{NoMemory}
 ghost use Rattle.protocol_board.specs.Cores.{Answers, reply_of, state_of};
 ghost use Rattle.protocol_board.specs.Meant.{IsSoundLog};
 ghost use Rattle.books.specs.SeatTotals.{seat_totals};
+ghost use Rattle.run_paths.specs.Paths.{IsTrueDone};
 ghost use Rattle.seats.specs.Counted.{AddsFrom, IsFresh, counted};
 ghost use Rattle.seats.specs.Ends.{HasEnded, IsOverBeside, log_at, size_of};
 ghost use Rattle.seats.specs.Outside.{MayApply, Passes};
+ghost use Rattle.seats.specs.Seated.{AreFrom, StaysFrom};
 ghost use Rattle.seats.specs.Turns.{Follows, Plans, Takes, Turned, choice, due, is_at_end, or_first, past_line, turn_counted};
 ghost use Rattle.seats.specs.Views.{choice_of, told_of, turn_of};
 
@@ -22,6 +24,7 @@ use crate::turn::Turn;
 use event_files::{PlanLine, RunPlan};
 use event_log::{Entry, Event, Refusal};
 use protocol_board::{Board, Reply};
+use run_paths::law::{none_came, paths_go_on};
 use segment::{Done, ScriptName};
 use sequence::Seq;
 use std::alloc::{AllocError, Global};
@@ -49,7 +52,8 @@ impl<S: ScriptName, P: RunName> Model for Turning<S, P> {
     ghost use Rattle.values.specs.contracts.value.RunValue as run_values;
     ghost use Rattle.event_log.specs.Books.{totals_of};
     ghost use Rattle.event_log.specs.Views.{log_of};
-    ghost use Rattle.protocol_board.specs.Cores.{state_of};
+    ghost use Rattle.protocol_board.specs.Cores.{first_state, state_of};
+    ghost use Rattle.run_paths.specs.Paths.{Comes};
     ghost use Rattle.seats.specs.Counted.{ClaimsGaveJobs};
     ghost use Rattle.seats.specs.Ends.{GoesOn, Stands, first_events};
     ghost use Rattle.seats.specs.Outside.{KeepsToThem};
@@ -64,7 +68,8 @@ impl<S: ScriptName, P: RunName> Model for Turning<S, P> {
     ghost invariant = { λ t. ClaimsGaveJobs (state_of t.board) × (t.commits ≡ (totals_of (log_of t.board.log)).commits)
         × (t.plan ≡ P.plan) × (t.board.first_nodes ≡ P.size.nodes) × GoesOn P.size.slots (state_of t.board) t.given_up
         × Stands (first_events t.taken t.plan) (log_of t.board.log) t.given_up
-        × KeepsToThem P.is_open (first_events t.taken t.plan) (log_of t.board.log) t.given_up };
+        × KeepsToThem P.is_open (first_events t.taken t.plan) (log_of t.board.log) t.given_up
+        × Comes S.script (first_state P.size.nodes P.size.slots) (state_of t.board) };
 }
 
 /// How many commits were accepted, behind one event more; no more than the log has entries.
@@ -85,6 +90,15 @@ fn entries_of<S: ScriptName>(board: &Board<S>) -> usize
     board.log().len()
 }
 
+/// What was done, if anything was, is true of its job.
+fn attest<S: ScriptName>(done: &Option<Done<S>>)
+    ensures { IsTrueDone S.script done.now }
+{
+    if let Some(done) = done {
+        let _ = done.job();
+    }
+}
+
 impl<S: ScriptName, P: RunName> Turning<S, P> {
     /// A run that begins, beside the plan.
     pub fn new(alloc: Global, board: Board<S>, plan: RunPlan) -> Turning<S, P>
@@ -93,7 +107,11 @@ impl<S: ScriptName, P: RunName> Turning<S, P> {
         ensures begins { result ≡ record { run = board; plan = plan.lines; taken = 0; out = []; given_up = None } }
         ensures totals { totals_of (log_of result.run.log) ≡ nothing }
         ensures watched { seat_totals P.watched (log_of result.run.log) ≡ nothing }
+        ensures seated { (seats : ℕ) → AreFrom seats (log_of result.run.log) }
     {
+        paths_go_on();
+        none_came();
+        let _ = board.log();
         Turning {
             board,
             plan: plan.lines,
@@ -118,8 +136,11 @@ impl<S: ScriptName, P: RunName> Turning<S, P> {
         ensures answers { Answers (state_of self.old.run) (event_of event) seat done (state_of self.new.run) (reply_of result) }
         ensures counted { totals_of (log_of self.new.run.log) ≡ plus (totals_of (log_of self.old.run.log)) (counted (event_of event) (reply_of result)) }
         ensures watched { AddsFrom P.watched seat (counted (event_of event) (reply_of result)) (log_of self.old.run.log) (log_of self.new.run.log) }
+        ensures seated { StaysFrom seat (log_of self.old.run.log) (log_of self.new.run.log) }
         ensures follows { Follows (record (turn_of self.old) { taken = taken }) (event_of event) (reply_of result) (turn_of self.new) }
     {
+        paths_go_on();
+        attest(&done);
         let told = self.board.apply(alloc, event, seat, done);
         let most = entries_of(&self.board);
         self.commits = commits_behind(self.commits, event, &told, most);
@@ -141,6 +162,7 @@ impl<S: ScriptName, P: RunName> Turning<S, P> {
         ensures answers { Answers (state_of self.old.run) (event_of event) seat done (state_of self.new.run) (reply_of result) }
         ensures counted { totals_of (log_of self.new.run.log) ≡ plus (totals_of (log_of self.old.run.log)) (counted (event_of event) (reply_of result)) }
         ensures watched { AddsFrom P.watched seat (counted (event_of event) (reply_of result)) (log_of self.old.run.log) (log_of self.new.run.log) }
+        ensures seated { StaysFrom seat (log_of self.old.run.log) (log_of self.new.run.log) }
         ensures follows { Follows (turn_of self.old) (event_of event) (reply_of result) (turn_of self.new) }
     {
         let taken = self.taken;
@@ -197,6 +219,7 @@ impl<S: ScriptName, P: RunName> Turning<S, P> {
         ensures takes { Takes (turn_of self.old) (event_of event) seat (turn_of self.new) (told_of result) }
         ensures counted { totals_of (log_of self.new.run.log) ≡ plus (totals_of (log_of self.old.run.log)) (turn_counted (told_of result)) }
         ensures watched { AddsFrom P.watched seat (turn_counted (told_of result)) (log_of self.old.run.log) (log_of self.new.run.log) }
+        ensures seated { StaysFrom seat (log_of self.old.run.log) (log_of self.new.run.log) }
     {
         match self.apply(alloc, event, seat, None) {
             Reply::Job(job) => Turn::Job(job),
@@ -213,6 +236,7 @@ impl<S: ScriptName, P: RunName> Turning<S, P> {
             (turn_of self.new) (told_of result) }
         ensures counted { totals_of (log_of self.new.run.log) ≡ plus (totals_of (log_of self.old.run.log)) (turn_counted (told_of result)) }
         ensures watched { AddsFrom P.watched seat (turn_counted (told_of result)) (log_of self.old.run.log) (log_of self.new.run.log) }
+        ensures seated { StaysFrom seat (log_of self.old.run.log) (log_of self.new.run.log) }
     {
         let past = self.past_line();
         match self.apply_past(alloc, event, seat, None, past) {
@@ -231,6 +255,7 @@ impl<S: ScriptName, P: RunName> Turning<S, P> {
         ensures turned { Turned (turn_of self.old) seat (turn_of self.new) (told_of result) }
         ensures counted { totals_of (log_of self.new.run.log) ≡ plus (totals_of (log_of self.old.run.log)) (turn_counted (told_of result)) }
         ensures watched { AddsFrom P.watched seat (turn_counted (told_of result)) (log_of self.old.run.log) (log_of self.new.run.log) }
+        ensures seated { StaysFrom seat (log_of self.old.run.log) (log_of self.new.run.log) }
     {
         if self.given_up.is_some() {
             return Turn::End;
@@ -264,7 +289,7 @@ impl<S: ScriptName, P: RunName> Turning<S, P> {
     /// Whether the run is at its end: it was given up, or nothing is left to do, nor of the plan.
     pub fn is_at_end(&self, alloc: Global) -> bool
         ensures at_end { result ≡ is_at_end (turn_of self.now) }
-        ensures over { result ≡ true → self.now.given_up ≡ None → IsOverBeside P.is_open P.plan P.size (state_of self.now.run) }
+        ensures over { result ≡ true → self.now.given_up ≡ None → IsOverBeside S.script P.is_open P.plan P.size (state_of self.now.run) }
     {
         if self.given_up.is_some() {
             return true;
@@ -278,8 +303,8 @@ impl<S: ScriptName, P: RunName> Turning<S, P> {
 
     /// How the run ended.
     pub fn into_end(self) -> Ended<S>
-        requires { self.given_up ≡ None → IsOverBeside P.is_open P.plan P.size (state_of self.run) }
-        ensures ended { HasEnded P.is_open P.plan P.size result }
+        requires { self.given_up ≡ None → IsOverBeside S.script P.is_open P.plan P.size (state_of self.run) }
+        ensures ended { HasEnded S.script P.is_open P.plan P.size result }
         ensures log { IfSome (log_at result) (λ log. log ≡ log_of self.run.log) }
     {
         let given_up = self.given_up;

@@ -1,4 +1,4 @@
-use Rattle.seat_books.proofs.Splitting.{enough, enough_further}
+use Rattle.seat_books.proofs.Splitting.{enough, enough_further, is_next}
 use Rattle.seat_books.proofs.ledgers.split_all.Goals as goal
 
 pub split-requires-clause-parts : goal.split-requires-clause-parts
@@ -10,3 +10,6 @@ pub split-requires-clause-further_parts : goal.split-requires-clause-further_par
 split-requires-clause-further_parts g c =
     enough_further c.args.watched c.args.n c.loop-turn.turn c.loop-turn.pots.further.parts c.requires.watched.1 c.requires.watched.2 c.loop-turn-test.true
     c.loop-turn.invariant.1
+
+pub split-requires-clause-within : goal.split-requires-clause-within
+split-requires-clause-within g c = is_next c.args.n c.loop-turn.turn g.P.Watching.seats c.loop-turn-test.true c.requires.seats

@@ -21,7 +21,7 @@ abbrev pub ghosts-report_of-J-Ledger : goal.ghosts-report_of-J-Ledger
 ghosts-report_of-J-Ledger g a = record { name = a.blanks.committed.name; parts = a.blanks.committed.parts }
 
 abbrev pub ghosts-report_of-P-Watching : goal.ghosts-report_of-P-Watching
-ghosts-report_of-P-Watching g a = record { watched = 2 }
+ghosts-report_of-P-Watching g a = record { seats = 2; watched = 2 }
 
 abbrev pub ghosts-report_of-V-Ledger : goal.ghosts-report_of-V-Ledger
 ghosts-report_of-V-Ledger g a = record { name = a.further.events.name; parts = a.further.events.parts }

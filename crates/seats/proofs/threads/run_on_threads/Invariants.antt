@@ -19,7 +19,7 @@ abbrev pub ghosts-run_shared-J-Ledger : goal.ghosts-run_shared-J-Ledger
 ghosts-run_shared-J-Ledger g a = record { name = a.blanks.committed.name; parts = a.blanks.committed.parts }
 
 abbrev pub ghosts-run_shared-P-Watching : goal.ghosts-run_shared-P-Watching
-ghosts-run_shared-P-Watching g a = record { watched = 1 }
+ghosts-run_shared-P-Watching g a = record { seats = a.n; watched = 1 }
 
 abbrev pub ghosts-run_shared-V-Ledger : goal.ghosts-run_shared-V-Ledger
 ghosts-run_shared-V-Ledger g a = record { name = a.further.events.name; parts = a.further.events.parts }

@@ -2,15 +2,17 @@ use Rattle.std.proofs.Common.{◌≡◌, ◌+◌, ◌≤◌, ◌∙◌, sym, sub
 use Rattle.event_log.specs.Books.{totals_of}
 use Rattle.event_log.specs.Laws.{plus}
 use Rattle.event_log.specs.Views.{event_of, log_of}
-use Rattle.protocol_board.specs.Cores.{reply_of, state_of}
+use Rattle.protocol_board.specs.Cores.{first_state, reply_of, state_of}
 use Rattle.seats.specs.Counted.{AddsFrom, counted}
 use Rattle.seats.specs.Ends.{first_events}
 use Rattle.seats.specs.Outside.{Passes}
+use Rattle.seats.specs.Seated.{StaysFrom}
 use Rattle.seats.specs.Views.{TurnData, turn_of}
 use Rattle.seats.proofs.Counted.{answers_counted}
 use Rattle.seats.proofs.Few.{commits_now, few_behind}
 use Rattle.seats.proofs.Outside.{keeps_kept, keeps_past}
 use Rattle.seats.proofs.Planned.{stands_past}
+use Rattle.seats.proofs.Seated.{stays_from}
 use Rattle.seats.proofs.Sizes.{same_nodes, slots_behind, slots_kept}
 use Rattle.seats.proofs.Standing.{stands_kept}
 use Rattle.seats.proofs.turning.Turning.apply_past.Goals as goal
@@ -52,6 +54,8 @@ invariant_of-self g c =
       keeps_kept is_open es (log_of after.log) e told c.self.inside.out c.self.inside.given_up c.keep_or_give_up.new.out c.keep_or_give_up.new.given_up
           (keeps_past is_open (turn_of t) (state_of after) e c.args.seat c.args.done told c.args.taken passes c.apply-told.ensures.answers c.self.invariant.6)
           c.keep_or_give_up.ensures,
+      c.paths_go_on.ensures.one_more g.S.ScriptName.script (first_state g.P.RunName.size.nodes g.P.RunName.size.slots) (state_of before) (state_of after) e
+          c.args.seat c.args.done told c.self.invariant.7 c.attest.ensures c.apply-told.ensures.answers,
     )
 
 pub returns-clause-counted : goal.returns-clause-counted
@@ -74,3 +78,12 @@ returns-clause-watched g c =
     let w = g.P.Watching.watched in
     let P : TurnData → Type 0 = λ r. AddsFrom w c.args.seat (counted e told) (log_of r.run.log) (log_of after.log) in
     subst P c.self.view_is (h.of_seat w)
+
+pub returns-clause-seated : goal.returns-clause-seated
+returns-clause-seated g c =
+    let before = c.self.inside.board in
+    let after = c.apply-told.new.self in
+    let e = event_of c.args.event in
+    let told = reply_of c.apply-told.result in
+    let P : TurnData → Type 0 = λ r. StaysFrom c.args.seat (log_of r.run.log) (log_of after.log) in
+    subst P c.self.view_is (stays_from (state_of before) (state_of after) e c.args.seat c.args.done told c.apply-told.ensures.answers)

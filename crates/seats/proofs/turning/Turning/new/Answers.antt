@@ -1,8 +1,11 @@
 use Rattle.std.proofs.Common.{ap, sym}
 use Rattle.event_log.specs.Books.{Totals}
+use Rattle.event_log.specs.Views.{log_of}
 use Rattle.protocol_board.specs.Cores.{Size, state_of}
+use Rattle.seats.proofs.Came.{fresh_came}
 use Rattle.seats.proofs.Counted.{fresh_claims, fresh_seat_totals, fresh_totals}
 use Rattle.seats.proofs.Outside.{none_yet}
+use Rattle.seats.proofs.Seated.{none_came_yet}
 use Rattle.seats.proofs.Standing.{none_in}
 use Rattle.seats.proofs.turning.Turning.new.Goals as goal
 
@@ -16,6 +19,8 @@ invariant_of-result g c =
       (ap (λ (z : Size). z.slots) c.requires.named.1, c.requires.fresh.2),
       none_in r.log,
       none_yet g.P.RunName.is_open r.log c.requires.fresh.0,
+      fresh_came c.none_came.ensures c.paths_go_on.ensures.none g.S.ScriptName.script g.P.RunName.size r c.log.ensures.meant.reached c.requires.fresh
+          c.requires.named.1,
     )
 
 pub returns-clause-totals : goal.returns-clause-totals
@@ -23,3 +28,6 @@ returns-clause-totals g c = fresh_totals (state_of c.args.board) c.requires.fres
 
 pub returns-clause-watched : goal.returns-clause-watched
 returns-clause-watched g c = fresh_seat_totals g.P.Watching.watched (state_of c.args.board) c.requires.fresh
+
+pub returns-clause-seated : goal.returns-clause-seated
+returns-clause-seated g c = none_came_yet (log_of c.args.board.log) c.requires.fresh.0

@@ -1,0 +1,4 @@
+//! Runs that came of events, one after the other, each with what its caller handed in.
+#![tactic(auto)]
+
+pub mod law;

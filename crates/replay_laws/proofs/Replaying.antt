@@ -26,8 +26,9 @@ use Rattle.migration.specs.Migration.{SaidPlays, said_by, said_from}
 use Rattle.migration.proofs.Alike.{one_run}
 use Rattle.migration.proofs.Migrating.{all_more, count_from, follows_said, none_play, recorded_plays, said, said-append, same_said}
 use Rattle.run_paths.specs.Handing.{HandsInOnce, has_commit}
-use Rattle.run_paths.specs.Paths.{ComesIn, IsTrueDone}
-use Rattle.replay_laws.specs.Replaying.{IsFirst, RunsReplay, RunsReplayToThemselves}
+use Rattle.run_paths.specs.Paths.{Comes, ComesIn, IsTrueDone}
+use Rattle.run_paths.proofs.Paths.{none_lead, one_more_leads}
+use Rattle.replay_laws.specs.Replaying.{CameSo, IsFirst, LogsReplay, RunsReplay, RunsReplayToThemselves}
 use Rattle.replay_laws.proofs.Handing.{HandsAgain, IsOfJob, KeepsJob, commit_again, of_job, right}
 use Rattle.replay_laws.proofs.Steps.{keeps_behind, logged_first, long_behind, told_memory}
 
@@ -147,10 +148,14 @@ module _ (script : Script) (apart : KeepsMainApart script) (nodes : ℕ) (first 
     more = subst (λ l. length (said_from 0 before.log) < length (said_from 0 l)) (sym is.log) (answered_more before.log e seat (answer c e handed))
 
     replied : IsAnswered script (next_line r.play) e seat now told
-    replied = (again.done, again.is_done, subst (λ b. Answers b e seat again.done now told) (sym r.run) (record {
-      halted = λ out. absurd (true≢false (sym out ∙ ran));
-      follows = λ _. inr (handed, again.is_handed, is);
-    }))
+    replied = (
+      again.done,
+      again.is_done,
+      subst (λ b. Answers b e seat again.done now told) (sym r.run) (record {
+        halted = λ out. absurd (true≢false (sym out ∙ ran));
+        follows = λ _. inr (handed, again.is_handed, is);
+      }),
+    )
 
     step : Step script (next_line r.play) e seat next
     step = record {
@@ -202,13 +207,51 @@ module _ (script : Script) (apart : KeepsMainApart script) (nodes : ℕ) (first 
       is_true h goes_on once few
 
 pub runs_replay : RunsReplay
-runs_replay script apart nodes slots now came log same few first begins =
+runs_replay script apart nodes slots now came goes_on log same few first begins =
     let says : said_from 0 now.log ≡ map said_by (recorded_in log) = ap (said_from 0) (sym same) ∙ sym (same_said 0 log) in
     let long = ap length says ∙ length-map (recorded_in log) said_by in
-    let r = reached script apart nodes first slots came.some begins came.comes.0 now came.comes.1 came.goes_on came.once (omega (arith, long, few)) in
+    let r = reached script apart nodes first slots came.some begins came.comes.0 now came.comes.1 goes_on came.once (omega (arith, long, few)) in
     (r.play, recorded_plays script (recorded_in log) first r.play (subst (λ xs. AllPlay (SaidPlays script) xs first r.play) says r.plays), r.run)
 
 pub runs_replay_to_themselves : RunsReplayToThemselves
-runs_replay_to_themselves script apart nodes slots now came log same few first again begins history =
-    let h = runs_replay script apart nodes slots now came log same few first begins in
+runs_replay_to_themselves script apart nodes slots now came goes_on log same few first again begins history =
+    let h = runs_replay script apart nodes slots now came goes_on log same few first begins in
     one_run script (recorded_in log) first again h.0 (ap (λ (c : RunState). c.is_halted) begins.run) history h.1 ∙ h.2
+
+-- ---- where an event found no memory
+
+-- up to that event the run went on, with the same log
+record WentOn (script : Script) (first now : RunState) : Type 0 where
+  pub last : RunState
+  pub comes : Comes script first last
+  pub goes_on : last.is_halted ≡ false
+  pub log : last.log ≡ now.log
+
+went_behind : (script : Script) (first before now : RunState) (e : Event) (seat : ℕ) (d : Option Done) (told : Reply) → Comes script first before → IsTrueDone script d →
+    Answers before e seat d now told → WentOn script first before → WentOn script first now
+went_behind script first before now e seat d told came is_true h w = by_halt before.is_halted refl
+  where
+    follows : before.is_halted ≡ false → Follows before e seat d now told → WentOn script first now
+    follows goes (inl out) = record { last = before; comes = came; goes_on = goes; log = sym out.same }
+    follows goes (inr made) =
+        record { last = now; comes = one_more_leads script first before now e seat d told came is_true h; goes_on = made.2.goes_on; log = refl }
+
+    by_halt : (b : Bool) → before.is_halted ≡ b → WentOn script first now
+    by_halt false is = follows is (h.follows is)
+    by_halt true is = record { last = w.last; comes = w.comes; goes_on = w.goes_on; log = w.log ∙ sym (ap (λ (c : RunState). c.log) (h.halted is).0) }
+
+went_on : (script : Script) (first : RunState) → first.is_halted ≡ false → (n : ℕ) (now : RunState) → ComesIn script n first now → WentOn script first now
+unfolding ComesIn
+went_on script first ran zero now came = record { last = first; comes = none_lead script first; goes_on = ran; log = ap (λ (c : RunState). c.log) (sym came) }
+went_on script first ran (suc n) now (before, e, seat, d, told, came, is_true, h) =
+    went_behind script first before now e seat d told (n, came) is_true h (went_on script first ran n before came)
+
+pub logs_replay : LogsReplay
+logs_replay script apart nodes slots now came log same few first begins =
+    let w = went_on script (first_state nodes slots) refl came.comes.0 now came.comes.1 in
+    let so : CameSo script nodes slots w.last = record { some = came.some; comes = w.comes; once = subst HandsInOnce (sym w.log) came.once } in
+    let h = runs_replay script apart nodes slots w.last so w.goes_on log (same ∙ sym w.log) few first begins in (
+      (h.0, h.1),
+      λ again history.
+          ap (λ (c : RunState). c.log) (runs_replay_to_themselves script apart nodes slots w.last so w.goes_on log (same ∙ sym w.log) few first again begins history) ∙ w.log,
+    )

@@ -65,8 +65,8 @@ given_memory (Some job) told h = ap found_no_memory h.1
 pub told_memory : (c : Whole) (e : Event) (h : Handed) (told : Reply) → Tells (answer c e h) told → found_no_memory told ≡ false
 told_memory c e h told tells = elim (answered c e h) [
   | inl (code, is, low) ↦
-    let t : Tells (Refuses code) told = subst (λ a. Tells a told) is tells in
-    ap found_no_memory t.1 ∙ low_memory t.0 (ap (λ k. nat_lt k 38) t.2 ∙ low)
+      let t : Tells (Refuses code) told = subst (λ a. Tells a told) is tells in
+      ap found_no_memory t.1 ∙ low_memory t.0 (ap (λ k. nat_lt k 38) t.2 ∙ low)
   | inr (r, is) ↦ given_memory (given_out c e) told (subst (λ a. Tells a told) is tells)
 ]
 
@@ -145,11 +145,11 @@ module _ (s : Setting) (log : List Entry) (c : Whole) (sound : IsSound s log c) 
   pub long_behind : (e : Event) → Tells (answer c e h) told → length (with_given told (left_by e jobs)) ≡ length (whole_after c (answer c e h)).jobs
   long_behind e tells = elim (answered c e h) [
     | inl (code, is, low) ↦
-      let t : Tells (Refuses code) told = subst (λ a. Tells a told) is tells in
-      ap (λ u. length (with_given u (left_by e jobs))) t.1 ∙ left_long e jobs ∙ long ∙ sym (ap (λ a. length (whole_after c a).jobs) is)
+        let t : Tells (Refuses code) told = subst (λ a. Tells a told) is tells in
+        ap (λ u. length (with_given u (left_by e jobs))) t.1 ∙ left_long e jobs ∙ long ∙ sym (ap (λ a. length (whole_after c a).jobs) is)
     | inr (r, is) ↦
-      let n = taken_long e r (subst (λ a. Tells a told) is tells) in
-      n ∙ ap (λ k. k + length (claim_in e)) long ∙ sym (happens-jobs c e h) ∙ sym (ap (λ a. length (whole_after c a).jobs) is)
+        let n = taken_long e r (subst (λ a. Tells a told) is tells) in
+        n ∙ ap (λ k. k + length (claim_in e)) long ∙ sym (happens-jobs c e h) ∙ sym (ap (λ a. length (whole_after c a).jobs) is)
   ]
 
   -- a job that was given out before stands
@@ -193,10 +193,10 @@ module _ (s : Setting) (log : List Entry) (c : Whole) (sound : IsSound s log c) 
       go None none = elim (answered c e h) [
         | inl (code, is, low) ↦ absurd (none_is_some g (sym none ∙ sym (ap (λ a. item_at (whole_after c a).jobs j) is) ∙ at))
         | inr (r, is) ↦
-          let there : item_at (happens c e h).whole.jobs j ≡ Some g = sym (ap (λ a. item_at (whole_after c a).jobs j) is) ∙ at in
-          let within = item_within (happens c e h).whole.jobs j g there in
-          let more = happens-jobs c e h in
-          let high : j < 1 + (length c.jobs + length (claim_in e)) = (let i = within.0 in omega (arith, i, more)) in
-          subst (λ a. KeepsJob (with_given told (left_by e jobs)) (whole_after c a) j) (sym is)
-          (new_job e j r is (subst (λ a. Tells a told) is tells) (none_behind c.jobs j within.1 none) high)
+            let there : item_at (happens c e h).whole.jobs j ≡ Some g = sym (ap (λ a. item_at (whole_after c a).jobs j) is) ∙ at in
+            let within = item_within (happens c e h).whole.jobs j g there in
+            let more = happens-jobs c e h in
+            let high : j < 1 + (length c.jobs + length (claim_in e)) = (let i = within.0 in omega (arith, i, more)) in
+            subst (λ a. KeepsJob (with_given told (left_by e jobs)) (whole_after c a) j) (sym is)
+            (new_job e j r is (subst (λ a. Tells a told) is tells) (none_behind c.jobs j within.1 none) high)
       ]

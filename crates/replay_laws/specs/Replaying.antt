@@ -16,24 +16,31 @@ pub record IsFirst (nodes slots : ℕ) (p : Play) : Type 0 where
   pub jobs : p.jobs ≡ []
   pub applied : p.applied ≡ 0
 
--- a run that came of events: each handed in what is true of its job, none found no memory, and each job was handed in once
+-- a run that came of events on such a cluster: each handed in what is true of its job, and by the log each job was handed in once
 pub record CameSo (script : Script) (nodes slots : ℕ) (now : RunState) : Type 0 where
   pub some : 0 < nodes
   pub comes : Comes script (first_state nodes slots) now
-  pub goes_on : now.is_halted ≡ false
   pub once : HandsInOnce now.log
 
--- where no function of the script calls main and none but main prints: the history of a run that came of events, if it has at most 100,000 of them,
--- replays to that run
+-- where no function of the script calls main and none but main prints: the history of a run that came of events, of which none found no memory, if it has
+-- at most 100,000 of them, replays to that run
 abbrev pub RunsReplay : Type 0
 RunsReplay =
-    (script : Script) → KeepsMainApart script → (nodes slots : ℕ) (now : RunState) → CameSo script nodes slots now →
+    (script : Script) → KeepsMainApart script → (nodes slots : ℕ) (now : RunState) → CameSo script nodes slots now → now.is_halted ≡ false →
     (log : List CodeEntry) → log_of log ≡ now.log → length (recorded_in log) ≤ 100000 → (first : Play) → IsFirst nodes slots first →
     (again : Play) × PlaysHistory script (recorded_in log) first again × (again.run ≡ now)
 
 -- and to no other
 abbrev pub RunsReplayToThemselves : Type 0
 RunsReplayToThemselves =
-    (script : Script) → KeepsMainApart script → (nodes slots : ℕ) (now : RunState) → CameSo script nodes slots now →
+    (script : Script) → KeepsMainApart script → (nodes slots : ℕ) (now : RunState) → CameSo script nodes slots now → now.is_halted ≡ false →
     (log : List CodeEntry) → log_of log ≡ now.log → length (recorded_in log) ≤ 100000 → (first again : Play) → IsFirst nodes slots first →
     PlaysHistory script (recorded_in log) first again → again.run ≡ now
+
+-- also where an event found no memory the history replays, and whatever comes of it has the same log
+abbrev pub LogsReplay : Type 0
+LogsReplay =
+    (script : Script) → KeepsMainApart script → (nodes slots : ℕ) (now : RunState) → CameSo script nodes slots now →
+    (log : List CodeEntry) → log_of log ≡ now.log → length (recorded_in log) ≤ 100000 → (first : Play) → IsFirst nodes slots first →
+    ((again : Play) × PlaysHistory script (recorded_in log) first again)
+    × ((again : Play) → PlaysHistory script (recorded_in log) first again → again.run.log ≡ now.log)

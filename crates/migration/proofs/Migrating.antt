@@ -34,12 +34,12 @@ use Rattle.migration.specs.Migration.{Begins, HistoriesReplay, Said, SaidPlays, 
 use Rattle.seats.proofs.Counted.{answers_counted, fresh_claims}
 use Rattle.seats.proofs.Jobs.{claim_gives}
 
-abbrev said : ℕ → Event → Option ℕ → Said
+abbrev pub said : ℕ → Event → Option ℕ → Said
 said seat e given = record { seat = seat; event = e; given = given }
 
 -- ---- what a log says, behind one event more
 
-count_from : ℕ → List Entry → ℕ
+pub count_from : ℕ → List Entry → ℕ
 count_from n [] = n
 count_from n (In e s ∷ rest) = count_from (claims_after e (refused_next rest) n) rest
 count_from n (x ∷ rest) = count_from n rest
@@ -66,7 +66,7 @@ unrefused_more [] es h = h
 unrefused_more (Refused code ∷ log) es h = refl
 unrefused_more (x ∷ log) es h = refl
 
-said-append : (n : ℕ) (log es : List Entry) → refused_next es ≡ false → said_from n (log ++ es) ≡ said_from n log ++ said_from (count_from n log) es
+pub said-append : (n : ℕ) (log es : List Entry) → refused_next es ≡ false → said_from n (log ++ es) ≡ said_from n log ++ said_from (count_from n log) es
 unfolding count_from
 said-append n [] es h = refl
 said-append n (In e s ∷ log) es h =
@@ -105,54 +105,54 @@ given_refused : (e : Event) (n : ℕ) (told : Reply) (r : Refusal) → told ≡ 
 given_refused (Claim w) n told r h = sym (ap (given_by (Claim w)) h)
 given_refused e n told r h = refl
 
-abbrev Says : List Entry → Event → Answer → Reply → Type 0
-Says log e a told = said_from 0 (log ++ logged e 0 a) ≡ said_from 0 log ++ said 0 e (given_by e told) ∷ []
+abbrev Says : List Entry → Event → ℕ → Answer → Reply → Type 0
+Says log e seat a told = said_from 0 (log ++ logged e seat a) ≡ said_from 0 log ++ said seat e (given_by e told) ∷ []
 
-refused_says : (log : List Entry) (e : Event) (code : ℕ) (told : Reply) → Tells (Refuses code) told → Says log e (Refuses code) told
-refused_says log e code told h =
-    said-event log e 0 (Refused code ∷ []) refl ∙ ap (λ g. said_from 0 log ++ said 0 e g ∷ []) (given_refused e (length (claims log)) told h.0 h.1)
+refused_says : (log : List Entry) (e : Event) (seat code : ℕ) (told : Reply) → Tells (Refuses code) told → Says log e seat (Refuses code) told
+refused_says log e seat code told h =
+    said-event log e seat (Refused code ∷ []) refl ∙ ap (λ g. said_from 0 log ++ said seat e g ∷ []) (given_refused e (length (claims log)) told h.0 h.1)
 
-taken_says : (log : List Entry) (c : Whole) (e : Event) (handed : Handed) (told : Reply) → length (claims log) ≡ length c.jobs → refusal c e handed ≡ None →
-    GivesThat (given_out c e) told → Says log e (takes (happens c e handed) (given_out c e)) told
-taken_says log c e handed told same r h =
+taken_says : (log : List Entry) (c : Whole) (e : Event) (seat : ℕ) (handed : Handed) (told : Reply) → length (claims log) ≡ length c.jobs → refusal c e handed ≡ None →
+    GivesThat (given_out c e) told → Says log e seat (takes (happens c e handed) (given_out c e)) told
+taken_says log c e seat handed told same r h =
     let m : Moved = happens c e handed in
     let es : List Entry = m.out.entries in
     let q = (happens-counted c e handed).quiet in
-    said-event log e 0 es (no_event es q)
-    ∙ ap (λ b. said_from 0 log ++ said 0 e (given_at e b (length (claims log))) ∷ []) (not_refused es q)
-    ∙ ap (λ g. said_from 0 log ++ said 0 e g ∷ []) (given_taken c e handed told (length (claims log)) same r h)
+    said-event log e seat es (no_event es q)
+    ∙ ap (λ b. said_from 0 log ++ said seat e (given_at e b (length (claims log))) ∷ []) (not_refused es q)
+    ∙ ap (λ g. said_from 0 log ++ said seat e g ∷ []) (given_taken c e handed told (length (claims log)) same r h)
 
-limited_says : (log : List Entry) (c : Whole) (e : Event) (handed : Handed) (told : Reply) → length (claims log) ≡ length c.jobs → refusal c e handed ≡ None →
+limited_says : (log : List Entry) (c : Whole) (e : Event) (seat : ℕ) (handed : Handed) (told : Reply) → length (claims log) ≡ length c.jobs → refusal c e handed ≡ None →
     (b : Bool) → Tells (if b then takes (happens c e handed) (given_out c e) else Refuses 37) told →
-    Says log e (if b then takes (happens c e handed) (given_out c e) else Refuses 37) told
-limited_says log c e handed told same r true h = taken_says log c e handed told same r h
-limited_says log c e handed told same r false h = refused_says log e 37 told h
+    Says log e seat (if b then takes (happens c e handed) (given_out c e) else Refuses 37) told
+limited_says log c e seat handed told same r true h = taken_says log c e seat handed told same r h
+limited_says log c e seat handed told same r false h = refused_says log e seat 37 told h
 
-decided_says : (log : List Entry) (c : Whole) (e : Event) (handed : Handed) (told : Reply) → length (claims log) ≡ length c.jobs → (o : Option ℕ) →
-    refusal c e handed ≡ o → Tells (decided c e handed o) told → Says log e (decided c e handed o) told
-decided_says log c e handed told same None r h = limited_says log c e handed told same r (is_within_limits (happens c e handed).whole) h
-decided_says log c e handed told same (Some code) r h = refused_says log e code told h
+decided_says : (log : List Entry) (c : Whole) (e : Event) (seat : ℕ) (handed : Handed) (told : Reply) → length (claims log) ≡ length c.jobs → (o : Option ℕ) →
+    refusal c e handed ≡ o → Tells (decided c e handed o) told → Says log e seat (decided c e handed o) told
+decided_says log c e seat handed told same None r h = limited_says log c e seat handed told same r (is_within_limits (happens c e handed).whole) h
+decided_says log c e seat handed told same (Some code) r h = refused_says log e seat code told h
 
-record IsSaid (before : RunState) (e : Event) (after : RunState) (told : Reply) : Type 0 where
-  pub says : said_from 0 after.log ≡ said_from 0 before.log ++ said 0 e (given_by e told) ∷ []
+pub record IsSaid (before : RunState) (e : Event) (seat : ℕ) (after : RunState) (told : Reply) : Type 0 where
+  pub says : said_from 0 after.log ≡ said_from 0 before.log ++ said seat e (given_by e told) ∷ []
   pub goes_on : after.is_halted ≡ false
 
-follows_said : (before after : RunState) (e : Event) (d : Option Done) (told : Reply) → length (claims before.log) ≡ length before.whole.jobs →
-    found_no_memory told ≡ false → Follows before e 0 d after told → IsSaid before e after told
-follows_said before after e d told same memory (inl out) =
+pub follows_said : (before after : RunState) (e : Event) (seat : ℕ) (d : Option Done) (told : Reply) → length (claims before.log) ≡ length before.whole.jobs →
+    found_no_memory told ≡ false → Follows before e seat d after told → IsSaid before e seat after told
+follows_said before after e seat d told same memory (inl out) =
     let f : true ≡ false = sym (ap found_no_memory out.told_so) ∙ memory in absurd (cc)
-follows_said before after e d told same memory (inr (handed, is_handed, is)) = record {
-  says = ap (said_from 0) is.log ∙ decided_says before.log before.whole e handed told same (refusal before.whole e handed) refl is.told_so;
+follows_said before after e seat d told same memory (inr (handed, is_handed, is)) = record {
+  says = ap (said_from 0) is.log ∙ decided_says before.log before.whole e seat handed told same (refusal before.whole e handed) refl is.told_so;
   goes_on = is.goes_on;
 }
 
 -- ---- plays
 
-none_play : {A : Type 0} (plays : A → Play → Play → Type 0) (p : Play) → AllPlay plays [] p p
+pub none_play : {A : Type 0} (plays : A → Play → Play → Type 0) (p : Play) → AllPlay plays [] p p
 unfolding AllPlay
 none_play plays p = refl
 
-all_more : {A : Type 0} (plays : A → Play → Play → Type 0) (xs : List A) (x : A) (a b c : Play) → AllPlay plays xs a b → plays x b c → AllPlay plays (xs ++ x ∷ []) a c
+pub all_more : {A : Type 0} (plays : A → Play → Play → Type 0) (xs : List A) (x : A) (a b c : Play) → AllPlay plays xs a b → plays x b c → AllPlay plays (xs ++ x ∷ []) a c
 unfolding AllPlay
 all_more plays [] x a b c h k = (c, subst (λ p. plays x p c) h k, refl)
 all_more plays (y ∷ xs) x a b c (p, here, rest) k = (p, here, all_more plays xs x p b c rest k)
@@ -193,7 +193,7 @@ behind_step script first q r e h s =
       lines = refl;
     } in
     let a = s.answered in
-    let f = follows_said q.run r.run e a.0 s.told (h.jobs h.goes_on) s.goes_on (a.2.follows h.goes_on) in
+    let f = follows_said q.run r.run e 0 a.0 s.told (h.jobs h.goes_on) s.goes_on (a.2.follows h.goes_on) in
     record {
       begun = h.begun + 1;
       lines = h.lines ++ (h.begun + 1) ∷ [];
@@ -235,7 +235,7 @@ same_claims : (e : CodeEvent) (b : Bool) (n : ℕ) → recorded.claims_behind e 
 same_claims (events.Claim w) b n = refl
 same_claims e b n = refl
 
-same_said : (n : ℕ) (log : List CodeEntry) → map said_by (recorded.recorded_from n log) ≡ said_from n (log_of log)
+pub same_said : (n : ℕ) (log : List CodeEntry) → map said_by (recorded.recorded_from n log) ≡ said_from n (log_of log)
 same_said n [] = refl
 same_said n (entries.In e s ∷ rest) =
     let b = recorded.refused_next rest in
@@ -245,7 +245,7 @@ same_said n (entries.In e s ∷ rest) =
     ∙ ap (λ c. said s (event_of e) (given_at (event_of e) c n) ∷ said_from (claims_after (event_of e) c n) (log_of rest)) (sym (same_next rest))
 same_said n (x ∷ rest) = same_said n rest
 
-recorded_plays : (script : Script) (rs : List RecordedEvent) (a b : Play) → AllPlay (SaidPlays script) (map said_by rs) a b → PlaysHistory script rs a b
+pub recorded_plays : (script : Script) (rs : List RecordedEvent) (a b : Play) → AllPlay (SaidPlays script) (map said_by rs) a b → PlaysHistory script rs a b
 unfolding AllPlay
 recorded_plays script [] a b h = h
 recorded_plays script (r ∷ rs) a b (p, here, rest) = (p, here, recorded_plays script rs p b rest)

@@ -1,0 +1,202 @@
+-- What an event makes of a run, its replay makes of the jobs that it has.
+use Rattle.std.proofs.Common.{◌≡◌, ◌⊎◌, ◌<◌, ◌≤◌, ℕ, zero, suc, ◌+◌, Bool, true, false, List, [], ◌∷◌, ◌++◌, length, Option, Some, None, refl, sym, ap, ◌∙◌, subst, arith, inl, inr, length-append}
+use Rattle.std.specs.Prelude.{◌||◌, ◌==◌, if◌then◌else◌, nat_lt, slice_get}
+use Rattle.std.specs.Option.{option_flatten}
+use Rattle.std.proofs.lemmas.Bool.{eq-eqb, true≢false}
+use Rattle.meaning.proofs.BirthLaws.{at_test}
+use Rattle.segment.specs.Jobs.{JobData}
+use Rattle.event_log.specs.Entries.{Claim, Commit, Entry, Event, In, Refused}
+use Rattle.event_log.specs.Events.{claim_in}
+use Rattle.event_log.specs.Rules.{Setting}
+use Rattle.event_log.specs.Views.{code_of}
+use Rattle.event_log.specs.declared.refusal.Refusal.{Refusal}
+use Rattle.event_log.specs.declared.refusal.Refusal.TheVariants as refusals
+use Rattle.exchange.specs.Jobs.{job_in}
+use Rattle.numbered.proofs.Lists.{changed-length, item_within}
+use Rattle.protocol.specs.Answers.{Answer, Refuses, Step, Takes, answer, decided, given_out, logged, takes, whole_after}
+use Rattle.protocol.specs.Events.{happens}
+use Rattle.protocol.specs.Jobs.{Given, Handed, Job}
+use Rattle.protocol.specs.Numbered.{item_at}
+use Rattle.protocol.specs.Refusals.{is_within_limits, refusal}
+use Rattle.protocol.specs.Whole.{Moved, Whole}
+use Rattle.protocol_core.specs.Steps as replies
+use Rattle.protocol_core.specs.Steps.{Accepts, GivesJob, GivesThat, IsOut, Reply, Tells}
+use Rattle.protocol_laws.specs.Sound.{IsSound}
+use Rattle.protocol_board.specs.Replays.{found_no_memory, is_no_memory, job_at, left_by, with_given}
+use Rattle.lease_discipline.proofs.Heres.{changed_elsewhere}
+use Rattle.seats.proofs.Codes.{is_low, refusal_low}
+use Rattle.seats.proofs.Jobs.{claim_gives, happens-jobs}
+use Rattle.run_paths.specs.Handing.{has_commit}
+use Rattle.job_laws.proofs.Places.{item_before, item_last}
+use Rattle.job_laws.proofs.Standing.{claims_give_jobs_out, jobs_stand}
+use Rattle.replay_laws.proofs.Handing.{KeepsJob}
+
+-- ---- refused or taken
+
+abbrev IsRefused : Whole → Event → Handed → Type 0
+IsRefused c e h = (code : ℕ) × (answer c e h ≡ Refuses code) × (nat_lt code 38 ≡ true)
+
+abbrev IsTaken : Whole → Event → Handed → Type 0
+IsTaken c e h = (refusal c e h ≡ None) × (answer c e h ≡ takes (happens c e h) (given_out c e))
+
+answered : (c : Whole) (e : Event) (h : Handed) → IsRefused c e h ⊎ IsTaken c e h
+answered c e h = go (refusal c e h) refl
+  where
+    m : Moved
+    m = happens c e h
+
+    go : (o : Option ℕ) → refusal c e h ≡ o → IsRefused c e h ⊎ IsTaken c e h
+    go (Some code) r = inl (code, ap (decided c e h) r, subst (λ o. is_low o ≡ true) r (refusal_low c e h))
+    go None r = at_test (λ b. is_within_limits m.whole ≡ b → IsRefused c e h ⊎ IsTaken c e h) (is_within_limits m.whole)
+        (λ _ q. inr (r, ap (decided c e h) r ∙ ap (λ b. if b then takes m (given_out c e) else Refuses 37) q))
+        (λ _ q. inl (37, ap (decided c e h) r ∙ ap (λ b. if b then takes m (given_out c e) else Refuses 37) q, refl)) refl
+
+-- ---- memory
+
+low_memory : (r : Refusal) → nat_lt (code_of r) 38 ≡ true → is_no_memory r ≡ false
+low_memory refusals.NoMemory e = absurd (cc)
+low_memory r e = refl
+
+given_memory : (o : Option Job) (told : Reply) → GivesThat o told → found_no_memory told ≡ false
+given_memory None told h = ap found_no_memory h
+given_memory (Some job) told h = ap found_no_memory h.1
+
+-- what is told of an answer found memory
+pub told_memory : (c : Whole) (e : Event) (h : Handed) (told : Reply) → Tells (answer c e h) told → found_no_memory told ≡ false
+told_memory c e h told tells = elim (answered c e h) [
+  | inl (code, is, low) ↦
+      let t : Tells (Refuses code) told = subst (λ a. Tells a told) is tells in
+      ap found_no_memory t.1 ∙ low_memory t.0 (ap (λ k. nat_lt k 38) t.2 ∙ low)
+  | inr (r, is) ↦ given_memory (given_out c e) told (subst (λ a. Tells a told) is tells)
+]
+
+-- ---- commits in the log
+
+or_false : (a b : Bool) → (a || b) ≡ false → (a ≡ false) × (b ≡ false)
+or_false false false e = (refl, refl)
+or_false true b e = absurd (true≢false e)
+or_false false true e = absurd (true≢false e)
+
+-- up to an event and at it
+pub no_commit : (j : ℕ) (log rest : List Entry) (e : Event) (seat : ℕ) → has_commit j (log ++ In e seat ∷ rest) ≡ false →
+    (has_commit j log ≡ false) × (e ≡ Commit j → ⊥)
+no_commit j [] rest e seat h =
+    (refl, λ is. true≢false (sym (ap (λ b. b || has_commit j rest) (eq-eqb j j refl)) ∙ sym (ap (λ x. has_commit j (In x seat ∷ rest)) is) ∙ h))
+no_commit j (In (Commit i) s ∷ log) rest e seat h =
+    let two = or_false (i == j) (has_commit j (log ++ In e seat ∷ rest)) h in
+    let k = no_commit j log rest e seat two.1 in
+    (ap (λ b. b || has_commit j log) two.0 ∙ k.0, k.1)
+no_commit j (x ∷ log) rest e seat h = no_commit j log rest e seat h
+
+-- an answer logs the event first
+pub logged_first : (e : Event) (seat : ℕ) (a : Answer) → (rest : List Entry) × (logged e seat a ≡ In e seat ∷ rest)
+logged_first e seat (Takes s) = (s.entries, refl)
+logged_first e seat (Refuses code) = (Refused code ∷ [], refl)
+
+-- ---- the jobs of the replay
+
+flat_some : (o : Option (Option JobData)) (job : JobData) → option_flatten o ≡ Some job → o ≡ Some (Some job)
+flat_some None job e = absurd (cc)
+flat_some (Some o) job e = ap (λ k. Some k) e
+
+left_there : (e : Event) (jobs : List (Option JobData)) (j : ℕ) (job : JobData) → (e ≡ Commit j → ⊥) → job_at jobs j ≡ Some job → job_at (left_by e jobs) j ≡ Some job
+left_there (Commit i) jobs j job apart at =
+    ap option_flatten (changed_elsewhere jobs i j (λ _. None) (Some job) (λ same. apart (ap Commit (sym same))) (flat_some (item_at jobs j) job at))
+left_there e jobs j job apart at = at
+
+given_there : (told : Reply) (jobs : List (Option JobData)) (j : ℕ) (job : JobData) → job_at jobs j ≡ Some job → job_at (with_given told jobs) j ≡ Some job
+given_there (GivesJob k) jobs j job at = ap option_flatten (item_before jobs (Some k ∷ []) j (Some job) (flat_some (item_at jobs j) job at))
+given_there Accepts jobs j job at = at
+given_there (replies.Refuses r) jobs j job at = at
+
+left_long : (e : Event) (jobs : List (Option JobData)) → length (left_by e jobs) ≡ length jobs
+left_long (Commit i) jobs = changed-length jobs i (λ _. None)
+left_long e jobs = refl
+
+-- a list has no more items than that
+beyond : {X : Type 0} (xs : List X) (k : ℕ) → slice_get xs k ≡ None → length xs ≤ k
+beyond [] k e = omega arith
+beyond (x ∷ xs) zero e = absurd (cc)
+beyond (x ∷ xs) (suc k) e = let h = beyond xs k e in omega (arith, h)
+
+none_behind : {X : Type 0} (xs : List X) (n : ℕ) → 1 < n + 1 → item_at xs n ≡ None → length xs < n
+none_behind xs zero h e = absurd (omega (arith, h))
+none_behind xs (suc k) h e = let i = beyond xs k e in omega (arith, i)
+
+none_is_some : {X : Type 0} (x : X) → None ≡ Some x → ⊥
+none_is_some x e = cc
+
+module _ (s : Setting) (log : List Entry) (c : Whole) (sound : IsSound s log c) (jobs : List (Option JobData)) (long : length jobs ≡ length c.jobs) (h : Handed) (told : Reply) where
+  -- the job that is told of a claim that was taken
+  told_job : (w : ℕ) → refusal c (Claim w) h ≡ None → GivesThat (given_out c (Claim w)) told →
+      (job : JobData) × (told ≡ GivesJob job) × (given_out c (Claim w) ≡ Some (job_in job))
+  told_job w r gives =
+      let g = claim_gives c w h r in
+      let t : GivesThat (Some g.0) told = subst (λ o. GivesThat o told) g.1 gives in
+      (t.0, t.1, g.1 ∙ ap (λ k. Some k) (sym t.2))
+
+  taken_long : (e : Event) → refusal c e h ≡ None → GivesThat (given_out c e) told → length (with_given told (left_by e jobs)) ≡ length jobs + length (claim_in e)
+  taken_long (Claim w) r gives = let t = told_job w r gives in ap (λ u. length (with_given u jobs)) t.1 ∙ length-append jobs (Some t.0 ∷ [])
+  taken_long (Commit j) r gives =
+      let k = left_long (Commit j) jobs in ap (λ u. length (with_given u (left_by (Commit j) jobs))) gives ∙ (omega (arith, k))
+  taken_long e r gives = ap (λ u. length (with_given u jobs)) gives ∙ (omega arith)
+
+  -- as many jobs as the whole
+  pub long_behind : (e : Event) → Tells (answer c e h) told → length (with_given told (left_by e jobs)) ≡ length (whole_after c (answer c e h)).jobs
+  long_behind e tells = elim (answered c e h) [
+    | inl (code, is, low) ↦
+        let t : Tells (Refuses code) told = subst (λ a. Tells a told) is tells in
+        ap (λ u. length (with_given u (left_by e jobs))) t.1 ∙ left_long e jobs ∙ long ∙ sym (ap (λ a. length (whole_after c a).jobs) is)
+    | inr (r, is) ↦
+        let n = taken_long e r (subst (λ a. Tells a told) is tells) in
+        n ∙ ap (λ k. k + length (claim_in e)) long ∙ sym (happens-jobs c e h) ∙ sym (ap (λ a. length (whole_after c a).jobs) is)
+  ]
+
+  -- a job that was given out before stands
+  old_job : (e : Event) (j : ℕ) → (e ≡ Commit j → ⊥) → KeepsJob jobs c j → KeepsJob (with_given told (left_by e jobs)) (whole_after c (answer c e h)) j
+  old_job e j apart k = record {
+    job = k.job;
+    there = given_there told (left_by e jobs) j k.job (left_there e jobs j k.job apart k.there);
+    out = jobs_stand s log c sound e h j (job_in k.job) apart k.out;
+  }
+
+  -- a job that the event gave out
+  new_job : (e : Event) (j : ℕ) → refusal c e h ≡ None → answer c e h ≡ takes (happens c e h) (given_out c e) → GivesThat (given_out c e) told →
+      length c.jobs < j → j < 1 + (length c.jobs + length (claim_in e)) → KeepsJob (with_given told (left_by e jobs)) (happens c e h).whole j
+  new_job (Claim w) j r is gives low high =
+      let t = told_job w r gives in
+      let m : Moved = happens c (Claim w) h in
+      let same : j ≡ length c.jobs + 1 = omega (arith, low, high) in
+      let last : j ≡ length jobs + 1 = omega (arith, same, long) in
+      let step : Step = record { whole = m.whole; entries = m.out.entries; letters = m.out.letters; given = given_out c (Claim w) } in
+      record {
+        job = t.0;
+        there = subst (λ u. job_at (with_given u jobs) j ≡ Some t.0) (sym t.1) (ap option_flatten (item_last jobs (Some t.0) j last));
+        out = subst (λ n. IsOut m.whole n (job_in t.0)) (sym same) (claims_give_jobs_out c w h step (job_in t.0) is t.2);
+      }
+  new_job e j r is gives low high = absurd (omega (arith, low, high))
+
+  -- each job of which the log has no commit
+  pub keeps_behind : ((j : ℕ) (g : Given) → item_at c.jobs j ≡ Some g → has_commit j log ≡ false → KeepsJob jobs c j) → (e : Event) (seat : ℕ) → Tells (answer c e h) told →
+      (j : ℕ) (g : Given) → item_at (whole_after c (answer c e h)).jobs j ≡ Some g → has_commit j (log ++ logged e seat (answer c e h)) ≡ false →
+      KeepsJob (with_given told (left_by e jobs)) (whole_after c (answer c e h)) j
+  keeps_behind keeps e seat tells j g at uncommitted = go (item_at c.jobs j) refl
+    where
+      entries : (rest : List Entry) × (logged e seat (answer c e h) ≡ In e seat ∷ rest)
+      entries = logged_first e seat (answer c e h)
+
+      before : (has_commit j log ≡ false) × (e ≡ Commit j → ⊥)
+      before = no_commit j log entries.0 e seat (ap (λ es. has_commit j (log ++ es)) (sym entries.1) ∙ uncommitted)
+
+      go : (o : Option Given) → item_at c.jobs j ≡ o → KeepsJob (with_given told (left_by e jobs)) (whole_after c (answer c e h)) j
+      go (Some first) was = old_job e j before.1 (keeps j first was before.0)
+      go None none = elim (answered c e h) [
+        | inl (code, is, low) ↦ absurd (none_is_some g (sym none ∙ sym (ap (λ a. item_at (whole_after c a).jobs j) is) ∙ at))
+        | inr (r, is) ↦
+            let there : item_at (happens c e h).whole.jobs j ≡ Some g = sym (ap (λ a. item_at (whole_after c a).jobs j) is) ∙ at in
+            let within = item_within (happens c e h).whole.jobs j g there in
+            let more = happens-jobs c e h in
+            let high : j < 1 + (length c.jobs + length (claim_in e)) = (let i = within.0 in omega (arith, i, more)) in
+            subst (λ a. KeepsJob (with_given told (left_by e jobs)) (whole_after c a) j) (sym is)
+            (new_job e j r is (subst (λ a. Tells a told) is tells) (none_behind c.jobs j within.1 none) high)
+      ]

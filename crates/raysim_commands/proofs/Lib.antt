@@ -5,4 +5,5 @@ pub mod Explained
 pub mod Migrated
 pub mod Reading
 pub mod Refused
+mod Replayed
 pub mod Simulated

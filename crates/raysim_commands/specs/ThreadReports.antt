@@ -1,8 +1,11 @@
 -- What a run on threads writes, and its status.
-use Rattle.std.specs.Prelude.{◌≡◌, ◌⊎◌, ℕ, Bool, true, List, [], Option, take, IfSome}
+use Rattle.std.specs.Prelude.{◌≡◌, ◌≤◌, ◌⊎◌, ℕ, Bool, true, List, [], Option, length, take, IfSome}
 use Rattle.std.specs.Io.KnownBytes.{Appends}
 use Rattle.meaning.specs.Syntax.{Script}
+use Rattle.event_log.specs.Entries.{Entry}
 use Rattle.event_log.specs.Views.{log_of}
+use Rattle.event_files.specs.declared.event_file.EventFile.TheVariants as files
+use Rattle.event_files.specs.declared.recorded.RecordedEvent.{RecordedEvent}
 use Rattle.event_files.specs.declared.plan.PlanLine.{PlanLine}
 use Rattle.event_files.specs.Files.{IsBadAt, IsFile}
 use Rattle.event_files.specs.Plans.{IsPlanLine, plan_line_text}
@@ -10,14 +13,17 @@ use Rattle.event_files.specs.Recorded.{recorded_file}
 use Rattle.history.specs.Main.{status_of}
 use Rattle.protocol_board.specs.Cores.{RunData, RunState, Size, state_of}
 use Rattle.protocol_board.specs.Meant.{IsSoundLog}
-use Rattle.seats.specs.Ends.{AddsUp, IsAtLimit, IsOver}
+use Rattle.protocol_board.specs.Replays.{Play, PlaysFile}
+use Rattle.run_paths.specs.Handing.{HandsInOnce}
+use Rattle.seats.specs.Ends.{IsAtLimit, IsOver}
+use Rattle.seats.specs.Seated.{AreFrom}
 use Rattle.raysim_streams.specs.declared.Failure.TheVariants.{Read, Write, Closed}
 use Rattle.raysim_streams.specs.declared.Refusal.{Refusal}
 use Rattle.raysim_streams.specs.declared.Refusal.TheVariants.{At, NoMemory, Stopped as Stops, BadLine, WrongJob, Failed}
 use Rattle.raysim_commands.specs.declared.form.Form.{Form}
 use Rattle.raysim_commands.specs.Reports.{IsAsSerialIn, IsReportIn, account_of}
 use Rattle.raysim_commands.specs.Scripts.{IsAllowed, IsNoScriptFor, IsScript}
-use Rattle.raysim_commands.specs.SimReports.{IfBoth}
+use Rattle.raysim_commands.specs.SimReports.{IfBoth, first_play}
 use Rattle.histories.specs.Recorded.{recorded_in}
 
 -- the bytes are a plan with these lines
@@ -31,12 +37,24 @@ pub record AreOutputs (script : Script) (run : RunData) (form : Form) (report hi
   pub recorded : history ≡ recorded_file (recorded_in run.log)
   pub ends : status ≡ status_of (log_of run.log)
 
--- these are written of a run of the script beside the plan, on such a cluster and so many threads, which is over; and the books of its seats add up, and
--- that of seat 1 is what came from it
+-- by the log alone: what was handed in was of the job that it was handed in for, and once; and a replay may apply so many events
+pub record MayBeReplayed (log : List Entry) (events : List RecordedEvent) : Type 0 where
+  pub once : HandsInOnce log
+  pub few : length events ≤ 100000
+
+-- `sim` of the history may replay it, on that cluster; and whatever comes of a replay is this run, with this log, and so this report
+pub record ReplaysTo (script : Script) (size : Size) (run : RunData) : Type 0 where
+  pub again : Play
+  pub replays : PlaysFile script (files.Recorded (recorded_in run.log)) (first_play size) again
+  pub same : (other : Play) → PlaysFile script (files.Recorded (recorded_in run.log)) (first_play size) other → other.run ≡ state_of run
+
+-- these are written of a run of the script beside the plan, on such a cluster, which is over; each event of it came from one of so many threads, and its
+-- history replays to it
 pub record IsRunOn (script : Script) (plan : List PlanLine) (size : Size) (threads : ℕ) (form : Form) (report history : List ℕ) (status : ℕ) : Type 0 where
   pub run : RunData
-  pub over : IsOver plan size (state_of run)
-  pub books : AddsUp threads 1 (log_of run.log)
+  pub over : IsOver script plan size (state_of run)
+  pub seated : AreFrom threads (log_of run.log)
+  pub replays : MayBeReplayed (log_of run.log) (recorded_in run.log) → ReplaysTo script size run
   pub outputs : AreOutputs script run form report history status
 
 -- why a run of the script on so many nodes at first gives neither: there was no memory, or it is at a limit

@@ -12,6 +12,7 @@ use event_log::Refusal as EventRefusal;
 use histories::history;
 use protocol_board::{Board, Cluster, Core};
 use raysim_streams::Refusal;
+use replay_laws::law::runs_replay;
 use seats::{Ended, Gate, run_on_threads};
 use segment::{Compiled, ScriptName};
 use sequence::Seq;
@@ -75,6 +76,9 @@ pub fn run_script<S: ScriptName + Send + Sync, K: Gate + Sync, R: Threads + Wait
         IsRunOn S.script plan.lines cluster threads form (string_bytes out.report) (string_bytes out.history) out.status) }
     ensures stopped { IfErr result (IsStop S.script cluster.nodes) }
 {
+    runs_replay();
+    let _ = script.script().functions();
+    let _ = cluster.nodes();
     let core = Core::<S>::new(alloc, script.script(), cluster)?;
     let board = Board::new(core);
     match run_on_threads(rt, alloc, board, plan, threads, script, gate)? {

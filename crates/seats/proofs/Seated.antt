@@ -1,6 +1,6 @@
 -- An event adds to the log itself, with the seat from which it came, and no other event.
-use Rattle.std.proofs.Common.{◌≡◌, ℕ, true, false, Bool, List, [], ◌∷◌, ◌++◌, Option, Some, None, refl, sym, ap, subst, inl, inr}
-use Rattle.std.specs.Prelude.{if◌then◌else◌}
+use Rattle.std.proofs.Common.{◌≡◌, ◌⊎◌, ℕ, zero, suc, true, false, Bool, List, [], ◌∷◌, ◌++◌, Option, Some, None, refl, sym, ap, subst, inl, inr}
+use Rattle.std.specs.Prelude.{if◌then◌else◌, slice_get}
 use Rattle.segment.specs.Jobs.{Done}
 use Rattle.event_log.specs.Entries.{Entry, Event, In, Refused}
 use Rattle.event_log.specs.Legal.{has_event, opening}
@@ -15,24 +15,42 @@ use Rattle.protocol_board.specs.Cores.{RunState, Reply, Answers, Follows}
 use Rattle.seat_books.specs.Seats.{IsSeat}
 use Rattle.seats.specs.Seated.{AreFrom, StaysFrom}
 
+split : (xs ys : List Entry) (k : ℕ) (x : Entry) → slice_get (xs ++ ys) k ≡ Some x →
+    ((i : ℕ) × (slice_get xs i ≡ Some x)) ⊎ ((i : ℕ) × (slice_get ys i ≡ Some x))
+split [] ys k x h = inr (k, h)
+split (y ∷ xs) ys zero x h = inl (0, h)
+split (y ∷ xs) ys (suc k) x h = elim (split xs ys k x h) [ inl q ↦ inl (suc q.0, q.1) | inr q ↦ inr q ]
+
 both : (n : ℕ) (xs ys : List Entry) → AreFrom n xs → AreFrom n ys → AreFrom n (xs ++ ys)
-both n [] ys h k = k
-both n (x ∷ xs) ys h k = (h.0, both n xs ys h.1 k)
+both n xs ys h k i e seat at = elim (split xs ys i (In e seat) at) [ inl q ↦ h q.0 e seat q.1 | inr q ↦ k q.0 e seat q.1 ]
+
+none_in : (es : List Entry) → has_event es ≡ false → (k : ℕ) (e : Event) (seat : ℕ) → slice_get es k ≡ Some (In e seat) → ⊥
+none_in [] h k e seat at = cc
+none_in (In f from ∷ es) h k e seat at = cc
+none_in (x ∷ es) h zero e seat at = cc
+none_in (x ∷ es) h (suc k) e seat at = none_in es h k e seat at
 
 none_from : (n : ℕ) (es : List Entry) → has_event es ≡ false → AreFrom n es
-none_from n [] h = tt
-none_from n (In e seat ∷ es) h = absurd (cc)
-none_from n (x ∷ es) h = (tt, none_from n es h)
+none_from n es h k e seat at = absurd (none_in es h k e seat at)
+
+abbrev seat_in : Option Entry → ℕ
+seat_in (Some (In e seat)) = seat
+seat_in x = 0
+
+-- an event, and what it adds behind itself
+one_from : (n : ℕ) (e : Event) (seat : ℕ) (es : List Entry) → IsSeat n seat → has_event es ≡ false → AreFrom n (In e seat ∷ es)
+one_from n e seat es h none zero f from at = subst (IsSeat n) (ap seat_in at) h
+one_from n e seat es h none (suc k) f from at = none_from n es none k f from at
 
 limited : (n : ℕ) (c : Whole) (e : Event) (seat : ℕ) (handed : Handed) → IsSeat n seat → (b : Bool) →
     AreFrom n (logged e seat (if b then takes (happens c e handed) (given_out c e) else answers.Refuses 37))
 limited n c e seat handed h true =
-    (h, none_from n (happens c e handed).out.entries (no_event (happens c e handed).out.entries (happens-counted c e handed).quiet))
-limited n c e seat handed h false = (h, (tt, tt))
+    one_from n e seat (happens c e handed).out.entries h (no_event (happens c e handed).out.entries (happens-counted c e handed).quiet)
+limited n c e seat handed h false = one_from n e seat (Refused 37 ∷ []) h refl
 
 by_refusal : (n : ℕ) (c : Whole) (e : Event) (seat : ℕ) (handed : Handed) → IsSeat n seat → (o : Option ℕ) → AreFrom n (logged e seat (decided c e handed o))
 by_refusal n c e seat handed h None = limited n c e seat handed h (is_within_limits (happens c e handed).whole)
-by_refusal n c e seat handed h (Some code) = (h, (tt, tt))
+by_refusal n c e seat handed h (Some code) = one_from n e seat (Refused code ∷ []) h refl
 
 pub stays_from : (before after : RunState) (e : Event) (seat : ℕ) (done : Option Done) (told : Reply) → Answers before e seat done after told →
     StaysFrom seat before.log after.log

@@ -62,7 +62,7 @@ impl<
     D: Ledger,
     M: Ledger,
 > Model for Shared<S, P, E, G, C, J, V, H, D, M> {
-    ghost use Rattle.std.specs.Prelude.{◌≤◌, ℕ};
+    ghost use Rattle.std.specs.Prelude.{◌≡◌, ◌≤◌, ℕ};
     ghost use Rattle.seat_books.specs.Seats.{AreParts};
 
     ghost Value = { ℕ };

@@ -1,0 +1,38 @@
+-- The history of a run on threads replays to it.
+use Rattle.std.proofs.Common.{◌≡◌, ◌≤◌, ℕ, List, Bool, false, refl, subst}
+use Rattle.meaning.specs.Syntax.{Script}
+use Rattle.script_check.specs.Scripts.{IsWellTyped}
+use Rattle.event_files.specs.declared.plan.PlanLine.{PlanLine}
+use Rattle.event_log.specs.Views.{log_of}
+use Rattle.histories.specs.Recorded.{recorded_in}
+use Rattle.protocol_board.specs.Cores.{RunData, Size, state_of}
+use Rattle.protocol_board.specs.Replays.{Play}
+use Rattle.replay_laws.specs.Replaying.{CameSo, IsFirst, RunsReplay, RunsReplayToThemselves}
+use Rattle.seats.specs.Ends.{IsOver}
+use Rattle.seats.specs.Seated.{AreFrom}
+use Rattle.raysim_commands.specs.declared.form.Form.{Form}
+use Rattle.raysim_commands.specs.SimReports.{first_play}
+use Rattle.raysim_commands.specs.ThreadReports.{AreOutputs, IsRunOn, MayBeReplayed, ReplaysTo}
+
+replays_so : RunsReplay → RunsReplayToThemselves → (script : Script) → IsWellTyped script → (plan : List PlanLine) (size : Size) → 1 ≤ size.nodes → (run : RunData) →
+    IsOver script plan size (state_of run) → MayBeReplayed (log_of run.log) (recorded_in run.log) → ReplaysTo script size run
+replays_so replays same script typed plan size some run over may =
+    let so : CameSo script size.nodes size.slots (state_of run) = record { some = some; comes = over.came; once = may.once } in
+    let begins : IsFirst size.nodes size.slots (first_play size) = record { run = refl; jobs = refl; applied = refl } in
+    let k = replays script typed.main_apart size.nodes size.slots (state_of run) so over.goes_on run.log refl may.few (first_play size) begins in
+    record {
+      again = k.0;
+      replays = k.1;
+      same = λ other p. same script typed.main_apart size.nodes size.slots (state_of run) so over.goes_on run.log refl may.few (first_play size) other begins p;
+    }
+
+pub run_on_so : RunsReplay → RunsReplayToThemselves → (script checked : Script) → checked ≡ script → IsWellTyped checked → (plan : List PlanLine) (size : Size)
+    (threads : ℕ) (form : Form) (run : RunData) (report history : List ℕ) (status : ℕ) → 1 ≤ size.nodes → IsOver script plan size (state_of run) →
+    AreFrom threads (log_of run.log) → AreOutputs script run form report history status → IsRunOn script plan size threads form report history status
+run_on_so replays same script checked own typed plan size threads form run report history status some over seated outputs = record {
+  run = run;
+  over = over;
+  seated = seated;
+  replays = replays_so replays same script (subst IsWellTyped own typed) plan size some run over;
+  outputs = outputs;
+}

@@ -269,7 +269,7 @@ jobs_stand s log c sound e handed j job apart out =
 -- a step by which the worker's attempt comes to be out
 worker_gives : (c : Whole) (j : ℕ) (job : Job) (g : Given) (step : Here → Here) (x : Worker) (node : Node) → item_at c.jobs j ≡ Some g →
     worker_at c g.worker ≡ Some x → node_at c x.node ≡ Some node → StandsOut j job (step (here c g.worker x node)).worker →
-        StandsIn (worker_does c g.worker step).whole j job
+    StandsIn (worker_does c g.worker step).whole j job
 worker_gives c j job g step x node given at home out =
     let h : Here = release_step (step (here c g.worker x node)) in
     let behind : StandsIn (after_worker c g.worker x.node h).whole j job = with_more j job c.jobs (changed_at c.workers g.worker (λ _. h.worker))

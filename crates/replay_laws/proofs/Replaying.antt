@@ -100,7 +100,8 @@ at_first script nodes slots first some h = record {
 
 module _ (script : Script) (apart : KeepsMainApart script) (nodes : ℕ) (first : Play) where
   module _ (before now : RunState) (e : Event) (seat : ℕ) (d : Option Done) (told : Reply)
-      (r : Reached script nodes first before) (is_true : IsTrueDone script d) (h : Answers before e seat d now told) (goes_on : now.is_halted ≡ false) (once : HandsInOnce now.log) (few : length (said_from 0 now.log) ≤ 100000) where
+      (r : Reached script nodes first before) (is_true : IsTrueDone script d) (h : Answers before e seat d now told)
+      (goes_on : now.is_halted ≡ false) (once : HandsInOnce now.log) (few : length (said_from 0 now.log) ≤ 100000) where
     abbrev c : Whole
     c = before.whole
 

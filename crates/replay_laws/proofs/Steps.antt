@@ -1,9 +1,8 @@
 -- What an event makes of a run, its replay makes of the jobs that it has.
-use Rattle.std.proofs.Common.{◌≡◌, ◌⊎◌, ◌<◌, ◌≤◌, ℕ, zero, suc, ◌+◌, Bool, true, false, List, [], ◌∷◌, ◌++◌, length, Option, Some, None, refl, sym}
+use Rattle.std.proofs.Common.{◌≡◌, ◌⊎◌, ◌<◌, ◌≤◌, ℕ, zero, suc, ◌+◌, true, false, List, [], ◌∷◌, ◌++◌, length, Option, Some, None, refl, sym}
 use Rattle.std.proofs.Common.{ap, ◌∙◌, subst, arith, inl, inr, length-append}
-use Rattle.std.specs.Prelude.{◌||◌, ◌==◌, if◌then◌else◌, nat_lt, slice_get}
+use Rattle.std.specs.Prelude.{if◌then◌else◌, nat_lt, slice_get}
 use Rattle.std.specs.Option.{option_flatten}
-use Rattle.std.proofs.lemmas.Bool.{eq-eqb, true≢false}
 use Rattle.meaning.proofs.BirthLaws.{at_test}
 use Rattle.segment.specs.Jobs.{JobData}
 use Rattle.event_log.specs.Entries.{Claim, Commit, Entry, Event, In, Refused}
@@ -28,6 +27,7 @@ use Rattle.lease_discipline.proofs.Heres.{changed_elsewhere}
 use Rattle.seats.proofs.Codes.{is_low, refusal_low}
 use Rattle.seats.proofs.Jobs.{claim_gives, happens-jobs}
 use Rattle.run_paths.specs.Handing.{has_commit}
+use Rattle.run_paths.proofs.Handing.{no_commit}
 use Rattle.job_laws.proofs.Places.{item_before, item_last}
 use Rattle.job_laws.proofs.Standing.{claims_give_jobs_out, jobs_stand}
 use Rattle.replay_laws.proofs.Handing.{KeepsJob}
@@ -71,23 +71,7 @@ told_memory c e h told tells = elim (answered c e h) [
   | inr (r, is) ↦ given_memory (given_out c e) told (subst (λ a. Tells a told) is tells)
 ]
 
--- ---- commits in the log
-
-or_false : (a b : Bool) → (a || b) ≡ false → (a ≡ false) × (b ≡ false)
-or_false false false e = (refl, refl)
-or_false true b e = absurd (true≢false e)
-or_false false true e = absurd (true≢false e)
-
--- up to an event and at it
-pub no_commit : (j : ℕ) (log rest : List Entry) (e : Event) (seat : ℕ) → has_commit j (log ++ In e seat ∷ rest) ≡ false →
-    (has_commit j log ≡ false) × (e ≡ Commit j → ⊥)
-no_commit j [] rest e seat h =
-    (refl, λ is. true≢false (sym (ap (λ b. b || has_commit j rest) (eq-eqb j j refl)) ∙ sym (ap (λ x. has_commit j (In x seat ∷ rest)) is) ∙ h))
-no_commit j (In (Commit i) s ∷ log) rest e seat h =
-    let two = or_false (i == j) (has_commit j (log ++ In e seat ∷ rest)) h in
-    let k = no_commit j log rest e seat two.1 in
-    (ap (λ b. b || has_commit j log) two.0 ∙ k.0, k.1)
-no_commit j (x ∷ log) rest e seat h = no_commit j log rest e seat h
+-- ---- the log
 
 -- an answer logs the event first
 pub logged_first : (e : Event) (seat : ℕ) (a : Answer) → (rest : List Entry) × (logged e seat a ≡ In e seat ∷ rest)
@@ -183,7 +167,7 @@ module _ (s : Setting) (log : List Entry) (c : Whole) (sound : IsSound s log c) 
   -- each job of which the log has no commit
   pub keeps_behind : ((j : ℕ) (g : Given) → item_at c.jobs j ≡ Some g → has_commit j log ≡ false → KeepsJob jobs c j) → (e : Event) (seat : ℕ) →
       Tells (answer c e h) told → (j : ℕ) (g : Given) → item_at (whole_after c (answer c e h)).jobs j ≡ Some g →
-          has_commit j (log ++ logged e seat (answer c e h)) ≡ false →
+      has_commit j (log ++ logged e seat (answer c e h)) ≡ false →
       KeepsJob (with_given told (left_by e jobs)) (whole_after c (answer c e h)) j
   keeps_behind keeps e seat tells j g at uncommitted = go (item_at c.jobs j) refl
     where

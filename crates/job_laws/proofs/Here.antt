@@ -35,7 +35,8 @@ pub record StandsOut (j : ℕ) (job : Job) (x : Worker) : Type 0 where
 
 pub claim_out : (h : Here) (j : ℕ) (run : Run) → h.worker.run ≡ Some run → StandsOut j (job_of j run) (claim_step h j).worker
 claim_out h j run is =
-    subst (λ r. StandsOut j (job_of j run) (claim_by h j r).worker) (sym is) (record { run = record run { phase = Out j }; there = refl; out = refl; same = refl })
+    subst (λ r. StandsOut j (job_of j run) (claim_by h j r).worker) (sym is)
+    (record { run = record run { phase = Out j }; there = refl; out = refl; same = refl })
 
 -- an attempt that is over has stopped
 abbrev pub StopsFirst : Worker → Type 0
@@ -107,7 +108,8 @@ module _ (j : ℕ) (job : Job) where
 
   heard : (h : Here) (w : ℕ) (m : Message) → StopsFirst h.worker → Stays h → IsHeard Stays kept h w m
   heard h w (Push a spec) over p = pushed h a spec over p
-  heard h w (Finished a n ids content) over p = finished_reached-kept Stays kept h w a n ids content (λ task. record { run = p.run; there = p.there; out = p.out; same = p.same }) p
+  heard h w (Finished a n ids content) over p = finished_reached-kept Stays kept h w a n ids content
+      (λ task. record { run = p.run; there = p.there; out = p.out; same = p.same }) p
   heard h w (Failed a f) over p = tt
   heard h w (FinishedAck a) over p = tt
   heard h w (Ask a t) over p = tt

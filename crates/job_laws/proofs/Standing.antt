@@ -9,7 +9,8 @@ use Rattle.protocol.specs.Answers.{Answer, Refuses, Step, Takes, answer, decided
 use Rattle.protocol.specs.Answers as answers
 use Rattle.protocol.specs.Commits.{claim_step, commit_step}
 use Rattle.protocol.specs.Deliveries.{reached}
-use Rattle.protocol.specs.Events.{as_committed, committed_by, dead, delivered_by, delivered_to, dies_with, happens, is_live_node, is_live_worker, killed_by, with_committed, with_delivered}
+use Rattle.protocol.specs.Events.{as_committed, committed_by, dead, delivered_by, delivered_to, dies_with, happens, is_live_node, is_live_worker}
+use Rattle.protocol.specs.Events.{killed_by, with_committed, with_delivered}
 use Rattle.protocol.specs.Jobs.{Given, Handed, Job, Nothing, OfAnother, OfJob}
 use Rattle.protocol.specs.Messages.{Letter, Party, TheNode, TheWorker}
 use Rattle.protocol.specs.Nodes.{Node, There}
@@ -22,7 +23,8 @@ use Rattle.protocol.specs.Slots.{forgets, node_reached}
 use Rattle.protocol.specs.Steps.{Here}
 use Rattle.protocol.specs.Tables.{Out, Ready, Run, Worker, new_worker}
 use Rattle.protocol.specs.Ticks.{tick_step}
-use Rattle.protocol.specs.Whole.{Moved, Whole, after_worker, here, moved, node_at, node_does, node_does_by, there, worker_at, worker_does, worker_does_at, worker_does_by}
+use Rattle.protocol.specs.Whole.{Moved, Whole, after_worker, here, moved, node_at, node_does, node_does_by, there, worker_at, worker_does}
+use Rattle.protocol.specs.Whole.{worker_does_at, worker_does_by}
 use Rattle.protocol_core.specs.Steps.{IsOut}
 use Rattle.protocol_laws.specs.Sound.{IsSound}
 use Rattle.protocol_laws.proofs.Tests.{live_worker, or_none, out_run, ready_run, unless_none}
@@ -68,8 +70,18 @@ stands_of c j job (run, out, is) = record {
 }
 
 out_of : (c : Whole) (j : ℕ) (job : Job) → StandsIn c j job → IsOut c j job
-out_of c j job s =
-    (s.out.run, record { given = s.given; worker = s.worker; was_given = s.was_given; of_worker = s.of_worker; runs = s.out.there; is_out = s.out.out }, s.out.same)
+out_of c j job s = (
+  s.out.run,
+  record {
+    given = s.given;
+    worker = s.worker;
+    was_given = s.was_given;
+    of_worker = s.of_worker;
+    runs = s.out.there;
+    is_out = s.out.out;
+  },
+  s.out.same,
+)
 
 ready_apart : (j : ℕ) → Ready ≡ Out j → ⊥
 ready_apart j e = cc
@@ -170,7 +182,8 @@ module _ (j : ℕ) (job : Job) where
         go OfAnother (Some g) e h = out
         go (OfJob o) None e h = out
         go (OfJob o) (Some g) e h =
-            let parts = or_none (unless (not g.is_committed && true && is_out_by (worker_at c g.worker) i) 32) (unless (is_live_worker (worker_at c g.worker)) 33) h in
+            let parts = or_none (unless (not g.is_committed && true && is_out_by (worker_at c g.worker) i) 32)
+            (unless (is_live_worker (worker_at c g.worker)) 33) h in
             let a = and_parts (not g.is_committed && true) (is_out_by (worker_at c g.worker) i)
             (unless_none (not g.is_committed && true && is_out_by (worker_at c g.worker) i) 32 parts.0) in
             let d : Whole = with_committed c i (length o.births) in
@@ -198,7 +211,8 @@ module _ (j : ℕ) (job : Job) where
         out_at_message j job (here (with_delivered c k) w x node) l.sender l.message stops p))
         (λ _ gone. out) refl
     deliver_to k l (TheNode n) =
-        at_test (λ i. StandsIn (if i then node_does (with_delivered c k) n (λ g. node_reached g l.sender l.message) else moved (with_delivered c k)).whole j job)
+        at_test (λ i.
+        StandsIn (if i then node_does (with_delivered c k) n (λ g. node_reached g l.sender l.message) else moved (with_delivered c k)).whole j job)
         (is_live_node (node_at c n)) (λ _. node_stands (with_delivered c k) n (λ g. node_reached g l.sender l.message) out (node_at c n)) (λ _. out)
 
     deliver_stands : (k : ℕ) (o : Option Letter) → StandsIn (delivered_by c k o).whole j job
@@ -253,8 +267,9 @@ jobs_stand s log c sound e handed j job apart out =
 -- ---- a claim
 
 -- a step by which the worker's attempt comes to be out
-worker_gives : (c : Whole) (j : ℕ) (job : Job) (g : Given) (step : Here → Here) (x : Worker) (node : Node) → item_at c.jobs j ≡ Some g → worker_at c g.worker ≡ Some x →
-    node_at c x.node ≡ Some node → StandsOut j job (step (here c g.worker x node)).worker → StandsIn (worker_does c g.worker step).whole j job
+worker_gives : (c : Whole) (j : ℕ) (job : Job) (g : Given) (step : Here → Here) (x : Worker) (node : Node) → item_at c.jobs j ≡ Some g →
+    worker_at c g.worker ≡ Some x → node_at c x.node ≡ Some node → StandsOut j job (step (here c g.worker x node)).worker →
+    StandsIn (worker_does c g.worker step).whole j job
 worker_gives c j job g step x node given at home out =
     let h : Here = release_step (step (here c g.worker x node)) in
     let behind : StandsIn (after_worker c g.worker x.node h).whole j job = with_more j job c.jobs (changed_at c.workers g.worker (λ _. h.worker))
@@ -285,7 +300,8 @@ taken_out c w handed r job gives =
     let d : Whole = record c { jobs = c.jobs ++ g ∷ [] } in
     let same : job_of n run.0 ≡ job = some_of (job_of n run.0) job (sym (ap (answers.job_at n) l.at ∙ ap (job_by n) run.1) ∙ gives) in
     subst (StandsIn (happens c (Claim w) handed).whole n) same
-    (worker_gives d n (job_of n run.0) g (λ h. claim_step h n) l.worker home.0 (item_last c.jobs g n refl) l.at home.1 (claim_out (here d w l.worker home.0) n run.0 run.1))
+    (worker_gives d n (job_of n run.0) g (λ h. claim_step h n) l.worker home.0 (item_last c.jobs g n refl) l.at home.1
+    (claim_out (here d w l.worker home.0) n run.0 run.1))
 
 takes_step : (a b : Step) → Takes a ≡ Takes b → a ≡ b
 takes_step a b e = cc

@@ -39,15 +39,20 @@ IsTrueOn script job d =
 
 true_on : (script : Script) (d : Done) → IsTrueOf script d → IsTrueOn script (job_in d.job) (work_of d.births d.prints d.stop)
 true_on script d h =
-    h ∙ ap (λ stop. record { births = map birth_of d.job.births ++ map birth_of d.births; prints = map value_of d.job.printed ++ map value_of d.prints; stop = stop })
-    (sym (same_stop d.stop))
+    h
+    ∙ ap (λ stop. record {
+      births = map birth_of d.job.births ++ map birth_of d.births;
+      prints = map value_of d.job.printed ++ map value_of d.prints;
+      stop = stop;
+    }) (sym (same_stop d.stop))
 
 right_job : (s : Setting) (c : Whole) (j : ℕ) (d : Done) → IsTrueOf s.script d → IsOut c j (job_in d.job) →
     IsRight s c (Commit j) (OfJob (work_of d.births d.prints d.stop))
 right_job s c j d is_true out g x run given worker runs is_out =
     let there : IsOut c j (job_of j run) =
     (run, record { given = g; worker = x; was_given = given; of_worker = worker; runs = runs; is_out = is_out }, refl) in
-    subst (λ job. IsTrueOn s.script job (work_of d.births d.prints d.stop)) (one_is_out c j (job_in d.job) (job_of j run) out there) (true_on s.script d is_true)
+    subst (λ job. IsTrueOn s.script job (work_of d.births d.prints d.stop)) (one_is_out c j (job_in d.job) (job_of j run) out there)
+    (true_on s.script d is_true)
 
 right_for : (s : Setting) (c : Whole) (j : ℕ) (d : Option Done) (h : Handed) → IsHandedFor c j d h → IsTrueDone s.script d → IsRight s c (Commit j) h
 right_for s c j None h e is_true = subst (IsRight s c (Commit j)) (sym e) tt

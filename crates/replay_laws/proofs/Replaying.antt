@@ -54,7 +54,8 @@ answered_more log e seat a =
 
 -- ---- a run that goes on went on before
 
-unhalted : (before after : RunState) (e : Event) (seat : ℕ) (d : Option Done) (told : Reply) → Answers before e seat d after told → after.is_halted ≡ false → before.is_halted ≡ false
+unhalted : (before after : RunState) (e : Event) (seat : ℕ) (d : Option Done) (told : Reply) → Answers before e seat d after told →
+    after.is_halted ≡ false → before.is_halted ≡ false
 unhalted before after e seat d told h goes_on = by_halt before.is_halted refl
   where
     by_halt : (b : Bool) → before.is_halted ≡ b → before.is_halted ≡ false
@@ -98,8 +99,9 @@ at_first script nodes slots first some h = record {
 }
 
 module _ (script : Script) (apart : KeepsMainApart script) (nodes : ℕ) (first : Play) where
-  module _ (before now : RunState) (e : Event) (seat : ℕ) (d : Option Done) (told : Reply) (r : Reached script nodes first before) (is_true : IsTrueDone script d)
-      (h : Answers before e seat d now told) (goes_on : now.is_halted ≡ false) (once : HandsInOnce now.log) (few : length (said_from 0 now.log) ≤ 100000) where
+  module _ (before now : RunState) (e : Event) (seat : ℕ) (d : Option Done) (told : Reply)
+      (r : Reached script nodes first before) (is_true : IsTrueDone script d) (h : Answers before e seat d now told)
+      (goes_on : now.is_halted ≡ false) (once : HandsInOnce now.log) (few : length (said_from 0 now.log) ≤ 100000) where
     abbrev c : Whole
     c = before.whole
 
@@ -187,13 +189,14 @@ module _ (script : Script) (apart : KeepsMainApart script) (nodes : ℕ) (first 
           given = (answers_counted before now e seat d told r.given h).jobs;
           long = long_behind s before.log c r.sound r.play.jobs r.long handed told e is.told_so ∙ sym (ap (λ (w : Whole). length w.jobs) is.whole);
           jobs = λ j g at uncommitted. subst (λ w. KeepsJob next.jobs w j) (sym is.whole)
-              (keeps_behind s before.log c r.sound r.play.jobs r.long handed told r.jobs e seat is.told_so j g (ap (λ (w : Whole). item_at w.jobs j) (sym is.whole) ∙ at)
+              (keeps_behind s before.log c r.sound r.play.jobs r.long handed told r.jobs e seat is.told_so j g
+              (ap (λ (w : Whole). item_at w.jobs j) (sym is.whole) ∙ at)
               (ap (has_commit j) (sym is.log) ∙ uncommitted));
           applied = omega (arith, n, a);
         }
 
-  reached : (slots : ℕ) → 0 < nodes → IsFirst nodes slots first → (n : ℕ) (now : RunState) → ComesIn script n (first_state nodes slots) now → now.is_halted ≡ false →
-      HandsInOnce now.log → length (said_from 0 now.log) ≤ 100000 → Reached script nodes first now
+  reached : (slots : ℕ) → 0 < nodes → IsFirst nodes slots first → (n : ℕ) (now : RunState) → ComesIn script n (first_state nodes slots) now →
+      now.is_halted ≡ false → HandsInOnce now.log → length (said_from 0 now.log) ≤ 100000 → Reached script nodes first now
   unfolding ComesIn
   reached slots some begins zero now came goes_on once few = subst (Reached script nodes first) (sym came) (at_first script nodes slots first some begins)
   reached slots some begins (suc n) now (before, e, seat, d, told, came, is_true, h) goes_on once few =
@@ -227,8 +230,8 @@ record WentOn (script : Script) (first now : RunState) : Type 0 where
   pub goes_on : last.is_halted ≡ false
   pub log : last.log ≡ now.log
 
-went_behind : (script : Script) (first before now : RunState) (e : Event) (seat : ℕ) (d : Option Done) (told : Reply) → Comes script first before → IsTrueDone script d →
-    Answers before e seat d now told → WentOn script first before → WentOn script first now
+went_behind : (script : Script) (first before now : RunState) (e : Event) (seat : ℕ) (d : Option Done) (told : Reply) → Comes script first before →
+    IsTrueDone script d → Answers before e seat d now told → WentOn script first before → WentOn script first now
 went_behind script first before now e seat d told came is_true h w = by_halt before.is_halted refl
   where
     follows : before.is_halted ≡ false → Follows before e seat d now told → WentOn script first now
@@ -253,5 +256,6 @@ logs_replay script apart nodes slots now came log same few first begins =
     let h = runs_replay script apart nodes slots w.last so w.goes_on log (same ∙ sym w.log) few first begins in (
       (h.0, h.1),
       λ again history.
-          ap (λ (c : RunState). c.log) (runs_replay_to_themselves script apart nodes slots w.last so w.goes_on log (same ∙ sym w.log) few first again begins history) ∙ w.log,
+          ap (λ (c : RunState). c.log)
+          (runs_replay_to_themselves script apart nodes slots w.last so w.goes_on log (same ∙ sym w.log) few first again begins history) ∙ w.log,
     )

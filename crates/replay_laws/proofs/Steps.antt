@@ -1,8 +1,8 @@
 -- What an event makes of a run, its replay makes of the jobs that it has.
-use Rattle.std.proofs.Common.{◌≡◌, ◌⊎◌, ◌<◌, ◌≤◌, ℕ, zero, suc, ◌+◌, Bool, true, false, List, [], ◌∷◌, ◌++◌, length, Option, Some, None, refl, sym, ap, ◌∙◌, subst, arith, inl, inr, length-append}
-use Rattle.std.specs.Prelude.{◌||◌, ◌==◌, if◌then◌else◌, nat_lt, slice_get}
+use Rattle.std.proofs.Common.{◌≡◌, ◌⊎◌, ◌<◌, ◌≤◌, ℕ, zero, suc, ◌+◌, true, false, List, [], ◌∷◌, ◌++◌, length, Option, Some, None, refl, sym}
+use Rattle.std.proofs.Common.{ap, ◌∙◌, subst, arith, inl, inr, length-append}
+use Rattle.std.specs.Prelude.{if◌then◌else◌, nat_lt, slice_get}
 use Rattle.std.specs.Option.{option_flatten}
-use Rattle.std.proofs.lemmas.Bool.{eq-eqb, true≢false}
 use Rattle.meaning.proofs.BirthLaws.{at_test}
 use Rattle.segment.specs.Jobs.{JobData}
 use Rattle.event_log.specs.Entries.{Claim, Commit, Entry, Event, In, Refused}
@@ -27,6 +27,7 @@ use Rattle.lease_discipline.proofs.Heres.{changed_elsewhere}
 use Rattle.seats.proofs.Codes.{is_low, refusal_low}
 use Rattle.seats.proofs.Jobs.{claim_gives, happens-jobs}
 use Rattle.run_paths.specs.Handing.{has_commit}
+use Rattle.run_paths.proofs.Handing.{no_commit}
 use Rattle.job_laws.proofs.Places.{item_before, item_last}
 use Rattle.job_laws.proofs.Standing.{claims_give_jobs_out, jobs_stand}
 use Rattle.replay_laws.proofs.Handing.{KeepsJob}
@@ -70,23 +71,7 @@ told_memory c e h told tells = elim (answered c e h) [
   | inr (r, is) ↦ given_memory (given_out c e) told (subst (λ a. Tells a told) is tells)
 ]
 
--- ---- commits in the log
-
-or_false : (a b : Bool) → (a || b) ≡ false → (a ≡ false) × (b ≡ false)
-or_false false false e = (refl, refl)
-or_false true b e = absurd (true≢false e)
-or_false false true e = absurd (true≢false e)
-
--- up to an event and at it
-pub no_commit : (j : ℕ) (log rest : List Entry) (e : Event) (seat : ℕ) → has_commit j (log ++ In e seat ∷ rest) ≡ false →
-    (has_commit j log ≡ false) × (e ≡ Commit j → ⊥)
-no_commit j [] rest e seat h =
-    (refl, λ is. true≢false (sym (ap (λ b. b || has_commit j rest) (eq-eqb j j refl)) ∙ sym (ap (λ x. has_commit j (In x seat ∷ rest)) is) ∙ h))
-no_commit j (In (Commit i) s ∷ log) rest e seat h =
-    let two = or_false (i == j) (has_commit j (log ++ In e seat ∷ rest)) h in
-    let k = no_commit j log rest e seat two.1 in
-    (ap (λ b. b || has_commit j log) two.0 ∙ k.0, k.1)
-no_commit j (x ∷ log) rest e seat h = no_commit j log rest e seat h
+-- ---- the log
 
 -- an answer logs the event first
 pub logged_first : (e : Event) (seat : ℕ) (a : Answer) → (rest : List Entry) × (logged e seat a ≡ In e seat ∷ rest)
@@ -99,7 +84,8 @@ flat_some : (o : Option (Option JobData)) (job : JobData) → option_flatten o �
 flat_some None job e = absurd (cc)
 flat_some (Some o) job e = ap (λ k. Some k) e
 
-left_there : (e : Event) (jobs : List (Option JobData)) (j : ℕ) (job : JobData) → (e ≡ Commit j → ⊥) → job_at jobs j ≡ Some job → job_at (left_by e jobs) j ≡ Some job
+left_there : (e : Event) (jobs : List (Option JobData)) (j : ℕ) (job : JobData) → (e ≡ Commit j → ⊥) → job_at jobs j ≡ Some job →
+    job_at (left_by e jobs) j ≡ Some job
 left_there (Commit i) jobs j job apart at =
     ap option_flatten (changed_elsewhere jobs i j (λ _. None) (Some job) (λ same. apart (ap Commit (sym same))) (flat_some (item_at jobs j) job at))
 left_there e jobs j job apart at = at
@@ -126,7 +112,8 @@ none_behind xs (suc k) h e = let i = beyond xs k e in omega (arith, i)
 none_is_some : {X : Type 0} (x : X) → None ≡ Some x → ⊥
 none_is_some x e = cc
 
-module _ (s : Setting) (log : List Entry) (c : Whole) (sound : IsSound s log c) (jobs : List (Option JobData)) (long : length jobs ≡ length c.jobs) (h : Handed) (told : Reply) where
+module _ (s : Setting) (log : List Entry) (c : Whole) (sound : IsSound s log c) (jobs : List (Option JobData))
+    (long : length jobs ≡ length c.jobs) (h : Handed) (told : Reply) where
   -- the job that is told of a claim that was taken
   told_job : (w : ℕ) → refusal c (Claim w) h ≡ None → GivesThat (given_out c (Claim w)) told →
       (job : JobData) × (told ≡ GivesJob job) × (given_out c (Claim w) ≡ Some (job_in job))
@@ -135,7 +122,8 @@ module _ (s : Setting) (log : List Entry) (c : Whole) (sound : IsSound s log c) 
       let t : GivesThat (Some g.0) told = subst (λ o. GivesThat o told) g.1 gives in
       (t.0, t.1, g.1 ∙ ap (λ k. Some k) (sym t.2))
 
-  taken_long : (e : Event) → refusal c e h ≡ None → GivesThat (given_out c e) told → length (with_given told (left_by e jobs)) ≡ length jobs + length (claim_in e)
+  taken_long : (e : Event) → refusal c e h ≡ None → GivesThat (given_out c e) told →
+      length (with_given told (left_by e jobs)) ≡ length jobs + length (claim_in e)
   taken_long (Claim w) r gives = let t = told_job w r gives in ap (λ u. length (with_given u jobs)) t.1 ∙ length-append jobs (Some t.0 ∷ [])
   taken_long (Commit j) r gives =
       let k = left_long (Commit j) jobs in ap (λ u. length (with_given u (left_by (Commit j) jobs))) gives ∙ (omega (arith, k))
@@ -177,8 +165,9 @@ module _ (s : Setting) (log : List Entry) (c : Whole) (sound : IsSound s log c) 
   new_job e j r is gives low high = absurd (omega (arith, low, high))
 
   -- each job of which the log has no commit
-  pub keeps_behind : ((j : ℕ) (g : Given) → item_at c.jobs j ≡ Some g → has_commit j log ≡ false → KeepsJob jobs c j) → (e : Event) (seat : ℕ) → Tells (answer c e h) told →
-      (j : ℕ) (g : Given) → item_at (whole_after c (answer c e h)).jobs j ≡ Some g → has_commit j (log ++ logged e seat (answer c e h)) ≡ false →
+  pub keeps_behind : ((j : ℕ) (g : Given) → item_at c.jobs j ≡ Some g → has_commit j log ≡ false → KeepsJob jobs c j) → (e : Event) (seat : ℕ) →
+      Tells (answer c e h) told → (j : ℕ) (g : Given) → item_at (whole_after c (answer c e h)).jobs j ≡ Some g →
+      has_commit j (log ++ logged e seat (answer c e h)) ≡ false →
       KeepsJob (with_given told (left_by e jobs)) (whole_after c (answer c e h)) j
   keeps_behind keeps e seat tells j g at uncommitted = go (item_at c.jobs j) refl
     where

@@ -1,6 +1,6 @@
 -- Logs of runs in which each job was handed in once.
-use Rattle.std.specs.Prelude.{◌≡◌, ◌||◌, ◌==◌, ◌++◌, ℕ, Bool, false, List, [], ◌∷◌}
-use Rattle.event_log.specs.Entries.{Commit, Entry, In, Refused}
+use Rattle.std.specs.Prelude.{◌≡◌, ◌||◌, ◌&&◌, ◌==◌, ◌++◌, ℕ, Bool, true, false, not, List, [], ◌∷◌}
+use Rattle.event_log.specs.Entries.{Claim, Commit, Entry, In, Kill, Refused}
 
 -- an event of the log is a commit of the job, accepted or refused
 abbrev pub has_commit : ℕ → List Entry → Bool
@@ -14,3 +14,26 @@ pub record HandsInOnce (log : List Entry) : Type 0 where
   pub out : (before after : List Entry) (j seat : ℕ) → log ≡ before ++ In (Commit j) seat ∷ Refused 32 ∷ after → ⊥
   -- and none comes behind another commit of its job
   pub once : (before after : List Entry) (j seat : ℕ) → log ≡ before ++ In (Commit j) seat ∷ after → has_commit j before ≡ false
+
+-- ---- the same as a test
+
+-- what comes next is the refusal of a commit as one of a job that isn't out
+abbrev pub refused_unknown : List Entry → Bool
+refused_unknown (Refused code ∷ rest) = code == 32
+refused_unknown es = false
+
+abbrev pub hands_in_once : List Entry → Bool
+hands_in_once [] = true
+hands_in_once (In (Commit j) seat ∷ rest) = not (has_commit j rest) && not (refused_unknown rest) && hands_in_once rest
+hands_in_once (x ∷ rest) = hands_in_once rest
+
+-- where the test is passed, and only there, each job was handed in once
+pub record IsTested : Type 0 where
+  pub once : (log : List Entry) → hands_in_once log ≡ true → HandsInOnce log
+  pub passed : (log : List Entry) → HandsInOnce log → hands_in_once log ≡ true
+
+-- two jobs, each handed in once, the second when its worker was dead; a job that is handed in twice; and one that isn't out
+pub record Examples : Type 0 where
+  pub once : HandsInOnce (In (Claim 1) 1 ∷ In (Claim 2) 2 ∷ In (Commit 1) 1 ∷ In (Kill 2) 0 ∷ In (Commit 2) 2 ∷ Refused 33 ∷ [])
+  pub twice : HandsInOnce (In (Claim 2) 2 ∷ In (Kill 2) 0 ∷ In (Commit 1) 2 ∷ Refused 33 ∷ In (Commit 1) 2 ∷ Refused 33 ∷ []) → ⊥
+  pub unknown : HandsInOnce (In (Claim 1) 1 ∷ In (Commit 2) 1 ∷ Refused 32 ∷ []) → ⊥

@@ -14,7 +14,7 @@ use Rattle.seats.specs.Ends.{IsOverBeside, WasLimited}
 abbrev pub OpeningIsNotOver : Type 0
 OpeningIsNotOver =
     (script : Script) (is_open : Bool) (plan : List PlanLine) (size : Size) → IsCluster size →
-    (r : RunState) → IsSoundLog script r → IsOverBeside is_open plan size r → r.log ≡ opening → ⊥
+    (r : RunState) → IsSoundLog script r → IsOverBeside script is_open plan size r → r.log ≡ opening → ⊥
 
 -- worker 1 ticks as the run opens, and is refused for a limit
 abbrev pub early_limit : List Entry

@@ -1,5 +1,5 @@
 -- A run that begins is in the first state of its cluster.
-use Rattle.std.proofs.Common.{◌≡◌, ℕ, sym, ap, ◌∙◌, subst}
+use Rattle.std.proofs.Common.{◌≡◌, subst}
 use Rattle.meaning.specs.Syntax.{Script}
 use Rattle.protocol_board.specs.Cores.{IsReachedRun, RunState, Size, first_state}
 use Rattle.run_paths.specs.Paths.{Comes, NoneCame, NoneLead}

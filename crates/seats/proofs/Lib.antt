@@ -1,5 +1,6 @@
 pub mod Codes
 pub mod Counted
+mod Books
 mod Came
 mod Crosses
 pub mod Few

@@ -1,5 +1,5 @@
 -- How a run on threads ends, and what is known of it on the way.
-use Rattle.std.specs.Prelude.{◌≡◌, ℕ, Bool, false, List, [], ◌∷◌, ◌++◌, length, map, take, Option, Some, None, IfSome}
+use Rattle.std.specs.Prelude.{◌≡◌, ℕ, Bool, false, List, [], ◌∷◌, ◌++◌, map, take, Option, Some, None, IfSome}
 use Rattle.event_files.specs.declared.plan.PlanLine.{PlanLine}
 use Rattle.event_log.specs.Books.{totals_of}
 use Rattle.event_log.specs.Breaks.{Among}
@@ -75,10 +75,10 @@ log_at (ends.Over board) = Some (log_of board.log)
 log_at (ends.AtLimit board) = Some (log_of board.log)
 log_at ends.NoMemory = None
 
--- and the books of these seats, which are all, add up
-abbrev pub IsEndBeside : {X : Type 0} → Script → Bool → List SeatOf → ℕ → List PlanLine → Size → Ended X → Type 0
-IsEndBeside script is_open seats watched plan size end =
-    HasEnded script is_open plan size end × IfSome (log_at end) (λ log. AddUp watched seats log × AreFrom (length seats) log)
+-- and the books of these seats, which are all, so many, add up; and each event came from one of so many
+abbrev pub IsEndBeside : {X : Type 0} → Script → Bool → List SeatOf → ℕ → ℕ → List PlanLine → Size → Ended X → Type 0
+IsEndBeside script is_open seats n watched plan size end =
+    HasEnded script is_open plan size end × IfSome (log_at end) (λ log. AddUp watched seats log × AreFrom n log)
 
 -- so, where each event came from one of so many seats
 abbrev pub IsEndAt : {X : Type 0} → Script → Bool → ℕ → List PlanLine → Size → Ended X → Type 0

@@ -259,7 +259,7 @@ impl<
         alloc: Global,
         seats: Vec<Seat<P, E, G, C, J, V, H, D, M>>,
     ) -> Result<Ended<S>, (Self, Vec<Seat<P, E, G, C, J, V, H, D, M>>)>
-        ensures ended { IfOk result (IsEndBeside S.script P.is_open seats.items P.watched P.plan P.size) }
+        ensures ended { IfOk result (IsEndBeside S.script P.is_open seats.items self P.watched P.plan P.size) }
         ensures back { IfErr result (λ e. (e.0 ≡ self) × (e.1 ≡ seats)) }
     {
         if seats.len() != self.seats {

@@ -1,14 +1,15 @@
 -- The history of a run on threads replays to it.
-use Rattle.std.proofs.Common.{◌≡◌, ◌≤◌, ℕ, List, Bool, false, refl, subst}
+use Rattle.std.proofs.Common.{◌≡◌, ◌≤◌, ℕ, List, refl, subst}
 use Rattle.meaning.specs.Syntax.{Script}
 use Rattle.script_check.specs.Scripts.{IsWellTyped}
 use Rattle.event_files.specs.declared.plan.PlanLine.{PlanLine}
 use Rattle.event_log.specs.Views.{log_of}
 use Rattle.histories.specs.Recorded.{recorded_in}
 use Rattle.protocol_board.specs.Cores.{RunData, Size, state_of}
-use Rattle.protocol_board.specs.Replays.{Play}
 use Rattle.replay_laws.specs.Replaying.{CameSo, IsFirst, RunsReplay, RunsReplayToThemselves}
-use Rattle.seats.specs.Ends.{IsOver}
+use Rattle.seats.specs.Ends.{IsEnd, IsOver}
+use Rattle.seats.specs.declared.end.Ended.{Ended}
+use Rattle.seats.specs.declared.end.Ended.TheVariants as ends
 use Rattle.seats.specs.Seated.{AreFrom}
 use Rattle.raysim_commands.specs.declared.form.Form.{Form}
 use Rattle.raysim_commands.specs.SimReports.{first_play}
@@ -36,3 +37,10 @@ run_on_so replays same script checked own typed plan size threads form run repor
   replays = replays_so replays same script (subst IsWellTyped own typed) plan size some run over;
   outputs = outputs;
 }
+
+-- a run on threads that is over, by how it ended
+pub over_so : {X : Type 0} (script : Script) (n : ℕ) (plan : List PlanLine) (first size : Size) (end : Ended X) (board : RunData) → first ≡ size →
+    end ≡ ends.Over board → IsEnd script n plan first end → IsOver script plan size (state_of board) × AreFrom n (log_of board.log)
+over_so script n plan first size end board same is h =
+    let k = subst (λ e. IsEnd script n plan first e) is h in
+    (subst (λ z. IsOver script plan z (state_of board)) same k.0, k.1)

@@ -23,7 +23,7 @@ use Rattle.count_laws.specs.Law.{IsFull}
 use Rattle.count_laws.proofs.Laws.{events_are_limited}
 use Rattle.protocol_core.specs.Clusters.{Size}
 use Rattle.protocol_core.specs.States.{IsReachedRun, beside}
-use Rattle.run_examples.specs.Examples.{LimitsAreTrue, OpeningIsNotOver, early_limit}
+use Rattle.run_examples.specs.Examples.{LimitsAreTrue, OpeningIsNotOver, SeatsAreTrue, early_limit}
 
 -- ---- what events add
 
@@ -167,3 +167,10 @@ limits_are_true = record {
       let at : IsReached (beside script r.first_nodes []) k.slots k.run = k.reached in
       not_so script typed r.first_nodes k.slots some few at.handings (ap (λ (x : Running). x.log) at.leads ∙ k.log ∙ e);
 }
+
+-- ---- a third seat
+
+pub seats_are_true : SeatsAreTrue
+seats_are_true h =
+    let k = h 2 (Tick 1) 3 refl in
+    omega (arith, k.1)

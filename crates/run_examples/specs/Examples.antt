@@ -9,6 +9,7 @@ use Rattle.protocol_core.specs.Clusters.{IsCluster, Size}
 use Rattle.protocol_core.specs.States.{RunState}
 use Rattle.protocol_board.specs.Meant.{IsSoundLog}
 use Rattle.seats.specs.Ends.{IsOverBeside, WasLimited}
+use Rattle.seats.specs.Seated.{AreFrom}
 
 -- where the log is still the opening, the run isn't over, whatever the plan: main has its first job to do
 abbrev pub OpeningIsNotOver : Type 0
@@ -26,3 +27,11 @@ pub record LimitsAreTrue : Type 0 where
   -- and it is the log of no run: there are one worker and one object
   pub is_of_none : (script : Script) → IsWellTyped script → (r : RunState) → 0 < r.first_nodes → r.first_nodes ≤ 64 →
       IsSoundLog script r → r.log ≡ early_limit → ⊥
+
+-- a tick from a third seat
+abbrev pub from_third : List Entry
+from_third = opening ++ In (Tick 1) 3 ∷ Refused 37 ∷ []
+
+-- it stands in the log of no run on two threads
+abbrev pub SeatsAreTrue : Type 0
+SeatsAreTrue = AreFrom 2 from_third → ⊥

@@ -6,11 +6,10 @@ use Rattle.std.proofs.lemmas.List.Concat.{flat_map-append}
 use Rattle.event_log.specs.Entries.{Event, Claim, Commit, Entry, In}
 use Rattle.event_log.specs.Words.{came_in, events}
 use Rattle.event_log.specs.Events.{refused_next, accepted_events, claim_in, claims, commit_in, commits}
-use Rattle.event_log.specs.Legal.{Whole, has_event}
-use Rattle.event_log.specs.Books.{Totals, sum, numbers_from, totals_of, without_last, totals}
+use Rattle.event_log.specs.Legal.{has_event}
+use Rattle.event_log.specs.Books.{Totals, sum, numbers_from, totals_of}
 use Rattle.event_log.specs.Laws.{plus, nothing, answered_totals, event_totals, LawOfTotals}
 use Rattle.event_log.proofs.EventLaws.{accepted-event}
-use Rattle.event_log.proofs.Growing.{has_event-next}
 
 sum-more : (xs ys : List ℕ) → sum (xs ++ ys) ≡ sum xs + sum ys
 sum-more [] ys = omega arith
@@ -68,14 +67,7 @@ totals-event log e seat es h =
     totals_parts _ _ _ _ _ _ _ _ (ap (λ xs. length xs) (events-event log e seat es h)) (ap (λ xs. sum (numbers_from 1 xs)) ws) (ap (λ xs. length xs) js) (ap (λ xs. sum xs) js)
     ∙ added (refused_next es) e (events log) (claims log) (commits log)
 
-without_last-event : (log : List Entry) (e : Event) (seat : ℕ) (es : List Entry) → has_event es ≡ false → without_last (log ++ In e seat ∷ es) ≡ log
-without_last-event [] e seat es h = ap (λ b. if b then In e seat ∷ without_last es else []) h
-without_last-event (In f q ∷ log) e seat es h =
-    ap (λ b. if b then In f q ∷ without_last (log ++ In e seat ∷ es) else []) (has_event-next log e seat es)
-    ∙ ap (λ xs. In f q ∷ xs) (without_last-event log e seat es h)
-without_last-event (x ∷ log) e seat es h = ap (λ xs. x ∷ xs) (without_last-event log e seat es h)
-
-no_totals : totals Whole [] ≡ nothing
+no_totals : totals_of [] ≡ nothing
 unfolding accepted_events
 no_totals = refl
 
@@ -83,5 +75,4 @@ pub law_of_totals : LawOfTotals
 law_of_totals log = record {
   none = no_totals;
   more = totals-event log;
-  broken_off = λ e seat es h. ap (λ l. totals_of l) (without_last-event log e seat es h);
 }

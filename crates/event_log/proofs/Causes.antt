@@ -3,7 +3,7 @@ use Rattle.std.proofs.Common.{◌≡◌, List, [], ◌∷◌, ◌++◌, sym, ap,
 use Rattle.meaning.specs.Values.{Id}
 use Rattle.event_log.specs.Entries.{Attempt, Fault, Entry, Faulted, Resolved}
 use Rattle.event_log.specs.Rules.{Setting, Allowed}
-use Rattle.event_log.specs.Legal.{End, LegalTo, opening}
+use Rattle.event_log.specs.Legal.{Legal, opening}
 use Rattle.event_log.specs.Laws.{LegalFaultsHaveCauses}
 use Rattle.event_log.proofs.Growing.{entries_have_their_needs}
 
@@ -22,12 +22,12 @@ behind_resolved (x ∷ []) rest o f es h = absurd (cc)
 behind_resolved (x ∷ z ∷ xs) rest o f es h = (xs, cc)
 
 -- what an entry behind the opening needs
-needs : (end : End) (s : Setting) (log : List Entry) → LegalTo end s log → (before : List Entry) (x : Entry) (es : List Entry) → BehindOpening before → log ≡ before ++ x ∷ es → Allowed s before x
-needs end s log h before x es b e =
-    subst (λ p. Allowed s p x) (sym b.1) (entries_have_their_needs end s log h b.0 x es (e ∙ ap (λ p. p ++ x ∷ es) b.1)).allowed
+needs : (s : Setting) (log : List Entry) → Legal s log → (before : List Entry) (x : Entry) (es : List Entry) → BehindOpening before → log ≡ before ++ x ∷ es → Allowed s before x
+needs s log h before x es b e =
+    subst (λ p. Allowed s p x) (sym b.1) (entries_have_their_needs s log h b.0 x es (e ∙ ap (λ p. p ++ x ∷ es) b.1)).allowed
 
 pub legal_faults_have_causes : LegalFaultsHaveCauses
-legal_faults_have_causes end s log h = record {
-  faulted = λ before a y f es e. (needs end s log h before (Faulted a y f) es (behind_fault before h.rest a y f es (sym h.begins ∙ e)) e).cause;
-  resolved = λ before o f es e. (needs end s log h before (Resolved o f) es (behind_resolved before h.rest o f es (sym h.begins ∙ e)) e).cause;
+legal_faults_have_causes s log h = record {
+  faulted = λ before a y f es e. (needs s log h before (Faulted a y f) es (behind_fault before h.rest a y f es (sym h.begins ∙ e)) e).cause;
+  resolved = λ before o f es e. (needs s log h before (Resolved o f) es (behind_resolved before h.rest o f es (sym h.begins ∙ e)) e).cause;
 }

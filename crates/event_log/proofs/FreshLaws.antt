@@ -8,13 +8,14 @@ use Rattle.meaning.specs.Readings.{IsBorn}
 use Rattle.meaning.proofs.BirthLaws.{same_id-true}
 use Rattle.sequence.proofs.Places.{slice_get_below}
 use Rattle.event_log.specs.Entries.{Attempt, Fault, Entry, Born, Resolved, Released}
-use Rattle.event_log.specs.Words.{attempt, births, born_in, main_bearing, bearers_of, runs_of, resolved_in, resolves_of, released_in, releases_of}
+use Rattle.event_log.specs.Words.{attempt, births, born_in, main_bearing, next_serial, bearers_of, runs_of, resolved_in, resolves_of, released_in, releases_of}
 use Rattle.event_log.specs.Breaks.{Cause}
 use Rattle.event_log.specs.Rules.{Setting, IsLast, IsLoss, LastFaulted, LostBelow, Allowed}
-use Rattle.event_log.specs.Legal.{opening}
-use Rattle.event_log.specs.Fresh.{FreshObjectsAreUnknown}
+use Rattle.event_log.specs.Legal.{EachAllowed, Legal, opening}
+use Rattle.event_log.specs.Fresh.{FreshIsUnknown, FreshObjectsAreUnknown}
+use Rattle.event_log.specs.Sane.{Sane}
 use Rattle.event_log.proofs.Extending.{births-more}
-use Rattle.event_log.proofs.SaneLaws.{always, word_last, none_at, one_at, BegunWell, begun_step, begun_first, legal_logs_are_sane}
+use Rattle.event_log.proofs.SaneLaws.{always, word_last, none_at, one_at, BegunWell, begun_step, begun_first, legal_logs_are_sane, each_keeps, allowed_sane}
 
 -- ---- what was borne was born
 
@@ -84,13 +85,18 @@ none_if : {X : Type 0} (xs : List X) → ((x : X) → slice_get xs 0 ≡ Some x 
 none_if [] h = refl
 none_if (x ∷ xs) h = absurd (h x refl)
 
-pub fresh_objects_are_unknown : FreshObjectsAreUnknown
-fresh_objects_are_unknown end s log h o e =
-    let k = always KnownBorn known_step end s log known_first h in
-    let sane = legal_logs_are_sane end s log h in
+unknown : (log : List Entry) → KnownBorn log → Sane log → (o : Id) → o.serial ≡ next_serial o.owner (births log) → FreshIsUnknown log o
+unknown log k sane o e =
     let unborn : IsBorn (births log) o → ⊥ = λ b. let l = sane.serials o b.0 b.1 in absurd (omega (arith, l, e)) in
     record {
       unbegun = none_if (runs_of o log) (λ w f. unborn (k.0 o 0 w f).0);
       unresolved = none_if (resolves_of o log) (λ f g. unborn (k.1 o 0 f g));
       unreleased = none_if (releases_of o log) (λ p g. unborn (k.2 o 0 p g));
     }
+
+pub fresh_objects_are_unknown : FreshObjectsAreUnknown
+fresh_objects_are_unknown s log h = unknown log (always KnownBorn known_step s log known_first h) (legal_logs_are_sane s log h)
+
+-- the same behind entries that are allowed, also within an event
+pub allowed_fresh : (s : Setting) (log es : List Entry) → Legal s log → EachAllowed s log es → (o : Id) → o.serial ≡ next_serial o.owner (births (log ++ es)) → FreshIsUnknown (log ++ es) o
+allowed_fresh s log es h a = unknown (log ++ es) (each_keeps KnownBorn known_step s es log (always KnownBorn known_step s log known_first h) a) (allowed_sane s log es h a)

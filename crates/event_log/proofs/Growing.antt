@@ -1,10 +1,10 @@
 -- A legal log, its beginnings, and one more event.
-use Rattle.std.proofs.Common.{◌≡◌, ℕ, Bool, true, false, List, [], ◌∷◌, ◌++◌, refl, sym, ap, ◌∙◌, subst, append-nil, append_assoc}
+use Rattle.std.proofs.Common.{◌≡◌, ℕ, true, false, List, [], ◌∷◌, ◌++◌, refl, sym, ap, ◌∙◌, subst, append-nil, append_assoc}
 use Rattle.event_log.specs.Entries.{Event, Entry, In, Refused}
 use Rattle.event_log.specs.Events.{refused_next, ends_with_in}
 use Rattle.event_log.specs.Rules.{Setting}
 use Rattle.event_log.specs.Causes.{MayRefuse}
-use Rattle.event_log.specs.Legal.{End, Whole, BrokenOff, of_event, has_event, Unless, Happens, HappensTo, Answered, EachAllowed, LegalFrom, LegalTo, Legal, opening}
+use Rattle.event_log.specs.Legal.{of_event, has_event, Unless, Happens, Answered, EachAllowed, LegalFrom, Legal, opening}
 use Rattle.event_log.specs.Laws.{BeginningsAreLegal, MayAdd, LegalLogsGrow, HasItsNeeds, EntriesHaveTheirNeeds}
 
 -- ---- what comes up to the next event
@@ -36,75 +36,50 @@ of_no_event (x ∷ es) h = ap (λ xs. x ∷ xs) (of_no_event es h)
 module _ (s : Setting) where
   -- ---- an event of which a further one follows
 
-  happens_before_more : (end : End) (before : List Entry) (e : Event) (es : List Entry) → HappensTo end true s before e es → Happens s before e es
-  happens_before_more Whole before e es h = h
-  happens_before_more BrokenOff before e es h = h
+  answered_alone : (before : List Entry) (x : Entry) (es : List Entry) (e : Event) (seat : ℕ) (rest : List Entry) → Answered s before x (es ++ In e seat ∷ rest) → Answered s before x es
+  answered_alone before (In f q) es e seat rest h =
+      let h1 = subst (λ b. Unless b (Happens s before f (of_event (es ++ In e seat ∷ rest)))) (refused_next-next es e seat rest) h in
+      subst (λ xs. Unless (refused_next es) (Happens s before f xs)) (of_event-next es e seat rest) h1
+  answered_alone before x es e seat rest h = tt
 
-  more_happens : (end : End) (before : List Entry) (e : Event) (es : List Entry) → Happens s before e es → HappensTo end true s before e es
-  more_happens Whole before e es h = h
-  more_happens BrokenOff before e es h = h
-
-  whole_happens : (b : Bool) (before : List Entry) (e : Event) (es : List Entry) → HappensTo Whole b s before e es → Happens s before e es
-  whole_happens true before e es h = h
-  whole_happens false before e es h = h
-
-  happens_whole : (b : Bool) (before : List Entry) (e : Event) (es : List Entry) → Happens s before e es → HappensTo Whole b s before e es
-  happens_whole true before e es h = h
-  happens_whole false before e es h = h
-
-  unless_map : (b : Bool) (A B : Type 0) → (A → B) → Unless b A → Unless b B
-  unless_map true A B f h = h
-  unless_map false A B f h = f h
-
-  answered_alone : (end : End) (before : List Entry) (x : Entry) (es : List Entry) (e : Event) (seat : ℕ) (rest : List Entry) → Answered s end before x (es ++ In e seat ∷ rest) → Answered s Whole before x es
-  answered_alone end before (In f q) es e seat rest h =
-      let h1 = subst (λ b. Unless b (HappensTo end (has_event (es ++ In e seat ∷ rest)) s before f (of_event (es ++ In e seat ∷ rest)))) (refused_next-next es e seat rest) h in
-      let h2 = subst (λ b. Unless (refused_next es) (HappensTo end b s before f (of_event (es ++ In e seat ∷ rest)))) (has_event-next es e seat rest) h1 in
-      let h3 = subst (λ xs. Unless (refused_next es) (HappensTo end true s before f xs)) (of_event-next es e seat rest) h2 in
-      unless_map (refused_next es) _ _ (λ k. happens_whole (has_event es) before f (of_event es) (happens_before_more end before f (of_event es) k)) h3
-  answered_alone end before x es e seat rest h = tt
-
-  answered_more : (end : End) (before : List Entry) (x : Entry) (es : List Entry) (e : Event) (seat : ℕ) (rest : List Entry) → Answered s Whole before x es → Answered s end before x (es ++ In e seat ∷ rest)
-  answered_more end before (In f q) es e seat rest h =
-      let h3 : Unless (refused_next es) (HappensTo end true s before f (of_event es)) = unless_map (refused_next es) _ _ (λ k. more_happens end before f (of_event es) (whole_happens (has_event es) before f (of_event es) k)) h in
-      let h2 = subst (λ xs. Unless (refused_next es) (HappensTo end true s before f xs)) (sym (of_event-next es e seat rest)) h3 in
-      let h1 = subst (λ b. Unless (refused_next es) (HappensTo end b s before f (of_event (es ++ In e seat ∷ rest)))) (sym (has_event-next es e seat rest)) h2 in
-      subst (λ b. Unless b (HappensTo end (has_event (es ++ In e seat ∷ rest)) s before f (of_event (es ++ In e seat ∷ rest)))) (sym (refused_next-next es e seat rest)) h1
-  answered_more end before x es e seat rest h = tt
+  answered_more : (before : List Entry) (x : Entry) (es : List Entry) (e : Event) (seat : ℕ) (rest : List Entry) → Answered s before x es → Answered s before x (es ++ In e seat ∷ rest)
+  answered_more before (In f q) es e seat rest h =
+      let h1 = subst (λ xs. Unless (refused_next es) (Happens s before f xs)) (sym (of_event-next es e seat rest)) h in
+      subst (λ b. Unless b (Happens s before f (of_event (es ++ In e seat ∷ rest)))) (sym (refused_next-next es e seat rest)) h1
+  answered_more before x es e seat rest h = tt
 
   -- ---- beginnings
 
-  pub legal_first : (end : End) (before es : List Entry) (e : Event) (seat : ℕ) (rest : List Entry) → LegalFrom s end before (es ++ In e seat ∷ rest) → LegalFrom s Whole before es
-  legal_first end before [] e seat rest h = tt
-  legal_first end before (x ∷ es) e seat rest h = (h.0, answered_alone end before x es e seat rest h.1, legal_first end (before ++ x ∷ []) es e seat rest h.2)
+  pub legal_first : (before es : List Entry) (e : Event) (seat : ℕ) (rest : List Entry) → LegalFrom s before (es ++ In e seat ∷ rest) → LegalFrom s before es
+  legal_first before [] e seat rest h = tt
+  legal_first before (x ∷ es) e seat rest h = (h.0, answered_alone before x es e seat rest h.1, legal_first (before ++ x ∷ []) es e seat rest h.2)
 
-  pub legal_then : (end : End) (before es : List Entry) (e : Event) (seat : ℕ) (rest : List Entry) → LegalFrom s Whole before es → LegalFrom s end (before ++ es) (In e seat ∷ rest) → LegalFrom s end before (es ++ In e seat ∷ rest)
-  legal_then end before [] e seat rest h k = subst (λ b. LegalFrom s end b (In e seat ∷ rest)) (append-nil before) k
-  legal_then end before (x ∷ es) e seat rest h k =
-      (h.0, answered_more end before x es e seat rest h.1, legal_then end (before ++ x ∷ []) es e seat rest h.2 (subst (λ b. LegalFrom s end b (In e seat ∷ rest)) (sym (append_assoc before (x ∷ []) es)) k))
+  pub legal_then : (before es : List Entry) (e : Event) (seat : ℕ) (rest : List Entry) → LegalFrom s before es → LegalFrom s (before ++ es) (In e seat ∷ rest) → LegalFrom s before (es ++ In e seat ∷ rest)
+  legal_then before [] e seat rest h k = subst (λ b. LegalFrom s b (In e seat ∷ rest)) (append-nil before) k
+  legal_then before (x ∷ es) e seat rest h k =
+      (h.0, answered_more before x es e seat rest h.1, legal_then (before ++ x ∷ []) es e seat rest h.2 (subst (λ b. LegalFrom s b (In e seat ∷ rest)) (sym (append_assoc before (x ∷ []) es)) k))
 
   -- ---- one more event
 
-  answered_plain : (end : End) (before : List Entry) (x : Entry) (es : List Entry) → has_event (x ∷ es) ≡ false → Answered s end before x es
-  answered_plain end before (In f q) es h = absurd (cc)
-  answered_plain end before x es h = tt
+  answered_plain : (before : List Entry) (x : Entry) (es : List Entry) → has_event (x ∷ es) ≡ false → Answered s before x es
+  answered_plain before (In f q) es h = absurd (cc)
+  answered_plain before x es h = tt
 
-  each_legal : (end : End) (before es : List Entry) → has_event es ≡ false → EachAllowed s before es → LegalFrom s end before es
-  each_legal end before [] h k = tt
-  each_legal end before (x ∷ es) h k = (k.0, answered_plain end before x es h, each_legal end (before ++ x ∷ []) es (no_event_left x es h) k.1)
+  each_legal : (before es : List Entry) → has_event es ≡ false → EachAllowed s before es → LegalFrom s before es
+  each_legal before [] h k = tt
+  each_legal before (x ∷ es) h k = (k.0, answered_plain before x es h, each_legal (before ++ x ∷ []) es (no_event_left x es h) k.1)
 
-  grows : (end : End) (log : List Entry) (e : Event) (seat : ℕ) (es : List Entry) → Legal s log → LegalFrom s end log (In e seat ∷ es) → LegalTo end s (log ++ In e seat ∷ es)
-  grows end log e seat es h k = record {
+  grows : (log : List Entry) (e : Event) (seat : ℕ) (es : List Entry) → Legal s log → LegalFrom s log (In e seat ∷ es) → Legal s (log ++ In e seat ∷ es)
+  grows log e seat es h k = record {
     rest = h.rest ++ In e seat ∷ es;
     begins = ap (λ l. l ++ In e seat ∷ es) h.begins ∙ append_assoc opening h.rest (In e seat ∷ es);
-    each = legal_then end opening h.rest e seat es h.each (subst (λ l. LegalFrom s end l (In e seat ∷ es)) h.begins k);
+    each = legal_then opening h.rest e seat es h.each (subst (λ l. LegalFrom s l (In e seat ∷ es)) h.begins k);
   }
 
-  happens_added : (end : End) (log : List Entry) (e : Event) (seat : ℕ) (es : List Entry) → MayAdd end s log e seat es → Answered s end log (In e seat) es
-  happens_added end log e seat es h =
-      let h1 = subst (λ xs. HappensTo end false s log e xs) (sym (of_no_event es h.no_event)) h.happens in
-      let h2 = subst (λ b. HappensTo end b s log e (of_event es)) (sym h.no_event) h1 in
-      subst (λ b. Unless b (HappensTo end (has_event es) s log e (of_event es))) (sym h.unrefused) h2
+  happens_added : (log : List Entry) (e : Event) (seat : ℕ) (es : List Entry) → MayAdd s log e seat es → Answered s log (In e seat) es
+  happens_added log e seat es h =
+      let h1 = subst (λ xs. Happens s log e xs) (sym (of_no_event es h.no_event)) h.happens in
+      subst (λ b. Unless b (Happens s log e (of_event es))) (sym h.unrefused) h1
 
 -- a refusal stands directly behind an event
 in_last : (log : List Entry) (e : Event) (seat : ℕ) → ends_with_in (log ++ In e seat ∷ []) ≡ true
@@ -117,9 +92,9 @@ pub refusal_ends : (s : Setting) (before : List Entry) (code : ℕ) → MayRefus
 refusal_ends s before code h = ap ends_with_in h.parts ∙ in_last h.log h.event h.seat
 
 pub legal_logs_grow : LegalLogsGrow
-legal_logs_grow end s log e seat h = record {
-  refused = λ code cause. grows s end log e seat (Refused code ∷ []) h (tt, tt, (record { log = log; event = e; seat = seat; parts = refl; cause = cause }, tt, tt));
-  added = λ es k. grows s end log e seat es h (tt, happens_added s end log e seat es k, each_legal s end (log ++ In e seat ∷ []) es k.no_event k.each);
+legal_logs_grow s log e seat h = record {
+  refused = λ code cause. grows s log e seat (Refused code ∷ []) h (tt, tt, (record { log = log; event = e; seat = seat; parts = refl; cause = cause }, tt, tt));
+  added = λ es k. grows s log e seat es h (tt, happens_added s log e seat es k, each_legal s (log ++ In e seat ∷ []) es k.no_event k.each);
 }
 
 event_is_no_opening : (e : Event) (seat : ℕ) (xs ys : List Entry) → In e seat ∷ xs ≡ opening ++ ys → ⊥
@@ -138,25 +113,25 @@ both : (x y u v : Entry) (xs : List Entry) → x ≡ u → y ≡ v → ◌≡◌
 both x y u v xs h k = cc
 
 pub beginnings_are_legal : BeginningsAreLegal
-beginnings_are_legal end s [] e seat rest h = absurd (event_is_no_opening e seat rest h.rest h.begins)
-beginnings_are_legal end s (x ∷ []) e seat rest h = absurd (event_is_no_beginning x e seat rest h.rest h.begins)
-beginnings_are_legal end s (x ∷ y ∷ log) e seat rest h =
+beginnings_are_legal s [] e seat rest h = absurd (event_is_no_opening e seat rest h.rest h.begins)
+beginnings_are_legal s (x ∷ []) e seat rest h = absurd (event_is_no_beginning x e seat rest h.rest h.begins)
+beginnings_are_legal s (x ∷ y ∷ log) e seat rest h =
     let first = tails x _ _ _ h.begins in
     let second = tails y _ _ _ first in
     record {
       rest = log;
       begins = both x y _ _ log (heads x _ _ _ h.begins) (heads y _ _ _ first);
-      each = legal_first s end opening log e seat rest (subst (λ l. LegalFrom s end opening l) (sym second) h.each);
+      each = legal_first s opening log e seat rest (subst (λ l. LegalFrom s opening l) (sym second) h.each);
     }
 
 -- ---- each entry
 
-needs_from : (end : End) (s : Setting) (before xs : List Entry) (x : Entry) (es : List Entry) → LegalFrom s end before (xs ++ x ∷ es) → HasItsNeeds end s (before ++ xs) x es
-needs_from end s before [] x es h = subst (λ b. HasItsNeeds end s b x es) (sym (append-nil before)) (record { allowed = h.0; answered = h.1 })
-needs_from end s before (y ∷ xs) x es h = subst (λ b. HasItsNeeds end s b x es) (append_assoc before (y ∷ []) xs) (needs_from end s (before ++ y ∷ []) xs x es h.2)
+needs_from : (s : Setting) (before xs : List Entry) (x : Entry) (es : List Entry) → LegalFrom s before (xs ++ x ∷ es) → HasItsNeeds s (before ++ xs) x es
+needs_from s before [] x es h = subst (λ b. HasItsNeeds s b x es) (sym (append-nil before)) (record { allowed = h.0; answered = h.1 })
+needs_from s before (y ∷ xs) x es h = subst (λ b. HasItsNeeds s b x es) (append_assoc before (y ∷ []) xs) (needs_from s (before ++ y ∷ []) xs x es h.2)
 
 pub entries_have_their_needs : EntriesHaveTheirNeeds
-entries_have_their_needs end s log h before x es e =
+entries_have_their_needs s log h before x es e =
     let same = sym h.begins ∙ e in
     let rest = tails _ _ _ _ (tails _ _ _ _ same) in
-    needs_from end s opening before x es (subst (λ l. LegalFrom s end opening l) rest h.each)
+    needs_from s opening before x es (subst (λ l. LegalFrom s opening l) rest h.each)

@@ -6,7 +6,7 @@ use Rattle.event_log.specs.Entries.{Attempt, Event, Commit, Deliver, Entry, In, 
 use Rattle.event_log.specs.Events.{refused_next}
 use Rattle.event_log.specs.Rules.{Receiver, ToWorker, ToNode, worker_to, IsHeard, Setting, actor, IsOwn, Replays, Stops, Allowed}
 use Rattle.event_log.specs.Causes.{unless, is_there, IsNumberOf, IsRefusal}
-use Rattle.event_log.specs.Legal.{BreaksOff, Happens, HappensTo, End, Whole, BrokenOff, of_event, has_event, Unless, Answered, LegalFrom, opening}
+use Rattle.event_log.specs.Legal.{Happens, of_event, Unless, Answered, LegalFrom, opening}
 use Rattle.event_log.specs.Laws.{with_receiver, LegalInLargerNetworks}
 
 module _ (s : Setting) (receiver : ℕ → Option Receiver) (larger : (m : ℕ) (r : Receiver) → s.receiver m ≡ Some r → receiver m ≡ Some r) where
@@ -82,30 +82,17 @@ module _ (s : Setting) (receiver : ℕ → Option Receiver) (larger : (m : ℕ) 
   happens before (Deliver m) es h = (h.0, larger m h.0 h.1)
   happens before e es h = h
 
-  breaks_off : (before : List Entry) (e : Event) (es : List Entry) → BreaksOff s before e es → BreaksOff t before e es
-  breaks_off before (Commit j) es (inl h) = inl h
-  breaks_off before (Commit j) es (inr h) = inr (h.0, h.1, record { base = h.2.base; p = h.2.p; replays = replays before h.0 h.2.base h.2.p h.2.replays; own = h.2.own; prints = h.2.prints; ends = h.2.ends })
-  breaks_off before (Deliver m) es (inl h) = inl h
-  breaks_off before (Deliver m) es (inr h) = inr (h.0, larger m h.0 h.1)
-  breaks_off before e es h = h
+  unless_refused : (b : Bool) (before : List Entry) (e : Event) (es : List Entry) → Unless b (Happens s before e es) → Unless b (Happens t before e es)
+  unless_refused true before e es h = h
+  unless_refused false before e es h = happens before e es h
 
-  happens_to : (end : End) (b : Bool) (before : List Entry) (e : Event) (es : List Entry) → HappensTo end b s before e es → HappensTo end b t before e es
-  happens_to Whole true before e es h = happens before e es h
-  happens_to Whole false before e es h = happens before e es h
-  happens_to BrokenOff true before e es h = happens before e es h
-  happens_to BrokenOff false before e es h = breaks_off before e es h
+  answered : (before : List Entry) (x : Entry) (es : List Entry) → Answered s before x es → Answered t before x es
+  answered before (In e seat) es h = unless_refused (refused_next es) before e (of_event es) h
+  answered before x es h = h
 
-  unless_refused : (b : Bool) (end : End) (more : Bool) (before : List Entry) (e : Event) (es : List Entry) → Unless b (HappensTo end more s before e es) → Unless b (HappensTo end more t before e es)
-  unless_refused true end more before e es h = h
-  unless_refused false end more before e es h = happens_to end more before e es h
-
-  answered : (end : End) (before : List Entry) (x : Entry) (es : List Entry) → Answered s end before x es → Answered t end before x es
-  answered end before (In e seat) es h = unless_refused (refused_next es) end (has_event es) before e (of_event es) h
-  answered end before x es h = h
-
-  legal_from : (end : End) (before es : List Entry) → LegalFrom s end before es → LegalFrom t end before es
-  legal_from end before [] h = tt
-  legal_from end before (x ∷ es) h = (allowed before x h.0, answered end before x es h.1, legal_from end (before ++ x ∷ []) es h.2)
+  legal_from : (before es : List Entry) → LegalFrom s before es → LegalFrom t before es
+  legal_from before [] h = tt
+  legal_from before (x ∷ es) h = (allowed before x h.0, answered before x es h.1, legal_from (before ++ x ∷ []) es h.2)
 
 pub legal_in_larger_networks : LegalInLargerNetworks
-legal_in_larger_networks end s receiver log larger h = record { rest = h.rest; begins = h.begins; each = legal_from s receiver larger end opening h.rest h.each }
+legal_in_larger_networks s receiver log larger h = record { rest = h.rest; begins = h.begins; each = legal_from s receiver larger opening h.rest h.each }

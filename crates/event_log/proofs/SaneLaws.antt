@@ -12,7 +12,7 @@ use Rattle.event_log.specs.Words.{same_attempt, births, born_in, main_bearing, n
 use Rattle.event_log.specs.Events.{node_of}
 use Rattle.event_log.specs.Breaks.{Among}
 use Rattle.event_log.specs.Rules.{Setting, Allowed}
-use Rattle.event_log.specs.Legal.{EachAllowed, End, LegalFrom, LegalTo, opening}
+use Rattle.event_log.specs.Legal.{EachAllowed, LegalFrom, Legal, opening}
 use Rattle.event_log.specs.Sane.{LegalLogsAreSane, Sane}
 use Rattle.event_log.proofs.WordLaws.{word_push, births_push, next_serial-push, same_attempt-true}
 use Rattle.event_log.proofs.EventLaws.{word-more}
@@ -21,12 +21,12 @@ use Rattle.event_log.proofs.Extending.{births-more, node_of-more}
 -- ---- induction over a legal log
 
 module _ (P : List Entry → Type 0) (step : (s : Setting) (before : List Entry) (x : Entry) → P before → Allowed s before x → P (before ++ x ∷ [])) where
-  along : (end : End) (s : Setting) (before es : List Entry) → P before → LegalFrom s end before es → P (before ++ es)
-  along end s before [] p h = subst P (sym (append-nil before)) p
-  along end s before (x ∷ es) p h = subst P (append_assoc before (x ∷ []) es) (along end s (before ++ x ∷ []) es (step s before x p h.0) h.2)
+  along : (s : Setting) (before es : List Entry) → P before → LegalFrom s before es → P (before ++ es)
+  along s before [] p h = subst P (sym (append-nil before)) p
+  along s before (x ∷ es) p h = subst P (append_assoc before (x ∷ []) es) (along s (before ++ x ∷ []) es (step s before x p h.0) h.2)
 
-  pub always : (end : End) (s : Setting) (log : List Entry) → P opening → LegalTo end s log → P log
-  always end s log p h = subst P (sym h.begins) (along end s opening h.rest p h.each)
+  pub always : (s : Setting) (log : List Entry) → P opening → Legal s log → P log
+  always s log p h = subst P (sym h.begins) (along s opening h.rest p h.each)
 
 -- ---- words with one more entry
 
@@ -244,39 +244,39 @@ unfolding same_id
 main_first = refl
 
 pub legal_logs_are_sane : LegalLogsAreSane
-legal_logs_are_sane end s log h = record {
-  driver = always (λ l. node_of 1 l ≡ Some 1) driver_step end s log refl h;
-  main = always (λ l. worker_of main_attempt l ≡ Some 1) main_step end s log main_first h;
-  serials = always SerialsBound bound_step end s log bound_first h;
-  born = λ o k w e. (always BegunWell begun_step end s log begun_first h o k w e).0;
-  opened = λ o k w e. (always BegunWell begun_step end s log begun_first h o k w e).1;
-  ended = always EndedWell ended_step end s log (λ a k c e. absurd (none_at k c e)) h;
-  faulted = always FaultedWell faulted_step end s log (λ a k l e. absurd (none_at k l e)) h;
-  accepted = always AcceptedWell accepted_step end s log (λ a k b e. absurd (none_at k b e)) h;
-  one_end = always EndsOnce over_step end s log (λ a. omega arith) h;
-  one_acceptance = always AcceptedOnce accepted_once end s log (λ a. omega arith) h;
-  one_resolution = always ResolvedOnce resolved_once end s log (λ o. omega arith) h;
-  one_release = always ReleasedOnce released_once end s log (λ o. omega arith) h;
+legal_logs_are_sane s log h = record {
+  driver = always (λ l. node_of 1 l ≡ Some 1) driver_step s log refl h;
+  main = always (λ l. worker_of main_attempt l ≡ Some 1) main_step s log main_first h;
+  serials = always SerialsBound bound_step s log bound_first h;
+  born = λ o k w e. (always BegunWell begun_step s log begun_first h o k w e).0;
+  opened = λ o k w e. (always BegunWell begun_step s log begun_first h o k w e).1;
+  ended = always EndedWell ended_step s log (λ a k c e. absurd (none_at k c e)) h;
+  faulted = always FaultedWell faulted_step s log (λ a k l e. absurd (none_at k l e)) h;
+  accepted = always AcceptedWell accepted_step s log (λ a k b e. absurd (none_at k b e)) h;
+  one_end = always EndsOnce over_step s log (λ a. omega arith) h;
+  one_acceptance = always AcceptedOnce accepted_once s log (λ a. omega arith) h;
+  one_resolution = always ResolvedOnce resolved_once s log (λ o. omega arith) h;
+  one_release = always ReleasedOnce released_once s log (λ o. omega arith) h;
 }
 
 -- what each entry keeps, from one log on
-each_keeps : (P : List Entry → Type 0) → ((s : Setting) (before : List Entry) (x : Entry) → P before → Allowed s before x → P (before ++ x ∷ [])) → (s : Setting) (es before : List Entry) → P before → EachAllowed s before es → P (before ++ es)
+pub each_keeps : (P : List Entry → Type 0) → ((s : Setting) (before : List Entry) (x : Entry) → P before → Allowed s before x → P (before ++ x ∷ [])) → (s : Setting) (es before : List Entry) → P before → EachAllowed s before es → P (before ++ es)
 each_keeps P step s [] before p a = subst P (sym (append-nil before)) p
 each_keeps P step s (x ∷ es) before p a = subst P (append_assoc before (x ∷ []) es) (each_keeps P step s es (before ++ x ∷ []) (step s before x p a.0) a.1)
 
 -- entries that are allowed leave a log sane, also within an event
-pub allowed_sane : (end : End) (s : Setting) (log es : List Entry) → LegalTo end s log → EachAllowed s log es → Sane (log ++ es)
-allowed_sane end s log es h a = record {
-  driver = each_keeps (λ l. node_of 1 l ≡ Some 1) driver_step s es log (always (λ l. node_of 1 l ≡ Some 1) driver_step end s log refl h) a;
-  main = each_keeps (λ l. worker_of main_attempt l ≡ Some 1) main_step s es log (always (λ l. worker_of main_attempt l ≡ Some 1) main_step end s log main_first h) a;
-  serials = each_keeps SerialsBound bound_step s es log (always SerialsBound bound_step end s log bound_first h) a;
-  born = λ o k w e. (each_keeps BegunWell begun_step s es log (always BegunWell begun_step end s log begun_first h) a o k w e).0;
-  opened = λ o k w e. (each_keeps BegunWell begun_step s es log (always BegunWell begun_step end s log begun_first h) a o k w e).1;
-  ended = each_keeps EndedWell ended_step s es log (always EndedWell ended_step end s log (λ a k c e. absurd (none_at k c e)) h) a;
-  faulted = each_keeps FaultedWell faulted_step s es log (always FaultedWell faulted_step end s log (λ a k l e. absurd (none_at k l e)) h) a;
-  accepted = each_keeps AcceptedWell accepted_step s es log (always AcceptedWell accepted_step end s log (λ a k b e. absurd (none_at k b e)) h) a;
-  one_end = each_keeps EndsOnce over_step s es log (always EndsOnce over_step end s log (λ a. omega arith) h) a;
-  one_acceptance = each_keeps AcceptedOnce accepted_once s es log (always AcceptedOnce accepted_once end s log (λ a. omega arith) h) a;
-  one_resolution = each_keeps ResolvedOnce resolved_once s es log (always ResolvedOnce resolved_once end s log (λ o. omega arith) h) a;
-  one_release = each_keeps ReleasedOnce released_once s es log (always ReleasedOnce released_once end s log (λ o. omega arith) h) a;
+pub allowed_sane : (s : Setting) (log es : List Entry) → Legal s log → EachAllowed s log es → Sane (log ++ es)
+allowed_sane s log es h a = record {
+  driver = each_keeps (λ l. node_of 1 l ≡ Some 1) driver_step s es log (always (λ l. node_of 1 l ≡ Some 1) driver_step s log refl h) a;
+  main = each_keeps (λ l. worker_of main_attempt l ≡ Some 1) main_step s es log (always (λ l. worker_of main_attempt l ≡ Some 1) main_step s log main_first h) a;
+  serials = each_keeps SerialsBound bound_step s es log (always SerialsBound bound_step s log bound_first h) a;
+  born = λ o k w e. (each_keeps BegunWell begun_step s es log (always BegunWell begun_step s log begun_first h) a o k w e).0;
+  opened = λ o k w e. (each_keeps BegunWell begun_step s es log (always BegunWell begun_step s log begun_first h) a o k w e).1;
+  ended = each_keeps EndedWell ended_step s es log (always EndedWell ended_step s log (λ a k c e. absurd (none_at k c e)) h) a;
+  faulted = each_keeps FaultedWell faulted_step s es log (always FaultedWell faulted_step s log (λ a k l e. absurd (none_at k l e)) h) a;
+  accepted = each_keeps AcceptedWell accepted_step s es log (always AcceptedWell accepted_step s log (λ a k b e. absurd (none_at k b e)) h) a;
+  one_end = each_keeps EndsOnce over_step s es log (always EndsOnce over_step s log (λ a. omega arith) h) a;
+  one_acceptance = each_keeps AcceptedOnce accepted_once s es log (always AcceptedOnce accepted_once s log (λ a. omega arith) h) a;
+  one_resolution = each_keeps ResolvedOnce resolved_once s es log (always ResolvedOnce resolved_once s log (λ o. omega arith) h) a;
+  one_release = each_keeps ReleasedOnce released_once s es log (always ReleasedOnce released_once s log (λ o. omega arith) h) a;
 }

@@ -8,7 +8,6 @@ use Rattle.event_log.specs.Words.{worker_of, ends_of, accepts_of, resolves_of}
 use Rattle.event_log.specs.Events.{has_job_out, is_live, was_told}
 use Rattle.event_log.specs.Breaks.{Among}
 use Rattle.event_log.specs.Rules.{Setting, Stops, HasContent, IsLast}
-use Rattle.event_log.specs.Legal.{Whole}
 use Rattle.event_log.specs.Laws.{MayAdd}
 
 -- the worker lives and runs the attempt, which needs the object, whose content this is; it wasn't told that its owner is dead
@@ -30,10 +29,10 @@ pub record CanAccept (log : List Entry) (w : ℕ) (b : Attempt) : Type 0 where
 
 -- the claim of a live worker of which no job is out may stand alone, with an answer, or with what is accepted and an answer
 pub record ClaimsMayAdd (s : Setting) (log : List Entry) (w seat : ℕ) : Type 0 where
-  pub alone : MayAdd Whole s log (Claim w) seat []
-  pub got : (a : Attempt) (y : Id) (c : Outcome) → CanGet s log w a y c → MayAdd Whole s log (Claim w) seat (Got a y c ∷ [])
+  pub alone : MayAdd s log (Claim w) seat []
+  pub got : (a : Attempt) (y : Id) (c : Outcome) → CanGet s log w a y c → MayAdd s log (Claim w) seat (Got a y c ∷ [])
   pub accepted :
-      (b a : Attempt) (y : Id) (c : Outcome) → CanAccept log w b → CanGet s log w a y c → MayAdd Whole s log (Claim w) seat (Accepted b ∷ Got a y c ∷ [])
+      (b a : Attempt) (y : Id) (c : Outcome) → CanAccept log w b → CanGet s log w a y c → MayAdd s log (Claim w) seat (Accepted b ∷ Got a y c ∷ [])
 
 abbrev pub LawOfClaims : Type 0
 LawOfClaims = (s : Setting) (log : List Entry) (w seat : ℕ) → is_live w log ≡ true → has_job_out w log ≡ false → ClaimsMayAdd s log w seat

@@ -8,7 +8,7 @@ use Rattle.event_log.specs.Entries.{Attempt, Commit, Entry, In, Born, Printed, E
 use Rattle.event_log.specs.Words.{births, next_serial, own_births, worker_of, printed_by}
 use Rattle.event_log.specs.Events.{refused_next, worker_of_job, is_committed, is_live}
 use Rattle.event_log.specs.Rules.{Setting, Replays}
-use Rattle.event_log.specs.Legal.{Whole, has_event, outcome_in, EachAllowed}
+use Rattle.event_log.specs.Legal.{has_event, outcome_in, EachAllowed}
 use Rattle.event_log.specs.Laws.{MayAdd}
 
 -- the births, which take ids from `next` on, then the prints, then the end if there is one
@@ -46,4 +46,4 @@ LawOfCommits =
     (s : Setting) (log : List Entry) (j seat : ℕ) (a : Attempt) (base next : Id) (p : Piece) (news : List Birth) (vs : List Value) (more : List Entry) →
     MayCommit log j a next → IsLeft s log a base next p news vs →
     IsBeside s (log ++ In (Commit j) seat ∷ commit_entries a next news vs p.stop) more →
-    MayAdd Whole s log (Commit j) seat (commit_entries a next news vs p.stop ++ more)
+    MayAdd s log (Commit j) seat (commit_entries a next news vs p.stop ++ more)

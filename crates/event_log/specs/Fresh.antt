@@ -4,7 +4,7 @@ use Rattle.meaning.specs.Values.{Id}
 use Rattle.event_log.specs.Entries.{Entry}
 use Rattle.event_log.specs.Words.{births, next_serial, runs_of, resolves_of, releases_of}
 use Rattle.event_log.specs.Rules.{Setting}
-use Rattle.event_log.specs.Legal.{End, LegalTo}
+use Rattle.event_log.specs.Legal.{Legal}
 
 -- no attempt of the object was begun, and it is neither resolved nor released
 pub record FreshIsUnknown (log : List Entry) (o : Id) : Type 0 where
@@ -15,4 +15,4 @@ pub record FreshIsUnknown (log : List Entry) (o : Id) : Type 0 where
 -- of the object that a worker makes next, a legal log says nothing yet
 abbrev pub FreshObjectsAreUnknown : Type 0
 FreshObjectsAreUnknown =
-    (end : End) (s : Setting) (log : List Entry) → LegalTo end s log → (o : Id) → o.serial ≡ next_serial o.owner (births log) → FreshIsUnknown log o
+    (s : Setting) (log : List Entry) → Legal s log → (o : Id) → o.serial ≡ next_serial o.owner (births log) → FreshIsUnknown log o

@@ -5,43 +5,43 @@ use Rattle.event_log.specs.Entries.{Attempt, Fault, Event, Claim, Commit, Entry,
 use Rattle.event_log.specs.Events.{refused_next, claims}
 use Rattle.event_log.specs.Breaks.{Cause}
 use Rattle.event_log.specs.Rules.{Receiver, Setting, Allowed}
-use Rattle.event_log.specs.Legal.{End, Whole, BrokenOff, has_event, Happens, HappensTo, Answered, EachAllowed, LegalTo, Legal, opening}
+use Rattle.event_log.specs.Legal.{has_event, Happens, Answered, EachAllowed, Legal, opening}
 use Rattle.event_log.specs.Causes.{shown, IsRefusal}
-use Rattle.event_log.specs.Books.{Totals, totals}
+use Rattle.event_log.specs.Books.{Totals, totals_of}
 
 -- ---- beginnings and more events
 
 -- what stands before an event of a legal log is legal
 abbrev pub BeginningsAreLegal : Type 0
 BeginningsAreLegal =
-    (end : End) (s : Setting) (log : List Entry) (e : Event) (seat : ℕ) (rest : List Entry) → LegalTo end s (log ++ In e seat ∷ rest) → Legal s log
+    (s : Setting) (log : List Entry) (e : Event) (seat : ℕ) (rest : List Entry) → Legal s (log ++ In e seat ∷ rest) → Legal s log
 
--- an event that isn't refused may add these entries to the log, which then ends so
-pub record MayAdd (end : End) (s : Setting) (log : List Entry) (e : Event) (seat : ℕ) (es : List Entry) : Type 0 where
+-- an event that isn't refused may add these entries to the log
+pub record MayAdd (s : Setting) (log : List Entry) (e : Event) (seat : ℕ) (es : List Entry) : Type 0 where
   pub no_event : has_event es ≡ false
   pub unrefused : refused_next es ≡ false
-  pub happens : HappensTo end false s log e es
+  pub happens : Happens s log e es
   pub each : EachAllowed s (log ++ In e seat ∷ []) es
 
 -- a legal log stays legal with one more event: refused for its cause, or with what it may add
-pub record StaysLegal (end : End) (s : Setting) (log : List Entry) (e : Event) (seat : ℕ) : Type 0 where
-  pub refused : (code : ℕ) → IsRefusal s log e code → LegalTo end s (log ++ In e seat ∷ Refused code ∷ [])
-  pub added : (es : List Entry) → MayAdd end s log e seat es → LegalTo end s (log ++ In e seat ∷ es)
+pub record StaysLegal (s : Setting) (log : List Entry) (e : Event) (seat : ℕ) : Type 0 where
+  pub refused : (code : ℕ) → IsRefusal s log e code → Legal s (log ++ In e seat ∷ Refused code ∷ [])
+  pub added : (es : List Entry) → MayAdd s log e seat es → Legal s (log ++ In e seat ∷ es)
 
 abbrev pub LegalLogsGrow : Type 0
-LegalLogsGrow = (end : End) (s : Setting) (log : List Entry) (e : Event) (seat : ℕ) → Legal s log → StaysLegal end s log e seat
+LegalLogsGrow = (s : Setting) (log : List Entry) (e : Event) (seat : ℕ) → Legal s log → StaysLegal s log e seat
 
 -- ---- what stands in a legal log
 
 -- an entry behind the opening has what it needs, of those before it and of those that come
-pub record HasItsNeeds (end : End) (s : Setting) (before : List Entry) (x : Entry) (es : List Entry) : Type 0 where
+pub record HasItsNeeds (s : Setting) (before : List Entry) (x : Entry) (es : List Entry) : Type 0 where
   pub allowed : Allowed s before x
-  pub answered : Answered s end before x es
+  pub answered : Answered s before x es
 
 abbrev pub EntriesHaveTheirNeeds : Type 0
 EntriesHaveTheirNeeds =
-    (end : End) (s : Setting) (log : List Entry) → LegalTo end s log →
-    (before : List Entry) (x : Entry) (es : List Entry) → log ≡ opening ++ (before ++ x ∷ es) → HasItsNeeds end s (opening ++ before) x es
+    (s : Setting) (log : List Entry) → Legal s log →
+    (before : List Entry) (x : Entry) (es : List Entry) → log ≡ opening ++ (before ++ x ∷ es) → HasItsNeeds s (opening ++ before) x es
 
 -- the cause of each fault stands earlier in the log
 pub record FaultsHaveCauses (log : List Entry) : Type 0 where
@@ -49,7 +49,7 @@ pub record FaultsHaveCauses (log : List Entry) : Type 0 where
   pub resolved : (before : List Entry) (o : Id) (f : Fault) (es : List Entry) → log ≡ before ++ Resolved o f ∷ es → Cause before f
 
 abbrev pub LegalFaultsHaveCauses : Type 0
-LegalFaultsHaveCauses = (end : End) (s : Setting) (log : List Entry) → LegalTo end s log → FaultsHaveCauses log
+LegalFaultsHaveCauses = (s : Setting) (log : List Entry) → Legal s log → FaultsHaveCauses log
 
 -- ---- totals
 
@@ -72,13 +72,12 @@ answered_totals false claims e = accepted_totals claims e
 abbrev pub event_totals : ℕ → Event → List Entry → Totals
 event_totals claims e es = record (answered_totals (refused_next es) claims e) { events = 1 }
 
--- the totals are sums over the events: each adds its own, but for one that was broken off
+-- the totals are sums over the events: each adds its own
 pub record TotalsAreSums (log : List Entry) : Type 0 where
-  pub none : totals Whole [] ≡ nothing
+  pub none : totals_of [] ≡ nothing
   pub more :
       (e : Event) (seat : ℕ) (es : List Entry) → has_event es ≡ false →
-      totals Whole (log ++ In e seat ∷ es) ≡ plus (totals Whole log) (event_totals (length (claims log)) e es)
-  pub broken_off : (e : Event) (seat : ℕ) (es : List Entry) → has_event es ≡ false → totals BrokenOff (log ++ In e seat ∷ es) ≡ totals Whole log
+      totals_of (log ++ In e seat ∷ es) ≡ plus (totals_of log) (event_totals (length (claims log)) e es)
 
 abbrev pub LawOfTotals : Type 0
 LawOfTotals = (log : List Entry) → TotalsAreSums log
@@ -107,5 +106,5 @@ with_receiver s receiver = record s { receiver = receiver }
 -- a legal log stays legal as messages are added to the network
 abbrev pub LegalInLargerNetworks : Type 0
 LegalInLargerNetworks =
-    (end : End) (s : Setting) (receiver : ℕ → Option Receiver) (log : List Entry) →
-    ((m : ℕ) (r : Receiver) → s.receiver m ≡ Some r → receiver m ≡ Some r) → LegalTo end s log → LegalTo end (with_receiver s receiver) log
+    (s : Setting) (receiver : ℕ → Option Receiver) (log : List Entry) →
+    ((m : ℕ) (r : Receiver) → s.receiver m ≡ Some r → receiver m ≡ Some r) → Legal s log → Legal (with_receiver s receiver) log

@@ -1,7 +1,6 @@
 -- What an event of a log needs, and which logs are legal.
-use Rattle.std.specs.Prelude.{◌≡◌, ℕ, Bool, true, false, List, [], ◌∷◌, ◌++◌, ◌⊎◌, Some}
+use Rattle.std.specs.Prelude.{◌≡◌, ℕ, Bool, true, false, List, [], ◌∷◌, ◌++◌, Some}
 use Rattle.std.specs.List.{flat_map, AllByRecursion}
-use Rattle.meaning.specs.Lists.{IsFirst}
 use Rattle.meaning.specs.Values.{Outcome, Id}
 use Rattle.meaning.specs.Runs.{Stop, Needs, Over, Piece}
 use Rattle.meaning.specs.Births.{numbered}
@@ -43,15 +42,6 @@ pub record CommitsAll (s : Setting) (before : List Entry) (a : Attempt) (es : Li
   pub prints : printed_by a before ++ printed_by a es ≡ p.prints
   pub ends : ends_of a es ≡ end_by p.stop
 
--- the entries have a part of that
-pub record CommitsPart (s : Setting) (before : List Entry) (a : Attempt) (es : List Entry) : Type 0 where
-  pub base : Id
-  pub p : Piece
-  pub replays : Replays s before a base p
-  pub own : IsFirst (own_births a before ++ own_births a es) (numbered base p.births)
-  pub prints : IsFirst (printed_by a before ++ printed_by a es) p.prints
-  pub ends : IsFirst (ends_of a es) (end_by p.stop)
-
 -- what an event needs to be accepted, with all the entries that it adds
 abbrev pub Happens : Setting → List Entry → Event → List Entry → Type 0
 Happens s before (Claim w) es = (is_live w before ≡ true) × (has_job_out w before ≡ false)
@@ -65,16 +55,6 @@ Happens s before (Lose n o) es = node_lives s.nodes n before ≡ true
 Happens s before (Kill w) es = is_live w before ≡ true
 Happens s before (KillNode n) es = node_lives s.nodes n before ≡ true
 Happens s before Join es = Unit {0}
-
--- an event that was broken off for want of memory: nothing of it was logged, or a part of what an accepted one logs
-abbrev pub BreaksOff : Setting → List Entry → Event → List Entry → Type 0
-BreaksOff s before (Commit j) es = (es ≡ []) ⊎ ((a : Attempt) × CommitsJob before j a es × CommitsPart s before a es)
-BreaksOff s before e es = (es ≡ []) ⊎ Happens s before e es
-
--- how a log ends: between two events, or within one that was broken off for want of memory
-pub data End : Type 0 where
-  Whole : End
-  BrokenOff : End
 
 -- the entries up to the next event
 abbrev pub of_event : List Entry → List Entry
@@ -92,15 +72,10 @@ abbrev pub Unless : Bool → Type 0 → Type 0
 Unless true A = Unit {0}
 Unless false A = A
 
--- the event is accepted where it isn't refused, and broken off where it is the last of such a log
-abbrev pub HappensTo : End → Bool → Setting → List Entry → Event → List Entry → Type 0
-HappensTo BrokenOff false s before e es = BreaksOff s before e es
-HappensTo _ _ s before e es = Happens s before e es
-
--- what an event needs, with the entries that come
-abbrev pub Answered : Setting → End → List Entry → Entry → List Entry → Type 0
-Answered s end before (In e seat) es = Unless (refused_next es) (HappensTo end (has_event es) s before e (of_event es))
-Answered s end before _ es = Unit {0}
+-- what an event needs, with the entries that come: it is accepted where it isn't refused
+abbrev pub Answered : Setting → List Entry → Entry → List Entry → Type 0
+Answered s before (In e seat) es = Unless (refused_next es) (Happens s before e (of_event es))
+Answered s before _ es = Unit {0}
 
 -- ---- legal logs
 
@@ -110,20 +85,16 @@ EachAllowed s before [] = Unit {0}
 EachAllowed s before (x ∷ es) = Allowed s before x × EachAllowed s (before ++ x ∷ []) es
 
 -- the entries may follow one another behind those before
-abbrev pub LegalFrom : Setting → End → List Entry → List Entry → Type 0
-LegalFrom s end before [] = Unit {0}
-LegalFrom s end before (x ∷ es) = Allowed s before x × Answered s end before x es × LegalFrom s end (before ++ x ∷ []) es
+abbrev pub LegalFrom : Setting → List Entry → List Entry → Type 0
+LegalFrom s before [] = Unit {0}
+LegalFrom s before (x ∷ es) = Allowed s before x × Answered s before x es × LegalFrom s (before ++ x ∷ []) es
 
 -- worker 1 is opened on node 1 and runs main
 abbrev pub opening : List Entry
 opening = Opened 1 1 ∷ Begun main_attempt 1 ∷ []
 
 -- the log begins with the opening, and each later entry has what it needs where it stands
-pub record LegalTo (end : End) (s : Setting) (log : List Entry) : Type 0 where
+pub record Legal (s : Setting) (log : List Entry) : Type 0 where
   pub rest : List Entry
   pub begins : log ≡ opening ++ rest
-  pub each : LegalFrom s end opening rest
-
--- a log that ends between two events
-abbrev pub Legal : Setting → List Entry → Type 0
-Legal s log = LegalTo Whole s log
+  pub each : LegalFrom s opening rest

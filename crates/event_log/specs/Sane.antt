@@ -8,7 +8,7 @@ use Rattle.event_log.specs.Words.{births, next_serial, runs_of, worker_of, ends_
 use Rattle.event_log.specs.Events.{node_of}
 use Rattle.event_log.specs.Breaks.{Among}
 use Rattle.event_log.specs.Rules.{Setting}
-use Rattle.event_log.specs.Legal.{End, LegalTo}
+use Rattle.event_log.specs.Legal.{Legal}
 
 pub record Sane (log : List Entry) : Type 0 where
   -- worker 1 is on node 1 and runs main
@@ -31,4 +31,4 @@ pub record Sane (log : List Entry) : Type 0 where
   pub one_release : (o : Id) → length (releases_of o log) ≤ 1
 
 abbrev pub LegalLogsAreSane : Type 0
-LegalLogsAreSane = (end : End) (s : Setting) (log : List Entry) → LegalTo end s log → Sane log
+LegalLogsAreSane = (s : Setting) (log : List Entry) → Legal s log → Sane log

@@ -8,7 +8,7 @@ ghost use Rattle.event_log.specs.Extends.{LogsExtend};
 ghost use Rattle.event_log.specs.Fresh.{FreshObjectsAreUnknown};
 ghost use Rattle.event_log.specs.Sane.{LegalLogsAreSane};
 
-/// A beginning of a legal log that ends between two events is legal.
+/// What stands before an event of a legal log is legal.
 pub fn beginnings_are_legal()
     ensures { BeginningsAreLegal }
 {}
@@ -28,7 +28,7 @@ pub fn legal_faults_have_causes()
     ensures { LegalFaultsHaveCauses }
 {}
 
-/// A log's totals are sums over its events: each adds its own, but for one that was broken off.
+/// A log's totals are sums over its events: each adds its own.
 pub fn law_of_totals()
     ensures { LawOfTotals }
 {}

@@ -12,7 +12,7 @@ use Rattle.script_laws.proofs.KeptKinds.{law_of_kinds, birth_read}
 use Rattle.event_log.specs.Entries.{Attempt, Entry, main_object}
 use Rattle.event_log.specs.Words.{births, answers_of, own_births}
 use Rattle.event_log.specs.Rules.{Setting, Stops, HasContent}
-use Rattle.event_log.specs.Legal.{End, LegalFrom, LegalTo, opening}
+use Rattle.event_log.specs.Legal.{LegalFrom, Legal, opening}
 use Rattle.event_log.proofs.WordLaws.{deeds}
 use Rattle.meaning_laws.proofs.Good.{AllBorn, Told, Stands, GoodLog, births_hold}
 use Rattle.meaning_laws.proofs.LogLaw.{step, good_opening, good_log}
@@ -27,15 +27,15 @@ typed_opening script h o b e = go (same_id main_object o) e
     go true e' = let same : main_birth ≡ b = cc in subst (λ x. HasKind script (read_birth (den script (births opening)) x)) same (Number, h)
     go false e' = absurd (cc)
 
-steps : (s : Setting) (end : End) → ScriptChecks s.script s.script → (before es : List Entry) → GoodLog s.script before → Typed s.script (births before) → LegalFrom s end before es → Typed s.script (births (before ++ es))
-steps s end checks before [] g t h = subst (λ log. Typed s.script (births log)) (sym (append-nil before)) t
-steps s end checks before (e ∷ es) g t h =
+steps : (s : Setting) → ScriptChecks s.script s.script → (before es : List Entry) → GoodLog s.script before → Typed s.script (births before) → LegalFrom s before es → Typed s.script (births (before ++ es))
+steps s checks before [] g t h = subst (λ log. Typed s.script (births log)) (sym (append-nil before)) t
+steps s checks before (e ∷ es) g t h =
     subst (λ log. Typed s.script (births log)) (append_assoc before (e ∷ []) es)
-    (steps s end checks (before ++ e ∷ []) es (step s before e g h.0) (typed_step s checks before g t e h.0) h.2)
+    (steps s checks (before ++ e ∷ []) es (step s before e g h.0) (typed_step s checks before g t e h.0) h.2)
 
-typed_log : (end : End) (s : Setting) (log : List Entry) → ScriptChecks s.script s.script → IsBirthOf s.script main_birth Number → LegalTo end s log → Typed s.script (births log)
-typed_log end s log checks main h =
-    subst (λ l. Typed s.script (births l)) (sym h.begins) (steps s end checks opening h.rest (good_opening s.script) (typed_opening s.script main) h.each)
+typed_log : (s : Setting) (log : List Entry) → ScriptChecks s.script s.script → IsBirthOf s.script main_birth Number → Legal s log → Typed s.script (births log)
+typed_log s log checks main h =
+    subst (λ l. Typed s.script (births l)) (sym h.begins) (steps s checks opening h.rest (good_opening s.script) (typed_opening s.script main) h.each)
 
 pub kept_fit : (s : Setting) (log : List Entry) → ScriptChecks s.script s.script → GoodLog s.script log → Typed s.script (births log) →
     (a : Attempt) (y : Id) (c : Outcome) (h : Stops s log a (Needs (Named y))) → HasContent log y c → AnswersFit (run_birth s.script h.replays.spec) h.base (answers_of a log ++ c ∷ [])
@@ -53,9 +53,9 @@ kept_fit s log checks g typed a y c h content =
     keeps.more (Named y) c needs (content_is s log g y c content).0
 
 pub legal_logs_keep : LegalLogsKeepKinds
-legal_logs_keep end s log checks main h =
-    let g = good_log end s log h in
-    let typed = typed_log end s log checks main h in
+legal_logs_keep s log checks main h =
+    let g = good_log s log h in
+    let typed = typed_log s log checks main h in
     record {
       kinds = λ o b e. let k = typed o b e in (k.0, birth_read s.script (den s.script (births log)) b k.0 k.1);
       next = kept_fit s log checks g typed;

@@ -12,7 +12,7 @@ use Rattle.script_laws.proofs.Mains.{main_stays_apart}
 use Rattle.event_log.specs.Entries.{Attempt, Entry, In, Refused, Opened, Begun, Born, Got, Printed, Ended, Accepted, Faulted, Resolved, Released, main_object}
 use Rattle.event_log.specs.Words.{births, born_in, own_births, answers_of}
 use Rattle.event_log.specs.Rules.{Setting, Allowed, MayBear, Replays}
-use Rattle.event_log.specs.Legal.{End, LegalFrom, LegalTo, opening}
+use Rattle.event_log.specs.Legal.{LegalFrom, Legal, opening}
 use Rattle.event_log.proofs.WordLaws.{births_push}
 use Rattle.kind_laws.specs.Mains.{LegalLogsKeepMainApart}
 
@@ -66,13 +66,13 @@ module _ (s : Setting) (keeps : KeepsMainApart s.script) where
   step log (Resolved o f) apart h = silent log (Resolved o f) refl apart
   step log (Released o) apart h = silent log (Released o) refl apart
 
-  steps : (end : End) (before es : List Entry) → AreApart (births before) → LegalFrom s end before es → AreApart (births (before ++ es))
-  steps end before [] apart h = subst (λ log. AreApart (births log)) (sym (append-nil before)) apart
-  steps end before (e ∷ es) apart h =
-      subst (λ log. AreApart (births log)) (append_assoc before (e ∷ []) es) (steps end (before ++ e ∷ []) es (step before e apart h.0) h.2)
+  steps : (before es : List Entry) → AreApart (births before) → LegalFrom s before es → AreApart (births (before ++ es))
+  steps before [] apart h = subst (λ log. AreApart (births log)) (sym (append-nil before)) apart
+  steps before (e ∷ es) apart h =
+      subst (λ log. AreApart (births log)) (append_assoc before (e ∷ []) es) (steps (before ++ e ∷ []) es (step before e apart h.0) h.2)
 
-  all_births : (end : End) (log : List Entry) → LegalTo end s log → AreApart (births log)
-  all_births end log h = subst (λ l. AreApart (births l)) (sym h.begins) (steps end opening h.rest at_opening h.each)
+  all_births : (log : List Entry) → Legal s log → AreApart (births log)
+  all_births log h = subst (λ l. AreApart (births l)) (sym h.begins) (steps opening h.rest at_opening h.each)
 
   prints : (log : List Entry) → AreApart (births log) → (a : Attempt) (base : Id) (p : Piece) → Replays s log a base p → (a.object ≡ main_object) ⊎ (p.prints ≡ [])
   prints log apart a base p r = go (apart a.object r.spec r.born)
@@ -82,6 +82,6 @@ module _ (s : Setting) (keeps : KeepsMainApart s.script) where
       go (inr other) = inr (ap (λ (q : Piece). q.prints) r.replayed ∙ (main_stays_apart s.script keeps r.spec base (answers_of a log)).prints other)
 
 pub legal_logs_keep_main_apart : LegalLogsKeepMainApart
-legal_logs_keep_main_apart end s log keeps h =
-    let apart = all_births s keeps end log h in
+legal_logs_keep_main_apart s log keeps h =
+    let apart = all_births s keeps log h in
     record { births = apart; prints = prints s keeps log apart }

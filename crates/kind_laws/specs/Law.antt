@@ -9,7 +9,7 @@ use Rattle.meaning.specs.Kinds.{ScriptChecks, IsBirthOf, AnswersFit}
 use Rattle.event_log.specs.Entries.{Attempt, Entry}
 use Rattle.event_log.specs.Words.{births, answers_of}
 use Rattle.event_log.specs.Rules.{Setting, Stops, HasContent}
-use Rattle.event_log.specs.Legal.{End, LegalTo}
+use Rattle.event_log.specs.Legal.{Legal}
 
 -- the birth makes an object of some kind
 abbrev pub HasKind : Script → Birth → Type 0
@@ -25,5 +25,5 @@ pub record KeepsKinds (s : Setting) (log : List Entry) : Type 0 where
 -- every legal log of a script whose functions are allowed, and whose main has no parameters and gives a number
 abbrev pub LegalLogsKeepKinds : Type 0
 LegalLogsKeepKinds =
-    (end : End) (s : Setting) (log : List Entry) → ScriptChecks s.script s.script → IsBirthOf s.script main_birth Number → LegalTo end s log →
+    (s : Setting) (log : List Entry) → ScriptChecks s.script s.script → IsBirthOf s.script main_birth Number → Legal s log →
     KeepsKinds s log

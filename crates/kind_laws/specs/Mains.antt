@@ -7,7 +7,7 @@ use Rattle.meaning.specs.Mains.{KeepsMainApart, IsNotMains}
 use Rattle.event_log.specs.Entries.{Attempt, Entry, main_object}
 use Rattle.event_log.specs.Words.{births}
 use Rattle.event_log.specs.Rules.{Setting, Replays}
-use Rattle.event_log.specs.Legal.{End, LegalTo}
+use Rattle.event_log.specs.Legal.{Legal}
 
 -- but for main's own object no birth is a task of main, and the replay of no other object's attempt prints
 pub record HasMainApart (s : Setting) (log : List Entry) : Type 0 where
@@ -16,4 +16,4 @@ pub record HasMainApart (s : Setting) (log : List Entry) : Type 0 where
 
 -- every legal log of a script that keeps main apart
 abbrev pub LegalLogsKeepMainApart : Type 0
-LegalLogsKeepMainApart = (end : End) (s : Setting) (log : List Entry) → KeepsMainApart s.script → LegalTo end s log → HasMainApart s log
+LegalLogsKeepMainApart = (s : Setting) (log : List Entry) → KeepsMainApart s.script → Legal s log → HasMainApart s log

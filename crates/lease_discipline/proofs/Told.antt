@@ -278,4 +278,4 @@ attempts_run_once s log c step a v w x y at there began begun = same_runner (run
     ]
       where
         main_runs : worker_of main_attempt log ≡ Some 1
-        main_runs = (legal_logs_are_sane L.Whole (setting_of s c) log step.sound.between.legal).main
+        main_runs = (legal_logs_are_sane (setting_of s c) log step.sound.between.legal).main

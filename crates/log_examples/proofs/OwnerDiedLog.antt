@@ -12,15 +12,15 @@ use Rattle.event_log.specs.Breaks.{breaks_from, breaks_of}
 use Rattle.event_log.specs.Holding.{is_one_of, anchored}
 use Rattle.log_examples.proofs.Unheld.{may_be_held, not_held}
 use Rattle.event_log.specs.Rules.{ToWorker, ToNode, Allowed}
-use Rattle.event_log.specs.Legal.{Whole, Answered, Legal, opening}
+use Rattle.event_log.specs.Legal.{Answered, Legal, opening}
 use Rattle.log_examples.specs.Logs.{first_of}
 use Rattle.log_examples.specs.FaultLogs.{calling_outer, calling_leaf, reference_to, died, owner_died_setting, owner_died_rest, owner_died_log}
 
-owner_died_0 : Answered owner_died_setting Whole (opening ++ take 0 owner_died_rest) (In (Claim 1) 0) (drop 1 owner_died_rest)
+owner_died_0 : Answered owner_died_setting (opening ++ take 0 owner_died_rest) (In (Claim 1) 0) (drop 1 owner_died_rest)
 unfolding call_at same_id same_attempt accepted_events under_way_from ends_with_in is_committed has_job_out node_is_killed node_lives is_killed is_live was_told was_lost breaks_from breaks_of is_one_of anchored may_be_held
 owner_died_0 = (refl, refl)
 
-owner_died_1 : Answered owner_died_setting Whole (opening ++ take 1 owner_died_rest) (In (Commit 1) 0) (drop 2 owner_died_rest)
+owner_died_1 : Answered owner_died_setting (opening ++ take 1 owner_died_rest) (In (Commit 1) 0) (drop 2 owner_died_rest)
 unfolding call_at same_id same_attempt accepted_events under_way_from ends_with_in is_committed has_job_out node_is_killed node_lives is_killed is_live was_told was_lost breaks_from breaks_of is_one_of anchored may_be_held
 owner_died_1 = (main_attempt, record { worker = 1; claimed = refl; once = refl; lives = refl; runs = refl; alone = (refl, tt) }, record { base = object 1 1; p = replay reference_got main_birth (object 1 1) []; replays = record { spec = main_birth; born = refl; ended = refl; faulted = refl; replayed = refl }; own = refl; prints = refl; ends = refl })
 
@@ -36,11 +36,11 @@ owner_died_6 : Allowed owner_died_setting (opening ++ take 6 owner_died_rest) (B
 unfolding call_at same_id same_attempt accepted_events under_way_from ends_with_in is_committed has_job_out node_is_killed node_lives is_killed is_live was_told was_lost breaks_from breaks_of is_one_of anchored may_be_held
 owner_died_6 = record { own = record { event = Deliver 2; now = refl; own = refl; lives = refl }; function = codes "outer"; args = []; depth = 1; retries = 3; born = refl; unreleased = refl; unresolved = refl; node = 1; place = refl; next = refl; broken = tt; few = omega arith }
 
-owner_died_8 : Answered owner_died_setting Whole (opening ++ take 8 owner_died_rest) (In (Claim 2) 0) (drop 9 owner_died_rest)
+owner_died_8 : Answered owner_died_setting (opening ++ take 8 owner_died_rest) (In (Claim 2) 0) (drop 9 owner_died_rest)
 unfolding call_at same_id same_attempt accepted_events under_way_from ends_with_in is_committed has_job_out node_is_killed node_lives is_killed is_live was_told was_lost breaks_from breaks_of is_one_of anchored may_be_held
 owner_died_8 = (refl, refl)
 
-owner_died_9 : Answered owner_died_setting Whole (opening ++ take 9 owner_died_rest) (In (Commit 2) 0) (drop 10 owner_died_rest)
+owner_died_9 : Answered owner_died_setting (opening ++ take 9 owner_died_rest) (In (Commit 2) 0) (drop 10 owner_died_rest)
 unfolding call_at same_id same_attempt accepted_events under_way_from ends_with_in is_committed has_job_out node_is_killed node_lives is_killed is_live was_told was_lost breaks_from breaks_of is_one_of anchored may_be_held
 owner_died_9 = (first_of (object 1 1), record { worker = 2; claimed = refl; once = refl; lives = refl; runs = refl; alone = (refl, (refl, tt)) }, record { base = object 2 1; p = replay reference_got calling_outer (object 2 1) []; replays = record { spec = calling_outer; born = refl; ended = refl; faulted = refl; replayed = refl }; own = refl; prints = refl; ends = refl })
 
@@ -68,11 +68,11 @@ owner_died_18 : Allowed owner_died_setting (opening ++ take 18 owner_died_rest) 
 unfolding call_at same_id same_attempt accepted_events under_way_from ends_with_in is_committed has_job_out node_is_killed node_lives is_killed is_live was_told was_lost breaks_from breaks_of is_one_of anchored may_be_held
 owner_died_18 = record { own = record { event = Deliver 6; now = refl; own = refl; lives = refl }; function = codes "leaf"; args = []; depth = 2; retries = 3; born = refl; unreleased = refl; unresolved = refl; node = 1; place = refl; next = refl; broken = tt; few = omega arith }
 
-owner_died_22 : Answered owner_died_setting Whole (opening ++ take 22 owner_died_rest) (In (Claim 3) 0) (drop 23 owner_died_rest)
+owner_died_22 : Answered owner_died_setting (opening ++ take 22 owner_died_rest) (In (Claim 3) 0) (drop 23 owner_died_rest)
 unfolding call_at same_id same_attempt accepted_events under_way_from ends_with_in is_committed has_job_out node_is_killed node_lives is_killed is_live was_told was_lost breaks_from breaks_of is_one_of anchored may_be_held
 owner_died_22 = (refl, refl)
 
-owner_died_23 : Answered owner_died_setting Whole (opening ++ take 23 owner_died_rest) (In (Commit 3) 0) (drop 24 owner_died_rest)
+owner_died_23 : Answered owner_died_setting (opening ++ take 23 owner_died_rest) (In (Commit 3) 0) (drop 24 owner_died_rest)
 unfolding call_at same_id same_attempt accepted_events under_way_from ends_with_in is_committed has_job_out node_is_killed node_lives is_killed is_live was_told was_lost breaks_from breaks_of is_one_of anchored may_be_held
 owner_died_23 = (first_of (object 2 1), record { worker = 3; claimed = refl; once = refl; lives = refl; runs = refl; alone = (refl, tt) }, record { base = object 3 1; p = replay reference_got calling_leaf (object 3 1) []; replays = record { spec = calling_leaf; born = refl; ended = refl; faulted = refl; replayed = refl }; own = refl; prints = refl; ends = refl })
 
@@ -84,15 +84,15 @@ owner_died_26 : Allowed owner_died_setting (opening ++ take 26 owner_died_rest) 
 unfolding call_at same_id same_attempt accepted_events under_way_from ends_with_in is_committed has_job_out node_is_killed node_lives is_killed is_live was_told was_lost breaks_from breaks_of is_one_of anchored may_be_held
 owner_died_26 = record { own = record { event = Deliver 10; now = refl; own = refl; lives = refl }; not_main = refl; content = (value 4); ended = (0, refl); last = refl; unresolved = refl; once = refl }
 
-owner_died_30 : Answered owner_died_setting Whole (opening ++ take 30 owner_died_rest) (In (Notice 1 2) 0) (drop 31 owner_died_rest)
+owner_died_30 : Answered owner_died_setting (opening ++ take 30 owner_died_rest) (In (Notice 1 2) 0) (drop 31 owner_died_rest)
 unfolding call_at same_id same_attempt accepted_events under_way_from ends_with_in is_committed has_job_out node_is_killed node_lives is_killed is_live was_told was_lost breaks_from breaks_of is_one_of anchored may_be_held
 owner_died_30 = (refl, refl)
 
-owner_died_31 : Answered owner_died_setting Whole (opening ++ take 31 owner_died_rest) (In (Claim 1) 0) (drop 32 owner_died_rest)
+owner_died_31 : Answered owner_died_setting (opening ++ take 31 owner_died_rest) (In (Claim 1) 0) (drop 32 owner_died_rest)
 unfolding call_at same_id same_attempt accepted_events under_way_from ends_with_in is_committed has_job_out node_is_killed node_lives is_killed is_live was_told was_lost breaks_from breaks_of is_one_of anchored may_be_held
 owner_died_31 = (refl, refl)
 
-owner_died_32 : Answered owner_died_setting Whole (opening ++ take 32 owner_died_rest) (In (Commit 4) 0) (drop 33 owner_died_rest)
+owner_died_32 : Answered owner_died_setting (opening ++ take 32 owner_died_rest) (In (Commit 4) 0) (drop 33 owner_died_rest)
 unfolding call_at same_id same_attempt accepted_events under_way_from ends_with_in is_committed has_job_out node_is_killed node_lives is_killed is_live was_told was_lost breaks_from breaks_of is_one_of anchored may_be_held
 owner_died_32 = (main_attempt, record { worker = 1; claimed = refl; once = refl; lives = refl; runs = refl; alone = tt }, record { base = object 1 1; p = replay reference_got main_birth (object 1 1) (reference_to (object 2 1) ∷ []); replays = record { spec = main_birth; born = refl; ended = refl; faulted = refl; replayed = refl }; own = refl; prints = refl; ends = refl })
 
@@ -104,7 +104,7 @@ owner_died_34 : Allowed owner_died_setting (opening ++ take 34 owner_died_rest) 
 unfolding call_at same_id same_attempt accepted_events under_way_from ends_with_in is_committed has_job_out node_is_killed node_lives is_killed is_live was_told was_lost breaks_from breaks_of is_one_of anchored may_be_held
 owner_died_34 = record { own = record { event = Commit 4; now = refl; own = refl; lives = refl }; once = refl; settled = inr (inr (0, refl, (0, refl))); bearer = main_attempt; bore = (0, refl); over = inr (record { object = object 2 1; fault = died (object 2 1) }, (0, refl)); unheld = not_held refl }
 
-owner_died_29 : Answered owner_died_setting Whole (opening ++ take 29 owner_died_rest) (In (Kill 2) 0) (drop 30 owner_died_rest)
+owner_died_29 : Answered owner_died_setting (opening ++ take 29 owner_died_rest) (In (Kill 2) 0) (drop 30 owner_died_rest)
 unfolding call_at same_id same_attempt accepted_events under_way_from ends_with_in is_committed has_job_out node_is_killed node_lives is_killed is_live was_told was_lost breaks_from breaks_of is_one_of anchored may_be_held
 owner_died_29 = refl
 

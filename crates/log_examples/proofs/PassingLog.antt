@@ -11,14 +11,14 @@ use Rattle.event_log.specs.Events.{accepted_events, under_way_from, ends_with_in
 use Rattle.event_log.specs.Breaks.{breaks_from, breaks_of}
 use Rattle.event_log.specs.Holding.{is_one_of, anchored}
 use Rattle.event_log.specs.Rules.{ToWorker, ToNode, Allowed}
-use Rattle.event_log.specs.Legal.{Whole, Answered, Legal, opening}
+use Rattle.event_log.specs.Legal.{Answered, Legal, opening}
 use Rattle.log_examples.specs.Logs.{first_of, number, given, calling_mid, calling_add, passing_setting, passing_rest, passing_log}
 
-passing_0 : Answered passing_setting Whole (opening ++ take 0 passing_rest) (In (Claim 1) 0) (drop 1 passing_rest)
+passing_0 : Answered passing_setting (opening ++ take 0 passing_rest) (In (Claim 1) 0) (drop 1 passing_rest)
 unfolding call_at same_id same_attempt accepted_events under_way_from ends_with_in is_committed has_job_out node_is_killed node_lives is_killed is_live was_told was_lost breaks_from breaks_of is_one_of anchored
 passing_0 = (refl, refl)
 
-passing_1 : Answered passing_setting Whole (opening ++ take 1 passing_rest) (In (Commit 1) 0) (drop 2 passing_rest)
+passing_1 : Answered passing_setting (opening ++ take 1 passing_rest) (In (Commit 1) 0) (drop 2 passing_rest)
 unfolding call_at same_id same_attempt accepted_events under_way_from ends_with_in is_committed has_job_out node_is_killed node_lives is_killed is_live was_told was_lost breaks_from breaks_of is_one_of anchored
 passing_1 = (main_attempt, record { worker = 1; claimed = refl; once = refl; lives = refl; runs = refl; alone = (refl, (refl, tt)) }, record { base = object 1 1; p = replay reference_passed main_birth (object 1 1) []; replays = record { spec = main_birth; born = refl; ended = refl; faulted = refl; replayed = refl }; own = refl; prints = refl; ends = refl })
 
@@ -38,11 +38,11 @@ passing_7 : Allowed passing_setting (opening ++ take 7 passing_rest) (Begun (fir
 unfolding call_at same_id same_attempt accepted_events under_way_from ends_with_in is_committed has_job_out node_is_killed node_lives is_killed is_live was_told was_lost breaks_from breaks_of is_one_of anchored
 passing_7 = record { own = record { event = Deliver 2; now = refl; own = refl; lives = refl }; function = codes "mid"; args = given (Named (object 1 1)) ∷ []; depth = 1; retries = 3; born = refl; unreleased = refl; unresolved = refl; node = 1; place = refl; next = refl; broken = tt; few = omega arith }
 
-passing_9 : Answered passing_setting Whole (opening ++ take 9 passing_rest) (In (Claim 2) 0) (drop 10 passing_rest)
+passing_9 : Answered passing_setting (opening ++ take 9 passing_rest) (In (Claim 2) 0) (drop 10 passing_rest)
 unfolding call_at same_id same_attempt accepted_events under_way_from ends_with_in is_committed has_job_out node_is_killed node_lives is_killed is_live was_told was_lost breaks_from breaks_of is_one_of anchored
 passing_9 = (refl, refl)
 
-passing_10 : Answered passing_setting Whole (opening ++ take 10 passing_rest) (In (Commit 2) 0) (drop 11 passing_rest)
+passing_10 : Answered passing_setting (opening ++ take 10 passing_rest) (In (Commit 2) 0) (drop 11 passing_rest)
 unfolding call_at same_id same_attempt accepted_events under_way_from ends_with_in is_committed has_job_out node_is_killed node_lives is_killed is_live was_told was_lost breaks_from breaks_of is_one_of anchored
 passing_10 = (first_of (object 1 2), record { worker = 2; claimed = refl; once = refl; lives = refl; runs = refl; alone = (refl, (refl, tt)) }, record { base = object 2 1; p = replay reference_passed calling_mid (object 2 1) []; replays = record { spec = calling_mid; born = refl; ended = refl; faulted = refl; replayed = refl }; own = refl; prints = refl; ends = refl })
 
@@ -62,11 +62,11 @@ passing_16 : Allowed passing_setting (opening ++ take 16 passing_rest) (Begun (f
 unfolding call_at same_id same_attempt accepted_events under_way_from ends_with_in is_committed has_job_out node_is_killed node_lives is_killed is_live was_told was_lost breaks_from breaks_of is_one_of anchored
 passing_16 = record { own = record { event = Deliver 6; now = refl; own = refl; lives = refl }; function = codes "add"; args = given (Named (object 1 1)) ∷ []; depth = 2; retries = 3; born = refl; unreleased = refl; unresolved = refl; node = 1; place = refl; next = refl; broken = tt; few = omega arith }
 
-passing_18 : Answered passing_setting Whole (opening ++ take 18 passing_rest) (In (Claim 3) 0) (drop 19 passing_rest)
+passing_18 : Answered passing_setting (opening ++ take 18 passing_rest) (In (Claim 3) 0) (drop 19 passing_rest)
 unfolding call_at same_id same_attempt accepted_events under_way_from ends_with_in is_committed has_job_out node_is_killed node_lives is_killed is_live was_told was_lost breaks_from breaks_of is_one_of anchored
 passing_18 = (refl, refl)
 
-passing_19 : Answered passing_setting Whole (opening ++ take 19 passing_rest) (In (Commit 3) 0) (drop 20 passing_rest)
+passing_19 : Answered passing_setting (opening ++ take 19 passing_rest) (In (Commit 3) 0) (drop 20 passing_rest)
 unfolding call_at same_id same_attempt accepted_events under_way_from ends_with_in is_committed has_job_out node_is_killed node_lives is_killed is_live was_told was_lost breaks_from breaks_of is_one_of anchored
 passing_19 = (first_of (object 2 1), record { worker = 3; claimed = refl; once = refl; lives = refl; runs = refl; alone = tt }, record { base = object 3 1; p = replay reference_passed calling_add (object 3 1) []; replays = record { spec = calling_add; born = refl; ended = refl; faulted = refl; replayed = refl }; own = refl; prints = refl; ends = refl })
 
@@ -74,11 +74,11 @@ passing_22 : Allowed passing_setting (opening ++ take 22 passing_rest) (Got (fir
 unfolding call_at same_id same_attempt accepted_events under_way_from ends_with_in is_committed has_job_out node_is_killed node_lives is_killed is_live was_told was_lost breaks_from breaks_of is_one_of anchored
 passing_22 = record { worker = 3; runs = refl; own = record { event = Deliver 9; now = refl; own = refl; lives = refl }; needs = record { base = object 3 1; p = replay reference_passed calling_add (object 3 1) []; replays = record { spec = calling_add; born = refl; ended = refl; faulted = refl; replayed = refl }; own = refl; prints = refl; stopped = refl }; content = inl (number 6, refl, refl); untold = refl }
 
-passing_23 : Answered passing_setting Whole (opening ++ take 23 passing_rest) (In (Claim 3) 0) (drop 24 passing_rest)
+passing_23 : Answered passing_setting (opening ++ take 23 passing_rest) (In (Claim 3) 0) (drop 24 passing_rest)
 unfolding call_at same_id same_attempt accepted_events under_way_from ends_with_in is_committed has_job_out node_is_killed node_lives is_killed is_live was_told was_lost breaks_from breaks_of is_one_of anchored
 passing_23 = (refl, refl)
 
-passing_24 : Answered passing_setting Whole (opening ++ take 24 passing_rest) (In (Commit 4) 0) (drop 25 passing_rest)
+passing_24 : Answered passing_setting (opening ++ take 24 passing_rest) (In (Commit 4) 0) (drop 25 passing_rest)
 unfolding call_at same_id same_attempt accepted_events under_way_from ends_with_in is_committed has_job_out node_is_killed node_lives is_killed is_live was_told was_lost breaks_from breaks_of is_one_of anchored
 passing_24 = (first_of (object 2 1), record { worker = 3; claimed = refl; once = refl; lives = refl; runs = refl; alone = (refl, tt) }, record { base = object 3 1; p = replay reference_passed calling_add (object 3 1) (value 6 ∷ []); replays = record { spec = calling_add; born = refl; ended = refl; faulted = refl; replayed = refl }; own = refl; prints = refl; ends = refl })
 

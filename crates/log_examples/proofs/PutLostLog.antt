@@ -12,15 +12,15 @@ use Rattle.event_log.specs.Breaks.{breaks_from, breaks_of}
 use Rattle.event_log.specs.Holding.{is_one_of, anchored}
 use Rattle.log_examples.proofs.Unheld.{may_be_held, not_held}
 use Rattle.event_log.specs.Rules.{ToWorker, ToNode, Allowed}
-use Rattle.event_log.specs.Legal.{Whole, Answered, Legal, opening}
+use Rattle.event_log.specs.Legal.{Answered, Legal, opening}
 use Rattle.log_examples.specs.Logs.{first_of}
 use Rattle.log_examples.specs.FaultLogs.{chained, one_two, read, calling_f, calling_g, lost, put_lost_setting, put_lost_rest, put_lost_log}
 
-put_lost_0 : Answered put_lost_setting Whole (opening ++ take 0 put_lost_rest) (In (Claim 1) 0) (drop 1 put_lost_rest)
+put_lost_0 : Answered put_lost_setting (opening ++ take 0 put_lost_rest) (In (Claim 1) 0) (drop 1 put_lost_rest)
 unfolding call_at same_id same_attempt accepted_events under_way_from ends_with_in is_committed has_job_out node_is_killed node_lives is_killed is_live was_told was_lost breaks_from breaks_of is_one_of anchored may_be_held
 put_lost_0 = (refl, refl)
 
-put_lost_1 : Answered put_lost_setting Whole (opening ++ take 1 put_lost_rest) (In (Commit 1) 0) (drop 2 put_lost_rest)
+put_lost_1 : Answered put_lost_setting (opening ++ take 1 put_lost_rest) (In (Commit 1) 0) (drop 2 put_lost_rest)
 unfolding call_at same_id same_attempt accepted_events under_way_from ends_with_in is_committed has_job_out node_is_killed node_lives is_killed is_live was_told was_lost breaks_from breaks_of is_one_of anchored may_be_held
 put_lost_1 = (main_attempt, record { worker = 1; claimed = refl; once = refl; lives = refl; runs = refl; alone = (refl, (refl, (refl, tt))) }, record { base = object 1 1; p = replay chained main_birth (object 1 1) []; replays = record { spec = main_birth; born = refl; ended = refl; faulted = refl; replayed = refl }; own = refl; prints = refl; ends = refl })
 
@@ -56,11 +56,11 @@ put_lost_16 : Allowed put_lost_setting (opening ++ take 16 put_lost_rest) (Refus
 unfolding call_at same_id same_attempt accepted_events under_way_from ends_with_in is_committed has_job_out node_is_killed node_lives is_killed is_live was_told was_lost breaks_from breaks_of is_one_of anchored may_be_held
 put_lost_16 = record { log = opening ++ take 15 put_lost_rest; event = Evict 1 (object 1 1); seat = 0; parts = refl; cause = (true, (0, refl)) }
 
-put_lost_18 : Answered put_lost_setting Whole (opening ++ take 18 put_lost_rest) (In (Claim 2) 0) (drop 19 put_lost_rest)
+put_lost_18 : Answered put_lost_setting (opening ++ take 18 put_lost_rest) (In (Claim 2) 0) (drop 19 put_lost_rest)
 unfolding call_at same_id same_attempt accepted_events under_way_from ends_with_in is_committed has_job_out node_is_killed node_lives is_killed is_live was_told was_lost breaks_from breaks_of is_one_of anchored may_be_held
 put_lost_18 = (refl, refl)
 
-put_lost_19 : Answered put_lost_setting Whole (opening ++ take 19 put_lost_rest) (In (Commit 2) 0) (drop 20 put_lost_rest)
+put_lost_19 : Answered put_lost_setting (opening ++ take 19 put_lost_rest) (In (Commit 2) 0) (drop 20 put_lost_rest)
 unfolding call_at same_id same_attempt accepted_events under_way_from ends_with_in is_committed has_job_out node_is_killed node_lives is_killed is_live was_told was_lost breaks_from breaks_of is_one_of anchored may_be_held
 put_lost_19 = (first_of (object 1 2), record { worker = 2; claimed = refl; once = refl; lives = refl; runs = refl; alone = tt }, record { base = object 2 1; p = replay chained calling_f (object 2 1) []; replays = record { spec = calling_f; born = refl; ended = refl; faulted = refl; replayed = refl }; own = refl; prints = refl; ends = refl })
 
@@ -76,11 +76,11 @@ put_lost_27 : Allowed put_lost_setting (opening ++ take 27 put_lost_rest) (Resol
 unfolding call_at same_id same_attempt accepted_events under_way_from ends_with_in is_committed has_job_out node_is_killed node_lives is_killed is_live was_told was_lost breaks_from breaks_of is_one_of anchored may_be_held
 put_lost_27 = record { own = record { event = Deliver 11; now = refl; own = refl; lives = refl }; not_main = refl; once = refl; reason = inl (record { number = 0; last = refl; got = object 1 1; faulted = (0, refl) }); cause = record { before = take 5 (opening ++ take 27 put_lost_rest); after = drop 5 (opening ++ take 27 put_lost_rest); parts = refl; value = one_two; put = refl; node = 1; place = refl; lost = refl } }
 
-put_lost_30 : Answered put_lost_setting Whole (opening ++ take 30 put_lost_rest) (In (Claim 3) 0) (drop 31 put_lost_rest)
+put_lost_30 : Answered put_lost_setting (opening ++ take 30 put_lost_rest) (In (Claim 3) 0) (drop 31 put_lost_rest)
 unfolding call_at same_id same_attempt accepted_events under_way_from ends_with_in is_committed has_job_out node_is_killed node_lives is_killed is_live was_told was_lost breaks_from breaks_of is_one_of anchored may_be_held
 put_lost_30 = (refl, refl)
 
-put_lost_31 : Answered put_lost_setting Whole (opening ++ take 31 put_lost_rest) (In (Commit 3) 0) (drop 32 put_lost_rest)
+put_lost_31 : Answered put_lost_setting (opening ++ take 31 put_lost_rest) (In (Commit 3) 0) (drop 32 put_lost_rest)
 unfolding call_at same_id same_attempt accepted_events under_way_from ends_with_in is_committed has_job_out node_is_killed node_lives is_killed is_live was_told was_lost breaks_from breaks_of is_one_of anchored may_be_held
 put_lost_31 = (first_of (object 1 3), record { worker = 3; claimed = refl; once = refl; lives = refl; runs = refl; alone = tt }, record { base = object 3 1; p = replay chained calling_g (object 3 1) []; replays = record { spec = calling_g; born = refl; ended = refl; faulted = refl; replayed = refl }; own = refl; prints = refl; ends = refl })
 
@@ -108,7 +108,7 @@ put_lost_40 : Allowed put_lost_setting (opening ++ take 40 put_lost_rest) (Relea
 unfolding call_at same_id same_attempt accepted_events under_way_from ends_with_in is_committed has_job_out node_is_killed node_lives is_killed is_live was_told was_lost breaks_from breaks_of is_one_of anchored may_be_held
 put_lost_40 = record { own = record { event = Deliver 16; now = refl; own = refl; lives = refl }; once = refl; settled = inl (one_two, refl); bearer = main_attempt; bore = (0, refl); over = inr (record { object = object 1 3; fault = lost (object 1 1) }, (0, refl)); unheld = not_held refl }
 
-put_lost_17 : Answered put_lost_setting Whole (opening ++ take 17 put_lost_rest) (In (Lose 1 (object 1 1)) 0) (drop 18 put_lost_rest)
+put_lost_17 : Answered put_lost_setting (opening ++ take 17 put_lost_rest) (In (Lose 1 (object 1 1)) 0) (drop 18 put_lost_rest)
 unfolding call_at same_id same_attempt accepted_events under_way_from ends_with_in is_committed has_job_out node_is_killed node_lives is_killed is_live was_told was_lost breaks_from breaks_of is_one_of anchored may_be_held
 put_lost_17 = refl
 

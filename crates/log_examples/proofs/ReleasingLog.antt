@@ -12,15 +12,15 @@ use Rattle.event_log.specs.Breaks.{breaks_from, breaks_of}
 use Rattle.event_log.specs.Holding.{is_one_of, anchored}
 use Rattle.log_examples.proofs.Unheld.{may_be_held, not_held}
 use Rattle.event_log.specs.Rules.{ToWorker, ToNode, Allowed}
-use Rattle.event_log.specs.Legal.{Whole, Answered, Legal, opening}
+use Rattle.event_log.specs.Legal.{Answered, Legal, opening}
 use Rattle.log_examples.specs.Logs.{first_of, number, given, calling_mid, calling_add}
 use Rattle.log_examples.specs.ReleaseLogs.{releasing_setting, releasing_rest, releasing_log}
 
-releasing_0 : Answered releasing_setting Whole (opening ++ take 0 releasing_rest) (In (Claim 1) 0) (drop 1 releasing_rest)
+releasing_0 : Answered releasing_setting (opening ++ take 0 releasing_rest) (In (Claim 1) 0) (drop 1 releasing_rest)
 unfolding call_at same_id same_attempt accepted_events under_way_from ends_with_in is_committed has_job_out node_is_killed node_lives is_killed is_live was_told was_lost breaks_from breaks_of is_one_of anchored may_be_held
 releasing_0 = (refl, refl)
 
-releasing_1 : Answered releasing_setting Whole (opening ++ take 1 releasing_rest) (In (Commit 1) 0) (drop 2 releasing_rest)
+releasing_1 : Answered releasing_setting (opening ++ take 1 releasing_rest) (In (Commit 1) 0) (drop 2 releasing_rest)
 unfolding call_at same_id same_attempt accepted_events under_way_from ends_with_in is_committed has_job_out node_is_killed node_lives is_killed is_live was_told was_lost breaks_from breaks_of is_one_of anchored may_be_held
 releasing_1 = (main_attempt, record { worker = 1; claimed = refl; once = refl; lives = refl; runs = refl; alone = (refl, (refl, tt)) }, record { base = object 1 1; p = replay reference_passed main_birth (object 1 1) []; replays = record { spec = main_birth; born = refl; ended = refl; faulted = refl; replayed = refl }; own = refl; prints = refl; ends = refl })
 
@@ -40,11 +40,11 @@ releasing_7 : Allowed releasing_setting (opening ++ take 7 releasing_rest) (Begu
 unfolding call_at same_id same_attempt accepted_events under_way_from ends_with_in is_committed has_job_out node_is_killed node_lives is_killed is_live was_told was_lost breaks_from breaks_of is_one_of anchored may_be_held
 releasing_7 = record { own = record { event = Deliver 2; now = refl; own = refl; lives = refl }; function = codes "mid"; args = given (Named (object 1 1)) ∷ []; depth = 1; retries = 3; born = refl; unreleased = refl; unresolved = refl; node = 1; place = refl; next = refl; broken = tt; few = omega arith }
 
-releasing_9 : Answered releasing_setting Whole (opening ++ take 9 releasing_rest) (In (Claim 2) 0) (drop 10 releasing_rest)
+releasing_9 : Answered releasing_setting (opening ++ take 9 releasing_rest) (In (Claim 2) 0) (drop 10 releasing_rest)
 unfolding call_at same_id same_attempt accepted_events under_way_from ends_with_in is_committed has_job_out node_is_killed node_lives is_killed is_live was_told was_lost breaks_from breaks_of is_one_of anchored may_be_held
 releasing_9 = (refl, refl)
 
-releasing_10 : Answered releasing_setting Whole (opening ++ take 10 releasing_rest) (In (Commit 2) 0) (drop 11 releasing_rest)
+releasing_10 : Answered releasing_setting (opening ++ take 10 releasing_rest) (In (Commit 2) 0) (drop 11 releasing_rest)
 unfolding call_at same_id same_attempt accepted_events under_way_from ends_with_in is_committed has_job_out node_is_killed node_lives is_killed is_live was_told was_lost breaks_from breaks_of is_one_of anchored may_be_held
 releasing_10 = (first_of (object 1 2), record { worker = 2; claimed = refl; once = refl; lives = refl; runs = refl; alone = (refl, (refl, tt)) }, record { base = object 2 1; p = replay reference_passed calling_mid (object 2 1) []; replays = record { spec = calling_mid; born = refl; ended = refl; faulted = refl; replayed = refl }; own = refl; prints = refl; ends = refl })
 
@@ -64,11 +64,11 @@ releasing_16 : Allowed releasing_setting (opening ++ take 16 releasing_rest) (Be
 unfolding call_at same_id same_attempt accepted_events under_way_from ends_with_in is_committed has_job_out node_is_killed node_lives is_killed is_live was_told was_lost breaks_from breaks_of is_one_of anchored may_be_held
 releasing_16 = record { own = record { event = Deliver 6; now = refl; own = refl; lives = refl }; function = codes "add"; args = given (Named (object 1 1)) ∷ []; depth = 2; retries = 3; born = refl; unreleased = refl; unresolved = refl; node = 1; place = refl; next = refl; broken = tt; few = omega arith }
 
-releasing_18 : Answered releasing_setting Whole (opening ++ take 18 releasing_rest) (In (Claim 3) 0) (drop 19 releasing_rest)
+releasing_18 : Answered releasing_setting (opening ++ take 18 releasing_rest) (In (Claim 3) 0) (drop 19 releasing_rest)
 unfolding call_at same_id same_attempt accepted_events under_way_from ends_with_in is_committed has_job_out node_is_killed node_lives is_killed is_live was_told was_lost breaks_from breaks_of is_one_of anchored may_be_held
 releasing_18 = (refl, refl)
 
-releasing_19 : Answered releasing_setting Whole (opening ++ take 19 releasing_rest) (In (Commit 3) 0) (drop 20 releasing_rest)
+releasing_19 : Answered releasing_setting (opening ++ take 19 releasing_rest) (In (Commit 3) 0) (drop 20 releasing_rest)
 unfolding call_at same_id same_attempt accepted_events under_way_from ends_with_in is_committed has_job_out node_is_killed node_lives is_killed is_live was_told was_lost breaks_from breaks_of is_one_of anchored may_be_held
 releasing_19 = (first_of (object 2 1), record { worker = 3; claimed = refl; once = refl; lives = refl; runs = refl; alone = tt }, record { base = object 3 1; p = replay reference_passed calling_add (object 3 1) []; replays = record { spec = calling_add; born = refl; ended = refl; faulted = refl; replayed = refl }; own = refl; prints = refl; ends = refl })
 
@@ -76,11 +76,11 @@ releasing_22 : Allowed releasing_setting (opening ++ take 22 releasing_rest) (Go
 unfolding call_at same_id same_attempt accepted_events under_way_from ends_with_in is_committed has_job_out node_is_killed node_lives is_killed is_live was_told was_lost breaks_from breaks_of is_one_of anchored may_be_held
 releasing_22 = record { worker = 3; runs = refl; own = record { event = Deliver 9; now = refl; own = refl; lives = refl }; needs = record { base = object 3 1; p = replay reference_passed calling_add (object 3 1) []; replays = record { spec = calling_add; born = refl; ended = refl; faulted = refl; replayed = refl }; own = refl; prints = refl; stopped = refl }; content = inl ((number 6), refl, refl); untold = refl }
 
-releasing_23 : Answered releasing_setting Whole (opening ++ take 23 releasing_rest) (In (Claim 3) 0) (drop 24 releasing_rest)
+releasing_23 : Answered releasing_setting (opening ++ take 23 releasing_rest) (In (Claim 3) 0) (drop 24 releasing_rest)
 unfolding call_at same_id same_attempt accepted_events under_way_from ends_with_in is_committed has_job_out node_is_killed node_lives is_killed is_live was_told was_lost breaks_from breaks_of is_one_of anchored may_be_held
 releasing_23 = (refl, refl)
 
-releasing_24 : Answered releasing_setting Whole (opening ++ take 24 releasing_rest) (In (Commit 4) 0) (drop 25 releasing_rest)
+releasing_24 : Answered releasing_setting (opening ++ take 24 releasing_rest) (In (Commit 4) 0) (drop 25 releasing_rest)
 unfolding call_at same_id same_attempt accepted_events under_way_from ends_with_in is_committed has_job_out node_is_killed node_lives is_killed is_live was_told was_lost breaks_from breaks_of is_one_of anchored may_be_held
 releasing_24 = (first_of (object 2 1), record { worker = 3; claimed = refl; once = refl; lives = refl; runs = refl; alone = (refl, tt) }, record { base = object 3 1; p = replay reference_passed calling_add (object 3 1) (value 6 ∷ []); replays = record { spec = calling_add; born = refl; ended = refl; faulted = refl; replayed = refl }; own = refl; prints = refl; ends = refl })
 
@@ -104,11 +104,11 @@ releasing_38 : Allowed releasing_setting (opening ++ take 38 releasing_rest) (Go
 unfolding call_at same_id same_attempt accepted_events under_way_from ends_with_in is_committed has_job_out node_is_killed node_lives is_killed is_live was_told was_lost breaks_from breaks_of is_one_of anchored may_be_held
 releasing_38 = record { worker = 1; runs = refl; own = record { event = Deliver 14; now = refl; own = refl; lives = refl }; needs = record { base = object 1 1; p = replay reference_passed main_birth (object 1 1) []; replays = record { spec = main_birth; born = refl; ended = refl; faulted = refl; replayed = refl }; own = refl; prints = refl; stopped = refl }; content = inr (0, 0, refl); untold = refl }
 
-releasing_44 : Answered releasing_setting Whole (opening ++ take 44 releasing_rest) (In (Claim 1) 0) (drop 45 releasing_rest)
+releasing_44 : Answered releasing_setting (opening ++ take 44 releasing_rest) (In (Claim 1) 0) (drop 45 releasing_rest)
 unfolding call_at same_id same_attempt accepted_events under_way_from ends_with_in is_committed has_job_out node_is_killed node_lives is_killed is_live was_told was_lost breaks_from breaks_of is_one_of anchored may_be_held
 releasing_44 = (refl, refl)
 
-releasing_45 : Answered releasing_setting Whole (opening ++ take 45 releasing_rest) (In (Commit 5) 0) (drop 46 releasing_rest)
+releasing_45 : Answered releasing_setting (opening ++ take 45 releasing_rest) (In (Commit 5) 0) (drop 46 releasing_rest)
 unfolding call_at same_id same_attempt accepted_events under_way_from ends_with_in is_committed has_job_out node_is_killed node_lives is_killed is_live was_told was_lost breaks_from breaks_of is_one_of anchored may_be_held
 releasing_45 = (main_attempt, record { worker = 1; claimed = refl; once = refl; lives = refl; runs = refl; alone = (refl, tt) }, record { base = object 1 1; p = replay reference_passed main_birth (object 1 1) (value 0 ∷ []); replays = record { spec = main_birth; born = refl; ended = refl; faulted = refl; replayed = refl }; own = refl; prints = refl; ends = refl })
 

@@ -12,15 +12,15 @@ use Rattle.event_log.specs.Breaks.{breaks_from, breaks_of}
 use Rattle.event_log.specs.Holding.{is_one_of, anchored}
 use Rattle.log_examples.proofs.Unheld.{may_be_held, not_held}
 use Rattle.event_log.specs.Rules.{ToWorker, ToNode, Allowed}
-use Rattle.event_log.specs.Legal.{Whole, Answered, Legal, opening}
+use Rattle.event_log.specs.Legal.{Answered, Legal, opening}
 use Rattle.log_examples.specs.Logs.{first_of}
 use Rattle.log_examples.specs.FaultLogs.{calls_one, making_one, second_of, retried_setting, retried_rest, retried_log}
 
-retried_0 : Answered retried_setting Whole (opening ++ take 0 retried_rest) (In (Claim 1) 0) (drop 1 retried_rest)
+retried_0 : Answered retried_setting (opening ++ take 0 retried_rest) (In (Claim 1) 0) (drop 1 retried_rest)
 unfolding call_at same_id same_attempt accepted_events under_way_from ends_with_in is_committed has_job_out node_is_killed node_lives is_killed is_live was_told was_lost breaks_from breaks_of is_one_of anchored may_be_held
 retried_0 = (refl, refl)
 
-retried_1 : Answered retried_setting Whole (opening ++ take 1 retried_rest) (In (Commit 1) 0) (drop 2 retried_rest)
+retried_1 : Answered retried_setting (opening ++ take 1 retried_rest) (In (Commit 1) 0) (drop 2 retried_rest)
 unfolding call_at same_id same_attempt accepted_events under_way_from ends_with_in is_committed has_job_out node_is_killed node_lives is_killed is_live was_told was_lost breaks_from breaks_of is_one_of anchored may_be_held
 retried_1 = (main_attempt, record { worker = 1; claimed = refl; once = refl; lives = refl; runs = refl; alone = (refl, tt) }, record { base = object 1 1; p = replay (calls_one 1) main_birth (object 1 1) []; replays = record { spec = main_birth; born = refl; ended = refl; faulted = refl; replayed = refl }; own = refl; prints = refl; ends = refl })
 
@@ -36,7 +36,7 @@ retried_6 : Allowed retried_setting (opening ++ take 6 retried_rest) (Begun (fir
 unfolding call_at same_id same_attempt accepted_events under_way_from ends_with_in is_committed has_job_out node_is_killed node_lives is_killed is_live was_told was_lost breaks_from breaks_of is_one_of anchored may_be_held
 retried_6 = record { own = record { event = Deliver 2; now = refl; own = refl; lives = refl }; function = codes "one"; args = []; depth = 1; retries = 1; born = refl; unreleased = refl; unresolved = refl; node = 1; place = refl; next = refl; broken = tt; few = omega arith }
 
-retried_9 : Answered retried_setting Whole (opening ++ take 9 retried_rest) (In (Notice 1 2) 0) (drop 10 retried_rest)
+retried_9 : Answered retried_setting (opening ++ take 9 retried_rest) (In (Notice 1 2) 0) (drop 10 retried_rest)
 unfolding call_at same_id same_attempt accepted_events under_way_from ends_with_in is_committed has_job_out node_is_killed node_lives is_killed is_live was_told was_lost breaks_from breaks_of is_one_of anchored may_be_held
 retried_9 = (refl, refl)
 
@@ -48,11 +48,11 @@ retried_13 : Allowed retried_setting (opening ++ take 13 retried_rest) (Begun (s
 unfolding call_at same_id same_attempt accepted_events under_way_from ends_with_in is_committed has_job_out node_is_killed node_lives is_killed is_live was_told was_lost breaks_from breaks_of is_one_of anchored may_be_held
 retried_13 = record { own = record { event = Deliver 5; now = refl; own = refl; lives = refl }; function = codes "one"; args = []; depth = 1; retries = 1; born = refl; unreleased = refl; unresolved = refl; node = 1; place = refl; next = refl; broken = (tt, (10, (0, refl))); few = omega arith }
 
-retried_15 : Answered retried_setting Whole (opening ++ take 15 retried_rest) (In (Claim 3) 0) (drop 16 retried_rest)
+retried_15 : Answered retried_setting (opening ++ take 15 retried_rest) (In (Claim 3) 0) (drop 16 retried_rest)
 unfolding call_at same_id same_attempt accepted_events under_way_from ends_with_in is_committed has_job_out node_is_killed node_lives is_killed is_live was_told was_lost breaks_from breaks_of is_one_of anchored may_be_held
 retried_15 = (refl, refl)
 
-retried_16 : Answered retried_setting Whole (opening ++ take 16 retried_rest) (In (Commit 2) 0) (drop 17 retried_rest)
+retried_16 : Answered retried_setting (opening ++ take 16 retried_rest) (In (Commit 2) 0) (drop 17 retried_rest)
 unfolding call_at same_id same_attempt accepted_events under_way_from ends_with_in is_committed has_job_out node_is_killed node_lives is_killed is_live was_told was_lost breaks_from breaks_of is_one_of anchored may_be_held
 retried_16 = (second_of (object 1 1), record { worker = 3; claimed = refl; once = refl; lives = refl; runs = refl; alone = (refl, tt) }, record { base = object 3 1; p = replay (calls_one 1) (making_one 1) (object 3 1) []; replays = record { spec = making_one 1; born = refl; ended = refl; faulted = refl; replayed = refl }; own = refl; prints = refl; ends = refl })
 
@@ -68,11 +68,11 @@ retried_20 : Allowed retried_setting (opening ++ take 20 retried_rest) (Got main
 unfolding call_at same_id same_attempt accepted_events under_way_from ends_with_in is_committed has_job_out node_is_killed node_lives is_killed is_live was_told was_lost breaks_from breaks_of is_one_of anchored may_be_held
 retried_20 = record { worker = 1; runs = refl; own = record { event = Deliver 7; now = refl; own = refl; lives = refl }; needs = record { base = object 1 1; p = replay (calls_one 1) main_birth (object 1 1) []; replays = record { spec = main_birth; born = refl; ended = refl; faulted = refl; replayed = refl }; own = refl; prints = refl; stopped = refl }; content = inr (1, 0, refl); untold = refl }
 
-retried_23 : Answered retried_setting Whole (opening ++ take 23 retried_rest) (In (Claim 1) 0) (drop 24 retried_rest)
+retried_23 : Answered retried_setting (opening ++ take 23 retried_rest) (In (Claim 1) 0) (drop 24 retried_rest)
 unfolding call_at same_id same_attempt accepted_events under_way_from ends_with_in is_committed has_job_out node_is_killed node_lives is_killed is_live was_told was_lost breaks_from breaks_of is_one_of anchored may_be_held
 retried_23 = (refl, refl)
 
-retried_24 : Answered retried_setting Whole (opening ++ take 24 retried_rest) (In (Commit 3) 0) (drop 25 retried_rest)
+retried_24 : Answered retried_setting (opening ++ take 24 retried_rest) (In (Commit 3) 0) (drop 25 retried_rest)
 unfolding call_at same_id same_attempt accepted_events under_way_from ends_with_in is_committed has_job_out node_is_killed node_lives is_killed is_live was_told was_lost breaks_from breaks_of is_one_of anchored may_be_held
 retried_24 = (main_attempt, record { worker = 1; claimed = refl; once = refl; lives = refl; runs = refl; alone = (refl, tt) }, record { base = object 1 1; p = replay (calls_one 1) main_birth (object 1 1) (value 1 ∷ []); replays = record { spec = main_birth; born = refl; ended = refl; faulted = refl; replayed = refl }; own = refl; prints = refl; ends = refl })
 
@@ -84,7 +84,7 @@ retried_26 : Allowed retried_setting (opening ++ take 26 retried_rest) (Released
 unfolding call_at same_id same_attempt accepted_events under_way_from ends_with_in is_committed has_job_out node_is_killed node_lives is_killed is_live was_told was_lost breaks_from breaks_of is_one_of anchored may_be_held
 retried_26 = record { own = record { event = Commit 3; now = refl; own = refl; lives = refl }; once = refl; settled = inr (inr (1, refl, (0, refl))); bearer = main_attempt; bore = (0, refl); over = inl ((value 1), (0, refl)); unheld = not_held refl }
 
-retried_8 : Answered retried_setting Whole (opening ++ take 8 retried_rest) (In (Kill 2) 0) (drop 9 retried_rest)
+retried_8 : Answered retried_setting (opening ++ take 8 retried_rest) (In (Kill 2) 0) (drop 9 retried_rest)
 unfolding call_at same_id same_attempt accepted_events under_way_from ends_with_in is_committed has_job_out node_is_killed node_lives is_killed is_live was_told was_lost breaks_from breaks_of is_one_of anchored may_be_held
 retried_8 = refl
 

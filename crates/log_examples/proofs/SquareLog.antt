@@ -12,14 +12,14 @@ use Rattle.event_log.specs.Breaks.{breaks_from, breaks_of}
 use Rattle.event_log.specs.Holding.{is_one_of, anchored}
 use Rattle.log_examples.proofs.Unheld.{may_be_held, not_held}
 use Rattle.event_log.specs.Rules.{ToWorker, ToNode, Allowed}
-use Rattle.event_log.specs.Legal.{Whole, Answered, Legal, opening}
+use Rattle.event_log.specs.Legal.{Answered, Legal, opening}
 use Rattle.log_examples.specs.Logs.{first_of, number, given, square_setting, square_rest, square_log}
 
-square_0 : Answered square_setting Whole (opening ++ take 0 square_rest) (In (Claim 1) 0) (drop 1 square_rest)
+square_0 : Answered square_setting (opening ++ take 0 square_rest) (In (Claim 1) 0) (drop 1 square_rest)
 unfolding call_at same_id same_attempt accepted_events under_way_from ends_with_in is_committed has_job_out node_is_killed node_lives is_killed is_live was_told was_lost breaks_from breaks_of is_one_of anchored may_be_held
 square_0 = (refl, refl)
 
-square_1 : Answered square_setting Whole (opening ++ take 1 square_rest) (In (Commit 1) 0) (drop 2 square_rest)
+square_1 : Answered square_setting (opening ++ take 1 square_rest) (In (Commit 1) 0) (drop 2 square_rest)
 unfolding call_at same_id same_attempt accepted_events under_way_from ends_with_in is_committed has_job_out node_is_killed node_lives is_killed is_live was_told was_lost breaks_from breaks_of is_one_of anchored may_be_held
 square_1 = (main_attempt, record { worker = 1; claimed = refl; once = refl; lives = refl; runs = refl; alone = (refl, tt) }, record { base = object 1 1; p = replay square main_birth (object 1 1) []; replays = record { spec = main_birth; born = refl; ended = refl; faulted = refl; replayed = refl }; own = refl; prints = refl; ends = refl })
 
@@ -35,11 +35,11 @@ square_6 : Allowed square_setting (opening ++ take 6 square_rest) (Begun (first_
 unfolding call_at same_id same_attempt accepted_events under_way_from ends_with_in is_committed has_job_out node_is_killed node_lives is_killed is_live was_told was_lost breaks_from breaks_of is_one_of anchored may_be_held
 square_6 = record { own = record { event = Deliver 2; now = refl; own = refl; lives = refl }; function = codes "sq"; args = given (number 7) ∷ []; depth = 1; retries = 3; born = refl; unreleased = refl; unresolved = refl; node = 1; place = refl; next = refl; broken = tt; few = omega arith }
 
-square_8 : Answered square_setting Whole (opening ++ take 8 square_rest) (In (Claim 2) 0) (drop 9 square_rest)
+square_8 : Answered square_setting (opening ++ take 8 square_rest) (In (Claim 2) 0) (drop 9 square_rest)
 unfolding call_at same_id same_attempt accepted_events under_way_from ends_with_in is_committed has_job_out node_is_killed node_lives is_killed is_live was_told was_lost breaks_from breaks_of is_one_of anchored may_be_held
 square_8 = (refl, refl)
 
-square_9 : Answered square_setting Whole (opening ++ take 9 square_rest) (In (Commit 2) 0) (drop 10 square_rest)
+square_9 : Answered square_setting (opening ++ take 9 square_rest) (In (Commit 2) 0) (drop 10 square_rest)
 unfolding call_at same_id same_attempt accepted_events under_way_from ends_with_in is_committed has_job_out node_is_killed node_lives is_killed is_live was_told was_lost breaks_from breaks_of is_one_of anchored may_be_held
 square_9 = (first_of (object 1 1), record { worker = 2; claimed = refl; once = refl; lives = refl; runs = refl; alone = (refl, tt) }, record { base = object 2 1; p = replay square squaring (object 2 1) []; replays = record { spec = squaring; born = refl; ended = refl; faulted = refl; replayed = refl }; own = refl; prints = refl; ends = refl })
 
@@ -55,11 +55,11 @@ square_13 : Allowed square_setting (opening ++ take 13 square_rest) (Got main_at
 unfolding call_at same_id same_attempt accepted_events under_way_from ends_with_in is_committed has_job_out node_is_killed node_lives is_killed is_live was_told was_lost breaks_from breaks_of is_one_of anchored may_be_held
 square_13 = record { worker = 1; runs = refl; own = record { event = Deliver 4; now = refl; own = refl; lives = refl }; needs = record { base = object 1 1; p = replay square main_birth (object 1 1) []; replays = record { spec = main_birth; born = refl; ended = refl; faulted = refl; replayed = refl }; own = refl; prints = refl; stopped = refl }; content = inr (0, 0, refl); untold = refl }
 
-square_16 : Answered square_setting Whole (opening ++ take 16 square_rest) (In (Claim 1) 0) (drop 17 square_rest)
+square_16 : Answered square_setting (opening ++ take 16 square_rest) (In (Claim 1) 0) (drop 17 square_rest)
 unfolding call_at same_id same_attempt accepted_events under_way_from ends_with_in is_committed has_job_out node_is_killed node_lives is_killed is_live was_told was_lost breaks_from breaks_of is_one_of anchored may_be_held
 square_16 = (refl, refl)
 
-square_17 : Answered square_setting Whole (opening ++ take 17 square_rest) (In (Commit 3) 0) (drop 18 square_rest)
+square_17 : Answered square_setting (opening ++ take 17 square_rest) (In (Commit 3) 0) (drop 18 square_rest)
 unfolding call_at same_id same_attempt accepted_events under_way_from ends_with_in is_committed has_job_out node_is_killed node_lives is_killed is_live was_told was_lost breaks_from breaks_of is_one_of anchored may_be_held
 square_17 = (main_attempt, record { worker = 1; claimed = refl; once = refl; lives = refl; runs = refl; alone = (refl, (refl, tt)) }, record { base = object 1 1; p = replay square main_birth (object 1 1) (value 49 ∷ []); replays = record { spec = main_birth; born = refl; ended = refl; faulted = refl; replayed = refl }; own = refl; prints = refl; ends = refl })
 

@@ -12,14 +12,14 @@ use Rattle.event_log.specs.Breaks.{breaks_from, breaks_of}
 use Rattle.event_log.specs.Holding.{is_one_of, anchored}
 use Rattle.log_examples.proofs.Unheld.{may_be_held, not_held}
 use Rattle.event_log.specs.Rules.{ToWorker, ToNode, Allowed}
-use Rattle.event_log.specs.Legal.{Whole, Answered, Legal, opening}
+use Rattle.event_log.specs.Legal.{Answered, Legal, opening}
 use Rattle.log_examples.specs.Logs.{first_of, number, given, dividing, trap_setting, trap_rest, trap_log}
 
-trap_0 : Answered trap_setting Whole (opening ++ take 0 trap_rest) (In (Claim 1) 0) (drop 1 trap_rest)
+trap_0 : Answered trap_setting (opening ++ take 0 trap_rest) (In (Claim 1) 0) (drop 1 trap_rest)
 unfolding call_at same_id same_attempt accepted_events under_way_from ends_with_in is_committed has_job_out node_is_killed node_lives is_killed is_live was_told was_lost breaks_from breaks_of is_one_of anchored may_be_held
 trap_0 = (refl, refl)
 
-trap_1 : Answered trap_setting Whole (opening ++ take 1 trap_rest) (In (Commit 1) 0) (drop 2 trap_rest)
+trap_1 : Answered trap_setting (opening ++ take 1 trap_rest) (In (Commit 1) 0) (drop 2 trap_rest)
 unfolding call_at same_id same_attempt accepted_events under_way_from ends_with_in is_committed has_job_out node_is_killed node_lives is_killed is_live was_told was_lost breaks_from breaks_of is_one_of anchored may_be_held
 trap_1 = (main_attempt, record { worker = 1; claimed = refl; once = refl; lives = refl; runs = refl; alone = (refl, (refl, tt)) }, record { base = object 1 1; p = replay trap_not_got main_birth (object 1 1) []; replays = record { spec = main_birth; born = refl; ended = refl; faulted = refl; replayed = refl }; own = refl; prints = refl; ends = refl })
 
@@ -39,11 +39,11 @@ trap_7 : Allowed trap_setting (opening ++ take 7 trap_rest) (Begun (first_of (ob
 unfolding call_at same_id same_attempt accepted_events under_way_from ends_with_in is_committed has_job_out node_is_killed node_lives is_killed is_live was_told was_lost breaks_from breaks_of is_one_of anchored may_be_held
 trap_7 = record { own = record { event = Deliver 2; now = refl; own = refl; lives = refl }; function = codes "div"; args = given (number 1) ∷ given (number 0) ∷ []; depth = 1; retries = 3; born = refl; unreleased = refl; unresolved = refl; node = 1; place = refl; next = refl; broken = tt; few = omega arith }
 
-trap_9 : Answered trap_setting Whole (opening ++ take 9 trap_rest) (In (Claim 2) 0) (drop 10 trap_rest)
+trap_9 : Answered trap_setting (opening ++ take 9 trap_rest) (In (Claim 2) 0) (drop 10 trap_rest)
 unfolding call_at same_id same_attempt accepted_events under_way_from ends_with_in is_committed has_job_out node_is_killed node_lives is_killed is_live was_told was_lost breaks_from breaks_of is_one_of anchored may_be_held
 trap_9 = (refl, refl)
 
-trap_10 : Answered trap_setting Whole (opening ++ take 10 trap_rest) (In (Commit 2) 0) (drop 11 trap_rest)
+trap_10 : Answered trap_setting (opening ++ take 10 trap_rest) (In (Commit 2) 0) (drop 11 trap_rest)
 unfolding call_at same_id same_attempt accepted_events under_way_from ends_with_in is_committed has_job_out node_is_killed node_lives is_killed is_live was_told was_lost breaks_from breaks_of is_one_of anchored may_be_held
 trap_10 = (first_of (object 1 1), record { worker = 2; claimed = refl; once = refl; lives = refl; runs = refl; alone = (refl, tt) }, record { base = object 2 1; p = replay trap_not_got dividing (object 2 1) []; replays = record { spec = dividing; born = refl; ended = refl; faulted = refl; replayed = refl }; own = refl; prints = refl; ends = refl })
 

@@ -12,15 +12,15 @@ use Rattle.event_log.specs.Breaks.{breaks_from, breaks_of}
 use Rattle.event_log.specs.Holding.{is_one_of, anchored}
 use Rattle.log_examples.proofs.Unheld.{may_be_held, not_held}
 use Rattle.event_log.specs.Rules.{ToWorker, ToNode, Allowed}
-use Rattle.event_log.specs.Legal.{Whole, Answered, Legal, opening}
+use Rattle.event_log.specs.Legal.{Answered, Legal, opening}
 use Rattle.log_examples.specs.Logs.{first_of}
 use Rattle.log_examples.specs.FaultLogs.{calls_one, making_one, used_up, unretried_setting, unretried_rest, unretried_log}
 
-unretried_0 : Answered unretried_setting Whole (opening ++ take 0 unretried_rest) (In (Claim 1) 0) (drop 1 unretried_rest)
+unretried_0 : Answered unretried_setting (opening ++ take 0 unretried_rest) (In (Claim 1) 0) (drop 1 unretried_rest)
 unfolding call_at same_id same_attempt accepted_events under_way_from ends_with_in is_committed has_job_out node_is_killed node_lives is_killed is_live was_told was_lost breaks_from breaks_of is_one_of anchored may_be_held
 unretried_0 = (refl, refl)
 
-unretried_1 : Answered unretried_setting Whole (opening ++ take 1 unretried_rest) (In (Commit 1) 0) (drop 2 unretried_rest)
+unretried_1 : Answered unretried_setting (opening ++ take 1 unretried_rest) (In (Commit 1) 0) (drop 2 unretried_rest)
 unfolding call_at same_id same_attempt accepted_events under_way_from ends_with_in is_committed has_job_out node_is_killed node_lives is_killed is_live was_told was_lost breaks_from breaks_of is_one_of anchored may_be_held
 unretried_1 = (main_attempt, record { worker = 1; claimed = refl; once = refl; lives = refl; runs = refl; alone = (refl, tt) }, record { base = object 1 1; p = replay (calls_one 0) main_birth (object 1 1) []; replays = record { spec = main_birth; born = refl; ended = refl; faulted = refl; replayed = refl }; own = refl; prints = refl; ends = refl })
 
@@ -36,7 +36,7 @@ unretried_6 : Allowed unretried_setting (opening ++ take 6 unretried_rest) (Begu
 unfolding call_at same_id same_attempt accepted_events under_way_from ends_with_in is_committed has_job_out node_is_killed node_lives is_killed is_live was_told was_lost breaks_from breaks_of is_one_of anchored may_be_held
 unretried_6 = record { own = record { event = Deliver 2; now = refl; own = refl; lives = refl }; function = codes "one"; args = []; depth = 1; retries = 0; born = refl; unreleased = refl; unresolved = refl; node = 1; place = refl; next = refl; broken = tt; few = omega arith }
 
-unretried_9 : Answered unretried_setting Whole (opening ++ take 9 unretried_rest) (In (Notice 1 2) 0) (drop 10 unretried_rest)
+unretried_9 : Answered unretried_setting (opening ++ take 9 unretried_rest) (In (Notice 1 2) 0) (drop 10 unretried_rest)
 unfolding call_at same_id same_attempt accepted_events under_way_from ends_with_in is_committed has_job_out node_is_killed node_lives is_killed is_live was_told was_lost breaks_from breaks_of is_one_of anchored may_be_held
 unretried_9 = (refl, refl)
 
@@ -52,7 +52,7 @@ unretried_12 : Allowed unretried_setting (opening ++ take 12 unretried_rest) (Re
 unfolding call_at same_id same_attempt accepted_events under_way_from ends_with_in is_committed has_job_out node_is_killed node_lives is_killed is_live was_told was_lost breaks_from breaks_of is_one_of anchored may_be_held
 unretried_12 = record { own = record { event = Notice 1 2; now = refl; own = refl; lives = refl }; once = refl; settled = inr (inl ((used_up (object 1 1)), (0, refl))); bearer = main_attempt; bore = (0, refl); over = inr (record { object = object 1 1; fault = used_up (object 1 1) }, (0, refl)); unheld = not_held refl }
 
-unretried_8 : Answered unretried_setting Whole (opening ++ take 8 unretried_rest) (In (Kill 2) 0) (drop 9 unretried_rest)
+unretried_8 : Answered unretried_setting (opening ++ take 8 unretried_rest) (In (Kill 2) 0) (drop 9 unretried_rest)
 unfolding call_at same_id same_attempt accepted_events under_way_from ends_with_in is_committed has_job_out node_is_killed node_lives is_killed is_live was_told was_lost breaks_from breaks_of is_one_of anchored may_be_held
 unretried_8 = refl
 

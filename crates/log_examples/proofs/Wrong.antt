@@ -16,16 +16,16 @@ use Rattle.event_log.specs.Holding.{is_one_of, anchored, Bore, Given, ByAttempt,
 use Rattle.event_log.specs.Rules.{Receiver, ToWorker, ToNode, IsHeard, Setting, Allowed}
 use Rattle.event_log.specs.Causes.{IsRefusal}
 use Rattle.event_log.specs.Serial.{MainBegins}
-use Rattle.event_log.specs.Legal.{Whole, BrokenOff, Happens, CommitsAll, LegalTo, opening}
+use Rattle.event_log.specs.Legal.{Happens, CommitsAll, Legal, opening}
 use Rattle.event_log.proofs.Growing.{entries_have_their_needs}
 use Rattle.log_examples.specs.Logs.{first_of, number, square_setting, calling_mid}
 use Rattle.log_examples.specs.FaultLogs.{making_one, used_up, retried_setting, owner_died_setting}
 use Rattle.log_examples.specs.ReleaseLogs.{releasing_setting}
-use Rattle.log_examples.specs.WrongLogs.{IsWrong, two_puts, two_puts_setting, owner_died, wrong_content, begun_again, accepted_twice, passed_setting, released_while_held, released_out_of_order, fault_without_cause, print_after_end, skipped_serial, end_of_the_dead, notice_of_the_living, entry_of_a_refused_event, half_a_commit, half_a_commit_and_more, kill_of_nobody, delivery_of_nothing, opened_by_the_dead, lost_before_its_birth, used_up_too_soon, got_from_the_dead, main_resolved, main_accepted, given_out_twice, refused_for_nothing, refused_for_less, cause_comes_later}
+use Rattle.log_examples.specs.WrongLogs.{IsWrong, two_puts, two_puts_setting, owner_died, wrong_content, begun_again, accepted_twice, passed_setting, released_while_held, released_out_of_order, fault_without_cause, print_after_end, skipped_serial, end_of_the_dead, notice_of_the_living, entry_of_a_refused_event, half_a_commit, kill_of_nobody, delivery_of_nothing, opened_by_the_dead, lost_before_its_birth, used_up_too_soon, got_from_the_dead, main_resolved, main_accepted, given_out_twice, refused_for_nothing, refused_for_less, cause_comes_later}
 
 -- by an entry that may not stand there
 wrong_by : (s : Setting) (before : List Entry) (x : Entry) (es : List Entry) → (Allowed s (opening ++ before) x → ⊥) → IsWrong s (before ++ x ∷ es)
-wrong_by s before x es h end legal = h (entries_have_their_needs end s (opening ++ (before ++ x ∷ es)) legal before x es refl).allowed
+wrong_by s before x es h legal = h (entries_have_their_needs s (opening ++ (before ++ x ∷ es)) legal before x es refl).allowed
 
 none_there : {X : Type 0} (x : X) → Among x [] → ⊥
 none_there x h = let e = h.1 in absurd (cc)
@@ -98,8 +98,11 @@ entry_of_a_refused_event_is_wrong = wrong_by square_setting (take 2 entry_of_a_r
 
 -- by an event that may not happen there
 wrong_by_event : (s : Setting) (before : List Entry) (e : Event) (f : Event) → (Happens s (opening ++ before) e [] → ⊥) → IsWrong s (before ++ In e 0 ∷ In f 0 ∷ [])
-wrong_by_event s before e f h Whole legal = h (entries_have_their_needs Whole s (opening ++ (before ++ In e 0 ∷ In f 0 ∷ [])) legal before (In e 0) (In f 0 ∷ []) refl).answered
-wrong_by_event s before e f h BrokenOff legal = h (entries_have_their_needs BrokenOff s (opening ++ (before ++ In e 0 ∷ In f 0 ∷ [])) legal before (In e 0) (In f 0 ∷ []) refl).answered
+wrong_by_event s before e f h legal = h (entries_have_their_needs s (opening ++ (before ++ In e 0 ∷ In f 0 ∷ [])) legal before (In e 0) (In f 0 ∷ []) refl).answered
+
+-- the same at the end of the log
+wrong_at_the_end : (s : Setting) (before : List Entry) (e : Event) → (Happens s (opening ++ before) e [] → ⊥) → IsWrong s (before ++ In e 0 ∷ [])
+wrong_at_the_end s before e h legal = h (entries_have_their_needs s (opening ++ (before ++ In e 0 ∷ [])) legal before (In e 0) [] refl).answered
 
 pub notice_of_the_living_is_wrong : IsWrong square_setting notice_of_the_living
 unfolding accepted_events is_killed
@@ -132,13 +135,8 @@ no_half a e f h = subst (λ (x : Attempt). CommitsAll square_setting (opening ++
     attempt_is : (a : Attempt) → main_object ≡ a.object → ◌≡◌ {A = ℕ} a.number 0 → main_attempt ≡ a
     attempt_is a e f = attempt_parts main_object a.object 0 a.number e (sym f)
 
-pub half_a_commit_and_more_is_wrong : IsWrong square_setting half_a_commit_and_more
-half_a_commit_and_more_is_wrong = wrong_by_event square_setting (take 1 half_a_commit) (Commit 1) (Tick 1) (λ h. let m = main_only h.0.object h.0.number h.1.worker h.1.runs in no_half h.0 m.0 m.1 h.2)
-
--- where it was broken off for want of memory, it is legal
-pub half_a_commit_is_legal : LegalTo BrokenOff square_setting (opening ++ half_a_commit)
-unfolding accepted_events is_live has_job_out
-half_a_commit_is_legal = record { rest = half_a_commit; begins = refl; each = (tt, (refl, refl), (tt, inl refl, tt)) }
+pub half_a_commit_is_wrong : IsWrong square_setting half_a_commit
+half_a_commit_is_wrong = wrong_at_the_end square_setting (take 1 half_a_commit) (Commit 1) (λ h. let m = main_only h.0.object h.0.number h.1.worker h.1.runs in no_half h.0 m.0 m.1 h.2)
 
 pub kill_of_nobody_is_wrong : IsWrong square_setting kill_of_nobody
 unfolding accepted_events is_live
@@ -231,8 +229,8 @@ given_out_twice_is_wrong = wrong_by_event two_puts_setting (take 1 given_out_twi
 
 -- a refusal of that number, directly behind the event
 wrong_number : (s : Setting) (before : List Entry) (e : Event) (code : ℕ) (es : List Entry) → (IsRefusal s (opening ++ before) e code → ⊥) → IsWrong s (before ++ In e 0 ∷ Refused code ∷ es)
-wrong_number s before e code es h end legal =
-    let k = (entries_have_their_needs end s (opening ++ (before ++ In e 0 ∷ Refused code ∷ es)) legal (before ++ In e 0 ∷ []) (Refused code) es (ap (λ l. opening ++ l) (sym (append_assoc before (In e 0 ∷ []) (Refused code ∷ es))))).allowed in
+wrong_number s before e code es h legal =
+    let k = (entries_have_their_needs s (opening ++ (before ++ In e 0 ∷ Refused code ∷ es)) legal (before ++ In e 0 ∷ []) (Refused code) es (ap (λ l. opening ++ l) (sym (append_assoc before (In e 0 ∷ []) (Refused code ∷ es))))).allowed in
     let l = last_parts (opening ++ before) k.log e k.event 0 k.seat (append_assoc opening before (In e 0 ∷ []) ∙ k.parts) in
     h (subst (λ f. IsRefusal s (opening ++ before) f code) (sym l.1) (subst (λ x. IsRefusal s x k.event code) (sym l.0) k.cause))
   where

@@ -1,4 +1,4 @@
--- Logs with one wrong entry, and a log that was broken off.
+-- Logs with one wrong entry.
 use Rattle.std.specs.Prelude.{List, [], ◌∷◌, ◌++◌, take, codes}
 use Rattle.meaning.specs.Values.{Put}
 use Rattle.meaning.specs.Syntax.{Script, Add, Var, Binary, PutOf, GetOf, Number, Let, Return}
@@ -8,14 +8,14 @@ use Rattle.event_log.specs.Entries.{OwnerDied, PutLost, Fault, Claim, Commit, De
 use Rattle.event_log.specs.Entries.{Born, Got, Printed, Ended, Accepted, Faulted, Resolved, Released, main_object, main_attempt}
 use Rattle.event_log.specs.Words.{attempt}
 use Rattle.event_log.specs.Rules.{Setting}
-use Rattle.event_log.specs.Legal.{End, LegalTo, opening}
+use Rattle.event_log.specs.Legal.{Legal, opening}
 use Rattle.log_examples.specs.FaultLogs.{retried_rest, used_up, owner_died_rest}
 use Rattle.log_examples.specs.ReleaseLogs.{releasing_rest}
 use Rattle.log_examples.specs.Logs.{beside, node, worker, first_of, number, calling_mid, square_rest}
 
--- not legal, however it ends
+-- not legal
 abbrev pub IsWrong : Setting → List Entry → Type 0
-IsWrong s rest = (end : End) → LegalTo end s (opening ++ rest) → ⊥
+IsWrong s rest = Legal s (opening ++ rest) → ⊥
 
 -- let p = put 1; let q = put 2; return get p + get q;
 abbrev pub two_puts : Script
@@ -92,13 +92,9 @@ notice_of_the_living = take 5 square_rest ++ (In (Notice 1 2) 0 ∷ In (Claim 1)
 abbrev pub entry_of_a_refused_event : List Entry
 entry_of_a_refused_event = In (Claim 2) 0 ∷ Refused 30 ∷ Opened 2 1 ∷ []
 
--- a commit that leaves out its births, and nothing behind it
+-- a commit that leaves out what its attempt bears
 abbrev pub half_a_commit : List Entry
 half_a_commit = In (Claim 1) 0 ∷ In (Commit 1) 0 ∷ []
-
--- such a commit, and a further event
-abbrev pub half_a_commit_and_more : List Entry
-half_a_commit_and_more = In (Claim 1) 0 ∷ In (Commit 1) 0 ∷ In (Tick 1) 0 ∷ []
 
 abbrev pub two_puts_setting : Setting
 two_puts_setting = beside two_puts []

@@ -2,14 +2,14 @@
 
 ghost use Rattle.std.specs.Prelude.{◌++◌};
 ghost use Rattle.event_log.specs.Serial.{MainBegins};
-ghost use Rattle.event_log.specs.Legal.{BrokenOff, LegalTo, Legal, opening};
+ghost use Rattle.event_log.specs.Legal.{Legal, opening};
 ghost use Rattle.log_examples.specs.Logs.{square_setting, square_log, trap_setting, trap_log, passing_setting, passing_log};
 ghost use Rattle.log_examples.specs.FaultLogs.{unretried_setting, unretried_log, retried_setting, retried_log, put_lost_setting, put_lost_log};
 ghost use Rattle.log_examples.specs.FaultLogs.{owner_died_setting, owner_died_log};
 ghost use Rattle.log_examples.specs.ReleaseLogs.{releasing_setting, releasing_log};
 ghost use Rattle.log_examples.specs.WrongLogs.{IsWrong, two_puts_setting, wrong_content, begun_again, accepted_twice, passed_setting};
 ghost use Rattle.log_examples.specs.WrongLogs.{released_while_held, released_out_of_order, fault_without_cause, print_after_end, skipped_serial};
-ghost use Rattle.log_examples.specs.WrongLogs.{end_of_the_dead, notice_of_the_living, half_a_commit, half_a_commit_and_more};
+ghost use Rattle.log_examples.specs.WrongLogs.{end_of_the_dead, notice_of_the_living, half_a_commit};
 ghost use Rattle.log_examples.specs.WrongLogs.{entry_of_a_refused_event, kill_of_nobody, delivery_of_nothing, opened_by_the_dead};
 ghost use Rattle.log_examples.specs.WrongLogs.{lost_before_its_birth, used_up_too_soon, got_from_the_dead, main_resolved, main_accepted};
 ghost use Rattle.log_examples.specs.WrongLogs.{given_out_twice, refused_for_nothing, refused_for_less, two_puts, cause_comes_later};
@@ -38,7 +38,7 @@ pub fn wrong_examples()
     ensures skipped_serial { IsWrong square_setting skipped_serial }
     ensures end_of_the_dead { IsWrong square_setting end_of_the_dead }
     ensures notice_of_the_living { IsWrong square_setting notice_of_the_living }
-    ensures half_a_commit { IsWrong square_setting half_a_commit_and_more }
+    ensures half_a_commit { IsWrong square_setting half_a_commit }
     ensures kill_of_nobody { IsWrong square_setting kill_of_nobody }
     ensures delivery_of_nothing { IsWrong square_setting delivery_of_nothing }
     ensures opened_by_the_dead { IsWrong square_setting opened_by_the_dead }
@@ -53,9 +53,4 @@ pub fn wrong_examples()
     ensures refused_for_less { IsWrong square_setting refused_for_less }
     ensures cause_comes_later { IsWrong two_puts_setting cause_comes_later }
     ensures late_cause { MainBegins two_puts (opening ++ cause_comes_later) → ⊥ }
-{}
-
-/// A log that ends within an event that found no memory is legal with any part of the event's entries.
-pub fn broken_off_examples()
-    ensures half_a_commit { LegalTo BrokenOff square_setting (opening ++ half_a_commit) }
 {}

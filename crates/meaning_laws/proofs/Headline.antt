@@ -36,7 +36,7 @@ caused : (log : List Entry) (x : Lack) → FaultsHaveCauses log → Place main_a
 caused log x h p = record { before = p.before; after = p.after; parts = p.parts; cause = h.faulted p.before main_attempt x.object x.fault p.after p.parts }
 
 pub main_begins : MainBeginsTheSerialRun
-main_begins end s log h = record {
-  begins = (legal_logs_read end s log h).main;
-  faults = λ k x e. caused log x (legal_faults_have_causes end s log h) (place_of main_attempt log k x e);
+main_begins s log h = record {
+  begins = (legal_logs_read s log h).main;
+  faults = λ k x e. caused log x (legal_faults_have_causes s log h) (place_of main_attempt log k x e);
 }

@@ -13,7 +13,7 @@ use Rattle.meaning.proofs.BirthLaws.{same_id-refl}
 use Rattle.event_log.specs.Entries.{Attempt, Entry, In, Refused, Opened, Begun, Born, Got, Printed, Ended, Accepted, Faulted, Resolved, Released, main_object, main_attempt}
 use Rattle.event_log.specs.Words.{births, born_in, Lack, Content, Lacking, main_bearing, ends_of}
 use Rattle.event_log.specs.Rules.{Setting, Allowed}
-use Rattle.event_log.specs.Legal.{End, LegalFrom, LegalTo, opening}
+use Rattle.event_log.specs.Legal.{LegalFrom, Legal, opening}
 use Rattle.event_log.specs.Serial.{AnswersBegin, IsWhole, BeginsRun}
 use Rattle.event_log.proofs.WordLaws.{deeds, nothing_done}
 use Rattle.meaning_laws.specs.Law.{LegalLogsReadAsSerial}
@@ -51,18 +51,18 @@ step s log (Faulted a y f) g h = faulted s log g a y f h
 step s log (Resolved o f) g h = silent s.script log (Resolved o f) refl (λ _. refl) (λ _. refl) g
 step s log (Released o) g h = silent s.script log (Released o) refl (λ _. refl) (λ _. refl) g
 
-steps : (s : Setting) (end : End) (before es : List Entry) → GoodLog s.script before → LegalFrom s end before es → GoodLog s.script (before ++ es)
-steps s end before [] g h = subst (λ log. GoodLog s.script log) (sym (append-nil before)) g
-steps s end before (e ∷ es) g h =
-    subst (λ log. GoodLog s.script log) (append_assoc before (e ∷ []) es) (steps s end (before ++ e ∷ []) es (step s before e g h.0) h.2)
+steps : (s : Setting) (before es : List Entry) → GoodLog s.script before → LegalFrom s before es → GoodLog s.script (before ++ es)
+steps s before [] g h = subst (λ log. GoodLog s.script log) (sym (append-nil before)) g
+steps s before (e ∷ es) g h =
+    subst (λ log. GoodLog s.script log) (append_assoc before (e ∷ []) es) (steps s (before ++ e ∷ []) es (step s before e g h.0) h.2)
 
 pub good_opening : (script : Script) → GoodLog script opening
 good_opening script =
     silent script (Opened 1 1 ∷ []) (Begun main_attempt 1) refl (λ _. refl) (λ _. refl)
     (silent script [] (Opened 1 1) refl (λ _. refl) (λ _. refl) (good_main script))
 
-pub good_log : (end : End) (s : Setting) (log : List Entry) → LegalTo end s log → GoodLog s.script log
-good_log end s log h = subst (λ l. GoodLog s.script l) (sym h.begins) (steps s end opening h.rest (good_opening s.script) h.each)
+pub good_log : (s : Setting) (log : List Entry) → Legal s log → GoodLog s.script log
+good_log s log h = subst (λ l. GoodLog s.script l) (sym h.begins) (steps s opening h.rest (good_opening s.script) h.each)
 
 -- where nothing is got next there is no fault
 no_lacks : (reading : Reading) (xs : List Lack) → FaultsFit None (map (λ (x : Lack). reading x.object) xs) → xs ≡ []
@@ -95,9 +95,9 @@ begins_run script log a spec t =
         record { no_fault = t.order ∙ ap (λ fs. map Content d.answers ++ map Lacking fs) clear ∙ append-nil (map Content d.answers); gets = f.0; prints = f.1; outcome = f.2 }
 
 pub legal_logs_read : LegalLogsReadAsSerial
-legal_logs_read end s log h =
+legal_logs_read s log h =
     let script = s.script in
-    let g = good_log end s log h in
+    let g = good_log s log h in
     let each = λ (a : Attempt) (spec : Birth) (e : birth_at (births log) a.object ≡ Some spec). begins_run script log a spec (subst (λ o. Stands script (births log) o (deeds a log)) e (g.told a)) in
     let main_born : birth_at (births log) main_object ≡ Some main_birth = ap (λ t. if t then Some main_birth else birth_at (flat_map born_in log) main_object) (same_id-refl main_object) in
     record {

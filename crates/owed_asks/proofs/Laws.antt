@@ -11,7 +11,7 @@ use Rattle.event_log.specs.Entries.{Tick}
 use Rattle.event_log.specs.Words.{attempt, births, next_serial, runs_of}
 use Rattle.event_log.specs.Events.{node_is_killed, node_of}
 use Rattle.event_log.specs.Breaks.{Among}
-use Rattle.event_log.specs.Legal.{LegalTo, opening}
+use Rattle.event_log.specs.Legal.{Legal, opening}
 use Rattle.event_log.specs.Legal as L
 use Rattle.event_log.specs.Sane.{Sane}
 use Rattle.event_log.proofs.SaneLaws.{legal_logs_are_sane}
@@ -477,7 +477,7 @@ module _ (s : Setting) (r : Running) (keeps : RunKeeps s r) (calm : IsCalm r.log
   abbrev d : Between s log next
   d = step.sound.between
 
-  legal : LegalTo L.Whole (setting_of s next) log
+  legal : Legal (setting_of s next) log
   legal = d.legal
 
   no_break : (o : Id) (number cut : ℕ) → RisingTo log o number cut → number ≡ 0
@@ -490,10 +490,9 @@ module _ (s : Setting) (r : Running) (keeps : RunKeeps s r) (calm : IsCalm r.log
       let touched : Touched r.whole.network (attempt o 0) = inl (0, n, asked) in
       let x = keeps.asks.owned (attempt o 0) touched in
       let k = knows s r keeps calm o.owner x.0 x.1 in
-      let first : LegalTo L.Whole (setting_of s r.whole) r.log = keeps.step.sound.between.legal in
+      let first : Legal (setting_of s r.whole) r.log = keeps.step.sound.between.legal in
       let new : next_serial o.owner (births r.log) ≤ o.serial =
-      born_behind L.Whole (setting_of s next) r.log event seat entries (subst (LegalTo L.Whole
-      (setting_of s next)) grows legal) first.rest first.begins o a birth
+      born_behind (setting_of s next) r.log event seat entries (subst (Legal (setting_of s next)) grows legal) first.rest first.begins o a birth
       born in
       let serial : next_serial o.owner (births r.log) ≡ length x.0.objects + 1 = k.serial in
       let none : item_at x.0.objects o.serial ≡ None = nothing_past x.0.objects o.serial (omega (arith, new, serial)) in
@@ -552,7 +551,7 @@ module _ (s : Setting) (r : Running) (keeps : RunKeeps s r) (calm : IsCalm r.log
       let x = lives_there s log next d o.owner (calm_live log o.owner n still place) in
       let k = d.knows.workers o.owner x.0 x.1 x.2 in
       let stands : birth_at (births log) o ≡ Some (Task f args depth retries) =
-      birth_stands L.Whole (setting_of s next) log legal o a (Task f args depth retries)
+      birth_stands (setting_of s next) log legal o a (Task f args depth retries)
       (subst (λ es. Among (Born o a (Task f args depth retries)) es) (sym grows) (behind r.log (In event seat) entries (Born o a
       (Task f args depth retries)) born)) in
       let node : x.0.node ≡ n = same_node x.0.node n (sym (places s log next d o.owner x.0 x.1) ∙ place) in
@@ -592,7 +591,7 @@ module _ (s : Setting) (r : Running) (keeps : RunKeeps s r) (calm : IsCalm r.log
           by_object None i g = missing i (sane.serials o (Task f args depth retries) stands) k.serial
             where
               sane : Sane log
-              sane = legal_logs_are_sane L.Whole (setting_of s next) log legal
+              sane = legal_logs_are_sane (setting_of s next) log legal
 
               missing : item_at x.objects o.serial ≡ None → o.serial < next_serial o.owner (births log) →
                   next_serial o.owner (births log) ≡ length x.objects + 1 → ⊥
@@ -600,9 +599,9 @@ module _ (s : Setting) (r : Running) (keeps : RunKeeps s r) (calm : IsCalm r.log
                 where
                   no_zero : o.serial ≡ 0 → ⊥
                   no_zero z =
-                      let first : LegalTo L.Whole (setting_of s r.whole) r.log = keeps.step.sound.between.legal in
+                      let first : Legal (setting_of s r.whole) r.log = keeps.step.sound.between.legal in
                       let new : next_serial o.owner (births r.log) ≤ o.serial =
-                      born_behind L.Whole (setting_of s next) r.log event seat entries (subst (LegalTo L.Whole (setting_of s next)) grows legal) first.rest
+                      born_behind (setting_of s next) r.log event seat entries (subst (Legal (setting_of s next)) grows legal) first.rest
                       first.begins o a (Task f args depth retries) born in
                       let some = some_serial o.owner r.log in
                       omega (arith, z, new, some)

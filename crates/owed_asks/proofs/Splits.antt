@@ -15,7 +15,7 @@ use Rattle.event_log.specs.Words.{accepts_of, births, born_in, main_bearing, nex
 use Rattle.event_log.specs.Events.{accepted_events, is_live, kills, kills_node, node_is_killed, node_of, refused_next}
 use Rattle.event_log.specs.Breaks.{Among, Standing, breaks, breaks_from, breaks_of}
 use Rattle.event_log.specs.Breaks as B
-use Rattle.event_log.specs.Legal.{End, LegalTo, has_event, opening}
+use Rattle.event_log.specs.Legal.{Legal, has_event, opening}
 use Rattle.event_log.specs.Rules.{Allowed, MayBear, Setting}
 use Rattle.event_log.proofs.EventLaws.{accepted-event}
 use Rattle.event_log.proofs.Extending.{birth_at-more}
@@ -87,16 +87,16 @@ births_grow log es w =
     (serial_more w (births log) (flat_map born_in es))
 
 -- what is born in an event has no serial that was given before
-pub born_behind : (end : End) (s : Setting) (log : List Entry) (e : Event) (seat : ℕ) (es : List Entry) → LegalTo end s (log ++ In e seat ∷ es) →
+pub born_behind : (s : Setting) (log : List Entry) (e : Event) (seat : ℕ) (es : List Entry) → Legal s (log ++ In e seat ∷ es) →
     (rest : List Entry) → log ≡ opening ++ rest → (o : Id) (a : Attempt) (b : Birth) → Among (Born o a b) es → next_serial o.owner (births log) ≤ o.serial
-born_behind end s log e seat es legal rest begins o a b among =
+born_behind s log e seat es legal rest begins o a b among =
     let sp : IsSplit es (Born o a b) = split_at es (Born o a b) among in
     let before : List Entry = rest ++ In e seat ∷ sp.before in
     let parts : log ++ In e seat ∷ es ≡ opening ++ (before ++ Born o a b ∷ sp.after) =
     ap (λ xs. xs ++ In e seat ∷ es) begins ∙ ap (λ xs. opening ++ xs)
     (ap (λ xs. rest ++ In e seat ∷ xs) sp.parts ∙ sym (append_assoc rest (In e seat ∷ sp.before) (Born o a b ∷ sp.after))) in
     let may : MayBear s (opening ++ before) o a b =
-    (entries_have_their_needs end s (log ++ In e seat ∷ es) legal before (Born o a b) sp.after parts).allowed in
+    (entries_have_their_needs s (log ++ In e seat ∷ es) legal before (Born o a b) sp.after parts).allowed in
     let next : o.serial ≡ next_serial o.owner (births (opening ++ before)) = may.next in
     let more : next_serial o.owner (births log) ≤ next_serial o.owner (births (log ++ In e seat ∷ sp.before)) =
     births_grow log (In e seat ∷ sp.before) o.owner in
@@ -209,9 +209,9 @@ opening_births = record {
     nothing o a b (suc (suc k), e) = absurd (cc)
 
 -- what an entry says that was born, was born so
-pub birth_stands : (end : End) (s : Setting) (log : List Entry) → LegalTo end s log → (o : Id) (a : Attempt) (b : Birth) → Among (Born o a b) log →
+pub birth_stands : (s : Setting) (log : List Entry) → Legal s log → (o : Id) (a : Attempt) (b : Birth) → Among (Born o a b) log →
     birth_at (births log) o ≡ Some b
-birth_stands end s log legal o a b e = (always BirthsStand births_step end s log opening_births legal).stand o a b e
+birth_stands s log legal o a b e = (always BirthsStand births_step s log opening_births legal).stand o a b e
 
 -- ---- beginnings
 

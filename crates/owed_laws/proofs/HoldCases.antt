@@ -219,7 +219,7 @@ module _ (s : Setting) (log : List Entry) (c : Whole) (step : IsInStep s log c) 
           by_flag false f = f
 
       sane : Sane log
-      sane = legal_logs_are_sane L.Whole (setting_of s c) log b.legal
+      sane = legal_logs_are_sane (setting_of s c) log b.legal
 
       -- whoever holds was born
       holder_born : (f z : Id) → HasId log f z → IsBorn (births log) f
@@ -432,7 +432,7 @@ module _ (s : Setting) (log : List Entry) (c : Whole) (step : IsInStep s log c) 
       begins_last = release_step-kept BeginsAs (H.holds_kept _ _ _ _ _ _ _ _ _ _) begun_so begins
 
       sane_before : Sane log
-      sane_before = legal_logs_are_sane L.Whole (setting_of s c) log b.legal
+      sane_before = legal_logs_are_sane (setting_of s c) log b.legal
 
       born_low : (v : ℕ) (d : Attempt) (f : Birth) → Among (push_by v me d f) c.network → d.object.owner ≡ me → d.object.serial < low
       born_low v d f j own =

@@ -294,7 +294,7 @@ first_copy_kept s r b k n node at y number first = ap (keeps_in y number) at ∙
     made (inl p) = inl (record { value = p.value; born = p.put; first = p.first; home = p.place })
     made (inr p) =
         let a : Attempt = attempt y number in
-        let sane : Sane r.log = legal_logs_are_sane L.Whole (setting_of s r.whole) r.log b.legal in
+        let sane : Sane r.log = legal_logs_are_sane (setting_of s r.whole) r.log b.legal in
         let i = among_flat (accepted_in a) r.log (Accepted a) a p.accepted
         (subst (λ t. Among a (if t then a ∷ [] else [])) (sym (same_attempt-refl a)) (zero, refl)) in
         let end = sane.accepted a i.0 a i.1 in

@@ -97,7 +97,7 @@ module _ (s : Setting) (log : List Entry) (c : Whole) (b : Between s log c) (e :
   later = log ++ In e seat ∷ es
 
   sane : Sane log
-  sane = legal_logs_are_sane L.Whole (setting_of s c) log b.legal
+  sane = legal_logs_are_sane (setting_of s c) log b.legal
 
   same_number : (m n : ℕ) → ◌≡◌ {A = Option ℕ} (Some m) (Some n) → m ≡ n
   same_number m n f = cc

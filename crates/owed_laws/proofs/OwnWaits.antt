@@ -294,7 +294,7 @@ module _ (s : Setting) (apart : KeepsMainApart s.script) (log : List Entry) (c :
       accepted_served number i =
           let a : Attempt = attempt y number in
           let accepted : Among (Accepted a) log_mid = among-more log (In (Commit j) seat ∷ borne.there.out.entries) (Accepted a) i in
-          let sane : Sane log_mid = legal_logs_are_sane L.Whole (setting_of s after_mid) log_mid between.legal in
+          let sane : Sane log_mid = legal_logs_are_sane (setting_of s after_mid) log_mid between.legal in
           let heard = accepted_among s log_mid after_mid between calm_mid a accepted in
           let ended = sane.accepted a heard.0 a heard.1 in
           let ran = sane.ended a ended.1.0 ended.0 ended.1.1 in

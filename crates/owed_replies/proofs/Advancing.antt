@@ -94,7 +94,7 @@ item_below {X} xs (suc i) some below = got xs i (omega (arith, below))
 pub owner_has : (s : Setting) (log : List Entry) (c : Whole) → Between s log c → (y : Id) → IsBorn (births log) y → (x : Worker) → worker_at c y.owner ≡ Some x → x.is_live ≡ true →
     1 ≤ y.serial → (z : Object) × (item_at x.objects y.serial ≡ Some z)
 owner_has s log c b y born x at live some =
-    let sane : Sane log = legal_logs_are_sane L.Whole (setting_of s c) log b.legal in
+    let sane : Sane log = legal_logs_are_sane (setting_of s c) log b.legal in
     let below = sane.serials y born.0 born.1 in
     let knows : KnowsWorker (setting_of s c) (past log b.asked) y.owner x = b.knows.workers y.owner x at live in
     let next = knows.serial in
@@ -103,7 +103,7 @@ owner_has s log c b y born x at live some =
 -- a content that was made is of what was born
 pub made_born : (s : Setting) (log : List Entry) (c : Whole) → Between s log c → (y : Id) (number : ℕ) → IsMade log y number → IsBorn (births log) y
 made_born s log c b y number (n, inl p) = (Put p.value, p.born)
-made_born s log c b y number (n, inr p) = (legal_logs_are_sane L.Whole (setting_of s c) log b.legal).born y number p.worker p.runs
+made_born s log c b y number (n, inr p) = (legal_logs_are_sane (setting_of s c) log b.legal).born y number p.worker p.runs
 
 -- what is asked for was born
 pub request_born : (s : Setting) (log : List Entry) (c : Whole) → Between s log c → KeepsReplies log c → (v w : ℕ) (y : Id) (m : Message) →
@@ -247,7 +247,7 @@ module _ (s : Setting) (log : List Entry) (c : Whole) (e : Event) (seat : ℕ) (
               subst (λ q. IsReported m.whole.network p.number q) same (right.told y h over (subst (λ q. same_attempt q main_attempt ≡ false) (sym same) other))
           by_phase r same right here knows (HasFaulted y) h over =
               let q = subst (λ z. KnowsPhase (setting_of s m.whole) next p.worker r z) h knows.phase in
-              let sane : Sane next = legal_logs_are_sane L.Whole (setting_of s m.whole) next d.legal in
+              let sane : Sane next = legal_logs_are_sane (setting_of s m.whole) next d.legal in
               let once = sane.one_end r.attempt in
               let some = some_end r.attempt x here in
               let faulted : length (faults_of r.attempt next) ≡ 1 = ap length q.1 in

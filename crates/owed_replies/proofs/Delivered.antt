@@ -91,7 +91,7 @@ pub allowed_at : (s : Setting) (log : List Entry) → L.Legal s log → (x : Ent
     (before : List Entry) × Allowed s (opening ++ before) x
 allowed_at s log legal x not_first not_second i =
     let r = split_at x legal.rest (behind (subst (λ xs. Among x xs) legal.begins i)) in
-    let needs : HasItsNeeds L.Whole s (opening ++ r.before) x r.after = entries_have_their_needs L.Whole s log legal r.before x r.after (legal.begins ∙ ap (λ xs. opening ++ xs) r.parts) in
+    let needs : HasItsNeeds s (opening ++ r.before) x r.after = entries_have_their_needs s log legal r.before x r.after (legal.begins ∙ ap (λ xs. opening ++ xs) r.parts) in
     (r.before, needs.allowed)
   where
     behind : Among x (opening ++ legal.rest) → Among x legal.rest

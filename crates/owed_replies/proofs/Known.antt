@@ -40,7 +40,7 @@ module _ (s : Setting) (log : List Entry) (c : Whole) (b : Between s log c) wher
   P = IsBorn (births log)
 
   good : GoodLog s.script log
-  good = good_log L.Whole (setting_of s c) log b.legal
+  good = good_log (setting_of s c) log b.legal
 
   answers_known : (a : Attempt) (spec : Birth) → birth_at (births log) a.object ≡ Some spec → OutcomesIn P (answers_of a log)
   answers_known a spec e = told.answers_in

@@ -276,7 +276,7 @@ module _ (s : Setting) (log : List Entry) (c : Whole) (b : Between s log c) (cal
   -- an attempt that ended with a small content carries it along
   pub carries_small : (a : Attempt) (kept : Option Outcome) → IsSmallEnd log a kept → kept ≡ None → EndsSmall log a → ⊥
   carries_small a kept end none small =
-      let sane : Sane log = legal_logs_are_sane L.Whole (setting_of s c) log b.legal in
+      let sane : Sane log = legal_logs_are_sane (setting_of s c) log b.legal in
       let same : end.0 ≡ small.0 = lone (ends_of a log) (let l = sane.one_end a in omega (arith, l)) end.0 small.0 end.1 small.1 in
       let some : if_small end.0 ≡ Some end.0 = ap (λ t. if t then Some end.0 else None) (ap is_small same ∙ small.2) in
       let is : kept ≡ if_small end.0 = end.2 in
@@ -370,7 +370,7 @@ module _ (s : Setting) (log : List Entry) (c : Whole) (b : Between s log c) (cal
         where
           not_run : EndsSmall log (attempt y number) → ⊥
           not_run small =
-              let sane : Sane log = legal_logs_are_sane L.Whole (setting_of s c) log b.legal in
+              let sane : Sane log = legal_logs_are_sane (setting_of s c) log b.legal in
               let r = sane.ended (attempt y number) small.1.0 small.0 small.1.1 in
               nothing_in [] r.0 refl (number, ap (λ xs. slice_get xs number) (sym k.unbegun) ∙ r.1)
 

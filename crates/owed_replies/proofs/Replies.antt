@@ -163,7 +163,7 @@ module _ (s : Setting) (r : Running) (k : RunReplies s r) (calm : IsCalm r.log) 
       accepted_not : (number : ℕ) → Has (facts.Accepted (attempt o number)) k.step.sound.past → ⊥
       accepted_not number h =
           let i : Among (Accepted (attempt o number)) r.log = accepted_by_past s r.log c k.step.sound (attempt o number) h in
-          let sane : Sane r.log = legal_logs_are_sane L.Whole (setting_of s c) r.log b.legal in
+          let sane : Sane r.log = legal_logs_are_sane (setting_of s c) r.log b.legal in
           let j = accepted_among s r.log c b calm (attempt o number) i in
           let ended = sane.accepted (attempt o number) j.0 (attempt o number) j.1 in
           let ran = sane.ended (attempt o number) ended.1.0 ended.0 ended.1.1 in
@@ -293,7 +293,7 @@ module _ (s : Setting) (r : Running) (k : RunReplies s r) (calm : IsCalm r.log) 
     pub not_twice : (a : Attempt) → IsInStep s (r.log ++ In e seat ∷ step.entries) step.whole → Among (Accepted a) step.entries → Among (Accepted a) r.log → ⊥
     not_twice a after logged i =
         let es : List Entry = In e seat ∷ step.entries in
-        let sane : Sane (r.log ++ es) = legal_logs_are_sane L.Whole (setting_of s step.whole) (r.log ++ es) after.sound.between.legal in
+        let sane : Sane (r.log ++ es) = legal_logs_are_sane (setting_of s step.whole) (r.log ++ es) after.sound.between.legal in
         let parts : accepts_of a (r.log ++ es) ≡ accepts_of a r.log ++ accepts_of a es = flat_map-append (accepted_in a) r.log es in
         let first = some_length (accepts_of a r.log) a (accepted_among s r.log c b calm a i) in
         let second = some_length (accepts_of a es) a (among_flat (accepted_in a) es (Accepted a) a (suc logged.0, logged.1)

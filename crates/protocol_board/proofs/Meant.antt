@@ -1,6 +1,5 @@
 -- A legal log is meant.
 use Rattle.meaning.specs.Syntax.{Script}
-use Rattle.event_log.specs.Legal.{Whole}
 use Rattle.meaning_laws.specs.Law.{LegalLogsReadAsSerial, MainBeginsTheSerialRun}
 use Rattle.protocol_core.specs.States.{IsLegalRun, IsReachedRun, RunState, beside}
 use Rattle.protocol_board.specs.Meant.{IsSoundLog}

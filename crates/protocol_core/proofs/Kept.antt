@@ -136,7 +136,7 @@ module _ (script : Script) (before after : RunState) (e : Event) (seat : ℕ) (w
       let s = beside script before.first_nodes [] in
       let next : IsSound s (before.log ++ logged e seat a) (whole_after before.whole a) =
       law s kept.typed.main_apart before.log before.whole e seat handed sound_before (right script before.first_nodes before.whole e work handed is_handed is_true) in
-      known_behind (setting_of s (whole_after before.whole a)) logs.Whole before.log (logged e seat a) (legal s (before.log ++ logged e seat a) (whole_after before.whole a) next)
+      known_behind (setting_of s (whole_after before.whole a)) before.log (logged e seat a) (legal s (before.log ++ logged e seat a) (whole_after before.whole a) next)
 
   -- a job that it gives out may be run
   pub job_begun : ClaimsGiveGoodJobs → (job : JobData) → outcome_of (answer before.whole e handed) ≡ Taken (Some (job_in job)) → IsBegun script job

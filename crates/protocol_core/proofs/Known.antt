@@ -6,7 +6,7 @@ use Rattle.event_log.specs.Causes.{IsNumberOf, IsRefusal, is_there, shown, unles
 use Rattle.event_log.specs.Entries.{Claim, Commit, Deliver, Event, Evict, Join, Kill, KillNode, Lose, Notice, NoticeNode, Tick}
 use Rattle.event_log.specs.Entries.{Accepted, Begun, Born, Ended, Entry, Faulted, Got, In, Opened, Printed, Refused, Released, Resolved}
 use Rattle.event_log.specs.Events.{has_job_out, is_committed, is_killed, is_live, node_is_killed, node_lives, worker_of_job}
-use Rattle.event_log.specs.Legal.{End, LegalFrom, LegalTo, opening}
+use Rattle.event_log.specs.Legal.{LegalFrom, Legal, opening}
 use Rattle.event_log.specs.Rules.{Allowed}
 use Rattle.event_log.specs.Settings.{Setting}
 use Rattle.event_log.specs.Views.{code_of}
@@ -110,14 +110,14 @@ of_allowed s before (Faulted a y f) h = tt
 of_allowed s before (Resolved o f) h = tt
 of_allowed s before (Released o) h = tt
 
-of_legal_from : (s : Setting) (end : End) (before es : List Entry) → LegalFrom s end before es → AllByRecursion IsKnown es
-of_legal_from s end before [] h = tt
-of_legal_from s end before (x ∷ es) (allowed, answered, rest) = (of_allowed s before x allowed, of_legal_from s end (before ++ x ∷ []) es rest)
+of_legal_from : (s : Setting) (before es : List Entry) → LegalFrom s before es → AllByRecursion IsKnown es
+of_legal_from s before [] h = tt
+of_legal_from s before (x ∷ es) (allowed, answered, rest) = (of_allowed s before x allowed, of_legal_from s (before ++ x ∷ []) es rest)
 
 -- what stands at the end of a legal log
-pub known_behind : (s : Setting) (end : End) (log chunk : List Entry) → LegalTo end s (log ++ chunk) → AllByRecursion IsKnown chunk
-known_behind s end log chunk h =
-    let all : AllByRecursion IsKnown (opening ++ h.rest) = (tt, (tt, of_legal_from s end opening h.rest h.each)) in
+pub known_behind : (s : Setting) (log chunk : List Entry) → Legal s (log ++ chunk) → AllByRecursion IsKnown chunk
+known_behind s log chunk h =
+    let all : AllByRecursion IsKnown (opening ++ h.rest) = (tt, (tt, of_legal_from s opening h.rest h.each)) in
     all_behind IsKnown log chunk (subst (AllByRecursion IsKnown) (sym h.begins) all)
 
 -- ---- what is answered to an event

@@ -11,7 +11,6 @@ use Rattle.event_log.specs.Events.{from_one, has_job_out, is_killed, node_is_kil
 use Rattle.event_log.specs.Words.{births, next_serial}
 use Rattle.event_log.specs.Causes.{IsRefusal}
 use Rattle.event_log.specs.Rules.{Setting, ToWorker, worker_to}
-use Rattle.event_log.specs.Legal.{Whole as WholeLog}
 use Rattle.protocol.specs.Numbered.{changed_at, item_at}
 use Rattle.protocol.specs.Messages.{Letter, Party, TheWorker, TheNode, goes_to_by, receiver_of}
 use Rattle.protocol.specs.Jobs.{Given, Handed, Nothing, OfAnother, OfJob}
@@ -120,7 +119,7 @@ module _ (s : Setting) (apart : KeepsMainApart s.script) (log : List Entry) (c :
     worker_event legal adds holds busy =
         let same : worker_does c1 w step ≡ after_worker c1 w x.node (release_step (step h)) = does_is c1 w step x home.0 at home.1 in
         let z : ComesTo f (step h) = legal (on_workers.enters e seat w x home.0 (record { at = at; lives = live; home = home.1; own = own })) in
-        let lands : Lands d S (step h).there.out.entries = lands_so d S WholeLog (step h).there.out.entries b.legal z.sound.there.may.each in
+        let lands : Lands d S (step h).there.out.entries = lands_so d S (step h).there.out.entries b.legal z.sound.there.may.each in
         let goes : Goes d facts w (step h) = holds (steps_land.taken_out log facts c e seat w x home.0 t at live home.1) lands in
         let end : ComesTo f (release_step (step h)) = steps_stay_legal.steps.releases f (step h) z (steps_land.unheld d S goes.later (step h) goes.kept lands) in
         let beside : WholeTrue log facts c1 = steps_land.beside log facts c delivered jobs made t in

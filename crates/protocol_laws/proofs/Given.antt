@@ -14,7 +14,7 @@ use Rattle.meaning.proofs.BirthLaws.{at_test, same_id-refl, same_id-true}
 use Rattle.event_log.specs.Entries.{Attempt, Claim, Entry, Begun, main_attempt}
 use Rattle.event_log.specs.Words.{answers_of, births, got_in, run_in, runs_of}
 use Rattle.event_log.specs.Rules.{Setting, Allowed}
-use Rattle.event_log.specs.Legal.{Whole as WholeLog, opening}
+use Rattle.event_log.specs.Legal.{opening}
 use Rattle.event_log.proofs.Extending.{births-more}
 use Rattle.event_log.proofs.SaneLaws.{always, none_at, one_at, word_last}
 use Rattle.kind_laws.proofs.Laws.{legal_logs_keep}
@@ -99,11 +99,11 @@ module _ (s : Setting) (checks : ScriptChecks s.script s.script) (main : IsBirth
   run_is_good number w x run at live is =
       let S = setting_of s c in
       let k : KnowsRun S log w x run = (sound.between.knows.workers w x at live).run run is in
-      let task = always BegunAreTasks task_step WholeLog S log task_first sound.between.legal run.attempt.object run.attempt.number w k.runs in
-      let pace : IsInStep s.script log run.attempt run.spec run.base run.births = attempts_keep_pace WholeLog S log checks main sound.between.legal run.attempt run.spec run.base run.births k.spec k.own in
+      let task = always BegunAreTasks task_step S log task_first sound.between.legal run.attempt.object run.attempt.number w k.runs in
+      let pace : IsInStep s.script log run.attempt run.spec run.base run.births = attempts_keep_pace S log checks main sound.between.legal run.attempt run.spec run.base run.births k.spec k.own in
       record {
         task = subst IsTask (same_Some task.0 run.spec (sym task.1 ∙ k.spec)) task.2;
-        kind = (legal_logs_keep WholeLog S log checks main sound.between.legal).kinds run.attempt.object run.spec k.spec;
+        kind = (legal_logs_keep S log checks main sound.between.legal).kinds run.attempt.object run.spec k.spec;
         answers = subst (AnswersFit (run_birth s.script run.spec) run.base) k.answers pace.fit;
         births = subst (λ cs. IsFirst run.births (replay s.script run.spec run.base cs).births) k.answers pace.births;
         prints = subst (λ cs. IsFirst run.prints (replay s.script run.spec run.base cs).prints) k.answers

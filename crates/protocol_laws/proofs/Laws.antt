@@ -2,7 +2,6 @@
 use Rattle.std.proofs.Common.{◌≡◌, List, [], ◌∷◌, ◌++◌, Some, None}
 use Rattle.meaning.specs.Mains.{KeepsMainApart}
 use Rattle.event_log.specs.Entries.{Entry, Released, main_attempt}
-use Rattle.event_log.specs.Legal.{Whole as WholeLog}
 use Rattle.event_log.specs.Rules.{Setting}
 use Rattle.event_log.proofs.Growing.{entries_have_their_needs}
 use Rattle.protocol.specs.Answers.{answer, logged, whole_after}
@@ -45,4 +44,4 @@ protocol_stays_legal s slots some apart xs right =
     (events_stay s apart Rattle.event_log.specs.Legal.opening (first_whole s.nodes slots) xs (opening_is_sound s slots some) right).between.legal
 
 pub nothing_held_is_released : NothingHeldIsReleased
-nothing_held_is_released s log c sound before after o parts = (entries_have_their_needs WholeLog (setting_of s c) log sound.between.legal before (Released o) after parts).allowed.unheld
+nothing_held_is_released s log c sound before after o parts = (entries_have_their_needs (setting_of s c) log sound.between.legal before (Released o) after parts).allowed.unheld

@@ -14,7 +14,7 @@ use Rattle.meaning.proofs.BirthLaws.{at_test}
 use Rattle.event_log.specs.Entries.{Attempt, Entry, In, Refused, Opened, Begun, Born, Got, Printed, Ended, Accepted, Faulted, Resolved, Released, main_attempt}
 use Rattle.event_log.specs.Words.{answers_of, births, got_in, own_births, own_in, printed_by, printed_in, same_attempt}
 use Rattle.event_log.specs.Rules.{Setting, Allowed, MayBear, MayGet, MayPrint, Replays, Stops}
-use Rattle.event_log.specs.Legal.{End, LegalFrom, opening}
+use Rattle.event_log.specs.Legal.{LegalFrom, opening}
 use Rattle.event_log.proofs.Extending.{births-more}
 use Rattle.event_log.proofs.WordLaws.{same_attempt-refl, same_attempt-true, word_push}
 use Rattle.meaning_laws.proofs.Good.{GoodLog}
@@ -302,14 +302,14 @@ module _ (s : Setting) (before : List Entry) (paces : AllPace s.script before) w
   pace_step checks good typed (Resolved o f) h a = stays s before (Resolved o f) paces a refl refl refl
   pace_step checks good typed (Released o) h a = stays s before (Released o) paces a refl refl refl
 
-pace_steps : (s : Setting) (end : End) → ScriptChecks s.script s.script → (before es : List Entry) → GoodLog s.script before → Typed s.script (births before) → AllPace s.script before → LegalFrom s end before es → AllPace s.script (before ++ es)
-pace_steps s end checks before [] g t p h = subst (AllPace s.script) (sym (append-nil before)) p
-pace_steps s end checks before (x ∷ es) g t p h =
+pace_steps : (s : Setting) → ScriptChecks s.script s.script → (before es : List Entry) → GoodLog s.script before → Typed s.script (births before) → AllPace s.script before → LegalFrom s before es → AllPace s.script (before ++ es)
+pace_steps s checks before [] g t p h = subst (AllPace s.script) (sym (append-nil before)) p
+pace_steps s checks before (x ∷ es) g t p h =
     subst (AllPace s.script) (append_assoc before (x ∷ []) es)
-    (pace_steps s end checks (before ++ x ∷ []) es (step s before x g h.0) (typed_step s checks before g t x h.0) (pace_step s before p checks g t x h.0) h.2)
+    (pace_steps s checks (before ++ x ∷ []) es (step s before x g h.0) (typed_step s checks before g t x h.0) (pace_step s before p checks g t x h.0) h.2)
 
 pub attempts_keep_pace : KeepsPace
-attempts_keep_pace end s log checks main h a spec base bs born own = elim all [
+attempts_keep_pace s log checks main h a spec base bs born own = elim all [
   | inl k ↦ record {
     births = subst (λ cs. IsFirst cs (replay s.script spec base (answers_of a log)).births) (sym (empty bs (sym own ∙ k.1))) tt;
     prints = subst (λ vs. IsFirst vs (replay s.script spec base (answers_of a log)).prints) (sym k.0.prints) tt;
@@ -326,4 +326,4 @@ attempts_keep_pace end s log checks main h a spec base bs born own = elim all [
     empty (c ∷ cs) e = absurd (cc)
 
     all : Paces s.script log a
-    all = subst (λ l. AllPace s.script l) (sym h.begins) (pace_steps s end checks opening h.rest (good_opening s.script) (typed_opening s.script main) idle h.each) a
+    all = subst (λ l. AllPace s.script l) (sym h.begins) (pace_steps s checks opening h.rest (good_opening s.script) (typed_opening s.script main) idle h.each) a

@@ -115,7 +115,7 @@ report_begins script log typed m = go (ends_of main_attempt log) refl
         record { text = inl (begins, ap status ended); json = inl (says, ap status ended) }
 
 pub reports_begin : ReportsBeginAsSerial
-reports_begin end s log typed h = report_begins s.script log typed (main_begins end s log h)
+reports_begin s log typed h = report_begins s.script log typed (main_begins s log h)
 
 pub lines_begin : LinesBegin
 lines_begin [] all h = (print_lines all, refl)

@@ -6,7 +6,7 @@ use Rattle.meaning.specs.Lists.{IsFirst}
 use Rattle.meaning.specs.Syntax.{Script}
 use Rattle.event_log.specs.Entries.{Entry}
 use Rattle.event_log.specs.Rules.{Setting}
-use Rattle.event_log.specs.Legal.{End, LegalTo}
+use Rattle.event_log.specs.Legal.{Legal}
 use Rattle.script_check.specs.Scripts.{IsWellTyped}
 use Rattle.report.specs.MainLines.{print_lines}
 use Rattle.history.specs.Main.{status_of}
@@ -20,9 +20,9 @@ pub record AreAsSerial (script : Script) (log : List Entry) : Type 0 where
   pub text : BeginsAsSerial script log (report_text log) (status_of log)
   pub json : SaysAsSerial script log (compact_text (report_data log) ++ codes "\n") (status_of log)
 
--- of every checked script, beside every cluster and network, of every legal log, whole or broken off for want of memory
+-- of every checked script, beside every cluster and network, of every legal log
 abbrev pub ReportsBeginAsSerial : Type 0
-ReportsBeginAsSerial = (end : End) (s : Setting) (log : List Entry) → IsWellTyped s.script → LegalTo end s log → AreAsSerial s.script log
+ReportsBeginAsSerial = (s : Setting) (log : List Entry) → IsWellTyped s.script → Legal s log → AreAsSerial s.script log
 
 -- the lines of first prints begin the lines of all of them, byte for byte
 abbrev pub LinesBegin : Type 0

@@ -13,15 +13,19 @@ use ids::ObjectId;
 use std::alloc::{AllocError, AllocFailed, Global};
 use std::rc::Rc;
 use task_spec::Birth;
+use thiserror::Error;
 use values::{Content, RunValue};
 
-/// Why what a run came to is nothing that a task has.
-#[derive(Clone, Copy, PartialEq, Eq, Debug)]
+/// Why what a run came to is nothing that a task has. `From` is written by hand, since the causes that clauses tell apart have to pass through `?`.
+#[derive(Clone, Copy, PartialEq, Eq, Debug, Drop, Error)]
 pub(crate) enum ConversionError {
     /// An operand of the wrong kind ended it.
+    #[error("an operand of the wrong kind")]
     Broken,
     /// A value has an outcome in it, or is no id where one is needed.
+    #[error("an outcome in a value, or no id where one is needed")]
     HasOutcome,
+    #[error("refused 39: want of memory")]
     NoMemory,
 }
 

@@ -24,6 +24,7 @@ use frames::{Attempt, Compiled, Frame, Halt, run_task};
 use ids::ObjectId;
 use std::alloc::{AllocError, AllocFailed, Global};
 use task_spec::Birth;
+use thiserror::Error;
 use values::{Content, RunValue};
 
 /// Where a piece stops.
@@ -49,13 +50,15 @@ pub struct Piece {
     pub steps: u64,
 }
 
-/// Why there is no piece.
-#[derive(Clone, Copy, PartialEq, Eq, Debug)]
+/// Why there is no piece. `From` is written by hand, since the causes that clauses tell apart have to pass through `?`.
+#[derive(Clone, Copy, PartialEq, Eq, Debug, Drop, Error)]
 pub enum PieceError {
     /// An operand of the wrong kind, which a checked script never meets where its arguments and answers are of the
     /// kinds asked for.
+    #[error("an operand of the wrong kind")]
     Broken,
     /// Memory, or the numbers of objects, ran out.
+    #[error("refused 39: memory, or the numbers of objects, ran out")]
     NoMemory,
 }
 

@@ -14,6 +14,7 @@ use crate::convert::{ConversionError, to_content, to_values};
 use frames::{SerialEnd, run_main};
 use script_check::Checked;
 use std::alloc::Global;
+use thiserror::Error;
 use values::{Content, RunValue};
 
 /// What main prints, and how it ends.
@@ -24,12 +25,15 @@ pub struct SerialRun {
 }
 
 /// Why there is no serial run.
-#[derive(Clone, Copy, PartialEq, Eq, Debug)]
+#[derive(Clone, Copy, PartialEq, Eq, Debug, Drop, Error)]
 pub enum SerialError {
     /// An operand of the wrong kind, which a checked script never meets.
+    #[error("an operand of the wrong kind")]
     Broken,
     /// A reference in what main prints or ends with, where a checked script has none.
+    #[error("a reference in what main prints or ends with")]
     HasReference,
+    #[error("refused 39: want of memory")]
     NoMemory,
 }
 

@@ -5,13 +5,16 @@ ghost use Rattle.event_files.specs.declared.error.EventError.TheVariants.{NoMemo
 ghost use Rattle.event_files.specs.Refusals.{refusal_number};
 
 use std::alloc::{AllocError, AllocFailed};
+use thiserror::Error;
 
-/// Why a file of events or a plan is refused.
-#[derive(Clone, Copy, PartialEq, Eq, Debug, Drop)]
+/// Why a file of events or a plan is refused. `From` is written by hand, since the causes that clauses tell apart have to pass through `?`.
+#[derive(Clone, Copy, PartialEq, Eq, Debug, Drop, Error)]
 pub enum EventError {
     /// 40: the line with this number, counted from 1, is none of the format.
+    #[error("refused 40: line {0} is none of the format")]
     BadLine(u64),
     /// 39: want of memory.
+    #[error("refused 39: want of memory")]
     NoMemory,
 }
 

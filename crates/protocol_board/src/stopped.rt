@@ -4,15 +4,19 @@ ghost use Rattle.std.specs.Prelude.{◌≡◌};
 ghost use Rattle.protocol_board.specs.Stops.{stopped_code};
 
 use std::alloc::AllocError;
+use thiserror::Error;
 
-/// Why a replay is stopped before its last event.
-#[derive(Clone, Copy, PartialEq, Eq, Debug, Drop)]
+/// Why a replay is stopped before its last event. `From` is written by hand, since the causes that clauses tell apart have to pass through `?`.
+#[derive(Clone, Copy, PartialEq, Eq, Debug, Drop, Error)]
 pub enum Stopped {
     /// 39: a growth was refused.
+    #[error("refused 39: want of memory")]
     NoMemory,
     /// 41: more than 100,000 events would be applied.
+    #[error("refused 41: more than 100,000 events would be applied")]
     TooLong,
     /// 42: a claim gave another job than the history says.
+    #[error("refused 42: a claim gave another job than the history says")]
     WrongJob,
 }
 

@@ -4,13 +4,16 @@ ghost use Rattle.std.specs.Prelude.{◌≡◌};
 ghost use Rattle.protocol_board.specs.Stops.{unfinished_code};
 
 use event_log::Refusal;
+use thiserror::Error;
 
-/// Why a run is stopped before nothing is left to do.
-#[derive(Clone, Copy, PartialEq, Eq, Debug, Drop)]
+/// Why a run is stopped before nothing is left to do. `From` is written by hand, since the causes that clauses tell apart have to pass through `?`.
+#[derive(Clone, Copy, PartialEq, Eq, Debug, Drop, Error)]
 pub enum Unfinished {
     /// An event was refused. Want of memory while a job ran counts as `NoMemory`.
+    #[error(transparent)]
     Refused(Refusal),
     /// 41: more than 100,000 turns would be taken.
+    #[error("refused 41: more than 100,000 turns would be taken")]
     TooLong,
 }
 

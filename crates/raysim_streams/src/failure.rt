@@ -5,15 +5,19 @@ ghost use Rattle.raysim_streams.specs.Settled.{failure_by, settled};
 
 use std::io;
 use std::io::ErrorKind;
+use thiserror::Error;
 
 /// Which stream of a command failed.
-#[derive(Clone, Copy, Debug, PartialEq, Eq, Drop)]
+#[derive(Clone, Copy, Debug, PartialEq, Eq, Drop, Error)]
 pub enum Failure {
     /// A read failed.
+    #[error("refused 50: a read failed")]
     Read,
     /// A write failed.
+    #[error("refused 50: a write failed")]
     Write,
     /// Nobody reads any more what is written.
+    #[error("refused 50: nobody reads any more what is written")]
     Closed,
 }
 

@@ -8,9 +8,11 @@ use crate::failure::Failure;
 use script_tokens::Span;
 use std::alloc::{AllocError, AllocFailed};
 use std::fmt;
+use thiserror::Error;
 
-/// Why a command gives no report. Its text is the line that goes to standard error.
-#[derive(Clone, Copy, Debug, PartialEq, Eq, Drop)]
+/// Why a command gives no report. Its text is the line that goes to standard error. `Display` is written by hand, with the text as its clause,
+/// and so is `From`, since the causes that clauses tell apart have to pass through `?`.
+#[derive(Clone, Copy, Debug, PartialEq, Eq, Drop, Error)]
 pub enum Refusal {
     /// The script is refused with this number (1 to 4 and 10 to 17), at these bytes: `refused 3 at 28..29`.
     At { code: u16, span: Span },

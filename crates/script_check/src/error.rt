@@ -6,27 +6,37 @@ ghost use Rattle.script_check.specs.Refusals.{number_of, span_of};
 
 use script_syntax::Span;
 use std::alloc::{AllocError, AllocFailed};
+use thiserror::Error;
 
-/// Why a script is refused, and where.
-#[derive(Clone, Copy, PartialEq, Eq, Debug, Drop)]
+/// Why a script is refused, and where. `From` is written by hand, since the causes that clauses tell apart have to pass through `?`.
+#[derive(Clone, Copy, PartialEq, Eq, Debug, Drop, Error)]
 pub enum CheckError {
     /// 10: a variable or function that is not in scope, or a call of main.
+    #[error("refused 10 at {}..{}: a variable or function that is not in scope, or a call of main", .0.start, .0.end)]
     UnknownName(Span),
     /// 11: an expression of a wrong type.
+    #[error("refused 11 at {}..{}: an expression of a wrong type", .0.start, .0.end)]
     WrongType(Span),
     /// 12: a call with a wrong number of arguments, at the function's name there.
+    #[error("refused 12 at {}..{}: a call with a wrong number of arguments", .0.start, .0.end)]
     WrongCount(Span),
     /// 13: no main, or one with parameters or with another type than int.
+    #[error("refused 13 at 0..0: no main, or one with parameters or with another type than int")]
     NoMain,
     /// 14: a print in another function than main.
+    #[error("refused 14 at {}..{}: a print in another function than main", .0.start, .0.end)]
     PrintOutsideMain(Span),
     /// 15: a body that may end without return, at the function's name.
+    #[error("refused 15 at {}..{}: a body that may end without return", .0.start, .0.end)]
     MissingReturn(Span),
     /// 16: retries above 10, at the number.
+    #[error("refused 16 at {}..{}: retries above 10", .0.start, .0.end)]
     BadRetries(Span),
     /// 17: a name that is in scope already.
+    #[error("refused 17 at {}..{}: a name that is in scope already", .0.start, .0.end)]
     Duplicate(Span),
     /// 39: want of memory.
+    #[error("refused 39: want of memory")]
     NoMemory,
 }
 

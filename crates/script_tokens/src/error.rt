@@ -6,19 +6,25 @@ ghost use Rattle.script_tokens.specs.Refusals.{refusal_number, refusal_span};
 
 use crate::token::Span;
 use std::alloc::{AllocError, AllocFailed};
+use thiserror::Error;
 
-/// Why a text is refused, and where.
-#[derive(Clone, Copy, PartialEq, Eq, Debug, Drop)]
+/// Why a text is refused, and where. `From` is written by hand, since the causes that clauses tell apart have to pass through `?`.
+#[derive(Clone, Copy, PartialEq, Eq, Debug, Drop, Error)]
 pub enum SyntaxError {
     /// 1: a byte above 127.
+    #[error("refused 1 at {}..{}: a byte above 127", .0.start, .0.end)]
     NotAscii(Span),
     /// 2: a byte or a word that is no token.
+    #[error("refused 2 at {}..{}: a byte or a word that is no token", .0.start, .0.end)]
     BadToken(Span),
     /// 3: a token that the grammar does not allow there, or the end of the text.
+    #[error("refused 3 at {}..{}: a token that the grammar does not allow there, or the end of the text", .0.start, .0.end)]
     Expected(Span),
     /// 4: a limit is passed.
+    #[error("refused 4 at {}..{}: a limit is passed", .0.start, .0.end)]
     TooLarge(Span),
     /// 39: want of memory.
+    #[error("refused 39: want of memory")]
     NoMemory,
 }
 

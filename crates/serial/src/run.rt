@@ -10,10 +10,12 @@ ghost use Rattle.values.specs.Values.{content_of, value_of};
 use evaluation::{SerialError, run_serially};
 use script_check::Checked;
 use std::alloc::Global;
+use thiserror::Error;
 use values::{Content, RunValue};
 
 /// Memory is not there.
-#[derive(Clone, Copy, PartialEq, Eq, Debug, Drop)]
+#[derive(Clone, Copy, PartialEq, Eq, Debug, Drop, Error)]
+#[error("refused 39: want of memory")]
 pub struct NoMemory;
 
 /// What main printed, and how it ended.

@@ -1,6 +1,6 @@
 // An object's holders.
 
-ghost use Rattle.std.specs.Prelude.{◌≡◌, ◌↔◌, ◌&&◌, ◌||◌, None, OnOk, Some, not, true};
+ghost use Rattle.std.specs.Prelude.{◌≡◌, ◌↔◌, ◌&&◌, ◌||◌, None, OnErr, OnOk, Some, not, true};
 ghost use Rattle.meaning.specs.Births.{same_id};
 ghost use Rattle.meaning.specs.Values.{Id};
 ghost use Rattle.protocol.specs.Sets.{has_id};
@@ -12,9 +12,11 @@ use numbers::ObjectId;
 use protocol_data::Object;
 use std::alloc::AllocError;
 
-/// Adds a holder. One that was removed before doesn't come to hold the object again. An error is want of memory.
+/// Adds a holder. One that was removed before doesn't come to hold the object again. On an error, which is want of memory, the object is as it
+/// was.
 pub fn add(object: &mut Object, holder: ObjectId) -> Result<(), AllocError>
     ensures step { OnOk result (object.new ≡ with_holder holder object.old) }
+    ensures err { OnErr result (object.new ≡ object.old) }
     ensures added { (e : Id) → OnOk result (holds object.new e ≡ ((has_id object.old.added e || same_id holder e) && not (has_id object.old.removed e))) }
     ensures late { has_id object.old.removed holder ≡ true → (e : Id) → OnOk result (holds object.new e ≡ holds object.old e) }
 {
@@ -22,9 +24,10 @@ pub fn add(object: &mut Object, holder: ObjectId) -> Result<(), AllocError>
     Ok(())
 }
 
-/// Removes a holder, and no other. An error is want of memory.
+/// Removes a holder, and no other. On an error, which is want of memory, the object is as it was.
 pub fn remove(object: &mut Object, holder: ObjectId) -> Result<(), AllocError>
     ensures step { OnOk result (object.new ≡ without_holder holder object.old) }
+    ensures err { OnErr result (object.new ≡ object.old) }
     ensures removed { (e : Id) → OnOk result (holds object.new e ≡ (holds object.old e && not (same_id holder e))) }
 {
     add_object(&mut object.removed, holder)?;
@@ -41,9 +44,11 @@ fn first_dead(kept: Option<ObjectId>, holder: ObjectId) -> ObjectId
     }
 }
 
-/// Removes a holder whose owner is dead, and no other, and keeps it as the dead holder, unless another one is kept. An error is want of memory.
+/// Removes a holder whose owner is dead, and no other, and keeps it as the dead holder, unless another one is kept. On an error, which is want
+/// of memory, the object is as it was.
 pub fn remove_dead(object: &mut Object, holder: ObjectId) -> Result<(), AllocError>
     ensures step { OnOk result (object.new ≡ with_dead_holder holder object.old) }
+    ensures err { OnErr result (object.new ≡ object.old) }
     ensures removed { (e : Id) → OnOk result (holds object.new e ≡ (holds object.old e && not (same_id holder e))) }
     ensures kept { object.old.dead_holder ≡ None → OnOk result (object.new.dead_holder ≡ Some holder) }
     ensures first { (d : Id) → object.old.dead_holder ≡ Some d → OnOk result (object.new.dead_holder ≡ Some d) }

@@ -45,7 +45,7 @@ fn remove_place_at(
         return Ok(());
     }
     let object = objects.row_mut(place as usize);
-    remove_node(alloc, &mut object.places, node)?;
+    remove_node(&mut object.places, node);
     Ok(())
 }
 
@@ -113,7 +113,7 @@ fn look_past(
     let node = here.worker.node;
     remove_place(alloc, here, object, node)?;
     let mut others = places.copy(alloc)?;
-    remove_node(alloc, &mut others, node)?;
+    remove_node(&mut others, node);
     look_elsewhere(alloc, here, object, number, &others)
 }
 

@@ -61,7 +61,7 @@ fn without(
     ensures { IfOk result (λ others. others ≡ without_number workers.now worker) }
 {
     let mut others = workers.copy(alloc)?;
-    remove_worker(alloc, &mut others, worker)?;
+    remove_worker(&mut others, worker);
     Ok(others)
 }
 

@@ -26,7 +26,7 @@ fn without_place(alloc: Global, object: Object, node: NodeId) -> Result<Object, 
     ensures { IfOk result (λ x. x ≡ without_place node object) }
 {
     let mut object = object;
-    remove_node(alloc, &mut object.places, node)?;
+    remove_node(&mut object.places, node);
     Ok(object)
 }
 

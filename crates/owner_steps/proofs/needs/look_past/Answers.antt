@@ -7,6 +7,6 @@ use Rattle.owner_steps.proofs.needs.look_past.Goals as goal
 pub returns : goal.returns
 returns c = λ x e f.
     let n = c.args.here.now.worker.node in
-    let p = ap (λ ns. without_number ns n) (f ∙ sym c.in_ok-others.ensures) ∙ sym c.in_ok-remove_node.ensures in
+    let p = ap (λ ns. without_number ns n) (f ∙ sym c.in_ok-others.ensures) ∙ sym c.remove_node.ensures in
     subst (λ g. OnOk c.look_elsewhere.result (c.look_elsewhere.new.here ≡ looks_elsewhere g c.args.object (without_place n x))) c.in_ok-remove_place.ensures
     (c.look_elsewhere.ensures (without_place n x) e p)

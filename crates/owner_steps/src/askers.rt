@@ -110,7 +110,8 @@ fn take_place(
     if !is_present(number, found) {
         return Ok(());
     }
-    remove_place(alloc, here, object, node)
+    remove_place(here, object, node);
+    Ok(())
 }
 
 /// The owner is told of it, by the waiting attempt or in its place.

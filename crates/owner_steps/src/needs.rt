@@ -29,36 +29,25 @@ pub fn settled_number(object: &Object) -> u32
 }
 
 /// The place is taken out of the object of that serial.
-fn remove_place_at(
-    alloc: Global,
-    objects: &mut Objects,
-    serial: u64,
-    node: NodeId,
-) -> Result<(), AllocError>
-    ensures { OnOk result (objects.new ≡ changed_at objects.old serial (without_place node)) }
+fn remove_place_at(objects: &mut Objects, serial: u64, node: NodeId)
+    ensures { objects.new ≡ changed_at objects.old serial (without_place node) }
 {
     if serial == 0 {
-        return Ok(());
+        return;
     }
     let place = serial - 1;
     if place >= objects.len() as u64 {
-        return Ok(());
+        return;
     }
     let object = objects.row_mut(place as usize);
     remove_node(&mut object.places, node);
-    Ok(())
 }
 
 /// The place is taken out of the own object's.
-pub fn remove_place(
-    alloc: Global,
-    here: &mut Here,
-    object: ObjectId,
-    node: NodeId,
-) -> Result<(), AllocError>
-    ensures { OnOk result (here.new ≡ changes here.old object (without_place node)) }
+pub fn remove_place(here: &mut Here, object: ObjectId, node: NodeId)
+    ensures { here.new ≡ changes here.old object (without_place node) }
 {
-    remove_place_at(alloc, &mut here.worker.objects, object.serial, node)
+    remove_place_at(&mut here.worker.objects, object.serial, node);
 }
 
 /// The object of that serial has no place.
@@ -111,7 +100,7 @@ fn look_past(
     ensures { (x : Object) → settled_number x ≡ number → x.places ≡ places.now → OnOk result (here.new ≡ looks_here_by here.old object x None) }
 {
     let node = here.worker.node;
-    remove_place(alloc, here, object, node)?;
+    remove_place(here, object, node);
     let mut others = places.copy(alloc)?;
     remove_node(&mut others, node);
     look_elsewhere(alloc, here, object, number, &others)

@@ -22,12 +22,12 @@ pub fn add_dead_node(here: &mut Here, node: NodeId) -> Result<(), AllocError>
 }
 
 /// The object has no copy at the node.
-fn without_place(alloc: Global, object: Object, node: NodeId) -> Result<Object, AllocError>
-    ensures { IfOk result (λ x. x ≡ without_place node object) }
+fn without_place(object: Object, node: NodeId) -> Object
+    ensures { result ≡ without_place node object }
 {
     let mut object = object;
     remove_node(&mut object.places, node);
-    Ok(object)
+    object
 }
 
 /// None of the objects has a copy at the node.
@@ -40,7 +40,7 @@ fn without_places_at(
 {
     let mut others = Seq::new(alloc);
     for object in objects.items {
-        others.push(without_place(alloc, object, node)?)?;
+        others.push(without_place(object, node))?;
     }
     Ok(others)
 }

@@ -8,5 +8,5 @@ pub returns : goal.returns
 returns c = λ x e f.
     let n = c.args.here.now.worker.node in
     let p = ap (λ ns. without_number ns n) (f ∙ sym c.in_ok-others.ensures) ∙ sym c.remove_node.ensures in
-    subst (λ g. OnOk c.look_elsewhere.result (c.look_elsewhere.new.here ≡ looks_elsewhere g c.args.object (without_place n x))) c.in_ok-remove_place.ensures
+    subst (λ g. OnOk c.look_elsewhere.result (c.look_elsewhere.new.here ≡ looks_elsewhere g c.args.object (without_place n x))) c.remove_place.ensures
     (c.look_elsewhere.ensures (without_place n x) e p)

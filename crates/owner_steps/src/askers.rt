@@ -95,23 +95,16 @@ pub fn where_reached(
 }
 
 /// A place of that content of the own object is none any more.
-fn take_place(
-    alloc: Global,
-    here: &mut Here,
-    object: ObjectId,
-    number: u32,
-    node: NodeId,
-) -> Result<(), AllocError>
-    ensures { OnOk result (here.new ≡ takes_place here.old object number node) }
+fn take_place(here: &mut Here, object: ObjectId, number: u32, node: NodeId)
+    ensures { here.new ≡ takes_place here.old object number node }
 {
     let Some(found) = object_at(here, object) else {
-        return Ok(());
+        return;
     };
     if !is_present(number, found) {
-        return Ok(());
+        return;
     }
     remove_place(here, object, node);
-    Ok(())
 }
 
 /// The owner is told of it, by the waiting attempt or in its place.
@@ -159,6 +152,6 @@ pub fn missing_reached(
     if !is_own(here, object) {
         return hand_missing_on(here, object, number, node);
     }
-    take_place(alloc, here, object, number, node)?;
+    take_place(here, object, number, node);
     missing_from(alloc, here, sender, object)
 }

@@ -88,13 +88,15 @@ fn told<S: ScriptName>(alloc: Global, script: &Compiled) -> Result<String, Failu
     Ok(text)
 }
 
+/// What there is to tell.
+fn answer(alloc: Global) -> Result<String, Failure> {
+    let script = compiled(alloc, SCRIPT)?;
+    told::<Brand>(alloc, &script)
+}
+
 fn main(rt: HostRuntime) -> io::Result<ExitCode> {
     let alloc = rt.alloc();
-    let answer = match compiled(alloc, SCRIPT) {
-        Ok(script) => told::<Brand>(alloc, &script),
-        Err(failure) => Err(failure),
-    };
-    match answer {
+    match answer(alloc) {
         Ok(text) => {
             print!(rt; "{text}")?;
             Ok(ExitCode::from(0))

@@ -7,4 +7,4 @@ use Rattle.protocol_board.specs.Meant.{IsSoundLog}
 pub meant : (script : Script) (c : RunState) → LegalLogsReadAsSerial → MainBeginsTheSerialRun → IsLegalRun script c → IsReachedRun script c → IsSoundLog script c
 meant script c reads begins h reached =
     let setting = beside script c.first_nodes h.some.0 in
-    record { legal = h; reached = reached; reads = reads Whole setting c.log h.some.1; begins = begins Whole setting c.log h.some.1 }
+    record { legal = h; reached = reached; reads = reads setting c.log h.some.1; begins = begins setting c.log h.some.1 }

@@ -2,4 +2,4 @@ use Rattle.script_check.specs.Trees.{script_of}
 use Rattle.library_example.proofs.answer.Given as goal
 
 abbrev pub ghosts-told : goal.ghosts-told
-ghosts-told g a = record { script = script_of a.script.now }
+ghosts-told a = record { script = script_of a.script.now }

@@ -1,3 +1,4 @@
 pub mod Noting
 pub mod Searches
+pub mod Serials
 pub mod Shelving

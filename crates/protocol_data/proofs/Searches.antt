@@ -1,8 +1,8 @@
 -- The index over an owner's objects: what is looked at, passed over or changed leaves it right.
 use Rattle.std.proofs.Common.{◌≡◌, ℕ, ◌+◌, ◌<◌, ◌≤◌, ◌⊎◌, inl, inr, Bool, true, false, List, Option, Some, None, refl, sym, ap, ◌∙◌, arith, nat_lt, zero, suc}
 use Rattle.std.proofs.lemmas.Bool.Decides.{nat_tests}
-use Rattle.std.specs.Prelude.{not, ◌&&◌, ◌||◌, slice_get, slice_set}
-use Rattle.sequence.proofs.Places.{slice_get-set_cases}
+use Rattle.std.specs.Prelude.{not, ◌&&◌, ◌||◌, ◌++◌, ◌∷◌, [], length, slice_get, slice_set}
+use Rattle.sequence.proofs.Places.{slice_get-push_cases, slice_get-set_cases}
 use Rattle.event_log.specs.Entries.{Attempt}
 use Rattle.event_log.proofs.WordLaws.{same_attempt-true}
 use Rattle.protocol_data.specs.declared.tables.Object.{Object}
@@ -90,6 +90,15 @@ passed xs seen from to own here next b going_on p h sure i x low less e =
     outside (inl q) = inl (omega (arith, less, q))
     outside (inr (inl q)) = inr (omega (arith, low, q))
     outside (inr (inr q)) = split from to i q
+
+pub seen_less : (xs : List Object) (seen seen' from to own : ℕ) (b : Option Attempt) → IsSearched xs seen from to b own → seen' ≤ seen → IsSearched xs seen' from to b own
+seen_less xs seen seen' from to own b p l i x less out e = p i x (omega (arith, less, l)) out e
+
+-- what comes at the end was never looked at
+pub grown : (xs : List Object) (seen from to own : ℕ) (b : Option Attempt) (y : Object) → IsSearched xs seen from to b own → seen ≤ length xs →
+    IsSearched (xs ++ y ∷ []) seen from to b own
+grown xs seen from to own b y p l i x less out e =
+    elim (slice_get-push_cases xs y i x e) [ inl m ↦ p i x less out m | inr r ↦ absurd (omega (arith, less, l, r.0)) ]
 
 -- what is lent may become whatever it will
 pub changed : (xs : List Object) (seen from to from' to' own place : ℕ) (b : Option Attempt) (y : Object) → IsSearched xs seen from to b own →

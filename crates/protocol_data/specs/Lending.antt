@@ -4,11 +4,7 @@ use Rattle.std.specs.Borrow.{Fml, Lends, MutBor}
 use Rattle.protocol_data.specs.declared.tables.Object.{Object}
 use Rattle.protocol_data.specs.contracts.tables.Object as objects
 use Rattle.protocol_data.specs.contracts.objects.Objects as lists
-use Rattle.sequence.specs.contracts.Seq as sequences
 
 -- the list ends with that object as it was left
 abbrev pub LendsRow : MutBor (List Object) → ℕ → MutBor Object → Fml
 LendsRow xs i x = Lends lists.the_row objects.the_row xs x (slice_set xs.now i)
-
-abbrev pub LendsItem : MutBor (List Object) → ℕ → MutBor Object → Fml
-LendsItem xs i x = Lends (sequences.the_row objects.the_row) objects.the_row xs x (slice_set xs.now i)

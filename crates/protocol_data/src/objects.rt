@@ -1,15 +1,17 @@
 // A worker's own objects, with an index of those that may be released.
 
-ghost use Rattle.std.specs.Prelude.{◌≡◌, ◌++◌, ◌∷◌, [], ◌<◌, ◌≤◌, ◌⊎◌, ℕ, OnOk, length, slice_get, slice_set, true, None, Some};
+ghost use Rattle.std.specs.Prelude.{◌≡◌, ◌++◌, ◌∷◌, [], ◌<◌, ◌≤◌, ◌⊎◌, ◌^◌, ℕ, OnErr, OnOk, length, slice_get, slice_set, true, None, Some};
 ghost use Rattle.std.specs.Borrow.{Lends, sem};
 ghost use Rattle.meaning.specs.Births.{same_id};
 ghost use Rattle.std.specs.List.{list_any};
 ghost use Rattle.event_log.specs.Words.{same_attempt};
 ghost use Rattle.protocol_data.specs.Unneeded.{AllStay, AreKept, has_holder, is_awaited, is_borne_by, is_kept, is_unneeded};
-ghost use Rattle.protocol_data.specs.Lending.{LendsItem, LendsRow};
+ghost use Rattle.protocol_data.specs.Lending.{LendsRow};
 ghost use Rattle.protocol_data.specs.Bearers.{is_same_bearer};
+ghost use Rattle.indexmap.specs.IndexMap.{index_map_len, values};
 
 use crate::tables::{Maker, Object, Progress};
+use indexmap::IndexMap;
 use numbers::{AttemptId, ObjectId};
 use sequence::Seq;
 use std::alloc::{AllocError, Global};
@@ -76,19 +78,19 @@ fn is_kept(bearer: &Option<AttemptId>, own: usize, place: usize, object: &Object
 /// The first place from the one on, and before the other, of an object that may be released; else the other.
 #[tactic(auto, using(crate::proofs::Searches::one_kept))]
 fn kept_until(
-    rows: &Seq<Object>,
+    rows: &IndexMap<u64, Object>,
     from: usize,
     to: usize,
     bearer: &Option<AttemptId>,
     own: usize,
 ) -> usize
-    ensures { AreKept rows.now from result bearer.now own }
+    ensures { AreKept (values rows.now) from result bearer.now own }
 {
     for place in from..to {
         if place >= rows.len() {
             return place;
         }
-        if !is_kept(bearer, own, place, rows.get(place)) {
+        if !is_kept(bearer, own, place, &rows[place]) {
             return place;
         }
     }
@@ -98,20 +100,20 @@ fn kept_until(
 /// The place behind the last one, from the one on and before the other, of an object that may be released; else the one.
 #[tactic(auto, using(crate::proofs::Searches::one_more_kept))]
 fn kept_behind(
-    rows: &Seq<Object>,
+    rows: &IndexMap<u64, Object>,
     from: usize,
     to: usize,
     bearer: &Option<AttemptId>,
     own: usize,
 ) -> usize
-    ensures { AreKept rows.now result to bearer.now own }
+    ensures { AreKept (values rows.now) result to bearer.now own }
 {
     for step in from..to {
         let place = to - 1 - (step - from);
         if place >= rows.len() {
             return place + 1;
         }
-        if !is_kept(bearer, own, place, rows.get(place)) {
+        if !is_kept(bearer, own, place, &rows[place]) {
             return place + 1;
         }
     }
@@ -164,6 +166,7 @@ fn least(one: usize, other: usize) -> usize
 fn first_unsure(from: usize, seen: usize, changed_from: usize, changed_to: usize) -> usize
     ensures on { from ≤ result }
     ensures sure { (result ≤ from) ⊎ ((result ≤ seen) × ((result ≤ changed_from) ⊎ ((changed_to ≤ from) ⊎ (changed_to ≤ changed_from)))) }
+    ensures unsure { (seen ≤ result) ⊎ ((changed_from ≤ result) × (result < changed_to)) }
 {
     if from >= seen {
         return from;
@@ -190,22 +193,14 @@ fn own_behind(bearer: &Option<AttemptId>, own: usize, seen: usize) -> usize
     }
 }
 
-fn item_mut(rows: &mut Seq<Object>, place: usize) -> &mut Object
-    requires { place < length rows.old }
-    ensures* lends { sem 𝓛 (LendsItem rows.entry place result) }
-    ensures value { slice_get rows.old place ≡ Some result.now }
-{
-    &mut rows.items[place]
-}
-
 /// A worker's own objects, in birth order. Contracts see the list.
 ///
-/// Beside it stands which of them may have come to be releasable: those from `seen` on, which were never looked at, and those from
+/// Each is kept under its serial. Beside them stands which of them may have come to be releasable: those from `seen` on, which were never looked at, and those from
 /// `changed_from` to before `changed_to`, which were changed since. Any other one isn't released while the bearer goes on, which bore none
 /// before `own_from`.
 #[derive(Drop)]
 pub struct Objects {
-    rows: Seq<Object>,
+    rows: IndexMap<u64, Object>,
     seen: usize,
     changed_from: usize,
     changed_to: usize,
@@ -224,11 +219,13 @@ impl Model for Objects {
 
     ghost coded = { Prim.hlevel (codes, value_code, outcome_code, birth_code, id_code, attempt_code, fault_code) };
 
+    ghost use Rattle.indexmap.specs.IndexMap.{keys, values};
+    ghost use Rattle.protocol_data.specs.Serials.{AreSerials};
     ghost use Rattle.protocol_data.specs.Unneeded.{IsSearched};
 
-    ghost view = { λ o. o.rows };
+    ghost view = { λ o. values o.rows };
 
-    ghost invariant = { λ o. IsSearched o.rows o.seen o.changed_from o.changed_to o.bearer o.own_from };
+    ghost invariant = { λ o. AreSerials (keys o.rows) × IsSearched (values o.rows) o.seen o.changed_from o.changed_to o.bearer o.own_from };
 }
 
 impl Objects {
@@ -236,15 +233,8 @@ impl Objects {
     pub fn new(alloc: Global) -> Self
         ensures { result ≡ [] }
     {
-        Objects::of(Seq::new(alloc))
-    }
-
-    /// These, of which none was looked at.
-    pub fn of(rows: Seq<Object>) -> Self
-        ensures { result ≡ rows }
-    {
         Objects {
-            rows,
+            rows: IndexMap::new(alloc),
             seen: 0,
             changed_from: 0,
             changed_to: 0,
@@ -254,35 +244,29 @@ impl Objects {
     }
 
     pub fn len(&self) -> usize
-        ensures { result ≡ length self.now }
+        ensures len { result ≡ length self.now }
+        ensures bound { result < 2 ^ 63 }
     {
         self.rows.len()
     }
 
-    /// The list.
-    pub fn rows(&self) -> &Seq<Object>
-        ensures { result.now ≡ self.now }
+    /// The object at the place, counted from 0.
+    pub fn row(&self, place: usize) -> &Object
+        requires { place < length self.now }
+        ensures { slice_get self.now place ≡ Some result.now }
     {
-        &self.rows
+        &self.rows[place]
     }
 
-    /// The list, given away.
-    pub fn into_rows(self) -> Seq<Object>
-        ensures { result ≡ self }
-    {
-        self.rows
-    }
-
-    /// Adds an object at the end.
+    /// Adds an object at the end. On an error, which is want of memory, the list is as it was.
     pub fn push(&mut self, object: Object) -> Result<(), AllocError>
-        ensures { OnOk result (self.new ≡ self.old ++ object ∷ []) }
+        ensures ok { OnOk result (self.new ≡ self.old ++ object ∷ []) }
+        ensures err { OnErr result (self.new ≡ self.old) }
     {
         // What comes was never looked at.
         let end = self.rows.len();
-        if self.seen > end {
-            self.seen = end;
-        }
-        self.rows.push(object)?;
+        self.seen = least(end, self.seen);
+        self.rows.insert(end as u64 + 1, object)?;
         Ok(())
     }
 
@@ -295,7 +279,7 @@ impl Objects {
         let (from, to) = widened(self.changed_from, self.changed_to, place, self.seen);
         self.changed_from = from;
         self.changed_to = to;
-        item_mut(&mut self.rows, place)
+        &mut self.rows[place]
     }
 
     /// From now on the objects of that attempt are kept, and of no other.

@@ -1,5 +1,14 @@
-use Rattle.protocol_data.proofs.Searches.{changed}
+use Rattle.std.proofs.Common.{◌∙◌, ap, refl, sym}
+use Rattle.std.specs.Prelude.{slice_get, slice_set}
+use Rattle.protocol_data.proofs.Serials.{lent_searched, values_lent}
 use Rattle.protocol_data.proofs.objects.Objects.row_mut.Goals as goal
 
 pub invariant_of-self-lent : goal.invariant_of-self-lent
-invariant_of-self-lent c w = changed _ _ _ _ _ _ _ c.args.place _ w c.self.invariant c.widened-from.ensures.wider c.widened-from.ensures.has
+invariant_of-self-lent c w =
+    lent_searched c.self.inside.rows _ _ _ _ _ _ c.args.place _ w c.self.invariant c.widened-from.ensures.wider c.widened-from.ensures.has
+
+pub returns : goal.returns
+returns c = (
+  (refl, λ w. values_lent c.self.inside.rows c.args.place w ∙ ap (λ xs. slice_set xs c.args.place w) c.self.view_is),
+  record { lends = tt; value = ap (λ xs. slice_get xs c.args.place) (sym c.self.view_is) ∙ c.index_mut.ensures.value },
+)

@@ -3,7 +3,7 @@
 ghost use Rattle.std.specs.Prelude.{◌≡◌, OnErr, OnOk, Some, None};
 ghost use Rattle.protocol.specs.Nodes.{Reply};
 ghost use Rattle.protocol.specs.Slots.{asked, asks_slot, forgets, frees, is_back, replies, reply_to};
-ghost use Rattle.lease.specs.Promises.{IsButAnswers, IsWithinSlots};
+ghost use Rattle.lease.specs.Promises.{IsWithinSlots};
 
 use crate::asks::asked;
 use crate::grants::{ask_slot, forget, free, note_back};
@@ -16,7 +16,7 @@ use std::alloc::{AllocError, Global};
 #[tactic(auto, using(crate::proofs::Within::asked_within))]
 pub fn ask(alloc: Global, there: &mut There, key: &AskKey) -> Result<(), AllocError>
     ensures step { OnOk result (there.new ≡ asked there.old key.now) }
-    ensures err { OnErr result (IsButAnswers there.old there.new) }
+    ensures err { OnErr result (there.new ≡ there.old) }
     ensures again { (x : Reply) → reply_to there.old.node.scheduler key.now ≡ Some x → OnOk result (there.new ≡ replies there.old key.now x) }
     ensures slots { IsWithinSlots there.old → OnOk result (IsWithinSlots there.new) }
 {
@@ -28,7 +28,7 @@ pub fn ask(alloc: Global, there: &mut There, key: &AskKey) -> Result<(), AllocEr
 #[tactic(auto, using(crate::proofs::Within::back_within))]
 pub fn back(there: &mut There, worker: WorkerId, attempt: AttemptId) -> Result<(), AllocError>
     ensures step { OnOk result (there.new ≡ is_back there.old worker attempt) }
-    ensures err { OnErr result (IsButAnswers there.old there.new) }
+    ensures err { OnErr result (there.new ≡ there.old) }
     ensures slots { IsWithinSlots there.old → OnOk result (IsWithinSlots there.new) }
 {
     note_back(there, worker, attempt)?;
@@ -38,7 +38,7 @@ pub fn back(there: &mut There, worker: WorkerId, attempt: AttemptId) -> Result<(
 /// The worker's attempt waits or has stopped: its slot, if it has one, goes to whom one is due next.
 pub fn blocked(alloc: Global, there: &mut There, worker: WorkerId) -> Result<(), AllocError>
     ensures step { OnOk result (there.new ≡ frees there.old worker) }
-    ensures err { OnErr result (IsButAnswers there.old there.new) }
+    ensures err { OnErr result (there.new ≡ there.old) }
     ensures slots { IsWithinSlots there.old → OnOk result (IsWithinSlots there.new) }
 {
     free(alloc, there, worker)?;
@@ -49,7 +49,7 @@ pub fn blocked(alloc: Global, there: &mut There, worker: WorkerId) -> Result<(),
 #[tactic(auto, using(crate::proofs::Within::slot_within))]
 pub fn unblocked(alloc: Global, there: &mut There, worker: WorkerId) -> Result<(), AllocError>
     ensures step { OnOk result (there.new ≡ asks_slot there.old worker) }
-    ensures err { OnErr result (IsButAnswers there.old there.new) }
+    ensures err { OnErr result (there.new ≡ there.old) }
     ensures slots { IsWithinSlots there.old → OnOk result (IsWithinSlots there.new) }
 {
     ask_slot(alloc, there, worker)?;
@@ -59,7 +59,7 @@ pub fn unblocked(alloc: Global, there: &mut There, worker: WorkerId) -> Result<(
 /// The worker is dead: its slot is free, and it is never given again.
 pub fn killed(alloc: Global, there: &mut There, worker: WorkerId) -> Result<(), AllocError>
     ensures step { OnOk result (there.new ≡ forgets there.old worker) }
-    ensures err { OnErr result (IsButAnswers there.old there.new) }
+    ensures err { OnErr result (there.new ≡ there.old) }
     ensures slots { IsWithinSlots there.old → OnOk result (IsWithinSlots there.new) }
 {
     forget(alloc, there, worker)?;

@@ -1,5 +1,5 @@
 -- What was surely never noted isn't among the asks, and an ask that is found is the only one of its key.
-use Rattle.std.proofs.Common.{◌≡◌, ℕ, zero, suc, ◌+◌, ◌<◌, ◌≤◌, ◌⊎◌, inl, inr, ◌∷◌, ◌++◌, [], Bool, true, false, List, Some, None, refl, sym, ap, ◌∙◌, arith, cond, length, subst}
+use Rattle.std.proofs.Common.{◌≡◌, ℕ, zero, suc, ◌+◌, ◌<◌, ◌≤◌, ◌⊎◌, inl, inr, ◌∷◌, ◌++◌, [], Bool, true, false, List, Some, None, refl, sym, ap, ◌∙◌, arith, cond, length, length-append, subst}
 use Rattle.std.proofs.lemmas.Bool.Decides.{nat_tests}
 use Rattle.std.specs.Prelude.{not, ◌||◌, ◌==◌, slice_get, remove}
 use Rattle.std.specs.List.{filter, find, list_any}
@@ -220,32 +220,48 @@ pub reply_at : (xs : List Asked) (i : ℕ) (k : AskKey) (y : Asked) → AreDisti
     option_map (λ r. r.reply) (find (is_that_ask k) xs) ≡ Some y.reply
 reply_at xs i k y d f e = ap (option_map (λ r. r.reply)) (found_at xs i f.0 k d f.1 f.2 ∙ sym f.1 ∙ e)
 
-pub no_such_reply : (bounds : List ℕ) (xs : List Asked) (k : AskKey) (o : Id) (b : Bool) → AreNoted bounds xs → o ≡ k.attempt.object → b ≡ may_be_noted bounds o → b ≡ false →
-    option_map (λ r. r.reply) (find (is_that_ask k) xs) ≡ None
-no_such_reply bounds xs k o b n s e h = no_reply xs k (unnoted bounds xs k n (ap (may_be_noted bounds) (sym s) ∙ sym e ∙ h))
-
-pub nothing_taken : (bounds : List ℕ) (xs : List Asked) (k : AskKey) (o : Id) (b : Bool) → AreNoted bounds xs → o ≡ k.attempt.object → b ≡ may_be_noted bounds o → b ≡ false →
-    filter (λ r. not (is_that_ask k r)) xs ≡ xs
-nothing_taken bounds xs k o b n s e h = none_taken (is_that_ask k) xs (unnoted bounds xs k n (ap (may_be_noted bounds) (sym s) ∙ sym e ∙ h))
-
 pub taken_there : (xs : List Asked) (i : ℕ) (k : AskKey) → AreDistinct xs → (x : Asked) × (slice_get xs i ≡ Some x) × (is_that_ask k x ≡ true) →
     filter (λ r. not (is_that_ask k r)) xs ≡ remove xs i
 taken_there xs i k d f = taken_at xs i f.0 k d f.1 f.2
 
-pub taken_right : (bounds wider : List ℕ) (k : AskKey) (xs taken : List Asked) → AreDistinct xs × AreNoted bounds xs → taken ≡ filter (λ r. not (is_that_ask k r)) xs →
-    ((o : Id) → may_be_noted bounds o ≡ true → may_be_noted wider o ≡ true) → AreDistinct taken × AreNoted wider taken
-taken_right bounds wider k xs taken d e f =
-    subst (λ ys. AreDistinct ys × AreNoted wider ys) (sym e)
-    (distinct_filter (λ r. not (is_that_ask k r)) xs d.0, noted_filter wider (λ r. not (is_that_ask k r)) xs (noted_more bounds wider xs f d.1))
+pub noted_wider : (bounds wider : List ℕ) (xs : List Asked) → AreDistinct xs × AreNoted bounds xs → ((o : Id) → may_be_noted bounds o ≡ true → may_be_noted wider o ≡ true) →
+    AreDistinct xs × AreNoted wider xs
+noted_wider bounds wider xs d f = (d.0, noted_more bounds wider xs f d.1)
 
-pub put_right : (bounds wider : List ℕ) (k : AskKey) (o : Id) (x : Reply) (xs taken after : List Asked) (y : Asked) → AreDistinct xs × AreNoted bounds xs → taken ≡ filter (λ r. not (is_that_ask k r)) xs →
-    after ≡ taken ++ y ∷ [] → y ≡ record { key = k; reply = x } → ((o : Id) → may_be_noted bounds o ≡ true → may_be_noted wider o ≡ true) → o ≡ k.attempt.object →
-    may_be_noted wider o ≡ true → AreDistinct after × AreNoted wider after
-put_right bounds wider k o x xs taken after y d e a r f s h =
-    subst (λ ys. AreDistinct ys × AreNoted wider ys) (sym (a ∙ ap (λ ys. ys ++ y ∷ []) e)) (
-      distinct_put k xs y (ap (λ z. z.key) r) d.0,
-      noted_put wider k xs y (ap (λ z. z.key) r) (noted_more bounds wider xs f d.1) (ap (may_be_noted wider) (sym s) ∙ h),
+pub put_right : (bounds wider : List ℕ) (k : AskKey) (o : Id) (x : Reply) (xs after : List Asked) → AreDistinct xs × AreNoted bounds xs →
+    after ≡ filter (λ r. not (is_that_ask k r)) xs ++ record { key = k; reply = x } ∷ [] → ((o : Id) → may_be_noted bounds o ≡ true → may_be_noted wider o ≡ true) →
+    o ≡ k.attempt.object → may_be_noted wider o ≡ true → AreDistinct after × AreNoted wider after
+put_right bounds wider k o x xs after d e f s h =
+    subst (λ ys. AreDistinct ys × AreNoted wider ys) (sym e) (
+      distinct_put k xs _ refl d.0,
+      noted_put wider k xs _ refl (noted_more bounds wider xs f d.1) (ap (may_be_noted wider) (sym s) ∙ h),
     )
+
+-- where it never stood, the row is pushed
+pub pushed_anew : (k : AskKey) (x : Reply) (xs after : List Asked) (y : Asked) → list_any (is_that_ask k) xs ≡ false → after ≡ xs ++ y ∷ [] → y ≡ record { key = k; reply = x } →
+    after ≡ filter (λ r. not (is_that_ask k r)) xs ++ record { key = k; reply = x } ∷ []
+pushed_anew k x xs after y n a r = a ∙ ap (λ ys. ys ++ y ∷ []) (sym (none_taken (is_that_ask k) xs n)) ∙ ap (λ z. filter (λ r. not (is_that_ask k r)) xs ++ z ∷ []) r
+
+remove_before : (xs : List Asked) (y : Asked) (i : ℕ) → i < length xs → remove (xs ++ y ∷ []) i ≡ remove xs i ++ y ∷ []
+remove_before [] y i l = absurd (omega (arith, l))
+remove_before (x ∷ xs) y zero l = refl
+remove_before (x ∷ xs) y (suc i) l = ap (λ zs. x ∷ zs) (remove_before xs y i (omega (arith, l)))
+
+pub is_within_pushed : (xs pushed : List Asked) (i : ℕ) (k : AskKey) (y : Asked) → (x : Asked) × (slice_get xs i ≡ Some x) × (is_that_ask k x ≡ true) → pushed ≡ xs ++ y ∷ [] →
+    i < length pushed
+is_within_pushed xs pushed i k y f e = let l = is_within xs i k f in let m = ap length e ∙ length-append xs (y ∷ []) in omega (arith, l, m)
+
+-- where it stood, the row is pushed, and then the one that stood before goes
+pub pushed_again : (k : AskKey) (x : Reply) (xs pushed after : List Asked) (i : ℕ) (y : Asked) → AreDistinct xs → (x : Asked) × (slice_get xs i ≡ Some x) × (is_that_ask k x ≡ true) →
+    pushed ≡ xs ++ y ∷ [] → y ≡ record { key = k; reply = x } → after ≡ remove pushed i →
+    after ≡ filter (λ r. not (is_that_ask k r)) xs ++ record { key = k; reply = x } ∷ []
+pushed_again k x xs pushed after i y d f p r a =
+    a ∙ ap (λ ys. remove ys i) p ∙ remove_before xs y i (is_within xs i k f) ∙ ap (λ ys. ys ++ y ∷ []) (sym (taken_there xs i k d f))
+    ∙ ap (λ z. filter (λ r. not (is_that_ask k r)) xs ++ z ∷ []) r
+
+pub put_viewed : (k : AskKey) (x : Reply) (seen xs after : List Asked) → xs ≡ seen →
+    after ≡ filter (λ r. not (is_that_ask k r)) xs ++ record { key = k; reply = x } ∷ [] → after ≡ filter (λ r. not (is_that_ask k r)) seen ++ record { key = k; reply = x } ∷ []
+put_viewed k x seen xs after v e = e ∙ ap (λ ys. filter (λ r. not (is_that_ask k r)) ys ++ record { key = k; reply = x } ∷ []) v
 
 -- ---- attempts
 

@@ -1,6 +1,6 @@
 // The asks that a node answered, with an index that tells what was surely never asked.
 
-ghost use Rattle.std.specs.Prelude.{◌≡◌, ◌++◌, ◌∷◌, [], ◌<◌, ℕ, List, IfOk, IfSome, IfNone, OnOk, length, not, remove, slice_get, true, false};
+ghost use Rattle.std.specs.Prelude.{◌≡◌, ◌++◌, ◌∷◌, [], ◌<◌, ℕ, List, IfOk, IfSome, IfNone, OnErr, OnOk, length, not, remove, slice_get, true, false};
 ghost use Rattle.std.specs.List.{filter, find, list_any};
 ghost use Rattle.std.specs.Option.{option_map};
 ghost use Rattle.event_log.specs.Words.{same_attempt};
@@ -107,17 +107,26 @@ fn place_of(rows: &Seq<Asked>, key: &AskKey) -> Option<usize>
     None
 }
 
+/// The place of that ask; one that was surely never noted isn't looked for.
+fn known_place(rows: &Seq<Asked>, bounds: &Seq<u64>, key: &AskKey) -> Option<usize>
+    requires noted { AreNoted bounds.now rows.now }
+    ensures found { IfSome result (λ p. (x : Asked) × (slice_get rows.now p ≡ Some x) × (is_that_ask key.now x ≡ true)) }
+    ensures none { IfNone result (list_any (is_that_ask key.now) rows.now ≡ false) }
+{
+    let object = object_of(key);
+    if !may_be_noted(bounds, object) {
+        return None;
+    }
+    place_of(rows, key)
+}
+
 /// What was answered to the ask.
 fn reply_in(rows: &Seq<Asked>, bounds: &Seq<u64>, key: &AskKey) -> Option<Reply>
     requires distinct { AreDistinct rows.now }
     requires noted { AreNoted bounds.now rows.now }
     ensures { result ≡ option_map (λ r. r.reply) (find (is_that_ask key.now) rows.now) }
 {
-    let object = object_of(key);
-    if !may_be_noted(bounds, object) {
-        return None;
-    }
-    let Some(place) = place_of(rows, key) else {
+    let Some(place) = known_place(rows, bounds, key) else {
         return None;
     };
     Some(rows.get(place).reply)
@@ -128,22 +137,6 @@ fn take_at(rows: &mut Seq<Asked>, place: usize)
     ensures { rows.new ≡ remove rows.old place }
 {
     let _ = rows.items.remove(place);
-}
-
-/// Takes that ask out.
-fn take_out(rows: &mut Seq<Asked>, bounds: &Seq<u64>, key: &AskKey)
-    requires distinct { AreDistinct rows.old }
-    requires noted { AreNoted bounds.now rows.old }
-    ensures { rows.new ≡ filter (λ r. not (is_that_ask key.now r)) rows.old }
-{
-    let object = object_of(key);
-    if !may_be_noted(bounds, object) {
-        return;
-    }
-    let Some(place) = place_of(rows, key) else {
-        return;
-    };
-    take_at(rows, place);
 }
 
 /// The asks that were answered, each once, with the answers that stand. Contracts see the list, in order of answering.
@@ -192,15 +185,21 @@ impl Asks {
         reply_in(&self.rows, &self.bounds, key)
     }
 
-    /// The answer to the ask stands from now on. An error is want of memory.
+    /// The answer to the ask stands from now on. An error is want of memory, and leaves the answers as they were.
     pub fn put(&mut self, key: &AskKey, reply: &Reply) -> Result<(), AllocError>
-        ensures { OnOk result (self.new ≡ filter (λ r. not (is_that_ask key.now r)) self.old ++ record { key = key.now; reply = reply.now } ∷ []) }
+        ensures ok { OnOk result (self.new ≡ filter (λ r. not (is_that_ask key.now r)) self.old ++ record { key = key.now; reply = reply.now } ∷ []) }
+        ensures err { OnErr result (self.new ≡ self.old) }
     {
-        take_out(&mut self.rows, &self.bounds, key);
+        let known = known_place(&self.rows, &self.bounds, key);
         let object = object_of(key);
         note(&mut self.bounds, object)?;
         let row = answered(key, reply);
         self.rows.push(row)?;
+        // The row that stood before goes once nothing can fail any more.
+        let Some(place) = known else {
+            return Ok(());
+        };
+        take_at(&mut self.rows, place);
         Ok(())
     }
 

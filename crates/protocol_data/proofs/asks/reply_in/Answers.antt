@@ -1,9 +1,6 @@
 use Rattle.std.proofs.Common.{sym}
-use Rattle.protocol_data.proofs.Noting.{is_within, no_reply, no_such_reply, reply_at}
+use Rattle.protocol_data.proofs.Noting.{is_within, no_reply, reply_at}
 use Rattle.protocol_data.proofs.asks.reply_in.Goals as goal
-
-pub returns-then-not-may_be_noted : goal.returns-then-not-may_be_noted
-returns-then-not-may_be_noted c = sym (no_such_reply _ c.args.rows.now c.args.key.now _ _ c.requires.noted c.object_of-object.ensures c.may_be_noted.ensures c.if-not-may_be_noted.true)
 
 pub returns-in_default : goal.returns-in_default
 returns-in_default c = sym (no_reply c.args.rows.now c.args.key.now c.in_default.ensures.none)

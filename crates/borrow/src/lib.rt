@@ -2,6 +2,8 @@
 //! since their owner is dead, the first is kept.
 #![tactic(auto, unfolding(meaning::specs::Births::same_id))]
 
+mod by_name;
 mod holders;
 
+pub use by_name::Holders;
 pub use holders::{add, is_held, remove, remove_dead};

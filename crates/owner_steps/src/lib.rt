@@ -18,6 +18,7 @@ mod recovery;
 pub use again::{ask_next, break_attempt, elsewhere_reached, given_reached};
 pub use answers::answer_settled;
 pub use askers::{missing_reached, where_reached};
+pub use births::bear_all;
 pub use commits::{claim_step, commit_step};
 pub use ends::{failed_reached, finished_reached};
 pub use needs::need_own;

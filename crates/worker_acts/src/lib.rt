@@ -10,4 +10,7 @@ mod runs_on;
 mod ticks;
 mod worker_deaths;
 
+pub use deaths::{notice_node_step, notice_step};
+pub use messages::reached;
 pub use part::{Act, take_part};
+pub use ticks::tick_step;

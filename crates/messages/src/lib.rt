@@ -1,0 +1,3 @@
+//! The messages of a run: what workers and nodes send one another. A message's number is its place in the network, counted from 1.
+
+pub use protocol_data::{AskKey, Letter, Message, Party};

@@ -1,0 +1,202 @@
+// What may happen to a worker's own objects.
+
+ghost use Rattle.std.specs.Prelude.{◌≡◌, OnOk};
+ghost use Rattle.protocol.specs.Asking.{given_reached};
+ghost use Rattle.protocol.specs.Commits.{bears_all};
+ghost use Rattle.protocol.specs.Ends.{failed_reached, finished_reached};
+ghost use Rattle.protocol.specs.Notices.{notice_node_step, notice_step};
+ghost use Rattle.protocol.specs.Places.{adds_places, missing_reached, where_reached};
+ghost use Rattle.protocol.specs.Releases.{release_step};
+
+use held::{Content, Origin};
+use numbers::{AttemptId, Fault, NodeId, ObjectId, WorkerId};
+use owner_steps::{
+    bear_all, failed_reached, finished_reached, given_reached, missing_reached, where_reached,
+};
+use protocol_data::{Here, Party};
+use sequence::Seq;
+use std::alloc::{AllocError, Global};
+use worker_acts::{notice_node_step, notice_step};
+use worker_steps::{add_places_of, release_all};
+
+/// A worker's own objects in an event: what is told of them, and what is done then. An error is want of memory, or that numbers ran out; then nothing is
+/// said of the tables.
+pub trait OwnerTable {
+    /// The attempt bears these objects: each enters the table, holds the ids in it, and is stored or asked for.
+    fn born(
+        &mut self,
+        alloc: Global,
+        bearer: AttemptId,
+        births: &Seq<Origin>,
+    ) -> Result<(), AllocError>;
+
+    /// The node has given the worker to ask `t` of the attempt: where that ask stands the attempt begins.
+    fn begun(
+        &mut self,
+        alloc: Global,
+        node: NodeId,
+        attempt: AttemptId,
+        t: u32,
+        worker: WorkerId,
+    ) -> Result<(), AllocError>;
+
+    /// The attempt has ended with a content at the node, that has these ids, and that comes along if it is small: it is accepted if it is the present one.
+    fn accepted(
+        &mut self,
+        alloc: Global,
+        worker: WorkerId,
+        attempt: AttemptId,
+        node: NodeId,
+        ids: &Seq<ObjectId>,
+        kept: &Option<Content>,
+    ) -> Result<(), AllocError>;
+
+    /// The attempt has ended by a fault: its object is resolved to that fault if it is the present one.
+    fn failed(
+        &mut self,
+        alloc: Global,
+        worker: WorkerId,
+        attempt: AttemptId,
+        why: Fault,
+    ) -> Result<(), AllocError>;
+
+    /// Copies of the object's content of that number are at these nodes.
+    fn located(
+        &mut self,
+        object: ObjectId,
+        number: u32,
+        nodes: &Seq<NodeId>,
+    ) -> Result<(), AllocError>;
+
+    /// There is no copy of the content of that number at the node: that place is taken out, and a lost object is made again for who asks.
+    fn missing(
+        &mut self,
+        alloc: Global,
+        sender: &Party,
+        object: ObjectId,
+        number: u32,
+        node: NodeId,
+    ) -> Result<(), AllocError>;
+
+    /// The node is dead: its attempts are broken, and its places are lost.
+    fn node_dead(&mut self, alloc: Global, node: NodeId) -> Result<(), AllocError>;
+
+    /// The worker is dead: its attempts are broken, its holds end, and what only the dead held is collected.
+    fn worker_dead(&mut self, alloc: Global, worker: WorkerId) -> Result<(), AllocError>;
+
+    /// The worker asks where the object is: it is told the places, the content or the fault, or it waits.
+    fn answer_where(
+        &mut self,
+        alloc: Global,
+        worker: WorkerId,
+        object: ObjectId,
+    ) -> Result<(), AllocError>;
+
+    /// What nobody can reach any more is released.
+    fn release(&mut self, alloc: Global) -> Result<(), AllocError>;
+}
+
+impl OwnerTable for Here {
+    fn born(
+        &mut self,
+        alloc: Global,
+        bearer: AttemptId,
+        births: &Seq<Origin>,
+    ) -> Result<(), AllocError>
+        ensures { OnOk result (self.new ≡ bears_all self.old bearer births.now) }
+    {
+        bear_all(alloc, self, bearer, births)
+    }
+
+    fn begun(
+        &mut self,
+        alloc: Global,
+        node: NodeId,
+        attempt: AttemptId,
+        t: u32,
+        worker: WorkerId,
+    ) -> Result<(), AllocError>
+        ensures { OnOk result (self.new ≡ given_reached self.old node attempt t worker) }
+    {
+        given_reached(alloc, self, node, attempt, t, worker)
+    }
+
+    fn accepted(
+        &mut self,
+        alloc: Global,
+        worker: WorkerId,
+        attempt: AttemptId,
+        node: NodeId,
+        ids: &Seq<ObjectId>,
+        kept: &Option<Content>,
+    ) -> Result<(), AllocError>
+        ensures { OnOk result (self.new ≡ finished_reached self.old worker attempt node ids.now kept.now) }
+    {
+        finished_reached(alloc, self, worker, attempt, node, ids, kept)
+    }
+
+    fn failed(
+        &mut self,
+        alloc: Global,
+        worker: WorkerId,
+        attempt: AttemptId,
+        why: Fault,
+    ) -> Result<(), AllocError>
+        ensures { OnOk result (self.new ≡ failed_reached self.old worker attempt why) }
+    {
+        failed_reached(alloc, self, worker, attempt, why)
+    }
+
+    fn located(
+        &mut self,
+        object: ObjectId,
+        number: u32,
+        nodes: &Seq<NodeId>,
+    ) -> Result<(), AllocError>
+        ensures { OnOk result (self.new ≡ adds_places self.old object number nodes.now) }
+    {
+        add_places_of(self, object, number, nodes)
+    }
+
+    fn missing(
+        &mut self,
+        alloc: Global,
+        sender: &Party,
+        object: ObjectId,
+        number: u32,
+        node: NodeId,
+    ) -> Result<(), AllocError>
+        ensures { OnOk result (self.new ≡ missing_reached self.old sender.now object number node) }
+    {
+        missing_reached(alloc, self, sender, object, number, node)
+    }
+
+    fn node_dead(&mut self, alloc: Global, node: NodeId) -> Result<(), AllocError>
+        ensures { OnOk result (self.new ≡ notice_node_step self.old node) }
+    {
+        notice_node_step(alloc, self, node)
+    }
+
+    fn worker_dead(&mut self, alloc: Global, worker: WorkerId) -> Result<(), AllocError>
+        ensures { OnOk result (self.new ≡ notice_step self.old worker) }
+    {
+        notice_step(alloc, self, worker)
+    }
+
+    fn answer_where(
+        &mut self,
+        alloc: Global,
+        worker: WorkerId,
+        object: ObjectId,
+    ) -> Result<(), AllocError>
+        ensures { OnOk result (self.new ≡ where_reached self.old worker object) }
+    {
+        where_reached(alloc, self, worker, object)
+    }
+
+    fn release(&mut self, alloc: Global) -> Result<(), AllocError>
+        ensures { OnOk result (self.new ≡ release_step self.old) }
+    {
+        release_all(alloc, self)
+    }
+}

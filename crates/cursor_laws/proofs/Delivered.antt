@@ -1,5 +1,5 @@
 -- A message that was delivered stays so, whatever event comes.
-use Rattle.std.proofs.Common.{◌≡◌, ℕ, zero, suc, ◌+◌, Bool, true, false, List, [], ◌∷◌, ◌++◌, length, drop, Option, Some, None, refl, ap, ◌∙◌, arith}
+use Rattle.std.proofs.Common.{◌≡◌, ℕ, zero, suc, ◌+◌, ◌≤◌, Bool, true, false, List, [], ◌∷◌, ◌++◌, length, drop, Option, Some, None, refl, ap, ◌∙◌, arith}
 use Rattle.std.specs.Prelude.{if◌then◌else◌, slice_get, slice_set}
 use Rattle.event_log.specs.Entries.{Claim, Commit, Deliver, Event, Evict, Join, Kill, KillNode, Lose, Notice, NoticeNode, Tick}
 use Rattle.protocol.specs.Answers.{Refuses, answer, decided, given_out, takes, whole_after}
@@ -134,3 +134,9 @@ search_from (suc k) bs p =
 
 pub one_further : (k : ℕ) (bs : List Bool) → IsPast k bs → slice_get bs k ≡ Some true → IsPast (k + 1) bs
 one_further k bs p e = λ i less. grind (arith, e, p i)
+
+-- a cursor is no further than the messages
+pub past_within : (k : ℕ) (bs : List Bool) → IsPast k bs → k ≤ length bs
+past_within zero bs p = omega arith
+past_within (suc k) [] p = let there : slice_get [] 0 ≡ Some true = p 0 (omega arith) in absurd cc
+past_within (suc k) (b ∷ bs) p = let rest = past_within k bs (λ i less. p (suc i) (omega (arith, less))) in omega (arith, rest)

@@ -13,10 +13,9 @@ ghost use Rattle.protocol_core.specs.Steps.{Answers, AnswersAsShown, reply_of};
 ghost use Rattle.protocol_core.specs.Views.{state_of};
 
 use crate::cluster::Cluster;
-use crate::cursor::cursor_behind;
+use crate::cursor::step_on;
 use crate::reply::Reply;
 use crate::state::State;
-use crate::steps::step;
 use event_log::{Entry, Event, Refusal};
 use exchange::event_out;
 use numbers::WorkerId;
@@ -125,9 +124,15 @@ impl<S: ScriptName> Core<S> {
         if self.state.is_halted {
             return Reply::Refused(Refusal::Halted);
         }
-        let told = step(alloc, &mut self.state, event, seat, done, is_own);
-        self.cursor = cursor_behind(&self.state, self.cursor);
-        told
+        step_on(
+            alloc,
+            &mut self.state,
+            &mut self.cursor,
+            event,
+            seat,
+            done,
+            is_own,
+        )
     }
 
     /// One event, with the seat from which it comes. With a commit comes what was done on its job, if anything was.

@@ -1,4 +1,5 @@
 pub mod Noting
+pub mod Recency
 pub mod Searches
 pub mod Serials
 pub mod Shelving

@@ -1,1 +1,2 @@
+pub mod Chunked
 pub mod Shared

@@ -1,5 +1,5 @@
 -- The items of chunks.
-use Rattle.std.specs.Prelude.{List, map}
+use Rattle.std.specs.Prelude.{◌≡◌, List, [], ◌∷◌, length, map}
 use Rattle.std.specs.List.{flat_map}
 use Rattle.std.specs.Arc.{arc_value}
 use Rattle.std.specs.declared.sync.Arc.{Arc}
@@ -12,3 +12,8 @@ items_of c = map arc_value (arc_value c).items
 -- the items of all chunks, in order
 abbrev pub items_in : {T A B C : Type 0} → List (Arc (Vec (Arc T A) B) C) → List T
 items_in cs = flat_map items_of cs
+
+-- each chunk has 64 items
+abbrev pub AreFull : {T A B C : Type 0} → List (Arc (Vec (Arc T A) B) C) → Type 0
+AreFull [] = Unit {0}
+AreFull (c ∷ cs) = (length (items_of c) ≡ 64) × AreFull cs

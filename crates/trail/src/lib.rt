@@ -1,9 +1,9 @@
 //! A list that grows at its end, and whose copies share its items.
 #![tactic(auto)]
 
-ghost use Rattle.std.specs.Prelude.{◌≡◌, ◌∷◌, ◌++◌, [], IfOk, OnOk, OnErr, length, map};
+ghost use Rattle.std.specs.Prelude.{◌≡◌, ◌<◌, ◌≤◌, ◌∷◌, ◌++◌, [], IfOk, OnOk, OnErr, length, map};
 ghost use Rattle.std.specs.Arc.{arc_value};
-ghost use Rattle.trail.specs.Chunks.{items_in, items_of};
+ghost use Rattle.trail.specs.Chunks.{AreFull, items_in, items_of};
 
 use std::alloc::{AllocError, Global};
 use std::marker::Model;
@@ -14,7 +14,7 @@ use std::sync::Arc;
 const ITEMS_OF_A_CHUNK: usize = 64;
 
 /// A list that contracts see as a list. Copies share its items, in chunks: one costs as much as a number for each 64 items, whatever they
-/// are, and for each of those behind the last full chunk. The list and its copies may stand in different threads.
+/// are, and for each of those behind the last full chunk, of which there are 64 at most. The list and its copies may stand in different threads.
 #[derive(Drop)]
 pub struct Trail<T> {
     full: Vec<Arc<Vec<Arc<T>>>>,
@@ -23,15 +23,15 @@ pub struct Trail<T> {
 }
 
 impl<T> Model for Trail<T> {
-    ghost use Rattle.std.specs.Prelude.{◌≡◌, ◌++◌, List, length, map};
+    ghost use Rattle.std.specs.Prelude.{◌≡◌, ◌≤◌, ◌++◌, List, length, map};
     ghost use Rattle.std.specs.Arc.{arc_value};
-    ghost use Rattle.trail.specs.Chunks.{items_in};
+    ghost use Rattle.trail.specs.Chunks.{AreFull, items_in};
 
     ghost Value = { List T };
 
     ghost view = { λ t. items_in t.full.items ++ map arc_value t.last.items };
 
-    ghost invariant = { λ t. t.count ≡ length (items_in t.full.items ++ map arc_value t.last.items) };
+    ghost invariant = { λ t. (t.count ≡ length (items_in t.full.items ++ map arc_value t.last.items)) × AreFull t.full.items × (length t.last.items ≤ 64) };
 }
 
 /// The same chunks.
@@ -39,7 +39,8 @@ fn share_chunks<T: Drop>(
     alloc: Global,
     chunks: &[Arc<Vec<Arc<T>>>],
 ) -> Result<Vec<Arc<Vec<Arc<T>>>>, AllocError>
-    ensures { IfOk result (λ cs. items_in cs.items ≡ items_in chunks.now) }
+    ensures items { IfOk result (λ cs. items_in cs.items ≡ items_in chunks.now) }
+    ensures full { IfOk result (λ cs. AreFull chunks.now → AreFull cs.items) }
 {
     let mut shared = Vec::new(alloc);
     for chunk in chunks {
@@ -56,6 +57,25 @@ fn share_items<T: Drop>(shared: &mut Vec<Arc<T>>, items: &[Arc<T>]) -> Result<()
     for item in items {
         shared.push(Arc::try_clone(item)?)?;
     }
+    Ok(())
+}
+
+/// Puts the last chunk behind the full ones, once it is full.
+fn close<T: Drop>(
+    alloc: Global,
+    full: &mut Vec<Arc<Vec<Arc<T>>>>,
+    last: &mut Vec<Arc<T>>,
+) -> Result<(), AllocError>
+    requires { length last.old.items ≤ 64 }
+    ensures items { OnOk result (items_in full.new.items ++ map arc_value last.new.items ≡ items_in full.old.items ++ map arc_value last.old.items) }
+    ensures full { OnOk result (AreFull full.old.items → AreFull full.new.items) }
+    ensures room { OnOk result (length last.new.items < 64) }
+{
+    if last.len() < ITEMS_OF_A_CHUNK {
+        return Ok(());
+    }
+    let chunk = mem::replace(last, Vec::new(alloc));
+    full.push(Arc::new(alloc, chunk)?)?;
     Ok(())
 }
 
@@ -89,15 +109,12 @@ impl<T: Drop> Trail<T> {
         };
         let mut full = full;
         let mut last = last;
-        if last.len() >= ITEMS_OF_A_CHUNK {
-            full.push(Arc::new(alloc, last)?)?;
-            last = Vec::new(alloc);
-        }
+        close(alloc, &mut full, &mut last)?;
         last.push(Arc::new(alloc, item)?)?;
         Ok(Trail { full, last, count })
     }
 
-    /// Adds an item at the end. After an error, which is want of memory, the list is empty.
+    /// Adds an item at the end, behind a full chunk in a new one. After an error, which is want of memory, the list is empty.
     pub fn push(&mut self, alloc: Global, item: T) -> Result<(), AllocError>
         ensures ok { OnOk result (self.new ≡ self.old ++ item ∷ []) }
         ensures err { OnErr result (self.new ≡ []) }

@@ -61,7 +61,7 @@ functions_again : (gs : Functions) → functions_tree (written_functions (functi
 functions_again no_function = refl
 functions_again (function g others) = ap (λ (t : Function). t ∷ functions_tree (written_functions (functions_tree others))) (function_again g) ∙ ap (λ (ts : Program). function_tree g ∷ ts) (functions_again others)
 
-functions_fit : (gs : Functions) → FunctionsWithin gs 32 → FunctionsWithin (written_functions (functions_tree gs)) 32
+pub functions_fit : (gs : Functions) → FunctionsWithin gs 32 → FunctionsWithin (written_functions (functions_tree gs)) 32
 functions_fit no_function w = tt
 functions_fit (function g others) w = (function_fits g w.0, functions_fit others w.1)
 

@@ -13,4 +13,5 @@ pub mod Shortest
 pub mod Again
 pub mod Lines
 pub mod Spelled
+pub mod Limited
 pub mod Written

@@ -91,10 +91,10 @@ Good t = tree_written (written t) ≡ t
 pub good_expression : (t : Expr) → Good t → expression_tree (expression_of t) ≡ t
 good_expression t g = expression_same (written t) ∙ g
 
-good_binary : (op : BinaryOperator) (a b : Expr) → Good a → Good b → Good (Binary op a b)
+pub good_binary : (op : BinaryOperator) (a b : Expr) → Good a → Good b → Good (Binary op a b)
 good_binary op a b g h = binary_tree op (written a) (written b) ∙ ap (λ (x : Expr). Binary op x (tree_written (written b))) g ∙ ap (Binary op a) h
 
-good_item : (a i : Expr) → Good a → Good i → Good (Item a i)
+pub good_item : (a i : Expr) → Good a → Good i → Good (Item a i)
 good_item a i g h = item_tree (as_postfix (written a)) (expression_of i) ∙ ap (λ (x : Expr). Item x (expression_tree (expression_of i))) (postfix_same (written a) ∙ g) ∙ ap (Item a) (good_expression i h)
 
 mutual

@@ -1,72 +1,20 @@
 -- What is printed for a program that some text is can be written: its names are names, its numbers are in range.
-use Rattle.std.proofs.Common.{◌≤◌, ℕ, List, [], ◌∷◌, length, Option, Some, None, sym, subst}
+use Rattle.std.proofs.Common.{ℕ, List, [], ◌∷◌, Option, Some, None, sym, subst}
 use Rattle.script_tokens.specs.declared.token.Mark.TheVariants as marks
 use Rattle.script_tokens.specs.Tokens.{Token, name, mark}
-use Rattle.script_tokens.specs.Spelling.{IsName, AllTokens, tokens_of_lines, text_of_lines}
-use Rattle.script_tokens.specs.Texts.{AreTokens}
+use Rattle.script_tokens.specs.Spelling.{IsName, AllTokens, tokens_of_lines}
 use Rattle.script_syntax.specs.Operators.{comparison_mark, additive, multiplicative}
-use Rattle.script_syntax.specs.Trees.{Kind, IntType, ListType, RefType, Expr, Number, Variable, Prefixed, Binary, Item, ListOf, Empty, Call, Remote, Len, Push, Exprs, no_expr, also, Stmt, Let, Set, If, IfElse, For, Print, Return, Block, no_stmt, stmt, Parameter, Function, Program}
+use Rattle.script_syntax.specs.Trees.{Kind, IntType, ListType, RefType, Expr, Binary, Item, Parameter, Program}
 use Rattle.script_syntax.specs.Expressions.{Expression, Single, Compared, Sum, SumOf, Addends, no_addend, addend, Product, ProductOf, Factors, no_factor, factor, Unary, PrefixOf, Plain, Postfix, PostfixOf, Indexes, no_index, index, Primary, Int, Named, CallOf, RemoteOf, Listed, EmptyOf, Enclosed, LenOf, PushOf, Arguments, no_argument, ArgumentsOf, MoreArguments, last_argument, argument}
 use Rattle.script_syntax.specs.Expressions.{kind_before, retries_before, expression_before, sum_before, addends_before, product_before, factors_before, unary_before, postfix_before, indexes_before, primary_before, arguments_before, more_before}
 use Rattle.script_syntax.specs.Expressions.{expression_tree, sum_tree, addends_tree, product_tree, factors_tree, unary_tree, postfix_tree, indexes_tree, primary_tree, argument_trees, more_trees}
 use Rattle.script_syntax.specs.Grammar.{Statement, LetOf, SetOf, IfOf, IfElseOf, ForOf, PrintOf, ReturnOf, Statements, no_statement, statement, FunctionWord, FunctionOf, Functions, no_function, function}
 use Rattle.script_syntax.specs.Grammar.{statement_before, statements_before, block_before, parameter_before, more_parameters_before, parameters_before, function_before, functions_before}
-use Rattle.script_syntax.specs.Grammar.{statement_tree, statements_tree, function_tree, functions_tree, IsProgram, Reads}
+use Rattle.script_syntax.specs.Grammar.{statement_tree, statements_tree, function_tree, functions_tree, IsProgram}
+use Rattle.script_syntax.specs.Limits.{SpelledRetries, SpelledExpr, SpelledExprs, SpelledStmt, SpelledBlock, SpelledParameters, SpelledFunction, SpelledProgram}
 use Rattle.script_syntax.specs.Printing.{printed, printed_program}
 use Rattle.script_syntax.proofs.Again.{printed_again}
 use Rattle.script_syntax.proofs.Lines.{lines_are}
-
--- ---- the names and numbers of a tree
-
-abbrev InRange : ℕ → Type 0
-InRange n = n ≤ 9223372036854775807
-
-abbrev SpelledRetries : Option ℕ → Type 0
-SpelledRetries None = Unit {0}
-SpelledRetries (Some n) = InRange n
-
-abbrev mutual
-  SpelledExpr : Expr → Type 0
-  SpelledExpr (Number n) = InRange n
-  SpelledExpr (Variable x) = IsName x
-  SpelledExpr (Prefixed p a) = SpelledExpr a
-  SpelledExpr (Binary op a b) = SpelledExpr a × SpelledExpr b
-  SpelledExpr (Item a i) = SpelledExpr a × SpelledExpr i
-  SpelledExpr (ListOf items) = SpelledExprs items
-  SpelledExpr (Empty t) = Unit {0}
-  SpelledExpr (Call g args) = IsName g × SpelledExprs args
-  SpelledExpr (Remote r g args) = SpelledRetries r × IsName g × SpelledExprs args
-  SpelledExpr (Len a) = SpelledExpr a
-  SpelledExpr (Push a b) = SpelledExpr a × SpelledExpr b
-
-  SpelledExprs : Exprs → Type 0
-  SpelledExprs no_expr = Unit {0}
-  SpelledExprs (also a others) = SpelledExpr a × SpelledExprs others
-
-abbrev mutual
-  SpelledStmt : Stmt → Type 0
-  SpelledStmt (Let x e) = IsName x × SpelledExpr e
-  SpelledStmt (Set x e) = IsName x × SpelledExpr e
-  SpelledStmt (If e a) = SpelledExpr e × SpelledBlock a
-  SpelledStmt (IfElse e a b) = SpelledExpr e × SpelledBlock a × SpelledBlock b
-  SpelledStmt (For x from to body) = IsName x × SpelledExpr from × SpelledExpr to × SpelledBlock body
-  SpelledStmt (Print e) = SpelledExpr e
-  SpelledStmt (Return e) = SpelledExpr e
-
-  SpelledBlock : Block → Type 0
-  SpelledBlock no_stmt = Unit {0}
-  SpelledBlock (stmt s others) = SpelledStmt s × SpelledBlock others
-
-abbrev SpelledParameters : List Parameter → Type 0
-SpelledParameters [] = Unit {0}
-SpelledParameters (p ∷ ps) = IsName p.name × SpelledParameters ps
-
-abbrev SpelledFunction : Function → Type 0
-SpelledFunction g = IsName g.name × SpelledParameters g.parameters × SpelledBlock g.body
-
-abbrev SpelledProgram : Program → Type 0
-SpelledProgram [] = Unit {0}
-SpelledProgram (g ∷ gs) = SpelledFunction g × SpelledProgram gs
 
 -- ---- from tokens to the tree
 
@@ -380,20 +328,11 @@ functions_spelled (function g others) k = function_spelled g (functions_before o
 
 -- ---- programs
 
-program_passed : (tokens : List Token) (program : Program) → IsProgram tokens program → AllTokens tokens → SpelledProgram program
+pub program_passed : (tokens : List Token) (program : Program) → IsProgram tokens program → AllTokens tokens → SpelledProgram program
 program_passed tokens program h k = subst SpelledProgram h.given (functions_passed h.derivation (subst AllTokens h.spelled k))
 
-program_spelled : (tokens : List Token) (program : Program) → IsProgram tokens program → SpelledProgram program → AllTokens tokens
+pub program_spelled : (tokens : List Token) (program : Program) → IsProgram tokens program → SpelledProgram program → AllTokens tokens
 program_spelled tokens program h k = subst AllTokens (sym h.spelled) (functions_spelled h.derivation (subst SpelledProgram (sym h.given) k))
 
 pub lines_spelled : (tokens : List Token) (program : Program) → IsProgram tokens program → AllTokens tokens → AllTokens (tokens_of_lines (printed_program program))
 lines_spelled tokens program h k = subst AllTokens (sym (lines_are program)) (program_spelled (printed program) program (printed_again tokens program h) (program_passed tokens program h k))
-
-pub text_again : ((text : List ℕ) (tokens : List Token) → AreTokens text tokens → AllTokens tokens)
-    → ((lines : List (List Token)) → AllTokens (tokens_of_lines lines) → length (text_of_lines lines) ≤ 65536 → AreTokens (text_of_lines lines) (tokens_of_lines lines))
-    → (text : List ℕ) (program : Program) → Reads text program → length (text_of_lines (printed_program program)) ≤ 65536 → Reads (text_of_lines (printed_program program)) program
-text_again are spelled text program h short = (
-  tokens_of_lines (printed_program program),
-  spelled (printed_program program) (lines_spelled h.0 program h.2 (are text h.0 h.1)) short,
-  subst (λ (ts : List Token). IsProgram ts program) (sym (lines_are program)) (printed_again h.0 program h.2),
-)

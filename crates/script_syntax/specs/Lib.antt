@@ -6,4 +6,5 @@ pub mod Grammar
 pub mod Reading
 pub mod Refusals
 pub mod Printing
+pub mod Limits
 pub mod Writing

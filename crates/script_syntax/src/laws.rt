@@ -4,6 +4,7 @@ ghost use Rattle.std.specs.Prelude.{◌≡◌, ◌≤◌, ℕ, List, length};
 ghost use Rattle.script_tokens.specs.Tokens.{Token};
 ghost use Rattle.script_syntax.specs.Trees.{Program as AProgram};
 ghost use Rattle.script_syntax.specs.Grammar.{IsProgram, Reads};
+ghost use Rattle.script_syntax.specs.Limits.{IsWithinLimits};
 ghost use Rattle.script_tokens.specs.Spelling.{AllTokens, text_of_lines, tokens_of_lines};
 ghost use Rattle.script_syntax.specs.Printing.{printed, printed_program};
 
@@ -37,12 +38,19 @@ pub fn printed_are_tokens()
         → AllTokens (tokens_of_lines (printed_program program)) }
 {}
 
-/// The text that is printed for a program that some text is, is that program again, unless it is longer than a text may be.
+/// The text that is printed for a program within the limits, however it was made, is that program again, unless it is longer than a text may
+/// be.
 pub fn printed_text_is_read()
-    ensures { (text : List ℕ) (program : AProgram) → Reads text program
+    ensures { (program : AProgram) → IsWithinLimits program
         → length (text_of_lines (printed_program program)) ≤ 65536
         → Reads (text_of_lines (printed_program program)) program }
 {
-    read_are_tokens();
     spelled_is_read();
+}
+
+/// A program that some text is, is within the limits.
+pub fn read_is_within_limits()
+    ensures { (text : List ℕ) (program : AProgram) → Reads text program → IsWithinLimits program }
+{
+    read_are_tokens();
 }

@@ -15,7 +15,7 @@ mod writer;
 
 pub use laws::{
     lines_are_printed, one_program, one_tree, printed_are_tokens, printed_is_program,
-    printed_text_is_read,
+    printed_text_is_read, read_is_within_limits,
 };
 pub use parser::parse;
 pub use printer::print_program;

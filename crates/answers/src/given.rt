@@ -54,7 +54,7 @@ pub fn given_out(alloc: Global, whole: &Whole, event: &Happening) -> Result<Opti
 {
     match event {
         Happening::Claim(worker) => {
-            let number = next_job(whole)?;
+            let number = next_job(whole);
             job_at(alloc, whole, number, *worker)
         }
         _ => Ok(None),

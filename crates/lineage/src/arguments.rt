@@ -6,7 +6,7 @@ ghost use Rattle.protocol.specs.Tables.{task_in};
 ghost use Rattle.protocol.specs.Recovery.{arguments_by, made_from};
 
 use held::Origin;
-use number_lists::item_at_number;
+use number_lists::object_at_number;
 use numbers::ObjectId;
 use protocol_data::{Here, Maker};
 use sequence::Seq;
@@ -36,7 +36,7 @@ fn arguments_of(alloc: Global, maker: &Maker) -> Result<Seq<ObjectId>, AllocErro
 pub fn made_from(alloc: Global, here: &Here, serial: u64) -> Result<Seq<ObjectId>, AllocError>
     ensures { IfOk result (λ ids. ids ≡ made_from here.now serial) }
 {
-    let Some(found) = item_at_number(here.worker.objects.rows(), serial) else {
+    let Some(found) = object_at_number(&here.worker.objects, serial) else {
         return Ok(Seq::new(alloc));
     };
     arguments_of(alloc, &found.maker)

@@ -8,7 +8,7 @@ ghost use Rattle.lineage.specs.Plans.{IsRightPlan, planned};
 use crate::arguments::made_from;
 use crate::serials::{add_serial, has_serial, in_order};
 use crate::tables::{is_lost_at, may_try_again};
-use number_lists::item_at_number;
+use number_lists::object_at_number;
 use numbers::{Cause, Fault, ObjectId};
 use protocol_data::{Here, Maker};
 use sequence::Seq;
@@ -83,7 +83,7 @@ fn stop_at(here: &Here, serial: u64) -> Option<Fault>
 {
     let owner = here.me;
     let object = ObjectId { owner, serial };
-    let Some(found) = item_at_number(here.worker.objects.rows(), serial) else {
+    let Some(found) = object_at_number(&here.worker.objects, serial) else {
         let kind = Cause::PutLost;
         return Some(Fault { kind, object });
     };

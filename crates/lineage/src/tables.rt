@@ -1,6 +1,6 @@
 // What a plan reads of an owner's tables.
 
-ghost use Rattle.std.specs.Prelude.{◌≡◌, Some, None};
+ghost use Rattle.std.specs.Prelude.{◌≡◌, ◌<◌, ◌^◌, IsTrue, Some, None};
 ghost use Rattle.protocol.specs.Sets.{retries_in};
 ghost use Rattle.protocol.specs.Tables.{has_content, is_lost, is_nowhere, is_whole, may_try_again};
 ghost use Rattle.protocol.specs.Steps.{object_at};
@@ -62,7 +62,8 @@ fn retries_in(spec: &Origin) -> u8
 
 /// Whether the task has retries left.
 pub fn may_try_again(task: &OwnTask) -> bool
-    ensures { result ≡ may_try_again task.now }
+    ensures test { result ≡ may_try_again task.now }
+    ensures bound { IsTrue result → task.now.number < 2 ^ 8 }
 {
     task.number < u32::from(retries_in(&task.spec))
 }

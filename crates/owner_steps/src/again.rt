@@ -10,7 +10,7 @@ use crate::ends::rest;
 use crate::faulted::answer_faulted;
 use lease::next_in_circle;
 use lineage::may_try_again;
-use number_lists::{has_node, item_at_number};
+use number_lists::{has_node, object_at_number};
 use numbers::{AttemptId, Cause, Fault, NodeId, ObjectId, WorkerId};
 use protocol_data::{Here, Maker, Message, Object, Objects, OwnTask, Progress, Said, Worker};
 use std::alloc::{AllocError, Global};
@@ -22,7 +22,7 @@ pub fn break_attempt(alloc: Global, here: &mut Here, object: ObjectId) -> Result
     ensures { (task : OwnTask) → task_of (item_at here.old.worker.objects object.serial) ≡ Some task
         → OnOk result (here.new ≡ breaks here.old object task) }
 {
-    let Some(found) = item_at_number(here.worker.objects.rows(), object.serial) else {
+    let Some(found) = object_at_number(&here.worker.objects, object.serial) else {
         return Ok(());
     };
     let Maker::ByTask(task) = &found.maker else {
@@ -30,9 +30,6 @@ pub fn break_attempt(alloc: Global, here: &mut Here, object: ObjectId) -> Result
     };
     let number = task.number;
     if may_try_again(task) {
-        if number == u32::MAX {
-            return Err(AllocError);
-        }
         return request(here, object, number + 1);
     }
     rest(here, object, number);
@@ -87,7 +84,7 @@ fn push(
     ensures { (task : OwnTask) → task_of (item_at here.old.worker.objects object.serial) ≡ Some task
         → OnOk result (here.new ≡ pushes here.old object (with_begun task worker node) worker) }
 {
-    let Some(found) = item_at_number(here.worker.objects.rows(), object.serial) else {
+    let Some(found) = object_at_number(&here.worker.objects, object.serial) else {
         return Ok(());
     };
     let Maker::ByTask(task) = &found.maker else {
@@ -164,7 +161,7 @@ pub fn given_reached(
     if !is_own(here, attempt.object) {
         return Ok(());
     }
-    let Some(found) = item_at_number(here.worker.objects.rows(), attempt.object.serial) else {
+    let Some(found) = object_at_number(&here.worker.objects, attempt.object.serial) else {
         return Ok(());
     };
     let Maker::ByTask(task) = &found.maker else {
@@ -215,7 +212,7 @@ fn ask_on(here: &mut Here, object: ObjectId, t: u32, node: NodeId) -> Result<(),
     ensures { (task : OwnTask) → task_of (item_at here.old.worker.objects object.serial) ≡ Some task
         → OnOk result (here.new ≡ asks_next here.old object task t node) }
 {
-    let Some(found) = item_at_number(here.worker.objects.rows(), object.serial) else {
+    let Some(found) = object_at_number(&here.worker.objects, object.serial) else {
         return Ok(());
     };
     let Maker::ByTask(task) = &found.maker else {
@@ -238,7 +235,7 @@ pub fn elsewhere_reached(
     if !is_own(here, attempt.object) {
         return Ok(());
     }
-    let Some(found) = item_at_number(here.worker.objects.rows(), attempt.object.serial) else {
+    let Some(found) = object_at_number(&here.worker.objects, attempt.object.serial) else {
         return Ok(());
     };
     let Maker::ByTask(task) = &found.maker else {

@@ -20,19 +20,16 @@ use values::RunValue;
 use worker_steps::{hold_ids, say_to_node};
 
 /// The id of the worker's next object.
-pub fn next_id(here: &Here) -> Result<ObjectId, AllocError>
-    ensures id { IfOk result (λ o. o ≡ next_id_here here.now) }
-    ensures bound { IfOk result (λ o. o.serial ≤ 2 ^ 63) }
+pub fn next_id(here: &Here) -> ObjectId
+    ensures id { result ≡ next_id_here here.now }
+    ensures bound { result.serial ≤ 2 ^ 63 }
 {
     let before = here.worker.objects.len() as u64;
-    if before > 1000000 {
-        return Err(AllocError);
-    }
     let owner = here.me;
-    Ok(ObjectId {
+    ObjectId {
         owner,
         serial: before + 1,
-    })
+    }
 }
 
 /// One more own object.
@@ -188,7 +185,7 @@ fn bear_task(
 fn bear(alloc: Global, here: &mut Here, bearer: AttemptId, spec: &Origin) -> Result<(), AllocError>
     ensures { OnOk result (here.new ≡ bears here.old bearer spec.now) }
 {
-    let object = next_id(here)?;
+    let object = next_id(here);
     let ids = ids_in_birth(alloc, spec)?;
     match &spec.inner {
         Birth::Put(value) => bear_put(alloc, here, bearer, object, value, &ids),

@@ -158,7 +158,7 @@ pub fn commit_step(alloc: Global, here: &mut Here, outcomes: &Outcomes) -> Resul
         return Ok(());
     };
     let attempt = run.attempt;
-    let first = next_id(here)?;
+    let first = next_id(here);
     add_outcomes(alloc, here, outcomes)?;
     log_outcomes(alloc, here, attempt, first, outcomes)?;
     bear_all(alloc, here, attempt, &outcomes.births)?;

@@ -11,7 +11,7 @@ ghost use Rattle.protocol_data.specs.declared.tables.OwnTask.{OwnTask};
 use crate::answers::answer_settled;
 use crate::faulted::answer_faulted;
 use held::Content;
-use number_lists::{add_objects, item_at_number};
+use number_lists::{add_objects, object_at_number};
 use numbers::{AttemptId, Fault, NodeId, ObjectId, WorkerId};
 use protocol_data::{Here, Maker, Message, Object, Objects, OwnTask, Progress, Said, copy_of};
 use sequence::Seq;
@@ -136,7 +136,7 @@ pub fn finished_reached(
     if !is_own(here, attempt.object) {
         return hear_of_end(here, worker, attempt);
     }
-    let Some(found) = item_at_number(here.worker.objects.rows(), attempt.object.serial) else {
+    let Some(found) = object_at_number(&here.worker.objects, attempt.object.serial) else {
         return hear_of_end(here, worker, attempt);
     };
     let Maker::ByTask(task) = &found.maker else {
@@ -164,7 +164,7 @@ pub fn failed_reached(
     if !is_own(here, attempt.object) {
         return hear_of_end(here, worker, attempt);
     }
-    let Some(found) = item_at_number(here.worker.objects.rows(), attempt.object.serial) else {
+    let Some(found) = object_at_number(&here.worker.objects, attempt.object.serial) else {
         return hear_of_end(here, worker, attempt);
     };
     let Maker::ByTask(task) = &found.maker else {

@@ -7,7 +7,7 @@ ghost use Rattle.protocol.specs.Recovery.{gives_up, recovers, remakes, remakes_b
 
 use crate::faulted::answer_faulted;
 use lineage::{Recovery, plan};
-use number_lists::item_at_number;
+use number_lists::object_at_number;
 use numbers::{Fault, ObjectId};
 use protocol_data::{Here, Maker};
 use sequence::Seq;
@@ -18,7 +18,7 @@ use worker_steps::{request, resolve};
 fn remake(here: &mut Here, serial: u64) -> Result<(), AllocError>
     ensures { OnOk result (here.new ≡ remakes_by here.old serial (task_of (own_object here.old serial))) }
 {
-    let Some(found) = item_at_number(here.worker.objects.rows(), serial) else {
+    let Some(found) = object_at_number(&here.worker.objects, serial) else {
         return Ok(());
     };
     let Maker::ByTask(task) = &found.maker else {

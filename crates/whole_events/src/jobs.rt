@@ -17,14 +17,10 @@ use std::alloc::{AllocError, Global};
 use worker_acts::Act;
 
 /// The number of the next job.
-pub fn next_job(whole: &Whole) -> Result<u64, AllocError>
-    ensures { IfOk result (λ job. job ≡ length whole.now.jobs + 1) }
+pub fn next_job(whole: &Whole) -> u64
+    ensures { result ≡ length whole.now.jobs + 1 }
 {
-    let count = whole.jobs.len() as u64;
-    if count == u64::MAX {
-        return Err(AllocError);
-    }
-    Ok(count + 1)
+    whole.jobs.items.len() as u64 + 1
 }
 
 /// The next job is the worker's.
@@ -47,7 +43,7 @@ pub fn claim(
     ensures whole { OnOk result (whole.new ≡ whole_limited whole.old (claimed whole.old worker)) }
     ensures entries { IfOk result (λ given. given ≡ entries_limited (claimed whole.old worker)) }
 {
-    let job = next_job(whole)?;
+    let job = next_job(whole);
     let made = whole.made;
     let Some(entries) = let_act(alloc, whole, worker, &Act::Claim(job), made)? else {
         return Ok(None);

@@ -40,7 +40,7 @@ fn hear_of_node(alloc: Global, here: &mut Here, node: NodeId) -> Result<(), Allo
 {
     add_dead_node(here, node)?;
     break_where(alloc, here, &Party::TheNode(node))?;
-    lose_places(alloc, here, node)?;
+    lose_places(here, node);
     move_asks(here, node)?;
     lose_fetch(alloc, here, node)
 }

@@ -5,13 +5,11 @@ ghost use Rattle.protocol.specs.Tables.{task_of, without_place};
 ghost use Rattle.protocol.specs.Steps.{own_object};
 ghost use Rattle.protocol.specs.Notices.{loses_fetch, loses_places, moves_ask, moves_asks, with_dead_node};
 
-use number_lists::{item_at_number, remove_node};
+use number_lists::{object_at_number, remove_node};
 use numbers::{NodeId, ObjectId};
 use owner_steps::{ask_next, missing_reached};
-use protocol_data::{Here, Maker, Object, Objects, Party, Phase, Progress};
-use sequence::Seq;
+use protocol_data::{Here, Maker, Objects, Party, Phase, Progress};
 use std::alloc::{AllocError, Global};
-use std::mem;
 
 /// The worker knows that the node is dead.
 pub fn add_dead_node(here: &mut Here, node: NodeId) -> Result<(), AllocError>
@@ -21,45 +19,30 @@ pub fn add_dead_node(here: &mut Here, node: NodeId) -> Result<(), AllocError>
     Ok(())
 }
 
-/// The object has no copy at the node.
-fn without_place(object: Object, node: NodeId) -> Object
-    ensures { result ≡ without_place node object }
-{
-    let mut object = object;
-    remove_node(&mut object.places, node);
-    object
-}
-
 /// None of the objects has a copy at the node.
-fn without_places_at(
-    alloc: Global,
-    objects: Seq<Object>,
-    node: NodeId,
-) -> Result<Seq<Object>, AllocError>
-    ensures { IfOk result (λ xs. xs ≡ map (without_place node) objects) }
+#[tactic(auto, using(crate::proofs::Losing::one_lost, crate::proofs::Losing::all_lost, crate::proofs::Losing::as_many))]
+fn lose_places_of(objects: &mut Objects, node: NodeId)
+    ensures { objects.new ≡ map (without_place node) objects.old }
 {
-    let mut others = Seq::new(alloc);
-    for object in objects.items {
-        others.push(without_place(object, node))?;
+    let count = objects.len();
+    for place in 0..count {
+        let object = objects.row_mut(place);
+        remove_node(&mut object.places, node);
     }
-    Ok(others)
 }
 
 /// No copy is known at the node any more.
-pub fn lose_places(alloc: Global, here: &mut Here, node: NodeId) -> Result<(), AllocError>
-    ensures { OnOk result (here.new ≡ loses_places here.old node) }
+pub fn lose_places(here: &mut Here, node: NodeId)
+    ensures { here.new ≡ loses_places here.old node }
 {
-    let objects = mem::replace(&mut here.worker.objects, Objects::new(alloc));
-    let rows = without_places_at(alloc, objects.into_rows(), node)?;
-    here.worker.objects = Objects::of(rows);
-    Ok(())
+    lose_places_of(&mut here.worker.objects, node);
 }
 
 /// The ask for that task, if it stands at the node, goes to the next node.
 fn move_ask(here: &mut Here, node: NodeId, serial: u64) -> Result<(), AllocError>
     ensures { OnOk result (here.new ≡ moves_ask here.old node serial (task_of (own_object here.old serial))) }
 {
-    let Some(found) = item_at_number(here.worker.objects.rows(), serial) else {
+    let Some(found) = object_at_number(&here.worker.objects, serial) else {
         return Ok(());
     };
     let Maker::ByTask(task) = &found.maker else {

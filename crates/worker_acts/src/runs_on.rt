@@ -6,7 +6,7 @@ ghost use Rattle.protocol.specs.Steps.{own_object};
 ghost use Rattle.protocol.specs.Notices.{breaks_if, breaks_where, runs_on_node, runs_on_worker};
 ghost use Rattle.worker_acts.specs.Dead.{runs_on};
 
-use number_lists::item_at_number;
+use number_lists::object_at_number;
 use numbers::{NodeId, ObjectId, WorkerId};
 use owner_steps::break_attempt;
 use protocol_data::{Here, Maker, Party, Progress};
@@ -48,7 +48,7 @@ fn runs_on(dead: &Party, progress: &Progress) -> bool
 fn break_if(alloc: Global, here: &mut Here, dead: &Party, serial: u64) -> Result<(), AllocError>
     ensures { OnOk result (here.new ≡ breaks_if (runs_on dead.now) here.old serial (task_of (own_object here.old serial))) }
 {
-    let Some(found) = item_at_number(here.worker.objects.rows(), serial) else {
+    let Some(found) = object_at_number(&here.worker.objects, serial) else {
         return Ok(());
     };
     let Maker::ByTask(task) = &found.maker else {

@@ -7,7 +7,7 @@ ghost use Rattle.protocol.specs.Ticks.{asks_again, sends_holds, sends_run, sends
 ghost use Rattle.protocol_data.specs.declared.tables.Run.{Run};
 
 use crate::worker_deaths::is_unheard;
-use number_lists::item_at_number;
+use number_lists::object_at_number;
 use numbers::{AttemptId, ObjectId};
 use protocol_data::{Here, Holding, Maker, Message, Phase, Progress};
 use sequence::Seq;
@@ -18,7 +18,7 @@ use worker_steps::{is_own, say, say_to_node, tell_stop};
 fn send_task(alloc: Global, here: &mut Here, serial: u64) -> Result<(), AllocError>
     ensures { OnOk result (here.new ≡ sends_task here.old serial (task_of (own_object here.old serial))) }
 {
-    let Some(found) = item_at_number(here.worker.objects.rows(), serial) else {
+    let Some(found) = object_at_number(&here.worker.objects, serial) else {
         return Ok(());
     };
     let Maker::ByTask(task) = &found.maker else {

@@ -8,7 +8,7 @@ ghost use Rattle.protocol.specs.Holders.{collects, drops_dead, drops_dead_by, dr
 
 use crate::basics::say;
 use crate::own::drop_dead_holder;
-use number_lists::{has_object, item_at_number};
+use number_lists::{has_object, object_at_number};
 use numbers::{ObjectId, WorkerId};
 use protocol_data::{Here, Holding, Message, Object, Reason};
 use sequence::Seq;
@@ -79,7 +79,7 @@ fn drop_dead_by(
 ) -> Result<(), AllocError>
     ensures { OnOk result (here.new ≡ drops_dead_by here.old worker (own_id here.old serial) (own_object here.old serial)) }
 {
-    let Some(found) = item_at_number(here.worker.objects.rows(), serial) else {
+    let Some(found) = object_at_number(&here.worker.objects, serial) else {
         return Ok(());
     };
     let holders = holders_of(alloc, found, worker)?;

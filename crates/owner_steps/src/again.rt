@@ -175,18 +175,18 @@ pub fn given_reached(
 
 /// The first node from that one on, in the circle of numbers, that isn't known dead.
 #[tactic(auto, using(crate::proofs::Circles::live_here, crate::proofs::Circles::dead_here, crate::proofs::Circles::none_left))]
-pub fn first_live(worker: &Worker, count: u64, node: NodeId) -> Result<NodeId, AllocError>
-    ensures { IfOk result (λ n. n ≡ first_live worker.now count count node) }
+pub fn first_live(worker: &Worker, count: u64, node: NodeId) -> NodeId
+    ensures { result ≡ first_live worker.now count count node }
 {
     let mut next = node;
     for turn in 0..count {
         let _ = turn;
         if !has_node(&worker.dead_nodes, next) {
-            return Ok(next);
+            return next;
         }
-        next = next_in_circle(count, next)?;
+        next = next_in_circle(count, next);
     }
-    Ok(next)
+    next
 }
 
 /// Ask `t + 1` of the attempt of that number goes to the node, or to the first after it in the circle of numbers that isn't known dead.
@@ -203,7 +203,7 @@ pub fn ask_next(
     if t == u32::MAX {
         return Err(AllocError);
     }
-    let next = first_live(&here.worker, here.there.nodes, node)?;
+    let next = first_live(&here.worker, here.there.nodes, node);
     ask_at(here, object, number, t + 1, next)
 }
 

@@ -1,8 +1,8 @@
 -- A cache whose keys are distinct does to its copies what lists of copies have done to them.
-use Rattle.std.proofs.Common.{◌≡◌, ℕ, zero, suc, ◌+◌, ◌-◌, ◌≤◌, ◌<◌, ◌∷◌, ◌++◌, [], Bool, true, false, List, Option, Some, None, MatchOption, Bor, refl, sym, ap, ◌∙◌, arith, cond, length, map, subst, take}
+use Rattle.std.proofs.Common.{◌≡◌, ℕ, zero, suc, ◌+◌, ◌-◌, ◌≤◌, ◌∷◌, ◌++◌, [], Bool, true, false, List, Option, Some, None, MatchOption, Bor, refl, sym, ap, ◌∙◌, arith, cond, length, subst, take}
 use Rattle.std.proofs.lemmas.Bool.Decides.{nat_tests}
 use Rattle.std.specs.Prelude.{not, ◌==◌, ◌&&◌, ◌||◌}
-use Rattle.std.specs.List.{AllByRecursion, IsDistinct, filter, find, list_any}
+use Rattle.std.specs.List.{AllByRecursion, IsDistinct, find, list_any}
 use Rattle.std.specs.Map.{keys_of, lookup, lookup_entry, remove_entry}
 use Rattle.std.specs.Option.{is_some, option_copied, option_map, option_map_or}
 use Rattle.lru.specs.LruCache.{IsValid, LruCache, lru_cache, promoted, put_entries}

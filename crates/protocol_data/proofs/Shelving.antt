@@ -60,6 +60,13 @@ pub within_push : (s : Span) (xs : List Copy) (y : Copy) → AreWithin s xs → 
 within_push s [] y w h = (h, tt)
 within_push s (x ∷ xs) y w h = (w.0, within_push s xs y w.1 h)
 
+-- others stay, and one is put behind them
+pub within_put : (s wider : Span) (q : Copy → Bool) (xs ys zs : List Copy) (y : Copy) → ((o : Id) → IsWithin s o → IsWithin wider o) → IsWithin wider y.object → AreWithin s xs →
+    zs ≡ ys ++ y ∷ [] → ys ≡ filter q xs → AreWithin wider zs
+within_put s wider q xs ys zs y kept has w e f =
+    subst (λ us. AreWithin wider us) (sym (e ∙ ap (λ us. us ++ y ∷ []) f))
+    (within_push wider (filter q xs) y (within_filter wider q xs (within_more s wider xs kept w)) has)
+
 -- ---- searches
 
 pub found_first : (p : Copy → Bool) (xs ys : List Copy) (x : Copy) → find p xs ≡ Some x → find p (xs ++ ys) ≡ Some x
@@ -67,6 +74,16 @@ found_first p xs ys x e = find-append p xs ys ∙ ap (λ o. option_or o (find p 
 
 pub found_further : (p : Copy → Bool) (xs ys : List Copy) → find p xs ≡ None → find p (xs ++ ys) ≡ find p ys
 found_further p xs ys e = find-append p xs ys ∙ ap (λ o. option_or o (find p ys)) e
+
+-- where none is found all stay
+pub none_found : (o : Id) (n : Option ℕ) (xs : List Copy) → find (is_sought o n) xs ≡ None → filter (λ x. not (is_sought o n x)) xs ≡ xs
+none_found o n [] h = refl
+none_found o n (x ∷ xs) h = by_test (none_found o n xs) (is_sought o n x) h
+  where
+    by_test : (find (is_sought o n) xs ≡ None → filter (λ x. not (is_sought o n x)) xs ≡ xs) → (b : Bool) → cond b (Some x) (find (is_sought o n) xs) ≡ None →
+        cond (not b) (x ∷ filter (λ x. not (is_sought o n x)) xs) (filter (λ x. not (is_sought o n x)) xs) ≡ x ∷ xs
+    by_test rest true h = absurd cc
+    by_test rest false h = ap (λ ys. x ∷ ys) (rest h)
 
 -- ---- what is taken out
 
@@ -191,6 +208,13 @@ put_behind before made room now y e r = ap (λ ys. made ++ ys) r ∙ sym (append
 pub made_room : (xs ys zs : List Shelf) (s t : Shelf) → copies_on ys ≡ copies_on xs → zs ≡ ys ++ s ∷ [] → t.rows ≡ [] → copies_on zs ++ t.rows ≡ copies_on xs ++ s.rows
 made_room xs ys zs s t e z r =
     ap (λ us. copies_on zs ++ us) r ∙ append_nil (copies_on zs) ∙ ap copies_on z ∙ copies_push ys s ∙ ap (λ us. us ++ s.rows) e
+
+pub one_more_other : (q : Copy → Bool) (xs items : List Copy) (x : Copy) → (xs ++ filter q (x ∷ [])) ++ filter q items ≡ xs ++ filter q (x ∷ items)
+one_more_other q xs items x = append_twice xs (filter q (x ∷ [])) (filter q items) ∙ ap (λ ys. xs ++ ys) (by_test (q x))
+  where
+    by_test : (b : Bool) → cond b (x ∷ []) [] ++ filter q items ≡ cond b (x ∷ filter q items) (filter q items)
+    by_test true = refl
+    by_test false = refl
 
 -- ---- what the code looks at
 

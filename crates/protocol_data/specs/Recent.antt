@@ -1,5 +1,5 @@
 -- Copies in a cache of sixteen, the one used last first. A key names an object, and the attempt whose content it is.
-use Rattle.std.specs.Prelude.{Bool, List, None, Option, Some, [], map, ℕ, ◌&&◌, ◌==◌, ◌∷◌, ◌≡◌}
+use Rattle.std.specs.Prelude.{Bool, List, None, Option, Some, [], map, ◌&&◌, ◌==◌, ◌∷◌, ◌≡◌}
 use Rattle.lru.specs.LruCache.{LruCache}
 use Rattle.meaning.specs.Values.{Outcome}
 use Rattle.protocol_data.specs.Shelves.{without}

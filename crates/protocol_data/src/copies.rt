@@ -1,6 +1,6 @@
 // The primary copies at a node, on shelves, so that a search passes over the shelves that surely have none of the object.
 
-ghost use Rattle.std.specs.Prelude.{◌≡◌, ◌<◌, ◌+◌, ◌++◌, ◌∷◌, [], IfOk, OnOk, MatchOption, Some, None, length, nat_lt, ℕ};
+ghost use Rattle.std.specs.Prelude.{◌≡◌, ◌<◌, ◌+◌, ◌++◌, ◌∷◌, [], IfErr, IfOk, OnErr, OnOk, MatchOption, Some, None, length, nat_lt, ℕ};
 ghost use Rattle.std.specs.List.{find};
 ghost use Rattle.protocol_data.specs.Shelves.{AreShelved, AreWithin, HaveNoneBefore, copies_on, is_sought, without};
 
@@ -8,7 +8,7 @@ use crate::spans::{Span, is_outside, no_span, widened};
 use crate::store::Copy;
 use numbers::ObjectId;
 use sequence::Seq;
-use std::alloc::{AllocError, Global};
+use std::alloc::{AllocError, AllocFailed, Global};
 use std::marker::Model;
 use std::mem;
 
@@ -129,9 +129,18 @@ fn drop_empty(shelves: &mut Seq<Shelf>)
     shelves.items.retain(|s| has_rows(s));
 }
 
-/// Where the last shelf is full it stands behind the others, and an empty one is the last.
+/// Puts the shelf behind the others. Where memory lacks for it, it comes back.
+fn push_shelf(shelves: &mut Seq<Shelf>, shelf: Shelf) -> Result<(), AllocFailed<Shelf>>
+    ensures ok { OnOk result (shelves.new ≡ shelves.old ++ shelf ∷ []) }
+    ensures err { OnErr result (shelves.new ≡ shelves.old) }
+    ensures back { IfErr result (λ failed. failed.value ≡ shelf) }
+{
+    shelves.items.push(shelf)
+}
+
+/// Where the last shelf is full it stands behind the others, and an empty one is the last. The copies stay.
 fn make_room(shelves: &mut Seq<Shelf>, last: &mut Shelf) -> Result<(), AllocError>
-    ensures rows { OnOk result (copies_on shelves.new ++ last.new.rows ≡ copies_on shelves.old ++ last.old.rows) }
+    ensures rows { copies_on shelves.new ++ last.new.rows ≡ copies_on shelves.old ++ last.old.rows }
     ensures shelved { AreShelved shelves.old → AreWithin last.old.span last.old.rows → AreShelved shelves.new × AreWithin last.new.span last.new.rows }
 {
     if last.rows.len() < MOST_ON_A_SHELF {
@@ -140,16 +149,75 @@ fn make_room(shelves: &mut Seq<Shelf>, last: &mut Shelf) -> Result<(), AllocErro
     let empty = empty_shelf(*last.rows.items.allocator());
     let full = mem::replace(last, empty);
     drop_empty(shelves);
-    shelves.push(full)?;
-    Ok(())
+    match push_shelf(shelves, full) {
+        Ok(()) => Ok(()),
+        Err(failed) => {
+            *last = failed.value;
+            Err(AllocError)
+        }
+    }
 }
 
 fn put_here(shelf: &mut Shelf, copy: Copy) -> Result<(), AllocError>
-    ensures rows { OnOk result (shelf.new.rows ≡ shelf.old.rows ++ copy ∷ []) }
+    ensures ok { OnOk result (shelf.new.rows ≡ shelf.old.rows ++ copy ∷ []) }
+    ensures err { OnErr result (shelf.new.rows ≡ shelf.old.rows) }
     ensures within { AreWithin shelf.old.span shelf.old.rows → AreWithin shelf.new.span shelf.new.rows }
 {
     shelf.span = widened(&shelf.span, copy.object);
     shelf.rows.push(copy)?;
+    Ok(())
+}
+
+/// Adds an equal copy at the end, unless it is sought.
+fn push_other(
+    alloc: Global,
+    others: &mut Seq<Copy>,
+    copy: &Copy,
+    object: ObjectId,
+    number: Option<u32>,
+) -> Result<(), AllocError>
+    ensures { OnOk result (others.new ≡ others.old ++ without object number (copy.now ∷ [])) }
+{
+    if is_sought(copy, object, number) {
+        return Ok(());
+    }
+    others.push(copy.again(alloc)?)?;
+    Ok(())
+}
+
+/// Equal copies of those that are not sought.
+fn copy_others(
+    copies: &Seq<Copy>,
+    object: ObjectId,
+    number: Option<u32>,
+) -> Result<Seq<Copy>, AllocError>
+    ensures { IfOk result (λ xs. xs ≡ without object number copies.now) }
+{
+    let alloc = *copies.items.allocator();
+    let mut others = Seq::new(alloc);
+    for copy in &copies.items {
+        push_other(alloc, &mut others, copy, object, number)?;
+    }
+    Ok(others)
+}
+
+/// Puts the copy at the end, in place of those of the same object and number.
+fn put_last(shelf: &mut Shelf, copy: Copy) -> Result<(), AllocError>
+    requires { AreWithin shelf.old.span shelf.old.rows }
+    ensures ok { OnOk result (shelf.new.rows ≡ without copy.object (Some copy.number) shelf.old.rows ++ copy ∷ []) }
+    ensures err { OnErr result (shelf.new.rows ≡ shelf.old.rows) }
+    ensures within { AreWithin shelf.new.span shelf.new.rows }
+{
+    let Some(_) = find_here(shelf, copy.object, Some(copy.number)) else {
+        put_here(shelf, copy)?;
+        return Ok(());
+    };
+    let span = widened(&shelf.span, copy.object);
+    // Nothing is taken out before all that wants memory is done.
+    let mut rows = copy_others(&shelf.rows, copy.object, Some(copy.number))?;
+    rows.push(copy)?;
+    shelf.rows = rows;
+    shelf.span = span;
     Ok(())
 }
 
@@ -238,12 +306,15 @@ impl Copies {
         take_here(&mut self.last, object, number);
     }
 
-    /// Adds a copy at the end. An error is want of memory.
-    pub fn push(&mut self, copy: Copy) -> Result<(), AllocError>
-        ensures { OnOk result (self.new ≡ self.old ++ copy ∷ []) }
+    /// Puts a copy at the end, in place of those of the same object and number. An error is want of memory, and leaves the copies as they were.
+    pub fn put(&mut self, copy: Copy) -> Result<(), AllocError>
+        ensures ok { OnOk result (self.new ≡ without copy.object (Some copy.number) self.old ++ copy ∷ []) }
+        ensures err { OnErr result (self.new ≡ self.old) }
     {
+        let (object, number) = (copy.object, copy.number);
         make_room(&mut self.shelves, &mut self.last)?;
-        put_here(&mut self.last, copy)?;
+        put_last(&mut self.last, copy)?;
+        take_on(&mut self.shelves, object, Some(number));
         Ok(())
     }
 

@@ -46,7 +46,11 @@ fn key_of(cache: &LruCache<CopyKey, Content>, object: ObjectId) -> Option<CopyKe
 }
 
 /// The content under the key.
-fn content_under(cache: &LruCache<CopyKey, Content>, object: ObjectId, number: u32) -> Option<&Content>
+fn content_under(
+    cache: &LruCache<CopyKey, Content>,
+    object: ObjectId,
+    number: u32,
+) -> Option<&Content>
     ensures { MatchOption result
         (find (is_sought object (Some number)) (copies_of cache.now.entries) ≡ None)
         (λ c. option_map (λ x. x.content) (find (is_sought object (Some number)) (copies_of cache.now.entries)) ≡ Some c.now) }
@@ -55,7 +59,11 @@ fn content_under(cache: &LruCache<CopyKey, Content>, object: ObjectId, number: u
 }
 
 /// Puts a content under the key, as the one used last.
-fn put_under(cache: &mut LruCache<CopyKey, Content>, key: CopyKey, content: Content) -> Result<(), AllocError>
+fn put_under(
+    cache: &mut LruCache<CopyKey, Content>,
+    key: CopyKey,
+    content: Content,
+) -> Result<(), AllocError>
     ensures ok { OnOk result (cache.new ≡ lru_cache (put_entries same_key cache.old key content) cache.old.cap) }
     ensures err { OnErr result (cache.new ≡ cache.old) }
 {
@@ -72,7 +80,11 @@ fn put_copy(cache: &mut LruCache<CopyKey, Content>, copy: Copy) -> Result<(), Al
 {
     // What `len` ensures says that no key is there twice.
     let _ = cache.len();
-    let Copy { object, number, content } = copy;
+    let Copy {
+        object,
+        number,
+        content,
+    } = copy;
     put_under(cache, CopyKey { object, number }, content)?;
     Ok(())
 }

@@ -1,16 +1,28 @@
 -- The members of a plan are the least closed set.
-use Rattle.std.proofs.Common.{◌≡◌, ℕ, zero, suc, ◌+◌, ◌<◌, ◌≤◌, ◌⊎◌, inl, inr, Bool, true, false, if◌then◌else◌, List, [], ◌∷◌, ◌++◌, None, refl, ap, arith, subst, sym, ◌∙◌}
+use Rattle.std.proofs.Common.{◌≡◌, ℕ, zero, suc, ◌+◌, ◌<◌, ◌≤◌, ◌⊎◌, inl, inr, Bool, true, false, if◌then◌else◌, List, [], ◌∷◌, ◌++◌, Option, None, Some, Result, Ok, Err, refl, ap, arith, subst, sym, ◌∙◌}
 use Rattle.std.specs.Prelude.{◌==◌, ◌||◌, nat_lt}
 use Rattle.std.specs.List.{AllByRecursion, filter}
 use Rattle.std.proofs.lemmas.Bool.Decides.{nat_tests}
 use Rattle.meaning.specs.Values.{Id}
+use Rattle.event_log.specs.Entries.{Fault}
 use Rattle.meaning.proofs.BirthLaws.{at_test}
 use Rattle.protocol.specs.Numbered.{item_at}
 use Rattle.protocol.specs.Sets.{has, with_number}
 use Rattle.protocol.specs.Tables.{Object}
 use Rattle.protocol.specs.Steps.{Here, is_own, object_at}
-use Rattle.protocol.specs.Recovery.{counted_from, is_lost_at, made_from, members, members_below, with_lost}
-use Rattle.lineage.specs.Plans.{ArgumentsAreOlder, Ascends, IsLeast, IsRightPlan, Recovery, planned}
+use Rattle.protocol.specs.Recovery.{counted_from, first_stop, is_lost_at, made_from, members, members_below, with_lost}
+use Rattle.lineage.specs.Plans.{ArgumentsAreOlder, Ascends, CannotBeRemade, IsLeast, IsPlanned, IsRight, IsRightPlan, NoMemory, Plan, Stop, planned_by}
+
+-- ---- what an answer has
+
+abbrev serials_in : Result Plan Stop → List ℕ
+serials_in (Ok p) = p.serials
+serials_in (Err e) = []
+
+abbrev fault_in : Fault → Result Plan Stop → Fault
+fault_in other (Ok p) = other
+fault_in other (Err (CannotBeRemade f)) = f
+fault_in other (Err NoMemory) = other
 
 -- ---- tests and numbers
 
@@ -223,5 +235,19 @@ module _ (h : Here) where
       ordered = ascending (has all) 1 k;
     }
 
-pub is_right_plan : (h : Here) (k : ℕ) (r : Recovery) → r ≡ planned h k → IsRightPlan h k r
-is_right_plan h k r e older from_one = (members h k, are_least h k older from_one, e)
+-- what was planned by a set has the set, which nothing stops; or the first stop of it
+by_plan : (h : Here) (k : ℕ) (ks : List ℕ) (p : Plan) (f : Option Fault) → IsLeast h k ks → first_stop h ks ≡ f → Ok p ≡ planned_by ks f → IsRight h k (Ok p)
+by_plan h k ks p None least stop e =
+    let same : p.serials ≡ ks = ap (λ r. serials_in r) e in
+    subst (λ ks. IsLeast h k ks × (first_stop h ks ≡ None)) (sym same) (least, stop)
+by_plan h k ks p (Some f) least stop e = absurd (cc)
+
+by_stop : (h : Here) (k : ℕ) (ks : List ℕ) (g : Fault) (f : Option Fault) → IsLeast h k ks → first_stop h ks ≡ f → Err (CannotBeRemade g) ≡ planned_by ks f →
+    IsRight h k (Err (CannotBeRemade g))
+by_stop h k ks g None least stop e = absurd (cc)
+by_stop h k ks g (Some f) least stop e = (ks, least, stop ∙ ap Some (sym (ap (fault_in g) e)))
+
+pub is_right_plan : (h : Here) (k : ℕ) (r : Result Plan Stop) → IsPlanned h k r → IsRightPlan h k r
+is_right_plan h k (Ok p) e older from_one = by_plan h k (members h k) p (first_stop h (members h k)) (are_least h k older from_one) refl e
+is_right_plan h k (Err (CannotBeRemade f)) e older from_one = by_stop h k (members h k) f (first_stop h (members h k)) (are_least h k older from_one) refl e
+is_right_plan h k (Err NoMemory) e older from_one = tt

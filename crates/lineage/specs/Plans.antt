@@ -1,20 +1,27 @@
 -- What is to be done about a lost object: which objects are made again, or why none is.
-use Rattle.std.specs.Prelude.{Bool, List, None, Option, Some, [], true, ◌+◌, ◌<◌, ◌≡◌, ◌≤◌, ◌∷◌, ℕ}
+use Rattle.std.specs.Prelude.{Bool, Err, List, None, Ok, Option, Result, Some, [], true, ◌+◌, ◌<◌, ◌≡◌, ◌≤◌, ◌∷◌, ℕ}
 use Rattle.std.specs.List.{AllByRecursion}
 use Rattle.event_log.specs.Entries.{Fault}
 use Rattle.protocol.specs.Sets.{has}
 use Rattle.protocol.specs.Steps.{Here, object_at}
 use Rattle.protocol.specs.Recovery.{first_stop, is_lost_at, made_from, members}
-pub use Rattle.lineage.specs.declared.planning.Recovery.{Recovery}
-pub use Rattle.lineage.specs.declared.planning.Recovery.TheVariants.{Remake, Stop}
+pub use Rattle.lineage.specs.declared.recovery.Plan.{Plan}
+pub use Rattle.lineage.specs.declared.recovery.Stop.{Stop}
+pub use Rattle.lineage.specs.declared.recovery.Stop.TheVariants.{CannotBeRemade, NoMemory}
 
-abbrev pub planned_by : List ℕ → Option Fault → Recovery
-planned_by ks None = Remake ks
-planned_by ks (Some f) = Stop f
+abbrev pub planned_by : List ℕ → Option Fault → Result Plan Stop
+planned_by ks None = Ok (record { serials = ks })
+planned_by ks (Some f) = Err (CannotBeRemade f)
 
 -- the plan for the object of that serial
-abbrev pub planned : Here → ℕ → Recovery
+abbrev pub planned : Here → ℕ → Result Plan Stop
 planned h k = let ks : List ℕ = members h k in planned_by ks (first_stop h ks)
+
+-- it is what was planned, unless memory was wanting
+abbrev pub IsPlanned : Here → ℕ → Result Plan Stop → Type 0
+IsPlanned h k (Ok plan) = Ok plan ≡ planned h k
+IsPlanned h k (Err (CannotBeRemade f)) = Err (CannotBeRemade f) ≡ planned h k
+IsPlanned h k (Err NoMemory) = Unit {0}
 
 -- ---- what a plan is to be
 
@@ -39,5 +46,11 @@ pub record IsLeast (h : Here) (k : ℕ) (ks : List ℕ) : Type 0 where
   pub ordered : Ascends 1 ks
 
 -- that set is made again, unless one of it can't be: then the first such one in birth order is the reason
-abbrev pub IsRightPlan : Here → ℕ → Recovery → Type 0
-IsRightPlan h k r = ArgumentsAreOlder h → 1 ≤ k → (ks : List ℕ) × IsLeast h k ks × (r ≡ planned_by ks (first_stop h ks))
+abbrev pub IsRight : Here → ℕ → Result Plan Stop → Type 0
+IsRight h k (Ok plan) = IsLeast h k plan.serials × (first_stop h plan.serials ≡ None)
+IsRight h k (Err (CannotBeRemade f)) = (ks : List ℕ) × IsLeast h k ks × (first_stop h ks ≡ Some f)
+IsRight h k (Err NoMemory) = Unit {0}
+
+-- so it is where the object's number counts from 1 and what an object is made from is older
+abbrev pub IsRightPlan : Here → ℕ → Result Plan Stop → Type 0
+IsRightPlan h k r = ArgumentsAreOlder h → 1 ≤ k → IsRight h k r

@@ -3,8 +3,10 @@
 
 mod arguments;
 mod planning;
+mod recovery;
 mod serials;
 mod tables;
 
-pub use planning::{Recovery, plan};
+pub use planning::plan;
+pub use recovery::{Plan, Stop};
 pub use tables::{has_content, is_lost, may_try_again};

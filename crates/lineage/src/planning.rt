@@ -3,9 +3,10 @@
 ghost use Rattle.std.specs.Prelude.{◌≡◌, IfOk, OnOk, Some, None, if◌then◌else◌};
 ghost use Rattle.protocol.specs.Sets.{has};
 ghost use Rattle.protocol.specs.Recovery.{first_stop, made_from, members, members_below, stop_at, with_lost};
-ghost use Rattle.lineage.specs.Plans.{IsRightPlan, planned};
+ghost use Rattle.lineage.specs.Plans.{IsPlanned, IsRightPlan};
 
 use crate::arguments::made_from;
+use crate::recovery::{Plan, Stop};
 use crate::serials::{add_serial, has_serial, in_order};
 use crate::tables::{is_lost_at, may_try_again};
 use number_lists::object_at_number;
@@ -13,15 +14,6 @@ use numbers::{Cause, Fault, ObjectId};
 use protocol_data::{Here, Maker};
 use sequence::Seq;
 use std::alloc::{AllocError, Global};
-
-/// What is to be done about a lost object.
-#[derive(Drop)]
-pub enum Recovery {
-    /// The objects of these serials are made again, in birth order, so that arguments come first.
-    Remake(Seq<u64>),
-    /// One of them can't be made again, for this reason: the first such one in birth order.
-    Stop(Fault),
-}
 
 /// Adds the serials of those that are lost.
 fn add_lost(here: &Here, objects: &Seq<ObjectId>, serials: &mut Seq<u64>) -> Result<(), AllocError>
@@ -110,24 +102,29 @@ fn first_stop(here: &Here, serials: &Seq<u64>) -> Option<Fault>
     None
 }
 
-/// What is decided about the lost own object of that serial.
-fn decide(alloc: Global, here: &Here, serial: u64) -> Result<Recovery, AllocError>
-    ensures { IfOk result (λ r. r ≡ planned here.now serial) }
+/// What is decided about the own object of that serial.
+fn decide(alloc: Global, here: &Here, serial: u64) -> Result<Plan, Stop>
+    ensures { IsPlanned here.now serial result }
 {
     let serials = members(alloc, here, serial)?;
     if let Some(why) = first_stop(here, &serials) {
-        return Ok(Recovery::Stop(why));
+        return Err(Stop::CannotBeRemade(why));
     }
-    Ok(Recovery::Remake(serials))
+    Ok(Plan { serials })
 }
 
-/// The plan for the lost own object of that serial: the least set with it and, of each in the set, the dereferenced arguments that are lost too,
-/// in birth order; or, of those in the set that can't be made again, the first. An error is want of memory.
+/// The plan for a lost object of this owner, of which the serial alone is looked at: the least set with it and, of each in the set, the
+/// dereferenced arguments that are the owner's own and lost too, in birth order. `CannotBeRemade` tells, of those in the set that can't be made
+/// again, the first in birth order. The tables stay as they are.
+///
+/// That the set is the least is promised where the object's serial is 1 or more and what an object is made from is older than it. In a run
+/// both hold: an owner's objects are numbered from 1 on as they are born (serial 0 is main's own, which is never asked for again), and a task's
+/// arguments are references that its caller had when the task was born. Tables that were put together by hand needn't be so; of them the same
+/// steps are promised (`decision`), and no more.
 #[tactic(auto, using(crate::proofs::Least::is_right_plan))]
-pub fn plan(alloc: Global, here: &Here, serial: u64) -> Result<Recovery, AllocError>
-    ensures decision { IfOk result (λ r. r ≡ planned here.now serial) }
-    ensures right { IfOk result (λ r. IsRightPlan here.now serial r) }
+pub fn plan(alloc: Global, here: &Here, object: ObjectId) -> Result<Plan, Stop>
+    ensures decision { IsPlanned here.now object.serial result }
+    ensures right { IsRightPlan here.now object.serial result }
 {
-    let recovery = decide(alloc, here, serial)?;
-    Ok(recovery)
+    decide(alloc, here, object.serial)
 }

@@ -1,6 +1,6 @@
 // What a plan reads of an owner's tables.
 
-ghost use Rattle.std.specs.Prelude.{◌≡◌, ◌<◌, ◌^◌, IsTrue, Some, None};
+ghost use Rattle.std.specs.Prelude.{◌≡◌, ◌<◌, Some, None, true};
 ghost use Rattle.protocol.specs.Sets.{retries_in};
 ghost use Rattle.protocol.specs.Tables.{has_content, is_lost, is_nowhere, is_whole, may_try_again};
 ghost use Rattle.protocol.specs.Steps.{object_at};
@@ -60,10 +60,10 @@ fn retries_in(spec: &Origin) -> u8
     }
 }
 
-/// Whether the task has retries left.
+/// Whether the task has retries left. A task has at most 255 of them, so its present attempt has a lower number then.
 pub fn may_try_again(task: &OwnTask) -> bool
-    ensures test { result ≡ may_try_again task.now }
-    ensures bound { IsTrue result → task.now.number < 2 ^ 8 }
+    ensures answer { result ≡ may_try_again task.now }
+    ensures number { may_try_again task.now ≡ true → task.now.number < 255 }
 {
     task.number < u32::from(retries_in(&task.spec))
 }

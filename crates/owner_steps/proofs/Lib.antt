@@ -2,3 +2,4 @@ pub mod Adding
 pub mod Circles
 pub mod LogLaws
 pub mod Plans
+pub mod Remaking

@@ -1,21 +1,26 @@
 // A lost object is made again.
 
-ghost use Rattle.std.specs.Prelude.{◌≡◌, OnOk, Some, None};
+ghost use Rattle.std.specs.Prelude.{◌≡◌, Err, OnOk, Some, None};
 ghost use Rattle.protocol.specs.Tables.{task_of};
 ghost use Rattle.protocol.specs.Steps.{own_object};
-ghost use Rattle.protocol.specs.Recovery.{gives_up, recovers, remakes, remakes_by};
+ghost use Rattle.protocol.specs.Recovery.{gives_up, recovers, remakes, remakes_by, stop_at};
+ghost use Rattle.protocol.specs.Laws.{CanBeMade, Rises};
+ghost use Rattle.lineage.specs.Plans.{IsPlanned};
 
 use crate::faulted::answer_faulted;
-use lineage::{Recovery, plan};
+use lineage::{Stop, may_try_again, plan};
 use number_lists::object_at_number;
 use numbers::{Fault, ObjectId};
+use protocol::laws::plans_are_least_closed_sets;
 use protocol_data::{Here, Maker};
 use sequence::Seq;
 use std::alloc::{AllocError, Global};
 use worker_steps::{request, resolve};
 
-/// The object of that serial is asked for again, if a task makes it.
+/// The object of that serial is asked for again.
+#[tactic(auto, using(crate::proofs::Remaking::has_retries))]
 fn remake(here: &mut Here, serial: u64) -> Result<(), AllocError>
+    requires { stop_at here.old serial ≡ None }
     ensures { OnOk result (here.new ≡ remakes_by here.old serial (task_of (own_object here.old serial))) }
 {
     let Some(found) = object_at_number(&here.worker.objects, serial) else {
@@ -24,16 +29,16 @@ fn remake(here: &mut Here, serial: u64) -> Result<(), AllocError>
     let Maker::ByTask(task) = &found.maker else {
         return Ok(());
     };
-    if task.number == u32::MAX {
-        return Err(AllocError);
-    }
+    // It may be tried again, so the next number fits.
+    let _ = may_try_again(task);
     let number = task.number + 1;
     let owner = here.me;
     request(here, ObjectId { owner, serial }, number)
 }
 
-/// These are asked for again.
+/// These are asked for again, each once.
 fn remake_all(here: &mut Here, serials: &Seq<u64>) -> Result<(), AllocError>
+    requires { CanBeMade here.old serials.now × Rises 0 serials.now }
     ensures { OnOk result (here.new ≡ remakes here.old serials.now) }
 {
     for serial in &serials.items {
@@ -56,14 +61,31 @@ fn give_up(alloc: Global, here: &mut Here, object: ObjectId, why: Fault) -> Resu
     answer_faulted(alloc, here, object)
 }
 
+/// A stop of the object's plan, carried out.
+#[tactic(auto, using(crate::proofs::Plans::stopped))]
+fn give_up_by(
+    alloc: Global,
+    here: &mut Here,
+    object: ObjectId,
+    stop: Stop,
+) -> Result<(), AllocError>
+    ensures { OnOk result (IsPlanned here.old object.serial (Err stop) → here.new ≡ recovers here.old object) }
+{
+    match stop {
+        Stop::CannotBeRemade(why) => give_up(alloc, here, object, why),
+        Stop::NoMemory => Err(AllocError),
+    }
+}
+
 /// The lost own object is made again, with the lost objects that it is made from: in birth order the next attempt of each is asked for. If one of
 /// them can't be made again the first such one is resolved, the object asked for to the same fault, and whoever waits for them is answered.
-#[tactic(auto, using(crate::proofs::Plans::remade, crate::proofs::Plans::stopped))]
+#[tactic(auto, using(crate::proofs::Plans::remade))]
 pub fn recover(alloc: Global, here: &mut Here, object: ObjectId) -> Result<(), AllocError>
     ensures { OnOk result (here.new ≡ recovers here.old object) }
 {
-    match plan(alloc, here, object.serial)? {
-        Recovery::Remake(serials) => remake_all(here, &serials),
-        Recovery::Stop(why) => give_up(alloc, here, object, why),
+    plans_are_least_closed_sets();
+    match plan(alloc, here, object) {
+        Ok(plan) => remake_all(here, &plan.serials),
+        Err(stop) => give_up_by(alloc, here, object, stop),
     }
 }

@@ -10,7 +10,7 @@ returns c = λ task e.
     let h = c.args.here.now in
     let o = c.args.object in
     let read = c.in-ByTask.task in
-    let found = subst (λ xs. item_at xs c.object.inside.serial ≡ Some c.in-Some.found.now) c.rows.ensures c.in-Some.ensures in
+    let found = c.in-Some.ensures in
     let there : task_of (item_at h.worker.objects o.serial) ≡ Some read =
     ap (λ i. task_of (item_at h.worker.objects i.serial)) (sym c.object.view_is) ∙ ap task_of found ∙ ap task_in c.in-ByTask.is in
     subst (λ x. OnOk c.ask_next.result (c.ask_next.new.here ≡ asks_next h o x c.args.t c.args.node))

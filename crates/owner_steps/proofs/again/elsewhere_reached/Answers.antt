@@ -13,7 +13,7 @@ returns c =
     let task = c.in-ByTask.task in
     let own : is_own h a.object ≡ true = ap (λ b. is_own h b.object) (sym c.attempt.view_is) ∙ sym c.is_own.ensures ∙ c.if-not-is_own.false in
     let asked : if_asked c.args.t a task ≡ true = sym c.is_asked.ensures ∙ c.if-not-is_asked.false in
-    let found = subst (λ xs. item_at xs c.attempt-inside.inside.0.0.serial ≡ Some c.in-Some.found.now) c.rows.ensures c.in-Some.ensures in
+    let found = c.in-Some.ensures in
     let there : task_of (own_object h a.object.serial) ≡ Some task =
     ap (λ b. task_of (own_object h b.object.serial)) (sym c.attempt.view_is)
     ∙ ap (λ b. task_of (own_object h b.object.serial)) (sym c.attempt-inside.view_is)

@@ -1,6 +1,6 @@
 // The frames that are kept.
 
-ghost use Rattle.std.specs.Prelude.{◌≡◌, [], true, IfOk, IfSome};
+ghost use Rattle.std.specs.Prelude.{◌≡◌, ◌%◌, [], true, IfOk, IfSome};
 ghost use Rattle.script_check.specs.Trees.{script_of};
 ghost use Rattle.segment.specs.Jobs.{IsTrueOf};
 ghost use Rattle.kept_frames.specs.Known.{AllAgree, IsNext, KeepsOnly, KeepsOr, KeepsWith};
@@ -38,7 +38,9 @@ impl<S: ScriptName> Model for Frames<S> {
 }
 
 /// The place of an attempt by the id of its first own birth, whose owner is its worker.
-fn place_of(base: ObjectId) -> usize {
+fn place_of(base: ObjectId) -> usize
+    ensures { result ≡ base.owner.0 % 1024 }
+{
     (base.owner.0 % PLACES) as usize
 }
 
@@ -113,7 +115,7 @@ impl<S: ScriptName> Frames<S> {
             return;
         };
         let place = place_of(done.job().base());
-        if let Ok(known) = known_after(alloc, known, done) {
+        if let Some(known) = known_after(alloc, known, done) {
             self.put(place, Waiting::new(known, frame));
         }
     }

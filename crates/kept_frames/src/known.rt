@@ -72,16 +72,18 @@ fn known_at<S: ScriptName>(
     Ok(known)
 }
 
-/// The attempt, once the job was run.
+/// The attempt, once the job was run. None where there is no memory for it, or where what it bore or printed can't be counted.
 pub(crate) fn known_after<S: ScriptName>(
     alloc: Global,
     known: Option<Known>,
     done: &Done<S>,
-) -> Result<Known, AllocError>
+) -> Option<Known>
     requires { IfSome known (λ known. IsNext (data_of known) done.now.job) }
-    ensures { IfOk result (λ known. IsAfter (data_of known) done.now) }
+    ensures { IfSome result (λ known. IsAfter (data_of known) done.now) }
 {
-    let known = known_at(alloc, known, done.job())?;
+    let Ok(known) = known_at(alloc, known, done.job()) else {
+        return None;
+    };
     let Known {
         attempt,
         spec,
@@ -91,12 +93,12 @@ pub(crate) fn known_after<S: ScriptName>(
         answers,
     } = known;
     let Some(births) = births.checked_add(done.births().len()) else {
-        return Err(AllocError);
+        return None;
     };
     let Some(prints) = prints.checked_add(done.prints().len()) else {
-        return Err(AllocError);
+        return None;
     };
-    Ok(Known {
+    Some(Known {
         attempt,
         spec,
         base,

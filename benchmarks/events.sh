@@ -4,6 +4,8 @@
 # of which main gets the last (apart); calls whose values main gets each in turn (got); rounds of 100 calls that each need the one before
 # (chain); trees of 100 tasks, one after the other (tree); and rounds of 30 calls on 16 nodes (nodes). The numbers of events are those of
 # the settle rule: with B rounds 1,002 B - 1 (apart), 1,399 B + 2 (chain), 1,192 B + 2 (tree) and 472 B + 2 (nodes), with N gets 11 N + 2.
+# With --instructions it counts one process's instructions by valgrind (Debian's package), which come out the same on a busy machine, in the
+# first two rows of each shape.
 # RAYSIM names another program. First build the proved program: (cd crates/raysim && rt run)
 set -euo pipefail
 cd "$(dirname "$0")"
@@ -62,19 +64,30 @@ microseconds() {
     ./least.py "$3" "${simulation[@]}"
 }
 
+# Instructions of one simulation of the script $1 on $2 nodes.
+instructions() {
+    valgrind --tool=callgrind --callgrind-out-file=/dev/null --log-file="$folder/counted" \
+        "$raysim" sim "$1" "$folder/settle.ev" --nodes "$2" --slots 4 > "$folder/report"
+    awk '/Collected/ { print $4 }' "$folder/counted"
+}
+
+unit=microseconds
+[ "${1:-}" != --instructions ] || unit=instructions
+
 # The shape $1 on $2 nodes with $3 rounds, which make $4 events and main's value $5: the least of $6 simulations.
 row() {
+    [ $unit = microseconds ] || [ "$4" -lt 20000 ] || return 0
     "$1" "$3" > "$folder/script.ray"
     local whole
-    whole=$(microseconds "$folder/script.ray" "$2" "$6")
+    whole=$($unit "$folder/script.ray" "$2" "$6")
     grep -qx "main value $5" "$folder/report" || { echo "$1 $3: main ends otherwise"; exit 1; }
-    awk -v shape="$1" -v events="$4" -v spent="$((whole - base))" \
-        'BEGIN { printf "%s, %d events: %.1f microseconds an event\n", shape, events, spent / events }'
+    awk -v shape="$1" -v events="$4" -v spent="$((whole - base))" -v unit=$unit \
+        'BEGIN { printf "%s, %d events: %.1f %s an event\n", shape, events, spent / events, unit }'
 }
 
 echo settle > "$folder/settle.ev"
 empty > "$folder/empty.ray"
-base=$(microseconds "$folder/empty.ray" 1 40)
+base=$($unit "$folder/empty.ray" 1 40)
 row apart 1 1 1001 100 40
 row apart 1 10 10019 1000 20
 row apart 1 99 99197 9900 8

@@ -4,7 +4,7 @@ use Rattle.protocol_core.specs.Views.{data_of, state_of}
 use Rattle.protocol_core.proofs.Cursors.{past_behind}
 use Rattle.protocol_core.proofs.cursor.step_on.Goals as goal
 
-pub cursor_behind-state-requires : goal.cursor_behind-state-requires
-cursor_behind-state-requires g c =
-    past_behind (state_of (data_of c.args.state.old)) (state_of (data_of c.step-told.new.state)) (event_of c.args.event) c.args.seat c.args.done
-    (reply_of c.step-told.result) c.args.cursor.old c.step-told.ensures.follows c.requires.past
+pub cursor_behind-requires : goal.cursor_behind-requires
+cursor_behind-requires g c =
+    past_behind (state_of (data_of c.args.state.now)) (state_of (data_of c.step-told.new.state)) (event_of c.args.event) c.args.seat c.args.done
+    (reply_of c.step-told.result) c.args.cursor.now c.step-told.ensures.follows c.requires.past

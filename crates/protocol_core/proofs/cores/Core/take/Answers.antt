@@ -4,33 +4,27 @@ use Rattle.protocol_core.specs.Limits.{Limits}
 use Rattle.protocol_core.specs.Owed.{Pays}
 use Rattle.protocol_core.specs.Steps.{AnswersAsShown, reply_of}
 use Rattle.protocol_core.specs.Views.{data_of, state_of}
-use Rattle.protocol_core.proofs.Cursors.{past_behind}
 use Rattle.protocol_core.proofs.Paid.{limited, paid}
 use Rattle.protocol_core.proofs.Shown.{as_shown}
 use Rattle.protocol_core.proofs.cores.Core.take.Goals as goal
 
-pub cursor_behind-self-inside-requires : goal.cursor_behind-self-inside-requires
-cursor_behind-self-inside-requires g c =
-    past_behind (state_of (data_of c.self.inside.state)) (state_of (data_of c.step-told.new.state)) (event_of c.args.event) c.args.seat c.args.done
-    (reply_of c.step-told.result) c.self.inside.cursor c.step-told.ensures.follows c.self.invariant.1
-
 pub returns-clause-shown : goal.returns-clause-shown
 returns-clause-shown g c =
-    subst (λ d. AnswersAsShown g.S.ScriptName.script (state_of d) (event_of c.args.event) c.args.done (state_of (data_of c.step-told.new.state)) (reply_of c.step-told.result))
+    subst (λ d. AnswersAsShown g.S.ScriptName.script (state_of d) (event_of c.args.event) c.args.done (state_of (data_of c.step_on.new.state)) (reply_of c.step_on.result))
     c.self.view_is
-    (as_shown g.S.ScriptName.script (state_of (data_of c.self.inside.state)) (state_of (data_of c.step-told.new.state)) (event_of c.args.event) c.args.seat c.args.done
-    (reply_of c.step-told.result) c.refusals_are_as_shown.ensures c.self.invariant.0 (λ goes. c.step-told.ensures.follows))
+    (as_shown g.S.ScriptName.script (state_of (data_of c.self.inside.state)) (state_of (data_of c.step_on.new.state)) (event_of c.args.event) c.args.seat c.args.done
+    (reply_of c.step_on.result) c.refusals_are_as_shown.ensures c.self.invariant.0 (λ goes. c.step_on.ensures.follows))
 
 pub returns-clause-paid : goal.returns-clause-paid
 returns-clause-paid g c =
-    subst (λ d. Pays g.S.ScriptName.script (state_of d) (event_of c.args.event) c.args.seat c.args.done (state_of (data_of c.step-told.new.state)) (reply_of c.step-told.result))
+    subst (λ d. Pays g.S.ScriptName.script (state_of d) (event_of c.args.event) c.args.seat c.args.done (state_of (data_of c.step_on.new.state)) (reply_of c.step_on.result))
     c.self.view_is
-    (paid g.S.ScriptName.script (state_of (data_of c.self.inside.state)) (state_of (data_of c.step-told.new.state)) (event_of c.args.event) c.args.seat c.args.done
-    (reply_of c.step-told.result) c.self.invariant.0 c.step-told.ensures.is_true (λ goes. c.step-told.ensures.follows))
+    (paid g.S.ScriptName.script (state_of (data_of c.self.inside.state)) (state_of (data_of c.step_on.new.state)) (event_of c.args.event) c.args.seat c.args.done
+    (reply_of c.step_on.result) c.self.invariant.0 c.step_on.ensures.is_true (λ goes. c.step_on.ensures.follows))
 
 pub returns-clause-limited : goal.returns-clause-limited
 returns-clause-limited g c =
-    subst (λ d. Limits g.S.ScriptName.script (state_of d) (event_of c.args.event) c.args.seat c.args.done (state_of (data_of c.step-told.new.state)) (reply_of c.step-told.result))
+    subst (λ d. Limits g.S.ScriptName.script (state_of d) (event_of c.args.event) c.args.seat c.args.done (state_of (data_of c.step_on.new.state)) (reply_of c.step_on.result))
     c.self.view_is
-    (limited g.S.ScriptName.script (state_of (data_of c.self.inside.state)) (state_of (data_of c.step-told.new.state)) (event_of c.args.event) c.args.seat c.args.done
-    (reply_of c.step-told.result) c.self.invariant.0 (λ goes. c.step-told.ensures.follows))
+    (limited g.S.ScriptName.script (state_of (data_of c.self.inside.state)) (state_of (data_of c.step_on.new.state)) (event_of c.args.event) c.args.seat c.args.done
+    (reply_of c.step_on.result) c.self.invariant.0 (λ goes. c.step_on.ensures.follows))

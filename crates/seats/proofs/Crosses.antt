@@ -4,6 +4,7 @@ use denote.RattleType.{RattleType}
 use denote.Param.Send.{IsSend, IsSync, sendable}
 use denote.Param.SendFields.{as_row_send, declared_send}
 use Rattle.std.proofs.Crossing.{crosses}
+use Rattle.std.proofs.MapsCrossing as maps
 use Rattle.std.proofs.marker.PhantomData.TheSendSync as phantom
 use Rattle.std.specs.declared.sync.ledger.Ledger as ledger
 use Rattle.sequence.specs.contracts.Seq as Seq
@@ -28,7 +29,12 @@ use Rattle.frame_code.specs.contracts.instruction.Instruction as Instruction
 use Rattle.frames.specs.contracts.compiled.Compiled as Compiled
 use Rattle.segment.specs.declared.script_name.ScriptName as script_name
 use Rattle.protocol_data.proofs.message.Party.TheSendSync as party
+use Rattle.lru.proofs.Crosses.{Deed-send, KeyRef-send, List-send}
 use Rattle.protocol_data.specs.contracts.message.Letter as Letter
+use Rattle.protocol_data.specs.contracts.objects.Objects as Objects
+use Rattle.protocol_data.specs.contracts.secondaries.CopyKey as CopyKey
+use Rattle.protocol_data.specs.contracts.secondaries.Secondaries as Secondaries
+use Rattle.protocol_data.specs.contracts.tables.Object as Object
 use Rattle.protocol_data.specs.contracts.message.Message as Message
 use Rattle.protocol_data.specs.contracts.node.Node as Node
 use Rattle.protocol_data.specs.contracts.tables.Worker as Worker
@@ -63,11 +69,37 @@ content_send = search (value.crosses, crosses, sendable) depth 60 fits 20000
 origin_send : IsSend Origin.the_row
 origin_send = search (value.crosses, crosses, sendable) depth 60 fits 20000
 
+key_send : IsSend CopyKey.the_row
+key_send = search (object.the_send, crosses, sendable) depth 60 fits 20000
+
+key_sync : IsSync CopyKey.the_row
+key_sync = search (object.the_sync, crosses, sendable) depth 60 fits 20000
+
+secondaries_send : IsSend Secondaries.the_field.row
+secondaries_send = search (content_send, key_send, key_sync, Deed-send, KeyRef-send, List-send, maps.crosses, crosses, sendable) depth 60 fits 20000
+
+table_row_send : IsSend Object.the_row
+table_row_send = search (
+  content_send,
+  origin_send,
+  object.the_send,
+  node.the_send,
+  worker.the_send,
+  attempt.the_send,
+  fault.the_send,
+  value.crosses,
+  crosses,
+  sendable,
+) depth 60 fits 20000
+
+table_send : IsSend Objects.the_field.row
+table_send = search (table_row_send, attempt.the_send, crosses, sendable) depth 60 fits 20000
+
 node_send : IsSend Node.the_field.row
-node_send = search (content_send, value.crosses, crosses, sendable) depth 60 fits 20000
+node_send = search (content_send, secondaries_send, value.crosses, crosses, sendable) depth 60 fits 20000
 
 worker_send : IsSend Worker.the_field.row
-worker_send = search (content_send, origin_send, value.crosses, crosses, sendable) depth 60 fits 20000
+worker_send = search (content_send, origin_send, table_send, value.crosses, crosses, sendable) depth 60 fits 20000
 
 objects_send : IsSend (Seq.the_row ObjectId.the_row)
 objects_send = search (object.the_send, crosses, sendable) depth 60 fits 20000

@@ -52,7 +52,7 @@ fn run_script<S: ScriptName>(
 ///
 /// Else the refusal says why: `At` where the text is no script that the rules allow, `NoMemory`, `Stopped` where the run stops before
 /// its end, with the number that an event of it is refused (37 at a limit), or with 41 after 100,000 turns; or `Failed` where a read or a
-/// write failed within the call. After a failed write a beginning of the report is out; before any other refusal nothing is written.
+/// write failed. After a failed write a beginning of the report is out; before any other refusal nothing is written.
 pub fn run<R: Source, W: Sink>(
     alloc: Global,
     reader: &mut R,
@@ -62,8 +62,7 @@ pub fn run<R: Source, W: Sink>(
 ) -> Result<u8, Refusal>
     ensures reported { IfOk result (λ status. IfSome (R.left reader.old) (λ text.
         IsRunReported cluster form text status (W.held writer.old) (W.held writer.new))) }
-    ensures refused { IfErr result (λ refusal. ExplainsRun cluster (R.left reader.old)
-        (R.failures reader.old, R.failures reader.new) (W.failures writer.old, W.failures writer.new) refusal) }
+    ensures refused { IfErr result (λ refusal. ExplainsRun cluster (R.left reader.old) (R.has_failed reader.new) (W.has_failed writer.new) refusal) }
     ensures unwritten { IfErr result (λ refusal. IsUnwritten refusal → W.held writer.new ≡ W.held writer.old) }
     ensures beginning { IfErr result (λ refusal. IfSome (R.left reader.old) (λ text.
         IsRunBegun cluster form text (W.held writer.old) (W.held writer.new))) }

@@ -1,7 +1,7 @@
-// What a read or a write that failed is called, and when one has failed.
+// What a read or a write that failed is called, and when one has.
 
-ghost use Rattle.std.specs.Prelude.{◌≡◌, OnErr, OnOk};
-ghost use Rattle.raysim_streams.specs.Settled.{failure_by, one_more, settled};
+ghost use Rattle.std.specs.Prelude.{◌≡◌, true, OnErr, OnOk};
+ghost use Rattle.raysim_streams.specs.Settled.{failure_by, settled};
 
 use std::io;
 use std::io::ErrorKind;
@@ -34,26 +34,25 @@ fn failure_by(kind: ErrorKind, side: Failure) -> Failure
     }
 }
 
-/// What a read or a write comes to, where `least` bytes at least were to move. Where it failed `failures` has one more, modulo 2^64, and
-/// nowhere else.
+/// What a read or a write comes to, where `least` bytes at least were to move. `failed` is set where it failed, and nowhere else.
 pub fn settle(
     done: io::Result<usize>,
     least: usize,
     side: Failure,
-    failures: &mut u64,
+    failed: &mut bool,
 ) -> Result<usize, Failure>
     ensures settled { result ≡ settled done least side }
-    ensures failed { OnErr result (failures.new ≡ one_more failures.old) }
-    ensures unfailed { OnOk result (failures.new ≡ failures.old) }
+    ensures failed { OnErr result (failed.new ≡ true) }
+    ensures unfailed { OnOk result (failed.new ≡ failed.old) }
 {
     match done {
         Ok(n) if n >= least => Ok(n),
         Ok(_) => {
-            *failures = failures.wrapping_add(1);
+            *failed = true;
             Err(side)
         }
         Err(error) => {
-            *failures = failures.wrapping_add(1);
+            *failed = true;
             Err(failure_by(error.kind(), side))
         }
     }

@@ -1,8 +1,9 @@
 -- Copies in a cache of sixteen, the one used last first. A key names an object, and the attempt whose content it is.
-use Rattle.std.specs.Prelude.{Bool, List, None, Option, Some, [], map, ◌&&◌, ◌==◌, ◌∷◌, ◌≡◌}
+use Rattle.std.specs.Prelude.{Bool, List, None, Option, Some, [], map, take, ℕ, ◌&&◌, ◌==◌, ◌∷◌, ◌≡◌}
+use Rattle.std.specs.List.{find}
 use Rattle.lru.specs.LruCache.{LruCache}
-use Rattle.meaning.specs.Values.{Outcome}
-use Rattle.protocol_data.specs.Shelves.{without}
+use Rattle.meaning.specs.Values.{Id, Outcome}
+use Rattle.protocol_data.specs.Shelves.{is_sought, without}
 use Rattle.protocol_data.specs.declared.secondaries.CopyKey.{CopyKey}
 use Rattle.protocol_data.specs.declared.store.Copy.{Copy}
 
@@ -36,3 +37,11 @@ HoldsSixteen (Some c) = c.cap ≡ 16
 abbrev pub with_first : Option Copy → List Copy → List Copy
 with_first None xs = xs
 with_first (Some x) xs = x ∷ without x.object (Some x.number) xs
+
+-- the copy of that attempt of the object first, if there is one, and then the others
+abbrev pub brought_to_front : Id → ℕ → List Copy → List Copy
+brought_to_front o n xs = with_first (find (is_sought o (Some n)) xs) xs
+
+-- that copy first, in place of one of the same attempt and object; of the others, fifteen at most
+abbrev pub put_first : Copy → List Copy → List Copy
+put_first x xs = take 16 (x ∷ without x.object (Some x.number) xs)

@@ -195,9 +195,9 @@ fn own_behind(bearer: &Option<AttemptId>, own: usize, seen: usize) -> usize
 
 /// A worker's own objects, in birth order. Contracts see the list.
 ///
-/// Each is kept under its serial. Beside them stands which of them may have come to be releasable: those from `seen` on, which were never looked at, and those from
-/// `changed_from` to before `changed_to`, which were changed since. Any other one isn't released while the bearer goes on, which bore none
-/// before `own_from`.
+/// Each is kept under its serial. Beside them stands which of them may have come to be releasable: those from `seen` on, which were never
+/// looked at, and those from `changed_from` to before `changed_to`, which were changed since. Any other one isn't released while the
+/// bearer goes on, which bore none before `own_from`.
 #[derive(Drop)]
 pub struct Objects {
     rows: IndexMap<u64, Object>,

@@ -1,11 +1,11 @@
 // The secondary copies at a node, the one used last first.
 
-ghost use Rattle.std.specs.Prelude.{◌≡◌, ◌∷◌, [], IfOk, OnOk, OnErr, MatchOption, Some, None, take};
+ghost use Rattle.std.specs.Prelude.{◌≡◌, [], IfOk, OnOk, OnErr, MatchOption, Some, None};
 ghost use Rattle.std.specs.List.{find, list_any};
 ghost use Rattle.std.specs.Option.{option_map};
 ghost use Rattle.std.specs.Map.{remove_entry};
 ghost use Rattle.lru.specs.LruCache.{lru_cache, put_entries};
-ghost use Rattle.protocol_data.specs.Recent.{copies_of, key_in, same_key, with_first};
+ghost use Rattle.protocol_data.specs.Recent.{brought_to_front, copies_of, key_in, put_first, same_key};
 ghost use Rattle.protocol_data.specs.Shelves.{is_sought, without};
 
 use crate::store::Copy;
@@ -75,7 +75,7 @@ fn put_under(
 fn put_copy(cache: &mut LruCache<CopyKey, Content>, copy: Copy) -> Result<(), AllocError>
     requires { cache.old.cap ≡ 16 }
     ensures cap { cache.new.cap ≡ 16 }
-    ensures ok { OnOk result (copies_of cache.new.entries ≡ take 16 (copy ∷ without copy.object (Some copy.number) (copies_of cache.old.entries))) }
+    ensures ok { OnOk result (copies_of cache.new.entries ≡ put_first copy (copies_of cache.old.entries)) }
     ensures err { OnErr result (cache.new ≡ cache.old) }
 {
     // What `len` ensures says that no key is there twice.
@@ -92,7 +92,7 @@ fn put_copy(cache: &mut LruCache<CopyKey, Content>, copy: Copy) -> Result<(), Al
 /// The copy under the key is the one used last, if there is one.
 fn promote(cache: &mut LruCache<CopyKey, Content>, object: ObjectId, number: u32)
     ensures cap { cache.new.cap ≡ cache.old.cap }
-    ensures copies { copies_of cache.new.entries ≡ with_first (find (is_sought object (Some number)) (copies_of cache.old.entries)) (copies_of cache.old.entries) }
+    ensures copies { copies_of cache.new.entries ≡ brought_to_front object number (copies_of cache.old.entries) }
 {
     let _ = cache.len();
     let _ = cache.promote(&CopyKey { object, number });
@@ -189,7 +189,7 @@ impl Secondaries {
     /// Puts the copy as the one used last, in place of one of the same attempt and object. Where there are sixteen others, the one used
     /// longest ago goes. An error is want of memory, and leaves the copies as they were.
     pub fn put(&mut self, alloc: Global, copy: Copy) -> Result<(), AllocError>
-        ensures ok { OnOk result (self.new ≡ take 16 (copy ∷ without copy.object (Some copy.number) self.old)) }
+        ensures ok { OnOk result (self.new ≡ put_first copy self.old) }
         ensures err { OnErr result (self.new ≡ self.old) }
     {
         if let Some(cache) = &mut self.cache {
@@ -203,7 +203,7 @@ impl Secondaries {
 
     /// The copy of that attempt of the object is the one used last, if there is one. It takes no memory.
     pub fn bring_to_front(&mut self, object: ObjectId, number: u32)
-        ensures { self.new ≡ with_first (find (is_sought object (Some number)) self.old) self.old }
+        ensures { self.new ≡ brought_to_front object number self.old }
     {
         if let Some(cache) = &mut self.cache {
             promote(cache, object, number);

@@ -1,6 +1,6 @@
 // A piece of a task's run.
 
-ghost use Rattle.std.specs.Prelude.{◌≡◌, ◌∷◌, [], IfOk, IfErr, None, Some, map};
+ghost use Rattle.std.specs.Prelude.{◌≡◌, ◌∷◌, [], IfOk, IfErr, None, Some, map, true};
 ghost use Rattle.meaning.specs.Values.{Id, Val, Trapped, Broken};
 ghost use Rattle.meaning.specs.Runs.{Over, stopped};
 ghost use Rattle.meaning.specs.Runs as runs;
@@ -10,6 +10,7 @@ ghost use Rattle.values.specs.Values.{value_of, content_of, id_of};
 ghost use Rattle.task_spec.specs.Births.{birth_of};
 ghost use Rattle.frame_laws.specs.Resuming.{after};
 ghost use Rattle.frame_laws.specs.Steps.{HasSteps};
+ghost use Rattle.frames.specs.Machines.{is_stop};
 ghost use Rattle.frames.specs.Courses.{Past, no_past};
 ghost use Rattle.frames.specs.Frames.{IsWaiting};
 ghost use Rattle.frames.specs.Tasks.{stopped_by};
@@ -84,6 +85,7 @@ impl<T: Drop> From<AllocFailed<T>> for PieceError {
 
 /// Where a run stopped, as tasks have it.
 fn to_stop(alloc: Global, halt: &Halt) -> Result<Stop, ConversionError>
+    requires { is_stop halt.now ≡ true }
     ensures value { IfOk result (λ s. stopped_by halt.now ≡ Some (stop_of s)) }
     ensures broken { IfErr result (λ e. e ≡ ConversionError.Broken → stopped_by halt.now ≡ Some (Over (Trapped Broken))) }
     ensures plain { IfErr result (λ e. e ≡ ConversionError.HasOutcome → IsNoTaskStop (stopped_by halt.now)) }
@@ -99,14 +101,15 @@ fn to_stop(alloc: Global, halt: &Halt) -> Result<Stop, ConversionError>
         },
         Halt::Trap(trap) => Ok(Stop::Ends(Content::Trap(*trap))),
         Halt::Broken => Err(ConversionError::Broken),
-        Halt::Bears(_, _) => Err(ConversionError::NoMemory),
-        Halt::Shows(_) => Err(ConversionError::NoMemory),
         Halt::NoMemory => Err(ConversionError::NoMemory),
+        Halt::Bears(_, _) => unreachable!(),
+        Halt::Shows(_) => unreachable!(),
     }
 }
 
 /// What an attempt did up to where it stopped, as tasks have it, without its frame.
 fn to_piece(alloc: Global, attempt: &Attempt) -> Result<Piece, ConversionError>
+    requires { is_stop attempt.now.halt ≡ true }
     ensures value { IfOk result (λ p. IsPieceOf p attempt.now) }
     ensures broken { IfErr result (λ e. e ≡ ConversionError.Broken → (past : Past) (q : runs.Piece) → Stands past attempt.now q →
         q.stop ≡ Over (Trapped Broken)) }
@@ -126,6 +129,7 @@ fn to_piece(alloc: Global, attempt: &Attempt) -> Result<Piece, ConversionError>
 
 /// What an attempt did up to where it stopped, as tasks have it, and its frame.
 fn finish(alloc: Global, attempt: Attempt) -> Result<Piece, PieceError>
+    requires { is_stop attempt.halt ≡ true }
     ensures value { IfOk result (λ p. IsPieceOf p attempt) }
     ensures frame { IfOk result (λ p. p.frame ≡ attempt.frame) }
     ensures steps { IfOk result (λ p. p.steps ≡ attempt.steps) }

@@ -1,12 +1,12 @@
 // An attempt of a task, in pieces.
 
-ghost use Rattle.std.specs.Prelude.{◌≡◌, ℕ, [], ◌++◌, IfOk, None, map};
+ghost use Rattle.std.specs.Prelude.{◌≡◌, ℕ, [], ◌++◌, IfOk, None, map, true};
 ghost use Rattle.meaning.specs.Syntax.{Script};
 ghost use Rattle.meaning.specs.Values.{Birth, Id, Task};
 ghost use Rattle.script_check.specs.Trees.{script_of};
 ghost use Rattle.values.specs.Values.{id_of};
 ghost use Rattle.frames.specs.Values.{outcome_of};
-ghost use Rattle.frames.specs.Machines.{argument_of};
+ghost use Rattle.frames.specs.Machines.{argument_of, is_stop};
 ghost use Rattle.frames.specs.Courses.{Past, Stops, answers_of, no_past};
 ghost use Rattle.frames.specs.Tasks.{Halts};
 ghost use Rattle.frames.specs.Frames.{HaltsBehind, KeepsFrame, CountsSteps};
@@ -59,6 +59,7 @@ pub(crate) fn stop(course: Course, halt: Halt, limit: usize) -> Result<Attempt, 
         Stops script limit spec base past course halt → KeepsFrame script spec base past (answers_of course) a) }
     ensures counts { IfOk result (λ a. (script : Script) (spec : Birth) (base : Id) (past : Past) →
         Stops script limit spec base past course halt → CountsSteps script spec base (past.answers ++ answers_of course) a) }
+    ensures halt { IfOk result (λ a. a.halt ≡ halt) }
 {
     let Course {
         state,
@@ -113,6 +114,8 @@ pub fn run_task(
     // Its steps are those that it began since the last of the answers.
     ensures counts { IfOk result (λ a. (retries : ℕ) → CountsSteps (script_of script.now)
         (Task function.now (map argument_of arguments.now) depth retries) (id_of base) (map outcome_of answers.items) a) }
+    // It stopped where a run in pieces stops.
+    ensures stops { IfOk result (λ a. is_stop a.halt ≡ true) }
 {
     if depth > DEEPEST {
         return Ok(nothing_done(alloc, Halt::Trap(Trap::TooDeep)));

@@ -1,9 +1,10 @@
 // Where an attempt waits for an answer.
 
-ghost use Rattle.std.specs.Prelude.{◌≡◌, ◌∷◌, ◌++◌, [], IfOk, List};
+ghost use Rattle.std.specs.Prelude.{◌≡◌, ◌∷◌, ◌++◌, [], IfOk, List, true};
 ghost use Rattle.meaning.specs.Values.{Birth, Id};
 ghost use Rattle.script_check.specs.Trees.{script_of};
 ghost use Rattle.frames.specs.Values.{outcome_of};
+ghost use Rattle.frames.specs.Machines.{is_stop};
 ghost use Rattle.frames.specs.Courses.{Past};
 ghost use Rattle.frames.specs.Frames.{IsWaiting, HaltsBehind, KeepsFrame, CountsSteps};
 
@@ -42,6 +43,7 @@ impl Frame {
             KeepsFrame (script_of script.now) spec base past (outcome_of answer ∷ []) a) }
         ensures counts { IfOk result (λ a. (spec : Birth) (base : Id) (past : Past) → IsWaiting (script_of script.now) spec base past self →
             CountsSteps (script_of script.now) spec base (past.answers ++ outcome_of answer ∷ []) a) }
+        ensures stops { IfOk result (λ a. is_stop a.halt ≡ true) }
     {
         let Frame {
             state,

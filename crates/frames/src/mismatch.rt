@@ -1,12 +1,12 @@
 // Tasks that no function takes: the script has none of that name, or it takes another number of arguments. A checked script makes none.
 
-ghost use Rattle.std.specs.Prelude.{◌≡◌, ◌∷◌, IfOk, IfErr, OnOk, List, Some, drop, length, map, take};
+ghost use Rattle.std.specs.Prelude.{◌≡◌, ◌∷◌, IfOk, IfErr, OnOk, List, Some, drop, false, length, map, take, true};
 ghost use Rattle.meaning.specs.Values as meant;
 ghost use Rattle.meaning.specs.Meaning.{find, parameters_of};
 ghost use Rattle.meaning.specs.Runs.{Stop};
 ghost use Rattle.script_check.specs.Trees.{script_of};
 ghost use Rattle.frames.specs.Values.{outcome_of};
-ghost use Rattle.frames.specs.Machines.{argument_of, GivesHalt};
+ghost use Rattle.frames.specs.Machines.{argument_of, goes_on, is_stop, GivesHalt};
 ghost use Rattle.frames.specs.Tasks.{matched, mismatch_end, mismatch_stop, ended_by, stopped_by};
 
 use crate::halt::{Argument, Halt};
@@ -57,6 +57,7 @@ fn pass_answered(argument: &Argument, answers: &[Outcome], used: usize) -> Resul
         mismatch_stop (argument_of argument.now ∷ args) (map outcome_of (drop used answers.now)) ≡ mismatch_stop args (map outcome_of (drop n answers.now))) }
     ensures halt { IfErr result (λ h. (args : List meant.Argument) (s : Stop) → stopped_by h ≡ Some s →
         mismatch_stop (argument_of argument.now ∷ args) (map outcome_of (drop used answers.now)) ≡ s) }
+    ensures ends { IfErr result (λ h. is_stop h ≡ true) }
 {
     if !argument.is_dereferenced {
         return Ok(used);
@@ -73,18 +74,20 @@ fn pass_answered(argument: &Argument, answers: &[Outcome], used: usize) -> Resul
     }
 }
 
-/// The outcome that a halt ends a run with. It is out of memory where it has none.
+/// The outcome that a halt ends a run with. An error is the halt's want of memory.
 pub(crate) fn outcome(halt: Halt) -> Result<Outcome, AllocError>
-    ensures { IfOk result (λ c. ended_by halt ≡ Some (outcome_of c)) }
+    requires { goes_on halt ≡ false }
+    ensures value { IfOk result (λ c. ended_by halt ≡ Some (outcome_of c)) }
+    ensures refused { IfErr result (λ _. halt ≡ Halt.NoMemory) }
 {
     match halt {
         Halt::Over(value) => Ok(Outcome::Value(value)),
         Halt::Trap(trap) => Ok(Outcome::Trap(trap)),
         Halt::Broken => Ok(Outcome::Broken),
-        Halt::Bears(_, _) => Err(AllocError),
-        Halt::Asks(_, _) => Err(AllocError),
-        Halt::Shows(_) => Err(AllocError),
         Halt::NoMemory => Err(AllocError),
+        Halt::Bears(_, _) => unreachable!(),
+        Halt::Asks(_, _) => unreachable!(),
+        Halt::Shows(_) => unreachable!(),
     }
 }
 
@@ -111,8 +114,9 @@ pub(crate) fn stop_mismatch(
     arguments: &[Argument],
     answers: &[Outcome],
 ) -> Halt
-    ensures { (s : Stop) → stopped_by result ≡ Some s →
+    ensures stops { (s : Stop) → stopped_by result ≡ Some s →
         mismatch_stop (matched (script_of script.now) name.now (map argument_of arguments.now)) (map outcome_of answers.now) ≡ s }
+    ensures ends { is_stop result ≡ true }
 {
     let mut used = 0;
     for argument in matched(script, name, arguments) {

@@ -1,5 +1,4 @@
-use Rattle.std.proofs.Common.{◌≡◌, List, [], ◌∷◌, ◌++◌, map, refl, sym, ap, ◌∙◌, subst}
-use Rattle.meaning.specs.Values as meant
+use Rattle.std.proofs.Common.{[], ◌∷◌, ◌++◌, map, refl, sym, ap, ◌∙◌, subst}
 use Rattle.meaning.specs.Meaning.{replay}
 use Rattle.script_check.specs.Trees.{script_of}
 use Rattle.values.specs.Values.{value_of, content_of}

@@ -29,7 +29,7 @@ returns-then-number-functions-clause-halts c retries s e =
     ∙ mismatch_piece (script_of fs) g args c.args.depth retries (id_of c.args.base) answers (omega (arith, c.if-depth-gt-DEEPEST.false)) none
     ∙ nothing_at done.result (mismatch_stop (matched (script_of fs) g args) answers) s done.ensures.births done.ensures.prints
     (ap (λ os. mismatch_stop (matched (script_of fs) g args) (map outcome_of os)) (sym c.deref.ensures.value)
-    ∙ c.stop_mismatch-halt.ensures s (subst (λ h. stopped_by h ≡ Some s) done.ensures.halt e))
+    ∙ c.stop_mismatch-halt.ensures.stops s (subst (λ h. stopped_by h ≡ Some s) done.ensures.halt e))
 
 pub returns-clause-halts : goal.returns-clause-halts
 returns-clause-halts c =

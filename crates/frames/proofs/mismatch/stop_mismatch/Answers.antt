@@ -5,8 +5,8 @@ use Rattle.frames.specs.Tasks.{mismatch_stop}
 use Rattle.frames.proofs.Stopping.{next_of}
 use Rattle.frames.proofs.mismatch.stop_mismatch.Goals as goal
 
-pub returns-in-Err : goal.returns-in-Err
-returns-in-Err c s e =
+pub returns-in-Err-clause-stops : goal.returns-in-Err-clause-stops
+returns-in-Err-clause-stops c s e =
     let xs = c.matched-argument-items.result.now in
     let i = c.loop-argument.argument-index in
     let answers = map outcome_of (drop c.loop-argument.used c.args.answers.now) in

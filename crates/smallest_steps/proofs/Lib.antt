@@ -1,0 +1,4 @@
+pub mod Known
+pub mod Untouched
+pub mod Smallest
+pub mod Moves

@@ -1,0 +1,30 @@
+-- What is known where a smallest step is made.
+use Rattle.std.specs.Prelude.{◌≡◌, ◌⊎◌, ℕ, Bool, true, false, Option, Some, is_some}
+use Rattle.meaning.specs.Values.{Birth, Id}
+use Rattle.protocol.specs.Steps.{Here}
+use Rattle.protocol.specs.Asking.{next_attempt}
+use Rattle.protocol.specs.Messages.{Ask, Back, Failed, Finished, FinishedAck, Give, Message, Push}
+use Rattle.protocol.specs.Tables.{Fetching, Object, OwnTask, Run, RunsOn, Waits, new_task}
+
+-- a change of an object that leaves what makes it, who waits for it, and whether it has a content or a fault
+abbrev pub LeavesAlike : (Object → Object) → Type 0
+LeavesAlike f = (x : Object) → ((f x).maker ≡ x.maker) × ((f x).askers ≡ x.askers) × ((f x).settled ≡ x.settled) × ((f x).fault ≡ x.fault)
+
+-- whoever waits for the object can be answered
+abbrev pub IsAnswered : Object → Type 0
+IsAnswered x = (is_some x.settled ≡ true) ⊎ (is_some x.fault ≡ true)
+
+-- the next attempt of a task, or the first one of a new task
+abbrev pub IsNextOf : OwnTask → OwnTask → Type 0
+IsNextOf old task = (task ≡ next_attempt old) ⊎ ((spec : Birth) × (task ≡ new_task spec) × (old ≡ new_task spec))
+
+-- the task's present attempt runs
+abbrev pub IsRunning : OwnTask → Type 0
+IsRunning task = (w n : ℕ) × (task.progress ≡ RunsOn w n)
+
+-- the worker's attempt waits for the object
+pub record Needs (h : Here) (y : Id) : Type 0 where
+  pub run : Run
+  pub fetching : Option Fetching
+  pub at : h.worker.run ≡ Some run
+  pub waits : run.phase ≡ Waits y fetching

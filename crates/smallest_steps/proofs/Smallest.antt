@@ -21,6 +21,22 @@ use Rattle.protocol.specs.Notices.{loses_places, with_dead_node, with_dead_worke
 use Rattle.std.specs.List.{filter}
 use Rattle.smallest_steps.specs.Steps.{IsAnswered, IsNextOf, IsRunning, LeavesAlike, Needs}
 
+-- where nothing needs to be known
+abbrev pub AnyTold : ℕ → Attempt → Type 0
+AnyTold w a = Unit {0}
+
+abbrev pub AnyOver : Attempt → Type 0
+AnyOver a = Unit {0}
+
+abbrev pub AnyPassed : Attempt → ℕ → ℕ → Type 0
+AnyPassed a t n = Unit {0}
+
+abbrev pub AnyGiven : ℕ → ℕ → Attempt → ℕ → Type 0
+AnyGiven n t a w = Unit {0}
+
+abbrev pub AnyHeard : Here → Party → Message → Type 0
+AnyHeard h from m = Unit {0}
+
 -- IsToldBy w a: worker w told that attempt a is over there. IsPassedBy a t n: node n passes ask t of attempt a on, or is dead. Where Holds and
 -- Pushes may go out again.
 pub record Keeps (IsToldBy : ℕ → Attempt → Type 0) (IsPassedBy : Attempt → ℕ → ℕ → Type 0) (MayHold MayPush : Type 0) (P : Here → Type 0) : Type 0 where

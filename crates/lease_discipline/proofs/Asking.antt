@@ -27,7 +27,8 @@ use Rattle.protocol_owed.proofs.Nodes.{changed_cases, there_more}
 use Rattle.protocol_owed.proofs.Letters.{among-append_cases, among-behind, among-more, among-push_cases}
 use Rattle.lease_discipline.specs.Asks.{Asked, IsClosed, IsLast, IsPassed, OwnsAsks, Touched}
 use Rattle.lease_discipline.specs.Discipline.{Pushed}
-use Rattle.lease_discipline.proofs.Tame.{IsNextOf, changed_here, own_at}
+use Rattle.smallest_steps.specs.Steps.{IsNextOf}
+use Rattle.smallest_steps.proofs.Known.{changed_here, own_at}
 use Rattle.lease_discipline.proofs.Follows.{More}
 use Rattle.lease_discipline.proofs.Moves.{IsKept, is_plain}
 use Rattle.lease_discipline.proofs.Theres.{letter_cases, letter_last, letter_more, with_letter}

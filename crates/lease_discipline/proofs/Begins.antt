@@ -23,7 +23,7 @@ use Rattle.protocol.specs.Refusals.{is_within_limits, refusal, unless}
 use Rattle.protocol_owed.specs.Courses.{has_begun}
 use Rattle.protocol_owed.proofs.Nodes.{there_more}
 use Rattle.protocol_owed.proofs.RunMoves as R
-use Rattle.protocol_owed.proofs.Telling.{AnyOver, AnyTold}
+use Rattle.smallest_steps.proofs.Smallest.{AnyOver, AnyTold}
 use Rattle.lease_discipline.specs.Law.{PushesBegin}
 use Rattle.lease_discipline.proofs.Heres.{changed_now}
 use Rattle.lease_discipline.proofs.Laws.{pushes_find_free}

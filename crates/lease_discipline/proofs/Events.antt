@@ -33,11 +33,12 @@ use Rattle.protocol_owed.proofs.Letters.{among-append_cases, among-more}
 use Rattle.protocol_owed.proofs.CourseEvents.{append_split, one_of}
 use Rattle.protocol_owed.proofs.CourseAll.{both_passed, passed}
 use Rattle.protocol_owed.proofs.CourseRuns.{OutOf, out_of}
+use Rattle.smallest_steps.proofs.Smallest.{AnyPassed}
 use Rattle.lease_discipline.specs.Discipline.{Look, Gave, IsOfNode, KeepsLeases, NodeKeeps, WorkerKeeps, WorkersKeep}
 use Rattle.lease_discipline.proofs.Tame.{item_mapped}
 use Rattle.lease_discipline.proofs.Follows.{AllFollow, Follows, JobsStay, More, follow_grows, gave_more, jobs_more, node_follows, stays}
 use Rattle.lease_discipline.proofs.Follows.{true_more}
-use Rattle.lease_discipline.proofs.Moves.{Anyhow, notice_step-kept, notice_node_step-kept, reached-kept, release_step-kept, tick_step-kept, IsHeardFrom}
+use Rattle.lease_discipline.proofs.Moves.{notice_step-kept, notice_node_step-kept, reached-kept, release_step-kept, tick_step-kept, IsHeardFrom}
 use Rattle.lease_discipline.proofs.Theres.{Goes, forgets_goes, reached_goes}
 use Rattle.lease_discipline.proofs.Heres.{Does, IsToldBy, IsOverOf, IsGivenBy, by_number, changed_elsewhere, does_kept, mine}
 use Rattle.lease_discipline.proofs.Own.{claim_does, commit_does, push_does}
@@ -211,7 +212,7 @@ module _ (c : Whole) (me : ℕ) (x : Worker) (node : Node) (at : worker_at c me 
   worker_event_at f step =
       let g : Here = f (here c me x node) in
       worker_ends (release_step g)
-      (release_step-kept (IsToldBy c me n x at) (IsOverOf c me n x at) (IsGivenBy c me n x at) Anyhow (Does c me n x at) (does_kept c me n x at) g
+      (release_step-kept (IsToldBy c me n x at) (IsOverOf c me n x at) (IsGivenBy c me n x at) AnyPassed (Does c me n x at) (does_kept c me n x at) g
       (step worker_begins))
 
 -- a step of whichever worker
@@ -294,7 +295,7 @@ module _ (c : Whole) (w : ℕ) (x : Worker) (at : worker_at c w ≡ Some x) (nod
   start = here c w x node
 
   abbrev Heard : Party → Message → Type 0
-  Heard = IsHeardFrom (IsToldBy c w x.node x at) (IsOverOf c w x.node x at) (IsGivenBy c w x.node x at) Anyhow P (does_kept c w x.node x at) start
+  Heard = IsHeardFrom (IsToldBy c w x.node x at) (IsOverOf c w x.node x at) (IsGivenBy c w x.node x at) AnyPassed P (does_kept c w x.node x at) start
 
   heard_worker : (u : ℕ) (m : Message) → Among (letter (TheWorker u) (TheWorker w) m) c.network → P start → Heard (TheWorker u) m
   heard_worker u (Push a spec) came d = push_does c w x.node x at start a spec live u came d
@@ -342,7 +343,7 @@ module _ (c : Whole) (w : ℕ) (x : Worker) (at : worker_at c w ≡ Some x) (nod
 
   reached_does : (from : Party) (m : Message) → Among (letter from (TheWorker w) m) c.network → P start → P (reached start from m)
   reached_does from m came d =
-      reached-kept (IsToldBy c w x.node x at) (IsOverOf c w x.node x at) (IsGivenBy c w x.node x at) Anyhow P (does_kept c w x.node x at) start from m
+      reached-kept (IsToldBy c w x.node x at) (IsOverOf c w x.node x at) (IsGivenBy c w x.node x at) AnyPassed P (does_kept c w x.node x at) start from m
       (heard_from from m came d) d
 
 with_marks : (c : Whole) (k : ℕ) → KeepsLeases c → KeepsLeases (with_delivered c k)
@@ -519,13 +520,13 @@ happens_keeps c (Claim w) handed e k = claim_event c w e k
 happens_keeps c (Commit j) handed e k = commit_event c j handed (item_at c.jobs j) e k
 happens_keeps c (Deliver i) handed e k = deliver_event c i (item_at c.network i) refl k
 happens_keeps c (Tick w) handed e k = worker_event c w tick_step
-    (λ x at node d. tick_step-kept (IsToldBy c w x.node x at) (IsOverOf c w x.node x at) (IsGivenBy c w x.node x at) Anyhow (Does c w x.node x at)
+    (λ x at node d. tick_step-kept (IsToldBy c w x.node x at) (IsOverOf c w x.node x at) (IsGivenBy c w x.node x at) AnyPassed (Does c w x.node x at)
     (does_kept c w x.node x at) (here c w x node) d) k
 happens_keeps c (Notice w v) handed e k = worker_event c w (λ h. notice_step h v)
-    (λ x at node d. notice_step-kept (IsToldBy c w x.node x at) (IsOverOf c w x.node x at) (IsGivenBy c w x.node x at) Anyhow (Does c w x.node x at)
+    (λ x at node d. notice_step-kept (IsToldBy c w x.node x at) (IsOverOf c w x.node x at) (IsGivenBy c w x.node x at) AnyPassed (Does c w x.node x at)
     (does_kept c w x.node x at) (here c w x node) v d) k
 happens_keeps c (NoticeNode w n) handed e k = worker_event c w (λ h. notice_node_step h n)
-    (λ x at node d. notice_node_step-kept (IsToldBy c w x.node x at) (IsOverOf c w x.node x at) (IsGivenBy c w x.node x at) Anyhow (Does c w x.node x at)
+    (λ x at node d. notice_node_step-kept (IsToldBy c w x.node x at) (IsOverOf c w x.node x at) (IsGivenBy c w x.node x at) AnyPassed (Does c w x.node x at)
     (does_kept c w x.node x at) (here c w x node) n (λ a i. tt) d) k
 happens_keeps c (Evict n o) handed e k = store_event c n _ (λ _. refl) k
 happens_keeps c (Lose n o) handed e k = store_event c n _ (λ _. refl) k

@@ -26,10 +26,11 @@ use Rattle.protocol_owed.proofs.Nodes.{changed_cases, there_still, there_more}
 use Rattle.protocol_owed.proofs.Letters.{among-more}
 use Rattle.protocol_owed.specs.Told.{pace_in}
 use Rattle.protocol_owed.proofs.TellingMore.{stopped_pace}
+use Rattle.smallest_steps.proofs.Smallest.{AnyPassed}
 use Rattle.lease_discipline.specs.Discipline.{Look, Gave, IsBack, IsDone, IsJobOf, IsTrue, IsTrueBetween, WorkerKeeps}
 use Rattle.lease_discipline.proofs.Tame.{IsTame}
 use Rattle.lease_discipline.proofs.Follows.{AllFollow, Follows, More, follow_grows, gave_more, never_busy, node_follows, stays, true_more}
-use Rattle.lease_discipline.proofs.Moves.{Anyhow, IsKept, is_plain}
+use Rattle.lease_discipline.proofs.Moves.{IsKept, is_plain}
 use Rattle.protocol.specs.Asking.{asks_at, rests}
 use Rattle.protocol.specs.Tables.{AskedAt}
 use Rattle.lease_discipline.proofs.Tame.{asked_not_run, new_not_run, new_tame, rest_not_run, task_tame}
@@ -339,7 +340,7 @@ module _ (c : Whole) (me n : ℕ) (old : Worker) (there : item_at c.workers me �
       says_does (with_task_of h o next) (TheNode m) (Ask (attempt o task.number) t) tt
       (tame_does h (with_task_of h o next).worker (task_tame h.worker o.serial next (λ v k e. asked_not_run t m v k e)) d)
 
-  pub does_kept : IsKept IsToldBy IsOverOf IsGivenBy Anyhow Does
+  pub does_kept : IsKept IsToldBy IsOverOf IsGivenBy AnyPassed Does
   does_kept = record {
     writes = λ h es d. logs_does h es d;
     says_plain = λ h w m plain d. says_does h (TheWorker w) m (plain_true (look_here h) (sent_here h) (TheWorker h.me) (TheWorker w) m plain) d;

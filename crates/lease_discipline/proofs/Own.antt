@@ -27,10 +27,11 @@ use Rattle.protocol.specs.Whole.{Whole}
 use Rattle.protocol_owed.specs.Courses.{GoesOn, HasStopped, Rests, has_begun}
 use Rattle.protocol_owed.specs.Told.{pace_in, pace_by}
 use Rattle.protocol_owed.proofs.TellingMore.{stopped_pace, stopped_not, rests_not}
+use Rattle.smallest_steps.proofs.Smallest.{AnyPassed}
 use Rattle.lease_discipline.specs.Discipline.{Look, Gave, IsBegunBy, IsDoneAt, IsJobOf, IsLeasedFor, IsOfNode, IsPromised, IsPushed, NodeKeeps, WorkerKeeps}
 use Rattle.lease_discipline.proofs.Follows.{Grows, true_more}
 use Rattle.lease_discipline.proofs.Tame.{same_left}
-use Rattle.lease_discipline.proofs.Moves.{Anyhow, IsKept, bears_all-kept, holds_ids-kept, leaves_if_free-kept, needs-kept}
+use Rattle.lease_discipline.proofs.Moves.{IsKept, bears_all-kept, holds_ids-kept, leaves_if_free-kept, needs-kept}
 use Rattle.lease_discipline.proofs.Nodes.{IsUnwanted}
 use Rattle.lease_discipline.proofs.Theres.{letter_cases}
 use Rattle.lease_discipline.proofs.Heres.{Does, IsToldBy, IsOverOf, IsGivenBy, at_me, at_other, busy_unwanted, by_number, does_kept, frees_does, logs_does}
@@ -62,7 +63,7 @@ module _ (c : Whole) (me n : ℕ) (old : Worker) (there : item_at c.workers me �
   Here_does = Does c me n old there
 
   abbrev Kept : (Here → Type 0) → Type 0
-  Kept P = IsKept (IsToldBy c me n old there) (IsOverOf c me n old there) (IsGivenBy c me n old there) Anyhow P
+  Kept P = IsKept (IsToldBy c me n old there) (IsOverOf c me n old there) (IsGivenBy c me n old there) AnyPassed P
 
   kept : Kept Here_does
   kept = does_kept c me n old there
@@ -377,8 +378,8 @@ module _ (c : Whole) (me n : ℕ) (old : Worker) (there : item_at c.workers me �
     where
       both : (stored held : Here) (P : Here → Type 0) (k : Kept P) (o : Id) (ids : List Id) → P stored → P (leaves_if_free (holds_ids stored o ids))
       both stored held P k o ids p =
-          leaves_if_free-kept (IsToldBy c me n old there) (IsOverOf c me n old there) (IsGivenBy c me n old there) Anyhow P k (holds_ids stored o ids)
-          (holds_ids-kept (IsToldBy c me n old there) (IsOverOf c me n old there) (IsGivenBy c me n old there) Anyhow P k stored o ids p)
+          leaves_if_free-kept (IsToldBy c me n old there) (IsOverOf c me n old there) (IsGivenBy c me n old there) AnyPassed P k (holds_ids stored o ids)
+          (holds_ids-kept (IsToldBy c me n old there) (IsOverOf c me n old there) (IsGivenBy c me n old there) AnyPassed P k stored o ids p)
 
       still_unwanted : (g : Here) → StopsHere g → IsUnwanted (look_here c me n old there g) (sent_here c me n old there g) n me
       still_unwanted g s a wanted =
@@ -389,7 +390,7 @@ module _ (c : Whole) (me n : ℕ) (old : Worker) (there : item_at c.workers me �
   stops_does : (h : Here) (stop : Stopped) (r : Option Run) → h.worker.run ≡ r → GoesOnHere h → Here_does h → Here_does (stops_by h stop r)
   stops_does h stop None e p d = d
   stops_does h (AtGet y) (Some run) e p d =
-      needs-kept (IsToldBy c me n old there) (IsOverOf c me n old there) (IsGivenBy c me n old there) Anyhow Here_does kept h run y
+      needs-kept (IsToldBy c me n old there) (IsOverOf c me n old there) (IsGivenBy c me n old there) AnyPassed Here_does kept h run y
       (run_does c me n old there h run (record run { phase = Waits y None }) e refl (λ o. o)
       (λ o. absurd (both_ways run.is_over (going_on h run e p d) o)) (λ j o. absurd (waits_out y None j o)) d)
   stops_does h (AtEnd content) (Some run) e p d = ends_does h run content e p d
@@ -406,7 +407,7 @@ module _ (c : Whole) (me n : ℕ) (old : Worker) (there : item_at c.workers me �
           (run_does c me n old there h run next e refl (λ i. i) (λ i. absurd (both_ways run.is_over over i)) (λ j i. absurd (ready_out j i)) d) in
           let borne : Here = bears_all g run.attempt o.births in
           let borne_does : Here_does borne = bears_all-kept (IsToldBy c me n old there) (IsOverOf c me n old there)
-          (IsGivenBy c me n old there) Anyhow Here_does kept g run.attempt o.births started in
+          (IsGivenBy c me n old there) AnyPassed Here_does kept g run.attempt o.births started in
           let borne_goes : GoesOnHere borne = bears_all-kept (IsToldBy c me n old there) (IsOverOf c me n old there)
-          (IsGivenBy c me n old there) Anyhow GoesOnHere goes_on_kept g run.attempt o.births refl in
+          (IsGivenBy c me n old there) AnyPassed GoesOnHere goes_on_kept g run.attempt o.births refl in
           stops_does borne o.stop borne.worker.run refl borne_goes borne_does

@@ -26,6 +26,7 @@ use Rattle.sequence.proofs.Places.{slice_get-last}
 use Rattle.protocol.specs.Notices.{runs_on_node, runs_on_worker}
 use Rattle.protocol.specs.Ends.{if_present}
 use Rattle.protocol.specs.Tables.{is_pending_task}
+use Rattle.smallest_steps.proofs.Known.{same_tasks}
 use Rattle.protocol_owed.proofs.CourseEvents.{append_none, changed_none}
 use Rattle.protocol_owed.proofs.Nodes.{changed_cases, push_cases, there_more, there_still}
 
@@ -146,131 +147,6 @@ places_tame x m = record {
         let r = item_mapped (without_place m) x.objects i z g in
         record { task = task; at = ap task_of r.1 ∙ ap (λ (u : Object). task_in u.maker) (sym r.2) ∙ e; progress = q; numbered = refl }
 
--- ---- tests
-
--- only an own object has a task here
-pub own_at : (h : Here) (o : Id) (task : OwnTask) → task_of (object_at h o) ≡ Some task → o.owner ≡ h.me
-own_at h o task e =
-    at_test (λ b. is_own h o ≡ b → task_of (if b then own_object h o.serial else None) ≡ Some task → o.owner ≡ h.me) (is_own h o)
-    (λ _ f _. eqb-true o.owner h.me f) (λ _ f g. absurd (cc)) refl e
-
--- the ask that stands is one for the present attempt
-pub present_is : (t : ℕ) (a : Attempt) (task : OwnTask) → if_asked t a task ≡ true → a ≡ attempt a.object task.number
-present_is t a task e = ap (attempt a.object) (sym (eqb-true task.number a.number (and_left (task.number == a.number) (stands_at task.progress t) e)))
-
--- a worker that waits has an attempt that does
-pub record IsWaiting (x : Worker) : Type 0 where
-  pub run : Run
-  pub object : Id
-  pub fetching : Option Fetching
-  pub at : x.run ≡ Some run
-  pub waits : run.phase ≡ Waits object fetching
-
-pub waiting : (x : Worker) (o : Id) → is_waiting_for x o ≡ true → IsWaiting x
-waiting x o e = by_run x.run refl e
-  where
-    by_phase : (run : Run) → x.run ≡ Some run → (p : Phase) → run.phase ≡ p → is_same_id (object_needed p) o ≡ true → IsWaiting x
-    by_phase run f (Waits y g) q i = record { run = run; object = y; fetching = g; at = f; waits = q }
-    by_phase run f Ready q i = absurd (cc)
-    by_phase run f (Out j) q i = absurd (cc)
-    by_phase run f (HasEnded c) q i = absurd (cc)
-    by_phase run f (HasFaulted g) q i = absurd (cc)
-
-    by_run : (r : Option Run) → x.run ≡ r → is_same_id (needed_by r) o ≡ true → IsWaiting x
-    by_run None f i = absurd (cc)
-    by_run (Some run) f i = by_phase run f run.phase refl i
-
--- ---- tasks of own objects
-
--- the next attempt of a task, or the first one of a new task
-abbrev pub IsNextOf : OwnTask → OwnTask → Type 0
-IsNextOf old task = (task ≡ next_attempt old) ⊎ ((spec : Birth) × (task ≡ new_task spec) × (old ≡ new_task spec))
-
--- where the ask that stands was sent
-pub asked_where : (t : ℕ) (a : Attempt) (task : OwnTask) → if_asked t a task ≡ true → (m : ℕ) × (task.progress ≡ AskedAt t m) × (task.number ≡ a.number)
-asked_where t a task e = by_progress task.progress refl (and_right (task.number == a.number) (stands_at task.progress t) e)
-  where
-    numbers : task.number ≡ a.number
-    numbers = eqb-true task.number a.number (and_left (task.number == a.number) (stands_at task.progress t) e)
-
-    by_progress : (q : Progress) → task.progress ≡ q → stands_at q t ≡ true → (m : ℕ) × (task.progress ≡ AskedAt t m) × (task.number ≡ a.number)
-    by_progress (AskedAt u m) f g = (m, f ∙ ap (λ i. AskedAt i m) (eqb-true u t g), numbers)
-    by_progress AtRest f g = absurd (cc)
-    by_progress (RunsOn w n) f g = absurd (cc)
-
-pub changed_here : {X : Type 0} (xs : List X) (n : ℕ) (f : X → X) (x : X) → item_at xs n ≡ Some x → item_at (changed_at xs n f) n ≡ Some (f x)
-changed_here xs n f x e =
-    let g = there_still xs n n f x e in
-    elim (changed_cases xs n n f g.0 g.1) [
-      | inl (_, y, at, is) ↦ g.1 ∙ ap (λ z. Some z) is ∙ ap (λ z. Some (f z)) (same_item xs n y x at e)
-      | inr (apart, _) ↦ absurd (apart refl)
-    ]
-  where
-    same_item : {X : Type 0} (xs : List X) (n : ℕ) (y x : X) → item_at xs n ≡ Some y → item_at xs n ≡ Some x → y ≡ x
-    same_item {X} xs n y x f g = let h : ◌≡◌ {A = Option X} (Some y) (Some x) = sym f ∙ g in cc
-
--- the object at an own id
-pub own_there : (h : Here) (k : ℕ) → task_of (object_at h (own_id h k)) ≡ task_of (own_object h k)
-own_there h k = ap (λ b. task_of (if b then own_object h k else None)) (equal h.me)
-  where
-    equal : (n : ℕ) → (n == n) ≡ true
-    equal n = grind (arith, nat_tests)
-
--- the task that was put in place
-pub task_now : (h : Here) (o : Id) (old task : OwnTask) → task_of (object_at h o) ≡ Some old → task_of (object_at (with_task_of h o task) o) ≡ Some task
-task_now h o old task e =
-    at_test (λ b. task_of (if b then own_object h o.serial else None) ≡ Some old →
-    task_of (if b then item_at (changed_at h.worker.objects o.serial (with_task task)) o.serial else None) ≡ Some task) (is_own h o)
-    (λ _ f. by_item (item_at h.worker.objects o.serial) refl f) (λ _ f. absurd (cc)) e
-  where
-    by_item : (x : Option Object) → item_at h.worker.objects o.serial ≡ x → task_of x ≡ Some old →
-        task_of (item_at (changed_at h.worker.objects o.serial (with_task task)) o.serial) ≡ Some task
-    by_item None f g = absurd (cc)
-    by_item (Some y) f g = ap task_of (changed_here h.worker.objects o.serial (with_task task) y f)
-
--- what makes objects stays, where a change leaves it
-pub same_tasks : (xs : List Object) (n m : ℕ) (f : Object → Object) → ((y : Object) → (f y).maker ≡ y.maker) →
-    task_of (item_at (changed_at xs n f) m) ≡ task_of (item_at xs m)
-same_tasks xs n m f keeps = by_item (item_at (changed_at xs n f) m) refl
-  where
-    by_item : (x : Option Object) → item_at (changed_at xs n f) m ≡ x → task_of (item_at (changed_at xs n f) m) ≡ task_of (item_at xs m)
-    by_item None e = ap task_of e ∙ ap task_of (sym (changed_none xs n m f e))
-    by_item (Some y) e = elim (changed_cases xs n m f y e) [
-      | inl (_, z, at, is) ↦ ap task_of e ∙ ap (λ (u : Object). task_in u.maker) is ∙ ap task_in (keeps z) ∙ ap task_of (sym at)
-      | inr (_, at) ↦ ap task_of e ∙ ap task_of (sym at)
-    ]
-
-changed_one : (h : Here) (p o : Id) (f : Object → Object) → ((y : Object) → (f y).maker ≡ y.maker) → task_of (object_at (changes h p f) o) ≡ task_of (object_at h o)
-changed_one h p o f keeps =
-    at_test (λ b. task_of (if b then item_at (changed_at h.worker.objects p.serial f) o.serial else None) ≡ task_of (if b then own_object h o.serial else None)) (is_own h o)
-    (λ _. same_tasks h.worker.objects p.serial o.serial f keeps) (λ _. refl)
-
-held_one : (h : Here) (e p o : Id) → task_of (object_at (holds_id h e p) o) ≡ task_of (object_at h o)
-held_one h e p o =
-    at_test (λ b. task_of (object_at (if b then adds_holder h e p else if knows_dead h.worker p.owner then h else sends_hold h e p) o) ≡ task_of
-    (object_at h o)) (is_own h p)
-    (λ _. at_test (λ d. task_of (object_at (if d then changes (changes h p (with_holder e)) p (with_dead_holder e) else changes h p (with_holder e)) o) ≡ task_of
-    (object_at h o)) (knows_dead h.worker e.owner) (λ _. changed_one (changes h p (with_holder e)) p o (with_dead_holder e) (λ y. refl) ∙ changed_one h p o (with_holder e) (λ y. refl))
-    (λ _. changed_one h p o (with_holder e) (λ y. refl)))
-    (λ _. at_test (λ b. task_of (object_at (if b then h else sends_hold h e p) o) ≡ task_of (object_at h o)) (knows_dead h.worker p.owner) (λ _. refl)
-    (λ _. by_run h.worker.run))
-  where
-    by_run : (r : Option Run) → task_of (object_at (awaits_hold_by h (holding e p) r) o) ≡ task_of (object_at h o)
-    by_run None = refl
-    by_run (Some run) = refl
-
-pub held_task : (h : Here) (e o : Id) (ids : List Id) → task_of (object_at (holds_ids h e ids) o) ≡ task_of (object_at h o)
-held_task h e o [] = refl
-held_task h e o (p ∷ ids) = held_task (holds_id h e p) e o ids ∙ held_one h e p o
-
-pub item_last : {X : Type 0} (xs : List X) (x : X) → item_at (xs ++ x ∷ []) (length xs + 1) ≡ Some x
-item_last xs x =
-    let f : ◌≡◌ {A = ℕ} (length xs + 1) (suc (length xs)) = omega arith in
-    ap (item_at (xs ++ x ∷ [])) f ∙ slice_get-last xs x (length xs) refl
-
-pub new_there : (h : Here) (x : Object) → task_of (object_at (with_object h x) (next_id_here h)) ≡ task_in x.maker
-new_there h x = own_there (with_object h x) (length h.worker.objects + 1) ∙ ap task_of (item_last h.worker.objects x)
-
 -- ---- changes that leave tasks as they are
 
 pub record LeavesTasks (x y : Worker) : Type 0 where
@@ -310,20 +186,3 @@ places_left x m = record { tame = places_tame x m; tasks = λ k. by_item k (item
     by_item : (k : ℕ) (o : Option Object) → item_at x.objects k ≡ o → task_of (item_at (map (without_place m) x.objects) k) ≡ task_of (item_at x.objects k)
     by_item zero o e = refl
     by_item (suc i) o e = get_map x.objects i
-
--- a running attempt
-abbrev pub IsRunning : OwnTask → Type 0
-IsRunning task = (w n : ℕ) × (task.progress ≡ RunsOn w n)
-
-pub on_worker : (v : ℕ) (q : Progress) → runs_on_worker v q ≡ true → (w n : ℕ) × (q ≡ RunsOn w n)
-on_worker v (RunsOn w n) e = (w, n, refl)
-on_worker v AtRest e = absurd (cc)
-on_worker v (AskedAt t n) e = absurd (cc)
-
-pub on_node : (m : ℕ) (q : Progress) → runs_on_node m q ≡ true → (w n : ℕ) × (q ≡ RunsOn w n)
-on_node m (RunsOn w n) e = (w, n, refl)
-on_node m AtRest e = absurd (cc)
-on_node m (AskedAt t n) e = absurd (cc)
-
-pub present_was : (a : Attempt) (task : OwnTask) → if_present a task ≡ true → a ≡ attempt a.object task.number
-present_was a task e = ap (attempt a.object) (sym (eqb-true task.number a.number (and_right (is_pending_task task) (task.number == a.number) e)))

@@ -34,11 +34,11 @@ use Rattle.protocol_owed.proofs.Nodes.{changed_cases, nothing_past, push_cases}
 use Rattle.protocol_owed.proofs.CourseEvents.{append_split, one_of}
 use Rattle.protocol_owed.proofs.CourseAll.{both_passed, passed}
 use Rattle.protocol_owed.proofs.CourseRuns.{OutOf, out_of}
-use Rattle.protocol_owed.proofs.Telling.{AnyTold, AnyOver}
+use Rattle.smallest_steps.proofs.Smallest.{AnyOver, AnyPassed, AnyTold}
 use Rattle.lease_discipline.specs.Discipline.{KeepsLeases, Look}
 use Rattle.lease_discipline.specs.Slots.{HasTurn, KeepsSlots}
 use Rattle.lease_discipline.proofs.Tame.{item_mapped}
-use Rattle.lease_discipline.proofs.Moves.{Anyhow, notice_step-kept, notice_node_step-kept, reached-kept, release_step-kept, tick_step-kept, IsHeardFrom, IsKept}
+use Rattle.lease_discipline.proofs.Moves.{notice_step-kept, notice_node_step-kept, reached-kept, release_step-kept, tick_step-kept, IsHeardFrom, IsKept}
 use Rattle.lease_discipline.proofs.Events.{changed_same}
 use Rattle.lease_discipline.proofs.Laws.{promise}
 use Rattle.lease_discipline.proofs.Turns.{Anyone, NoLossBut, NoTurn, Others, Turns, claim_turns, commit_turns, forgets_lose, push_turns, reached_lose}
@@ -104,7 +104,7 @@ module _ (c : Whole) (me : ℕ) (x : Worker) (node : Node) (at : worker_at c me 
   abbrev P : Here → Type 0
   P = Turns c me n x at
 
-  kept : IsKept AnyTold AnyOver GivenBy Anyhow P
+  kept : IsKept AnyTold AnyOver GivenBy AnyPassed P
   kept = turns_kept c me n x at AnyTold AnyOver GivenBy
 
   turns_begin : P (here c me x node)
@@ -127,7 +127,7 @@ module _ (c : Whole) (me : ℕ) (x : Worker) (node : Node) (at : worker_at c me 
   worker_turns_at f step =
       let g : Here = f (here c me x node) in
       let h : Here = release_step g in
-      let p : P h = release_step-kept AnyTold AnyOver GivenBy Anyhow P kept g (step turns_begin) in
+      let p : P h = release_step-kept AnyTold AnyOver GivenBy AnyPassed P kept g (step turns_begin) in
       turns_end (record c { workers = changed_at c.workers me (λ _. h.worker) }) (worker_at c) n h.there p.turns k (λ w y e. worker_back h p.home w y e)
 
 abbrev Steps : Whole → ℕ → (Here → Here) → Type 0
@@ -185,7 +185,7 @@ module _ (c : Whole) (i w : ℕ) (from : Party) (x : Worker) (at : worker_at c w
   abbrev Q : Here → Type 0
   Q = Turns c w x.node x at
 
-  abbrev q_kept : IsKept AnyTold AnyOver GivenBy Anyhow Q
+  abbrev q_kept : IsKept AnyTold AnyOver GivenBy AnyPassed Q
   q_kept = turns_kept c w x.node x at AnyTold AnyOver GivenBy
 
   push_heard : (a : Attempt) (spec : Birth) → item_at c.network i ≡ Some (letter from (TheWorker w) (Push a spec)) → Q start → Q (push_reached start a spec)
@@ -201,7 +201,7 @@ module _ (c : Whole) (i w : ℕ) (from : Party) (x : Worker) (at : worker_at c w
       negated false e = refl
 
   heard_worker : (u : ℕ) → from ≡ TheWorker u → (m : Message) → item_at c.network i ≡ Some (letter from (TheWorker w) m) → Q start →
-      IsHeardFrom AnyTold AnyOver GivenBy Anyhow Q q_kept start (TheWorker u) m
+      IsHeardFrom AnyTold AnyOver GivenBy AnyPassed Q q_kept start (TheWorker u) m
   heard_worker u e (Push a spec) sent t = push_heard a spec sent t
   heard_worker u e (Finished a n ids content) sent t = tt
   heard_worker u e (Failed a f) sent t = tt
@@ -221,7 +221,7 @@ module _ (c : Whole) (i w : ℕ) (from : Party) (x : Worker) (at : worker_at c w
   heard_worker u e (HoldAck h o) sent t = tt
   heard_worker u e (Unhold h o why) sent t = tt
 
-  heard_node : (n : ℕ) (m : Message) → IsHeardFrom AnyTold AnyOver GivenBy Anyhow Q q_kept start (TheNode n) m
+  heard_node : (n : ℕ) (m : Message) → IsHeardFrom AnyTold AnyOver GivenBy AnyPassed Q q_kept start (TheNode n) m
   heard_node n (Give a j v) = λ _. tt
   heard_node n (Push a spec) = tt
   heard_node n (Finished a m ids content) = tt
@@ -245,8 +245,8 @@ module _ (c : Whole) (i w : ℕ) (from : Party) (x : Worker) (at : worker_at c w
   reached_turns m sent t = by_party from refl
     where
       by_party : (s : Party) → from ≡ s → Q (reached start s m)
-      by_party (TheWorker u) e = reached-kept AnyTold AnyOver GivenBy Anyhow Q q_kept start (TheWorker u) m (heard_worker u e m sent t) t
-      by_party (TheNode n) e = reached-kept AnyTold AnyOver GivenBy Anyhow Q q_kept start (TheNode n) m (heard_node n m) t
+      by_party (TheWorker u) e = reached-kept AnyTold AnyOver GivenBy AnyPassed Q q_kept start (TheWorker u) m (heard_worker u e m sent t) t
+      by_party (TheNode n) e = reached-kept AnyTold AnyOver GivenBy AnyPassed Q q_kept start (TheNode n) m (heard_node n m) t
 
 letter_event : (c : Whole) (i : ℕ) (s to : Party) (m : Message) → item_at c.network i ≡ Some (letter s to m) → KeepsLeases c → KeepsSlots c →
     KeepsSlots (delivered_to c (letter s to m) to).whole
@@ -333,13 +333,13 @@ happens_turns c (Claim w) handed e leases k = claim_event c w e k
 happens_turns c (Commit j) handed e leases k = commit_event c j handed (item_at c.jobs j) e k
 happens_turns c (Deliver i) handed e leases k = deliver_event c i (item_at c.network i) refl leases k
 happens_turns c (Tick w) handed e leases k =
-    worker_turns c w tick_step (λ x at node home t. tick_step-kept AnyTold AnyOver GivenBy Anyhow (Turns c w x.node x at)
+    worker_turns c w tick_step (λ x at node home t. tick_step-kept AnyTold AnyOver GivenBy AnyPassed (Turns c w x.node x at)
     (turns_kept c w x.node x at AnyTold AnyOver GivenBy) (here c w x node) t) k
 happens_turns c (Notice w v) handed e leases k =
-    worker_turns c w (λ h. notice_step h v) (λ x at node home t. notice_step-kept AnyTold AnyOver GivenBy Anyhow (Turns c w x.node x at)
+    worker_turns c w (λ h. notice_step h v) (λ x at node home t. notice_step-kept AnyTold AnyOver GivenBy AnyPassed (Turns c w x.node x at)
     (turns_kept c w x.node x at AnyTold AnyOver GivenBy) (here c w x node) v t) k
 happens_turns c (NoticeNode w n) handed e leases k =
-    worker_turns c w (λ h. notice_node_step h n) (λ x at node home t. notice_node_step-kept AnyTold AnyOver GivenBy Anyhow (Turns c w x.node x at)
+    worker_turns c w (λ h. notice_node_step h n) (λ x at node home t. notice_node_step-kept AnyTold AnyOver GivenBy AnyPassed (Turns c w x.node x at)
     (turns_kept c w x.node x at AnyTold AnyOver GivenBy) (here c w x node) n (λ a i. tt) t) k
 happens_turns c (Evict n o) handed e leases k = store_event c n _ (λ _. refl) k
 happens_turns c (Lose n o) handed e leases k = store_event c n _ (λ _. refl) k

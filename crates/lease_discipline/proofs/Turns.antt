@@ -33,9 +33,10 @@ use Rattle.protocol_owed.proofs.Nodes.{there_more}
 use Rattle.protocol_owed.specs.Told.{pace_in, pace_by}
 use Rattle.protocol_owed.proofs.Sets.{has-last, has-stays}
 use Rattle.protocol_owed.proofs.TellingMore.{stopped_not, rests_not}
+use Rattle.smallest_steps.proofs.Smallest.{AnyPassed}
 use Rattle.lease_discipline.specs.Discipline.{Look}
 use Rattle.lease_discipline.specs.Slots.{HasTurn}
-use Rattle.lease_discipline.proofs.Moves.{Anyhow, IsKept, bears_all-kept, holds_ids-kept, leaves_if_free-kept, needs-kept}
+use Rattle.lease_discipline.proofs.Moves.{IsKept, bears_all-kept, holds_ids-kept, leaves_if_free-kept, needs-kept}
 use Rattle.lease_discipline.proofs.Heres.{at_me, at_other, by_number, look_here, look_with, workers_with}
 
 -- ---- a node
@@ -337,7 +338,7 @@ module _ (c : Whole) (me n : ℕ) (old : Worker) (there : item_at c.workers me �
       record { who = g.who; home = g.home; turns = g.turns }
 
   pub turns_kept : (ToldBy : ℕ → Attempt → Type 0) (OverOf : Attempt → Type 0) (GivenBy : ℕ → ℕ → Attempt → ℕ → Type 0) →
-      IsKept ToldBy OverOf GivenBy Anyhow Turns
+      IsKept ToldBy OverOf GivenBy AnyPassed Turns
   turns_kept ToldBy OverOf GivenBy = record {
     writes = λ h es t. record { who = t.who; home = t.home; turns = t.turns };
     says_plain = λ h w m _ t. record { who = t.who; home = t.home; turns = t.turns };
@@ -384,7 +385,7 @@ module _ (c : Whole) (me n : ℕ) (old : Worker) (there : item_at c.workers me �
   abbrev V : ℕ → ℕ → Attempt → ℕ → Type 0
   V k i a w = Unit {0}
 
-  kept : IsKept T O V Anyhow Turns
+  kept : IsKept T O V AnyPassed Turns
   kept = turns_kept T O V
 
   -- an attempt that begins has the slot with which its worker was leased
@@ -409,7 +410,7 @@ module _ (c : Whole) (me n : ℕ) (old : Worker) (there : item_at c.workers me �
   waits_on : (r : Option Run) (run : Run) (y : Id) (f : Option Fetching) → r ≡ Some run → run.phase ≡ Waits y f → pace_by r ≡ HasStopped → ⊥
   waits_on r run y f e q p = rests_not_stopped (sym (ap pace_by e ∙ ap pace_in q) ∙ p)
 
-  stopped_kept : IsKept T O V Anyhow StoppedHere
+  stopped_kept : IsKept T O V AnyPassed StoppedHere
   stopped_kept = record {
     writes = λ h es p. p;
     says_plain = λ h w m _ p. p;
@@ -449,14 +450,14 @@ module _ (c : Whole) (me n : ℕ) (old : Worker) (there : item_at c.workers me �
       let stopped : StoppedHere (leaves_if_free (holds_ids stored o ids)) = both stored StoppedHere stopped_kept o ids refl in
       frees_turns (leaves_if_free (holds_ids stored o ids)) (stopped_no_turn _ stopped) left
     where
-      both : (stored : Here) (P : Here → Type 0) (k : IsKept T O V Anyhow P) (o : Id) (ids : List Id) → P stored → P (leaves_if_free (holds_ids stored o ids))
-      both stored P k o ids p = leaves_if_free-kept T O V Anyhow P k (holds_ids stored o ids) (holds_ids-kept T O V Anyhow P k stored o ids p)
+      both : (stored : Here) (P : Here → Type 0) (k : IsKept T O V AnyPassed P) (o : Id) (ids : List Id) → P stored → P (leaves_if_free (holds_ids stored o ids))
+      both stored P k o ids p = leaves_if_free-kept T O V AnyPassed P k (holds_ids stored o ids) (holds_ids-kept T O V AnyPassed P k stored o ids p)
 
   stops_turns : (h : Here) (stop : Stopped) (r : Option Run) → h.worker.run ≡ r → Turns h → Turns (stops_by h stop r)
   stops_turns h stop None e t = t
   stops_turns h (AtGet y) (Some run) e t =
       let g : Here = with_phase h run (Waits y None) in
-      needs-kept T O V Anyhow Turns kept h run y (worker_turns h g.worker refl (λ i. i) (inr (inr (rests_no_turn g.worker refl))) t)
+      needs-kept T O V AnyPassed Turns kept h run y (worker_turns h g.worker refl (λ i. i) (inr (inr (rests_no_turn g.worker refl))) t)
   stops_turns h (AtEnd content) (Some run) e t = ends_turns h run content t
 
   -- an attempt that is out has a slot, until it is committed
@@ -474,5 +475,5 @@ module _ (c : Whole) (me n : ℕ) (old : Worker) (there : item_at c.workers me �
           let g : Here = logs_all (with_run h next) es in
           let started : Turns (with_run h next) = worker_turns h (record h.worker { run = Some next }) refl (λ i. i) (inr (inl slot)) t in
           let borne : Here = bears_all g run.attempt o.births in
-          stops_turns borne o.stop borne.worker.run refl (bears_all-kept T O V Anyhow Turns kept g run.attempt o.births
+          stops_turns borne o.stop borne.worker.run refl (bears_all-kept T O V AnyPassed Turns kept g run.attempt o.births
           (record { who = started.who; home = started.home; turns = started.turns }))

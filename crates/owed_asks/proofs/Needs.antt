@@ -41,9 +41,9 @@ use Rattle.protocol_owed.proofs.Replying.{copy_is_got, me_stays, sent_after}
 use Rattle.protocol_owed.specs.Told.{pace_by, pace_in}
 use Rattle.protocol_owed.proofs.CourseRuns.{OutOf, out_of}
 use Rattle.protocol_owed.proofs.TellingMore.{stopped_not}
-use Rattle.protocol_owed.proofs.Telling.{AnyTold, AnyOver}
+use Rattle.smallest_steps.proofs.Smallest.{AnyOver, AnyPassed, AnyTold}
 use Rattle.lease_discipline.proofs.Heres.{changed_now}
-use Rattle.lease_discipline.proofs.Moves.{Anyhow, IsKept, bears_all-kept, holds_ids-kept, leaves_if_free-kept, release_step-kept}
+use Rattle.lease_discipline.proofs.Moves.{IsKept, bears_all-kept, holds_ids-kept, leaves_if_free-kept, release_step-kept}
 use Rattle.lease_discipline.proofs.Tame.{item_mapped}
 use Rattle.lease_discipline.proofs.TurnEvents.{GivenBy}
 use Rattle.owed_asks.specs.Law.{CopiesAreGot, NewForeignWaitsAreAsked}
@@ -77,7 +77,7 @@ module _ (T : ℕ → Attempt → Type 0) (O : Attempt → Type 0) (V : ℕ → 
   waits_no h run y f e q u = going (sym u ∙ ap pace_by e ∙ ap pace_in q)
 
   -- one that doesn't wait is as far as it was
-  pace_kept : IsKept T O V Anyhow PaceIs
+  pace_kept : IsKept T O V AnyPassed PaceIs
   pace_kept = record {
     writes = λ h es u. u;
     says_plain = λ h w m _ u. u;
@@ -112,7 +112,7 @@ stopped_rests e = absurd (cc)
 abbrev HasStoppedHere : Here → Type 0
 HasStoppedHere h = pace_by h.worker.run ≡ HasStopped
 
-stopped_kept : IsKept AnyTold AnyOver GivenBy Anyhow HasStoppedHere
+stopped_kept : IsKept AnyTold AnyOver GivenBy AnyPassed HasStoppedHere
 stopped_kept = pace_kept AnyTold AnyOver GivenBy HasStopped stopped_rests
 
 -- ---- a commit of worker h
@@ -137,7 +137,7 @@ stopped_by_death b run z =
     let h : Here = with_phase b run (Waits z None) in
     let waiting : Run = record run { phase = Waits z None } in
     let g : Here = gives_slot_back (logs (with_phase h waiting (HasFaulted (fault OwnerDied z))) (Faulted run.attempt z (fault OwnerDied z))) in
-    leaves_if_free-kept AnyTold AnyOver GivenBy Anyhow HasStoppedHere stopped_kept g refl
+    leaves_if_free-kept AnyTold AnyOver GivenBy AnyPassed HasStoppedHere stopped_kept g refl
 
 needs_asks : (b : Here) (run : Run) (z : Id) → AsksOwner b.me (release_step (needs b run z))
 needs_asks b run z last y f at waits apart =
@@ -168,7 +168,7 @@ needs_asks b run z last y f at waits apart =
         let rested : HasStoppedHere (needs b run z) =
         at_test (λ t. HasStoppedHere (if t then gives_slot_back (asks_where h z) else asks_where h z)) (is_waiting_for (asks_where h z).worker z)
         (λ _. asked) (λ _. asked) in
-        release_step-kept AnyTold AnyOver GivenBy Anyhow HasStoppedHere stopped_kept (needs b run z) rested
+        release_step-kept AnyTold AnyOver GivenBy AnyPassed HasStoppedHere stopped_kept (needs b run z) rested
 
 ends_asks : (b : Here) (run : Run) (content : Outcome) → AsksOwner b.me (release_step (ends b run content))
 ends_asks b run content =
@@ -177,9 +177,9 @@ ends_asks b run content =
     let ids : List Id = each_once (ids_in_outcome content) in
     let stored : Here = passes_on (with_store g (with_ended (store_here b) o run.attempt.number content)) o ids in
     let held : HasStoppedHere (leaves_if_free (holds_ids stored o ids)) =
-    leaves_if_free-kept AnyTold AnyOver GivenBy Anyhow HasStoppedHere stopped_kept (holds_ids stored o ids)
-    (holds_ids-kept AnyTold AnyOver GivenBy Anyhow HasStoppedHere stopped_kept stored o ids refl) in
-    stopped_asks b.me (release_step (ends b run content)) (release_step-kept AnyTold AnyOver GivenBy Anyhow HasStoppedHere stopped_kept
+    leaves_if_free-kept AnyTold AnyOver GivenBy AnyPassed HasStoppedHere stopped_kept (holds_ids stored o ids)
+    (holds_ids-kept AnyTold AnyOver GivenBy AnyPassed HasStoppedHere stopped_kept stored o ids refl) in
+    stopped_asks b.me (release_step (ends b run content)) (release_step-kept AnyTold AnyOver GivenBy AnyPassed HasStoppedHere stopped_kept
     (ends b run content) held)
 
 stops_ask : (b : Here) (stop : Stopped) (r : Option Run) → pace_by r ≡ GoesOn → AsksOwner b.me (release_step (stops_by b stop r))
@@ -196,7 +196,7 @@ commit_asks h o run e = subst (λ r. AsksOwner h.me (release_step (commit_by h o
         let g : Here = logs_all (with_run h (with_outcomes run o)) es in
         let borne : Here = bears_all g run.attempt o.births in
         let goes : pace_by borne.worker.run ≡ GoesOn =
-        bears_all-kept AnyTold AnyOver GivenBy Anyhow (λ z. pace_by z.worker.run ≡ GoesOn)
+        bears_all-kept AnyTold AnyOver GivenBy AnyPassed (λ z. pace_by z.worker.run ≡ GoesOn)
         (pace_kept AnyTold AnyOver GivenBy GoesOn goes_rests) g run.attempt o.births refl in
         let me : borne.me ≡ h.me = M.bears_all-kept (λ z. z.me ≡ h.me) (me_stays h.me) g run.attempt o.births refl in
         subst (λ m. AsksOwner m (release_step (stops_by borne o.stop borne.worker.run))) me (stops_ask borne o.stop borne.worker.run goes)

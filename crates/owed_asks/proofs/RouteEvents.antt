@@ -35,9 +35,9 @@ use Rattle.protocol.specs.Refusals.{is_within_limits, refusal}
 use Rattle.protocol_owed.proofs.Nodes.{changed_cases}
 use Rattle.protocol_owed.proofs.CourseEvents.{append_split, one_of}
 use Rattle.protocol_owed.proofs.Letters.{among-more, among-nothing}
-use Rattle.protocol_owed.proofs.Telling.{AnyTold, AnyOver}
+use Rattle.smallest_steps.proofs.Smallest.{AnyOver, AnyPassed, AnyTold}
 use Rattle.lease_discipline.proofs.Tame.{item_mapped}
-use Rattle.lease_discipline.proofs.Moves.{Anyhow, IsHeardFrom, IsKept, bears_all-kept, holds_ids-kept, leaves_if_free-kept, needs-kept, notice_node_step-kept}
+use Rattle.lease_discipline.proofs.Moves.{IsHeardFrom, IsKept, bears_all-kept, holds_ids-kept, leaves_if_free-kept, needs-kept, notice_node_step-kept}
 use Rattle.lease_discipline.proofs.Moves.{notice_step-kept, reached-kept, release_step-kept, tick_step-kept}
 use Rattle.lease_discipline.proofs.Opening.{only_driver}
 use Rattle.lease_discipline.proofs.TurnEvents.{GivenBy}
@@ -98,7 +98,7 @@ worker_routes c w f steps k = by_worker (worker_at c w) refl
         let begins : Routes c w x.node start = subst (λ ls. RoutesOf c w x.node w x ls) (sym (append-nil c.network))
         (record { who = refl; home = refl; letters = k.letters; follow = k.follow; mine = k.owners w x at }) in
         let g : Here = release_step (f start) in
-        let a : Routes c w x.node g = release_step-kept AnyTold AnyOver GivenBy Anyhow (Routes c w x.node)
+        let a : Routes c w x.node g = release_step-kept AnyTold AnyOver GivenBy AnyPassed (Routes c w x.node)
         (routes_kept c w x.node AnyTold AnyOver GivenBy) (f start)
         (steps x node begins) in
         routes_end (record c { workers = changed_at c.workers w (λ _. g.worker) }) x.node g.there a.letters a.follow
@@ -121,7 +121,7 @@ module _ (c : Whole) (me n : ℕ) where
   abbrev R : Here → Type 0
   R = Routes c me n
 
-  abbrev R_kept : IsKept AnyTold AnyOver GivenBy Anyhow R
+  abbrev R_kept : IsKept AnyTold AnyOver GivenBy AnyPassed R
   R_kept = routes_kept c me n AnyTold AnyOver GivenBy
 
   same : (h : Here) (y : Worker) → y.node ≡ h.worker.node → y.objects ≡ h.worker.objects → R h → RoutesOf c me n h.me y (c.network ++ h.there.out.letters)
@@ -147,12 +147,12 @@ module _ (c : Whole) (me n : ℕ) where
       let stored : Here = passes_on (with_store g (with_ended (store_here h) o run.attempt.number content)) o ids in
       let held : Here = holds_ids stored o ids in
       slot_back_routes c me n (leaves_if_free held)
-      (leaves_if_free-kept AnyTold AnyOver GivenBy Anyhow R R_kept held
-      (holds_ids-kept AnyTold AnyOver GivenBy Anyhow R R_kept stored o ids (same h (passes_on g o ids).worker refl refl q)))
+      (leaves_if_free-kept AnyTold AnyOver GivenBy AnyPassed R R_kept held
+      (holds_ids-kept AnyTold AnyOver GivenBy AnyPassed R R_kept stored o ids (same h (passes_on g o ids).worker refl refl q)))
 
   stops_routes : (h : Here) (stop : Stopped) (r : Option Run) → R h → R (stops_by h stop r)
   stops_routes h stop None q = q
-  stops_routes h (AtGet y) (Some run) q = needs-kept AnyTold AnyOver GivenBy Anyhow R R_kept h run y (same h (with_phase h run
+  stops_routes h (AtGet y) (Some run) q = needs-kept AnyTold AnyOver GivenBy AnyPassed R R_kept h run y (same h (with_phase h run
       (Waits y None)).worker refl refl q)
   stops_routes h (AtEnd content) (Some run) q = ends_routes h run content q
 
@@ -166,9 +166,9 @@ module _ (c : Whole) (me n : ℕ) where
           let g : Here = logs_all (with_run h (with_outcomes run o)) es in
           let borne : Here = bears_all g run.attempt o.births in
           stops_routes borne o.stop borne.worker.run
-          (bears_all-kept AnyTold AnyOver GivenBy Anyhow R R_kept g run.attempt o.births (same h (with_run h (with_outcomes run o)).worker refl refl q))
+          (bears_all-kept AnyTold AnyOver GivenBy AnyPassed R R_kept g run.attempt o.births (same h (with_run h (with_outcomes run o)).worker refl refl q))
 
-  heard_worker : (h : Here) (u : ℕ) (m : Message) → R h → IsHeardFrom AnyTold AnyOver GivenBy Anyhow R R_kept h (TheWorker u) m
+  heard_worker : (h : Here) (u : ℕ) (m : Message) → R h → IsHeardFrom AnyTold AnyOver GivenBy AnyPassed R R_kept h (TheWorker u) m
   heard_worker h u (Push a spec) q = push_routes h a spec q
   heard_worker h u (Finished a k ids kept) q = tt
   heard_worker h u (Failed a f) q = tt
@@ -188,7 +188,7 @@ module _ (c : Whole) (me n : ℕ) where
   heard_worker h u (HoldAck e o) q = tt
   heard_worker h u (Unhold e o why) q = tt
 
-  heard_node : (h : Here) (k : ℕ) (m : Message) → IsHeardFrom AnyTold AnyOver GivenBy Anyhow R R_kept h (TheNode k) m
+  heard_node : (h : Here) (k : ℕ) (m : Message) → IsHeardFrom AnyTold AnyOver GivenBy AnyPassed R R_kept h (TheNode k) m
   heard_node h k (Give a j v) = λ _. tt
   heard_node h k (Push a spec) = tt
   heard_node h k (Finished a m ids kept) = tt
@@ -209,8 +209,8 @@ module _ (c : Whole) (me n : ℕ) where
   heard_node h k (Unhold e o why) = tt
 
   reached_routes : (h : Here) (from : Party) (m : Message) → R h → R (reached h from m)
-  reached_routes h (TheWorker u) m q = reached-kept AnyTold AnyOver GivenBy Anyhow R R_kept h (TheWorker u) m (heard_worker h u m q) q
-  reached_routes h (TheNode k) m q = reached-kept AnyTold AnyOver GivenBy Anyhow R R_kept h (TheNode k) m (heard_node h k m) q
+  reached_routes h (TheWorker u) m q = reached-kept AnyTold AnyOver GivenBy AnyPassed R R_kept h (TheWorker u) m (heard_worker h u m q) q
+  reached_routes h (TheNode k) m q = reached-kept AnyTold AnyOver GivenBy AnyPassed R R_kept h (TheNode k) m (heard_node h k m) q
 
 -- ---- each event
 
@@ -277,13 +277,13 @@ happens_routes c (Claim w) handed k =
 happens_routes c (Commit j) handed k = commit_event c j handed (item_at c.jobs j) k
 happens_routes c (Deliver i) handed k = deliver_event c i (item_at c.network i) k
 happens_routes c (Tick w) handed k =
-    worker_routes c w tick_step (λ x node q. tick_step-kept AnyTold AnyOver GivenBy Anyhow (Routes c w x.node) (routes_kept c w x.node AnyTold AnyOver GivenBy)
+    worker_routes c w tick_step (λ x node q. tick_step-kept AnyTold AnyOver GivenBy AnyPassed (Routes c w x.node) (routes_kept c w x.node AnyTold AnyOver GivenBy)
     (here c w x node) q) k
 happens_routes c (Notice w v) handed k =
-    worker_routes c w (λ h. notice_step h v) (λ x node q. notice_step-kept AnyTold AnyOver GivenBy Anyhow (Routes c w x.node)
+    worker_routes c w (λ h. notice_step h v) (λ x node q. notice_step-kept AnyTold AnyOver GivenBy AnyPassed (Routes c w x.node)
     (routes_kept c w x.node AnyTold AnyOver GivenBy) (here c w x node) v q) k
 happens_routes c (NoticeNode w n) handed k =
-    worker_routes c w (λ h. notice_node_step h n) (λ x node q. notice_node_step-kept AnyTold AnyOver GivenBy Anyhow (Routes c w x.node)
+    worker_routes c w (λ h. notice_node_step h n) (λ x node q. notice_node_step-kept AnyTold AnyOver GivenBy AnyPassed (Routes c w x.node)
     (routes_kept c w x.node AnyTold AnyOver GivenBy) (here c w x node) n (λ a t. tt) q) k
 happens_routes c (Evict n o) handed k = record { letters = k.letters; follow = k.follow; owners = k.owners }
 happens_routes c (Lose n o) handed k = record { letters = k.letters; follow = k.follow; owners = k.owners }

@@ -20,10 +20,11 @@ use Rattle.protocol.specs.Runs.{gives_slot_back, with_answer}
 use Rattle.protocol.specs.Whole.{Whole}
 use Rattle.protocol_owed.proofs.Nodes.{push_cases}
 use Rattle.protocol_owed.proofs.Letters.{among-append_cases, among-behind, among-more, among-push_cases}
+use Rattle.smallest_steps.proofs.Smallest.{AnyPassed}
 use Rattle.lease_discipline.specs.Asks.{Asked}
-use Rattle.lease_discipline.proofs.Tame.{own_at}
+use Rattle.smallest_steps.proofs.Known.{own_at}
 use Rattle.lease_discipline.proofs.Follows.{More}
-use Rattle.lease_discipline.proofs.Moves.{Anyhow, IsKept, is_plain}
+use Rattle.lease_discipline.proofs.Moves.{IsKept, is_plain}
 use Rattle.lease_discipline.proofs.Theres.{letter_cases, letter_last, letter_more, with_letter}
 use Rattle.lease_discipline.proofs.Heres.{by_number}
 use Rattle.lease_discipline.proofs.Asking.{IsPut, own_task, same_task, put_task}
@@ -444,7 +445,7 @@ module _ (c : Whole) (me n : ℕ) where
   -- ---- all the smallest steps
 
   pub routes_kept : (ToldBy : ℕ → Attempt → Type 0) (OverOf : Attempt → Type 0) (GivenBy : ℕ → ℕ → Attempt → ℕ → Type 0) →
-      IsKept ToldBy OverOf GivenBy Anyhow Routes
+      IsKept ToldBy OverOf GivenBy AnyPassed Routes
   routes_kept ToldBy OverOf GivenBy = record {
     writes = λ h es q. q;
     says_plain = λ h w m plain q. says_routes h h.worker (TheWorker w) m (plain_unasked m plain) q;

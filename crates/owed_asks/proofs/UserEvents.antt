@@ -45,14 +45,14 @@ use Rattle.protocol_owed.proofs.Nodes.{NodesAreRight, changed_cases, push_cases,
 use Rattle.protocol_owed.specs.Told.{pace_by, pace_in}
 use Rattle.protocol_owed.proofs.TellingMore.{stopped_pace}
 use Rattle.protocol_owed.proofs.CourseRuns.{OutOf, out_of}
-use Rattle.protocol_owed.proofs.Telling.{AnyTold, AnyOver}
+use Rattle.smallest_steps.proofs.Smallest.{AnyOver, AnyPassed, AnyTold}
 use Rattle.lease_discipline.specs.Asks.{Asked, IsDeadNode, IsPassed, KeepsAsks, Touched}
 use Rattle.lease_discipline.specs.Discipline.{IsOfNode, KeepsLeases}
 use Rattle.numbered.proofs.Places.{counted}
 use Rattle.lease_discipline.proofs.Tame.{same_left}
 use Rattle.lease_discipline.proofs.Heres.{by_number, changed_elsewhere}
 use Rattle.lease_discipline.proofs.Laws.{promise}
-use Rattle.lease_discipline.proofs.Moves.{Anyhow, IsHeardFrom, IsKept, asks_where-kept, bears_all-kept, holds_ids-kept, leaves_if_free-kept}
+use Rattle.lease_discipline.proofs.Moves.{IsHeardFrom, IsKept, asks_where-kept, bears_all-kept, holds_ids-kept, leaves_if_free-kept}
 use Rattle.lease_discipline.proofs.Moves.{notice_node_step-kept}
 use Rattle.lease_discipline.proofs.Moves.{notice_step-kept, reached-kept, release_step-kept, tick_step-kept}
 use Rattle.lease_discipline.proofs.Events.{among_at, changed_same, item_map}
@@ -146,7 +146,7 @@ module _ (c : Whole) (me n : ℕ) (old : Worker) (at : item_at c.workers me ≡ 
   abbrev U : Option Pace → Here → Type 0
   U p = Uses c me n old at p
 
-  abbrev kept : (p : Option Pace) → IsKept AnyTold AnyOver GivenBy Anyhow (U p)
+  abbrev kept : (p : Option Pace) → IsKept AnyTold AnyOver GivenBy AnyPassed (U p)
   kept p = uses_kept c me n old at AnyTold AnyOver GivenBy p
 
   -- an attempt that goes on doesn't ask for a slot
@@ -166,7 +166,7 @@ module _ (c : Whole) (me n : ℕ) (old : Worker) (at : item_at c.workers me ≡ 
   stopped_no h run e s u =
       goes_stopped (sym u.0 ∙ ap pace_by e ∙ stopped_pace run.phase s)
 
-  unasking_kept : IsKept AnyTold AnyOver GivenBy Anyhow Unasking
+  unasking_kept : IsKept AnyTold AnyOver GivenBy AnyPassed Unasking
   unasking_kept = record {
     writes = λ h es u. u;
     says_plain = λ h w m _ u. u;
@@ -219,7 +219,7 @@ module _ (c : Whole) (me n : ℕ) (old : Worker) (at : item_at c.workers me ≡ 
   needs_uses h run y unasking u =
       let waits : Run = record run { phase = Waits y None } in
       let g : Here = asks_where (with_phase h run (Waits y None)) y in
-      let asked : U (Some Rests) g = asks_where-kept AnyTold AnyOver GivenBy Anyhow (U (Some Rests)) (kept (Some Rests)) (with_phase h run (Waits y None)) y
+      let asked : U (Some Rests) g = asks_where-kept AnyTold AnyOver GivenBy AnyPassed (U (Some Rests)) (kept (Some Rests)) (with_phase h run (Waits y None)) y
       (stops_slot Rests h waits refl unasking u) in
       let only : WaitsOnly y g = asks_where-waits y (with_phase h run (Waits y None)) (λ z e. same_id_of y z e) in
       at_test (λ b. is_waiting_for g.worker y ≡ b → U None (if b then gives_slot_back g else g)) (is_waiting_for g.worker y)
@@ -238,11 +238,11 @@ module _ (c : Whole) (me n : ℕ) (old : Worker) (at : item_at c.workers me ≡ 
       let kept_there : Here = with_store g (with_ended (store_here h) o run.attempt.number content) in
       let stored : Here = passes_on kept_there o ids in
       let v : U (Some HasStopped) g = stops_slot HasStopped h ended refl unasking u in
-      let held : U (Some HasStopped) (holds_ids stored o ids) = holds_ids-kept AnyTold AnyOver GivenBy Anyhow (U (Some HasStopped)) (kept
+      let held : U (Some HasStopped) (holds_ids stored o ids) = holds_ids-kept AnyTold AnyOver GivenBy AnyPassed (U (Some HasStopped)) (kept
       (Some HasStopped)) stored o ids
       ((kept (Some HasStopped)).objects kept_there stored.worker (same_left kept_there.worker stored.worker refl refl refl refl refl) (record { who = v.who; home = v.home; lives = v.lives; number = v.number; counted = v.counted; used = v.used; fresh = v.fresh })) in
       frees_uses c me n old at (Some HasStopped) None (leaves_if_free (holds_ids stored o ids))
-      (leaves_if_free-kept AnyTold AnyOver GivenBy Anyhow (U (Some HasStopped)) (kept (Some HasStopped)) (holds_ids stored o ids) held)
+      (leaves_if_free-kept AnyTold AnyOver GivenBy AnyPassed (U (Some HasStopped)) (kept (Some HasStopped)) (holds_ids stored o ids) held)
 
   stops_uses : (h : Here) (stop : Stopped) (r : Option Run) → Unasking h → U None h → U None (stops_by h stop r)
   stops_uses h stop None unasking u = u
@@ -267,9 +267,9 @@ module _ (c : Whole) (me n : ℕ) (old : Worker) (at : item_at c.workers me ≡ 
           let v : U None (with_run h next) = worker_uses c me n old at None None h (record h.worker { run = Some next }) refl refl refl (λ _. inl
           (inl refl)) (λ _. refl) u in
           let borne : Here = bears_all g run.attempt o.births in
-          let b : U None borne = bears_all-kept AnyTold AnyOver GivenBy Anyhow (U None) (kept None) g run.attempt o.births
+          let b : U None borne = bears_all-kept AnyTold AnyOver GivenBy AnyPassed (U None) (kept None) g run.attempt o.births
           (record { who = v.who; home = v.home; lives = v.lives; number = v.number; counted = v.counted; used = v.used; fresh = v.fresh }) in
-          let q : Unasking borne = bears_all-kept AnyTold AnyOver GivenBy Anyhow Unasking unasking_kept g run.attempt o.births (refl, silent) in
+          let q : Unasking borne = bears_all-kept AnyTold AnyOver GivenBy AnyPassed Unasking unasking_kept g run.attempt o.births (refl, silent) in
           stops_uses borne o.stop borne.worker.run q b
 
   -- an attempt is given out, or begins: it has a slot, and asks for none
@@ -340,7 +340,7 @@ worker_uses_event c jobs made delivered w f live knowing steps k = by_worker (wo
         } in
         let h : Here = release_step (f start) in
         let u : Uses d w x.node x at None h =
-        release_step-kept AnyTold AnyOver GivenBy Anyhow (Uses d w x.node x at None) (uses_kept d w x.node x at AnyTold AnyOver GivenBy None) (f start)
+        release_step-kept AnyTold AnyOver GivenBy AnyPassed (Uses d w x.node x at None) (uses_kept d w x.node x at AnyTold AnyOver GivenBy None) (f start)
         (steps x at node home lives node_lives begins) in
         uses_end c (record d { workers = changed_at c.workers w (λ _. h.worker) }) x.node h.there refl refl
         (λ m v y apart there of_m. changed_elsewhere c.workers w v (λ _. h.worker) y (λ same. apart (sym of_m ∙ same_node v y same there at)) there) k
@@ -403,7 +403,7 @@ module _ (c d : Whole) (i w : ℕ) (from : Party) (x : Worker) (at : worker_at d
   abbrev Q : Here → Type 0
   Q = Uses d w x.node x at None
 
-  abbrev q_kept : IsKept AnyTold AnyOver GivenBy Anyhow Q
+  abbrev q_kept : IsKept AnyTold AnyOver GivenBy AnyPassed Q
   q_kept = uses_kept d w x.node x at AnyTold AnyOver GivenBy None
 
   negated : (b : Bool) → not b ≡ true → b ≡ false
@@ -423,7 +423,7 @@ module _ (c d : Whole) (i w : ℕ) (from : Party) (x : Worker) (at : worker_at d
       (λ _ _. u) refl
 
   heard_worker : (u : ℕ) → from ≡ TheWorker u → (m : Message) → item_at c.network i ≡ Some (letter from (TheWorker w) m) → Q start →
-      IsHeardFrom AnyTold AnyOver GivenBy Anyhow Q q_kept start (TheWorker u) m
+      IsHeardFrom AnyTold AnyOver GivenBy AnyPassed Q q_kept start (TheWorker u) m
   heard_worker u e (Push a spec) sent t = push_heard a spec sent refl t
   heard_worker u e (Finished a n ids content) sent t = tt
   heard_worker u e (Failed a f) sent t = tt
@@ -443,7 +443,7 @@ module _ (c d : Whole) (i w : ℕ) (from : Party) (x : Worker) (at : worker_at d
   heard_worker u e (HoldAck h o) sent t = tt
   heard_worker u e (Unhold h o why) sent t = tt
 
-  heard_node : (n : ℕ) (m : Message) → IsHeardFrom AnyTold AnyOver GivenBy Anyhow Q q_kept start (TheNode n) m
+  heard_node : (n : ℕ) (m : Message) → IsHeardFrom AnyTold AnyOver GivenBy AnyPassed Q q_kept start (TheNode n) m
   heard_node n (Give a j v) = λ _. tt
   heard_node n (Push a spec) = tt
   heard_node n (Finished a m ids content) = tt
@@ -467,8 +467,8 @@ module _ (c d : Whole) (i w : ℕ) (from : Party) (x : Worker) (at : worker_at d
   reached_uses m sent t = by_party from refl
     where
       by_party : (s : Party) → from ≡ s → Q (reached start s m)
-      by_party (TheWorker u) e = reached-kept AnyTold AnyOver GivenBy Anyhow Q q_kept start (TheWorker u) m (heard_worker u e m sent t) t
-      by_party (TheNode n) e = reached-kept AnyTold AnyOver GivenBy Anyhow Q q_kept start (TheNode n) m (heard_node n m) t
+      by_party (TheWorker u) e = reached-kept AnyTold AnyOver GivenBy AnyPassed Q q_kept start (TheWorker u) m (heard_worker u e m sent t) t
+      by_party (TheNode n) e = reached-kept AnyTold AnyOver GivenBy AnyPassed Q q_kept start (TheNode n) m (heard_node n m) t
 
 -- a message reaches a live node
 node_event : (c : Whole) (delivered : List Bool) (n : ℕ) (from : Party) (m : Message) → Among (letter from (TheNode n) m) c.network →
@@ -623,17 +623,17 @@ happens_uses c (Commit j) handed e knowing k = commit_event c j handed (item_at 
 happens_uses c (Deliver i) handed e knowing k = deliver_event c i (item_at c.network i) refl knowing k
 happens_uses c (Tick w) handed e knowing k =
     worker_uses_event c c.jobs c.made c.delivered w tick_step (passed (is_live_worker (worker_at c w)) 30 e) knowing
-    (λ x at node home _ _ u. tick_step-kept AnyTold AnyOver GivenBy Anyhow (Uses c w x.node x at None) (uses_kept c w x.node x at AnyTold AnyOver GivenBy None)
+    (λ x at node home _ _ u. tick_step-kept AnyTold AnyOver GivenBy AnyPassed (Uses c w x.node x at None) (uses_kept c w x.node x at AnyTold AnyOver GivenBy None)
     (here c w x node) u) k
 happens_uses c (Notice w v) handed e knowing k =
     worker_uses_event c c.jobs c.made c.delivered w (λ h. notice_step h v)
     (passed (is_live_worker (worker_at c w)) 30 (both_passed (no_worker c w) (unless (is_dead_worker (worker_at c v)) 35) e).0) knowing
-    (λ x at node home _ _ u. notice_step-kept AnyTold AnyOver GivenBy Anyhow (Uses c w x.node x at None) (uses_kept c w x.node x at AnyTold AnyOver GivenBy None)
+    (λ x at node home _ _ u. notice_step-kept AnyTold AnyOver GivenBy AnyPassed (Uses c w x.node x at None) (uses_kept c w x.node x at AnyTold AnyOver GivenBy None)
     (here c w x node) v u) k
 happens_uses c (NoticeNode w n) handed e knowing k =
     worker_uses_event c c.jobs c.made c.delivered w (λ h. notice_node_step h n)
     (passed (is_live_worker (worker_at c w)) 30 (both_passed (no_worker c w) (unless (is_dead_node (node_at c n)) 35) e).0) knowing
-    (λ x at node home _ _ u. notice_node_step-kept AnyTold AnyOver GivenBy Anyhow (Uses c w x.node x at None)
+    (λ x at node home _ _ u. notice_node_step-kept AnyTold AnyOver GivenBy AnyPassed (Uses c w x.node x at None)
     (uses_kept c w x.node x at AnyTold AnyOver GivenBy None) (here c w x node) n (λ a i. tt) u) k
 happens_uses c (Evict n o) handed e knowing k = store_event c n _ (λ _. refl) (λ _. refl) k
 happens_uses c (Lose n o) handed e knowing k = store_event c n _ (λ _. refl) (λ _. refl) k

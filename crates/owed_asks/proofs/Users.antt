@@ -26,9 +26,10 @@ use Rattle.protocol_owed.proofs.Nodes.{there_more}
 use Rattle.protocol_owed.specs.Told.{pace_by, pace_in}
 use Rattle.protocol_owed.proofs.Sets.{has-left}
 use Rattle.protocol_owed.proofs.TellingMore.{rests_not}
+use Rattle.smallest_steps.proofs.Smallest.{AnyPassed}
 use Rattle.lease_discipline.specs.Discipline.{Look}
 use Rattle.lease_discipline.proofs.Heres.{at_me, at_other, by_number, look_with, workers_with}
-use Rattle.lease_discipline.proofs.Moves.{Anyhow, IsKept}
+use Rattle.lease_discipline.proofs.Moves.{IsKept}
 use Rattle.lease_discipline.proofs.Theres.{letter_more, with_letter}
 use Rattle.lease_discipline.proofs.Turns.{sch}
 use Rattle.owed_asks.proofs.SlotUsers.{Counts, HasUse, IsAnswered, IsFresh, IsHere, IsUser, Nobody, One, Used, frees_used, slot_used}
@@ -309,7 +310,7 @@ module _ (c : Whole) (me n : ℕ) (old : Worker) (there : item_at c.workers me �
   -- ---- all the smallest steps
 
   pub uses_kept : (ToldBy : ℕ → Attempt → Type 0) (OverOf : Attempt → Type 0) (GivenBy : ℕ → ℕ → Attempt → ℕ → Type 0) (p : Option Pace) →
-      IsKept ToldBy OverOf GivenBy Anyhow (Uses p)
+      IsKept ToldBy OverOf GivenBy AnyPassed (Uses p)
   uses_kept ToldBy OverOf GivenBy p = record {
     writes = λ h es u. logs_uses p h es u;
     says_plain = λ h w m _ u. says_uses p h (TheWorker w) m u;

@@ -42,7 +42,7 @@ use Rattle.protocol_legal.specs.Whole.{Between, setting_of}
 use Rattle.protocol_owed.specs.Courses.{has_begun}
 use Rattle.protocol_owed.proofs.Letters.{among-append_cases, among-behind, among-nothing}
 use Rattle.protocol_owed.proofs.Nodes.{there_more}
-use Rattle.protocol_owed.proofs.Untouched.{asks_again-worker, sends_holds-worker, sends_tasks-worker, tells_stop-worker}
+use Rattle.smallest_steps.proofs.Untouched.{asks_again-worker, sends_holds-worker, sends_tasks-worker, tells_stop-worker}
 use Rattle.lease_discipline.specs.Told.{IsInStep}
 use Rattle.lease_discipline.proofs.Events.{among_at}
 use Rattle.lease_discipline.proofs.Heres.{changed_now}

@@ -27,7 +27,7 @@ use Rattle.protocol.specs.Whole.{Moved, Whole, after_worker, here, node_at, work
 use Rattle.protocol_owed.specs.Courses.{has_begun}
 use Rattle.protocol_owed.specs.Seen.{IsCalm}
 use Rattle.protocol_owed.proofs.Letters.{among-nothing}
-use Rattle.protocol_owed.proofs.Untouched.{tells_stop-worker}
+use Rattle.smallest_steps.proofs.Untouched.{tells_stop-worker}
 use Rattle.lease_discipline.specs.Asks.{KeepsAsks}
 use Rattle.lease_discipline.specs.Told.{IsInStep}
 use Rattle.owed_replies.specs.Kept.{KeepsReplies}

@@ -22,7 +22,7 @@ use Rattle.protocol.specs.Tables.{HasEnded, HasFaulted, Holding, Out, Phase, Rea
 use Rattle.protocol_owed.proofs.Letters.{among-append_cases, among-push_cases}
 use Rattle.protocol_owed.proofs.NodeMoves.{IsKeptThere, asks_slot-kept, frees-kept}
 use Rattle.protocol_owed.proofs.Nodes.{there_more}
-use Rattle.protocol_owed.proofs.Untouched.{tells_stop-worker}
+use Rattle.smallest_steps.proofs.Untouched.{tells_stop-worker}
 use Rattle.owed_replies.proofs.Moves.{IsKept, IsSaid}
 use Rattle.owed_replies.proofs.Paying.{kept_among}
 

@@ -24,7 +24,7 @@ use Rattle.protocol_owed.proofs.Letters.{among-push_cases}
 use Rattle.protocol_owed.proofs.NodeMoves.{IsKeptThere, asks_slot-kept, frees-kept}
 use Rattle.owed_replies.proofs.Moves.{IsKeptWhere, IsSaid, asks_again-kept, needs-kept, sends_stop-kept, sends_tasks-kept}
 use Rattle.protocol.specs.Ticks.{asks_again, sends_holds, sends_run, sends_stop, sends_tasks, tick_step}
-use Rattle.protocol_owed.proofs.Untouched.{asks_again-worker, sends_tasks-worker}
+use Rattle.smallest_steps.proofs.Untouched.{asks_again-worker, sends_tasks-worker}
 
 -- Holds, if they are said, and Pushes of own objects, if they are said
 abbrev pub Tells : Type 0 → Type 0 → ℕ → Message → Type 0

@@ -35,7 +35,7 @@ use Rattle.owed_replies.specs.Kept.{IsBornIn, IsOverInTime, RunIsRight}
 use Rattle.owed_replies.proofs.Objects.{Grows, pushed_grows, put_grows, same_grows, succeeds_alike, somewhere}
 use Rattle.owed_replies.proofs.Moves.{IsKept, IsKeptWhere, answers_settled-kept, needs_own-kept, rests_if_waiting-kept}
 use Rattle.owed_replies.proofs.Paying.{Does, Pays, frees_does, leaves_pays, objects_does, pays_kept, run_does, said, says_to_node_does, writes_does}
-use Rattle.lease_discipline.proofs.Tame.{changed_here}
+use Rattle.smallest_steps.proofs.Known.{changed_here}
 
 -- ---- releases leave the attempt as it is
 

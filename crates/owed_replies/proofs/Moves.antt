@@ -48,7 +48,7 @@ use Rattle.sequence.proofs.Places.{and_left, and_right}
 use Rattle.protocol.specs.Notices.{is_unheard}
 use Rattle.owed_replies.proofs.Objects.{Grows, HasFaultAt, Succeeds, answered_grows, asker_grows, fault_grows, fault_there, fetching_foreign, mapped_grows}
 use Rattle.owed_replies.proofs.Objects.{put_grows, same_grows, settled_there, some_places, succeeds_alike}
-use Rattle.protocol_owed.proofs.Untouched.{asks_again-worker, sends_holds-worker, sends_tasks-worker}
+use Rattle.smallest_steps.proofs.Untouched.{asks_again-worker, sends_holds-worker, sends_tasks-worker}
 
 -- an entry that accepts no attempt, and ends none
 abbrev pub is_mute : Entry → Bool

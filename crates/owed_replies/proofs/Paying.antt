@@ -22,7 +22,7 @@ use Rattle.protocol.specs.Steps.{Here, is_own, logs, logs_all, says, says_to_nod
 use Rattle.protocol.specs.Runs.{asks_for_slot, gives_slot_back, is_heard, leaves, leaves_by, leaves_if_free, tells, tells_stop, with_answer}
 use Rattle.protocol_owed.proofs.Letters.{among-more, among-last, among-push_cases, among-append_cases}
 use Rattle.protocol_owed.proofs.NodeMoves.{IsKeptThere, frees-kept, asks_slot-kept}
-use Rattle.protocol_owed.proofs.Untouched.{tells_stop-worker}
+use Rattle.smallest_steps.proofs.Untouched.{tells_stop-worker}
 use Rattle.owed_replies.specs.Kept.{IsBornIn, IsOverInTime, IsReported, IsRightLetter, RunIsRight}
 use Rattle.owed_replies.proofs.Objects.{Grows, then_grows}
 use Rattle.owed_replies.proofs.Moves.{Awaits, IsKept, IsSaid, IsUnheard, Needs, is_mute, is_quiet}

@@ -37,7 +37,7 @@ use Rattle.protocol_owed.specs.Seen.{IsCalm, IsKnownAt, Tells}
 use Rattle.protocol_owed.proofs.Replying.{Sent, where_is_told}
 use Rattle.protocol_owed.proofs.Sets.{has-stays}
 use Rattle.lease_discipline.proofs.Events.{among_at}
-use Rattle.lease_discipline.proofs.Tame.{changed_here}
+use Rattle.smallest_steps.proofs.Known.{changed_here}
 use Rattle.owed_replies.specs.Kept.{IsBornIn, IsRightLetter}
 use Rattle.owed_replies.specs.Law.{happening}
 use Rattle.owed_replies.proofs.Advancing.{all_among, entry_born, owner_has}

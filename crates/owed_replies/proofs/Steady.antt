@@ -17,12 +17,12 @@ use Rattle.protocol.specs.Steps.{Here, changes, is_own, object_at, own_object, s
 use Rattle.protocol.specs.Runs.{is_heard, leaves, leaves_by, leaves_if_free, tells}
 use Rattle.protocol.specs.Places.{answers_asker, answers_unsettled, asker_by, hands_missing_on, is_present, lets_wait, missing_reached, takes_place, tells_released, takes_place_by, where_reached}
 use Rattle.protocol.specs.Recovery.{recovers}
-use Rattle.lease_discipline.proofs.Tame.{changed_here}
+use Rattle.smallest_steps.proofs.Known.{changed_here}
 use Rattle.owed_replies.specs.Kept.{IsAwaitedBy}
 use Rattle.owed_replies.proofs.Objects.{Grows, IsGrown, grows_itself, looked_up, then_grows}
 use Rattle.owed_replies.proofs.Moves.{IsKept, recovers-kept}
 use Rattle.protocol_owed.specs.Told.{attempt_by}
-use Rattle.protocol_owed.proofs.Untouched.{tells_stop-worker}
+use Rattle.smallest_steps.proofs.Untouched.{tells_stop-worker}
 
 pub record Steady (xs : List Object) (a : Option Attempt) (x : Worker) : Type 0 where
   pub grows : Grows xs x.objects

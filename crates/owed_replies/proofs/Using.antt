@@ -40,7 +40,7 @@ use Rattle.protocol_owed.specs.Seen.{IsCalm}
 use Rattle.protocol_owed.proofs.Letters.{among-last, among-nothing}
 use Rattle.protocol_owed.proofs.Replying.{Logged, Sent, gets_it, logged_after, sent_after}
 use Rattle.lease_discipline.specs.Told.{IsInStep}
-use Rattle.lease_discipline.proofs.Tame.{changed_here}
+use Rattle.smallest_steps.proofs.Known.{changed_here}
 use Rattle.owed_replies.specs.Law.{happening}
 use Rattle.owed_replies.proofs.Advancing.{IsBrought}
 use Rattle.owed_replies.proofs.Committing.{accepted_object, own_item}

@@ -105,34 +105,15 @@ answered_grows h o answered = changed_grows h.worker.objects o.serial without_as
 
 -- ---- what a look at an own object tells
 
-abbrev pub HasFaultAt : Here → Id → Type 0
-HasFaultAt h o = (x : Object) → item_at h.worker.objects o.serial ≡ Some x → is_some x.fault ≡ true
-
 pub looked_up : (h : Here) (o : Id) (x : Object) → object_at h o ≡ Some x → item_at h.worker.objects o.serial ≡ Some x
 looked_up h o x e =
     at_test (λ b. (if b then own_object h o.serial else None) ≡ Some x → item_at h.worker.objects o.serial ≡ Some x) (is_own h o)
     (λ _ f. f) (λ _ f. absurd (cc)) e
 
-pub fault_there : (h : Here) (o : Id) (x y : Object) → is_some x.fault ≡ true → object_at h o ≡ Some x → item_at h.worker.objects o.serial ≡ Some y →
-    is_some y.fault ≡ true
-fault_there h o x y some at there = let same : x ≡ y = same_item h.worker.objects o.serial x y (looked_up h o x at) there in
-    subst (λ (z : Object). is_some z.fault ≡ true) same some
+pub answered_there : (h : Here) (o : Id) (x y : Object) → IsAnswered x → object_at h o ≡ Some x → item_at h.worker.objects o.serial ≡ Some y → IsAnswered y
+answered_there h o x y answered at there = subst IsAnswered (same_item h.worker.objects o.serial x y (looked_up h o x at) there) answered
 
-pub settled_there : (h : Here) (o : Id) (x y : Object) → is_some x.settled ≡ true → object_at h o ≡ Some x → item_at h.worker.objects o.serial ≡ Some y →
-    is_some y.settled ≡ true
-settled_there h o x y some at there = let same : x ≡ y = same_item h.worker.objects o.serial x y (looked_up h o x at) there in
-    subst (λ (z : Object). is_some z.settled ≡ true) same some
-
--- what can be had has a place, or its owner keeps it
-pub some_places : (x : Object) → has_content x ≡ true → is_nowhere x ≡ false
-some_places x e = not-true (is_nowhere x) (and_right (is_whole x) (not (is_nowhere x)) e)
-
--- so has what was just accepted
-pub somewhere : (n : ℕ) (kept : Option Outcome) → (is_empty (places_for n kept) && is_none kept) ≡ false
-somewhere n None = refl
-somewhere n (Some c) = refl
-
--- and what has a place where the owner doesn't keep it
+-- what has a place where the owner doesn't keep it
 pub there_is : (ns : List ℕ) (n : ℕ) (kept : Option Outcome) → (kept ≡ None → has ns n ≡ true) → (is_empty ns && is_none kept) ≡ false
 there_is ns n None f = ap (λ b. b && true) (has_some ns (f refl))
   where
@@ -144,18 +125,3 @@ there_is ns n (Some c) f = neither (is_empty ns)
     neither : (b : Bool) → (b && false) ≡ false
     neither true = refl
     neither false = refl
-
--- a Fetch that begins or ends changes nothing of who owns what
-pub fetching_foreign : (h : Here) (o : Id) (f : Option Fetching) → is_own h o ≡ false → is_own (with_fetching h f) o ≡ false
-fetching_foreign h o f e = by_run h.worker.run
-  where
-    by_phase : (run : Run) (p : Phase) → is_own (with_fetching_at h run f p) o ≡ false
-    by_phase run (Waits y g) = e
-    by_phase run Ready = e
-    by_phase run (Out j) = e
-    by_phase run (HasEnded c) = e
-    by_phase run (HasFaulted g) = e
-
-    by_run : (r : Option Run) → is_own (with_fetching_by h f r) o ≡ false
-    by_run None = e
-    by_run (Some run) = by_phase run run.phase

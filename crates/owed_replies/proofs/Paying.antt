@@ -23,9 +23,10 @@ use Rattle.protocol.specs.Runs.{asks_for_slot, gives_slot_back, is_heard, leaves
 use Rattle.protocol_owed.proofs.Letters.{among-more, among-last, among-push_cases, among-append_cases}
 use Rattle.protocol_owed.proofs.NodeMoves.{IsKeptThere, frees-kept, asks_slot-kept}
 use Rattle.smallest_steps.proofs.Untouched.{tells_stop-worker}
+use Rattle.smallest_steps.specs.Steps.{Needs}
 use Rattle.owed_replies.specs.Kept.{IsBornIn, IsOverInTime, IsReported, IsRightLetter, RunIsRight}
 use Rattle.owed_replies.proofs.Objects.{Grows, then_grows}
-use Rattle.owed_replies.proofs.Moves.{Awaits, IsKept, IsSaid, IsUnheard, Needs, is_mute, is_quiet}
+use Rattle.owed_replies.proofs.Moves.{Awaits, IsKept, IsSaid, IsUnheard, is_mute, is_quiet}
 
 quiet_each : (es : List Entry) (x : Entry) → is_quiet es ≡ true → Among x es → is_mute x ≡ true
 quiet_each [] x q (k, e) = absurd (cc)

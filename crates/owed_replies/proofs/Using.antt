@@ -11,7 +11,7 @@ use Rattle.event_log.specs.Breaks.{Among}
 use Rattle.event_log.specs.Entries.{Accepted, Attempt, Event, Got, In}
 use Rattle.event_log.specs.Rules.{Setting}
 use Rattle.event_log.specs.Words.{attempt, releases_of}
-use Rattle.owed_replies.proofs.Objects.{somewhere}
+use Rattle.smallest_steps.proofs.Known.{somewhere}
 use Rattle.protocol.specs.Answers.{Step, Takes, answer}
 use Rattle.protocol.specs.Asking.{rests}
 use Rattle.protocol.specs.Deliveries.{reached}

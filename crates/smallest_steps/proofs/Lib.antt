@@ -2,3 +2,4 @@ pub mod Known
 pub mod Untouched
 pub mod Smallest
 pub mod Moves
+pub mod Plain

@@ -1,0 +1,111 @@
+-- Whatever the smallest steps of a worker keep, each of its steps keeps, where nothing needs to be known of the worker's attempt and objects.
+use Rattle.std.proofs.Common.{refl}
+use Rattle.std.specs.Prelude.{◌≡◌, ℕ, Bool, filter, List, Option, Some, None}
+use Rattle.meaning.specs.Values.{Id, Outcome, Val, Value}
+use Rattle.event_log.specs.Entries.{Accepted, Attempt, Begun, Fault, Faulted, Got, Released, Resolved}
+use Rattle.event_log.specs.Words.{attempt}
+use Rattle.protocol.specs.Messages.{At, Message}
+use Rattle.protocol.specs.Stores.{looked_up, with_primary, with_secondary}
+use Rattle.protocol.specs.Tables.{HasFaulted, Object, OwnTask, Run, Worker, settled_number}
+use Rattle.protocol.specs.Steps.{Here, logs, object_at, says, says_to_node, store_here, with_phase, with_run, with_store, with_task_of, with_worker}
+use Rattle.protocol.specs.Runs.{asks_for_slot, gives_slot_back, hears_by, is_heard}
+use Rattle.protocol.specs.Asking.{breaks, rests}
+use Rattle.protocol.specs.Places.{answers_settled, answers_settled_by, tells_places}
+use Rattle.protocol.specs.Commits.{asks_where, claim_by, claim_step, rests_if_waiting}
+use Rattle.smallest_steps.proofs.Smallest.{AnyGiven, AnyHeard, AnyOver, AnyPassed, AnyTold, Keeps, KeepsAccepted, KeepsBirths, KeepsHeard, KeepsOver, KeepsReplies}
+use Rattle.smallest_steps.proofs.Moves as S
+
+-- it logs, it says, its tables are changed, its node's store is looked at or has one more copy, and the node is asked for a slot or has one back
+pub record KeepsPlainly (P : Here → Type 0) : Type 0 where
+  pub accepted : (h : Here) (a : Attempt) → P h → P (logs h (Accepted a))
+  pub begun : (h : Here) (a : Attempt) (w : ℕ) → P h → P (logs h (Begun a w))
+  pub got : (h : Here) (a : Attempt) (y : Id) (c : Outcome) → P h → P (logs h (Got a y c))
+  pub faulted : (h : Here) (a : Attempt) (y : Id) (f : Fault) → P h → P (logs h (Faulted a y f))
+  pub resolved : (h : Here) (o : Id) (f : Fault) → P h → P (logs h (Resolved o f))
+  pub released : (h : Here) (o : Id) → P h → P (logs h (Released o))
+  pub said : (h : Here) (w : ℕ) (m : Message) → P h → P (says h w m)
+  pub said_to_node : (h : Here) (n : ℕ) (m : Message) → P h → P (says_to_node h n m)
+  pub worker : (h : Here) (x : Worker) → x.node ≡ h.worker.node → x.is_live ≡ h.worker.is_live → P h → P (with_worker h x)
+  pub looked : (h : Here) (o : Id) (number : ℕ) → P h → P (with_store h (looked_up (store_here h) o number))
+  pub copied : (h : Here) (o : Id) (number : ℕ) (c : Outcome) → P h → P (with_store h (with_secondary (store_here h) o number c))
+  pub primary : (h : Here) (o : Id) (v : Value) → P h → P (with_store h (with_primary (store_here h) o 0 (Val v)))
+  pub frees : (h : Here) → P h → P (gives_slot_back h)
+  pub asks : (h : Here) → P h → P (asks_for_slot h)
+
+module _ (P : Here → Type 0) (kept : KeepsPlainly P) where
+  -- ---- the smallest steps are among these
+
+  pub over : KeepsOver P
+  over = record {
+    over = λ h run next _ _ _ _ _ p. kept.worker h _ refl refl p;
+    heard = λ h run _ _ p. kept.worker h _ refl refl p;
+    end_told = λ h run n ids c _ _ p. kept.said h _ _ p;
+    fault_told = λ h run f _ _ p. kept.said h _ _ p;
+    back = λ h run _ _ p. kept.said_to_node h _ _ p;
+  }
+
+  pub keeps : Keeps AnyTold AnyPassed (Unit {0}) (Unit {0}) P
+  keeps = record {
+    alike = λ h o f _ p. kept.worker h _ refl refl p;
+    asker = λ h o w p. kept.worker h _ refl refl p;
+    answered = λ h o x _ _ p. kept.worker h _ refl refl p;
+    resolved = λ h o f p. kept.resolved _ o f (kept.worker h _ refl refl p);
+    freed = λ h o p. kept.released _ o (kept.worker h _ refl refl p);
+    places_lost = λ h m p. kept.worker h _ refl refl p;
+    worker_dead = λ h v p. kept.worker h _ refl refl p;
+    node_dead = λ h m p. kept.worker h _ refl refl p;
+    looked = kept.looked;
+    copied = kept.copied;
+    asked_anew = λ h o old task _ _ p. kept.said_to_node _ _ _ (kept.worker h _ refl refl p);
+    asked_on = λ h o task t m n _ _ _ p. kept.said_to_node _ _ _ (kept.worker h _ refl refl p);
+    asked_again = λ h k task t n _ _ p. kept.said_to_node h _ _ p;
+    pushed_again = λ h k task w n _ _ _ p. kept.said h _ _ p;
+    rested = λ h o task _ _ p. kept.worker h _ refl refl p;
+    fetching = λ h run y f g _ _ p. kept.worker h _ refl refl p;
+    got = λ h run c y f _ _ p. kept.asks _ (kept.got _ run.attempt y c (kept.worker h _ refl refl p));
+    faulted = λ h run f y g _ _ p. S.leaves_if_free-kept P over (gives_slot_back (logs (with_phase h run (HasFaulted f)) (Faulted run.attempt y f)))
+        (kept.frees _ (kept.faulted _ run.attempt y f (kept.worker h _ refl refl p)));
+    acknowledged = λ h run test _ p. S.leaves_if_free-kept P over (with_run h (record run { holds = filter test run.holds })) (kept.worker h _ refl refl p);
+    waited = λ h run y f _ _ p. kept.frees h p;
+    heard = over.heard;
+    back = λ h run e o p. S.is_heard-kept P over h run e o p;
+    told_again = λ h run e o _ p. S.tells_stop-kept P over h run run.phase e o p;
+    where_asked = λ h y _ _ p. kept.said h _ _ p;
+    missing_told = λ h y number n _ p. kept.said h _ _ p;
+    place_told = λ h w y number ns c _ p. kept.said h _ _ p;
+    gone_told = λ h w y f p. kept.said h _ _ p;
+    held_told = λ h w e o p. kept.said h _ _ p;
+    unheld_told = λ h w e o why p. kept.said h _ _ p;
+    hold_again = λ h run k _ _ _ p. kept.said h _ _ p;
+    copy_asked = λ h n y number p. kept.said_to_node h _ _ p;
+    copy_dropped = λ h n e p. kept.said_to_node h _ _ p;
+  }
+
+  pub births : KeepsBirths P
+  births = record {
+    put = λ h x _ p. kept.worker h _ refl refl p;
+    primary = kept.primary;
+    task = λ h x spec _ p. kept.worker h _ refl refl p;
+    awaited = λ h run k _ p. kept.worker h _ refl refl p;
+    hold_sent = λ h e o p. kept.said h _ _ p;
+  }
+
+  pub replies : KeepsReplies AnyTold AnyOver AnyGiven P
+  replies = record {
+    acked = λ h w a _ p. kept.said h _ _ p;
+    back_of = λ h n a _ _ p. kept.said_to_node h _ _ p;
+    begun = λ h o task w n t m _ _ _ _ p. kept.said _ _ _ (kept.begun _ (attempt o task.number) w (kept.worker h _ refl refl p));
+  }
+
+  pub accepted : KeepsAccepted AnyTold P
+  accepted h a task n ids c w e s p = kept.accepted _ a (kept.worker (with_task_of h a.object (rests task)) _ refl refl (kept.worker h _ refl refl p))
+
+  pub heard : KeepsHeard AnyHeard P
+  heard = record {
+    push = λ h w a spec _ p. S.either P _ _ _ (kept.worker h _ refl refl p) p;
+    finished = λ h w a n ids c s p. S.finished_reached-kept P keeps replies accepted h w a n ids c s p;
+    finished_ack = λ h w a s p. S.finished_ack_reached-kept P keeps replies h a s p;
+    failed = λ h w a f s p. S.failed_reached-kept P keeps replies h w a f s p;
+    given = λ h n a t w s p. S.given_reached-kept P keeps replies h n a t w (λ _. s) p;
+    elsewhere = λ h n a t m s p. S.elsewhere_reached-kept P keeps h a t m (λ _ _ _ _ _ _. s) p;
+  }

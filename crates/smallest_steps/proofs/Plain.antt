@@ -1,6 +1,6 @@
 -- Whatever the smallest steps of a worker keep, each of its steps keeps, where nothing needs to be known of the worker's attempt and objects.
 use Rattle.std.proofs.Common.{refl}
-use Rattle.std.specs.Prelude.{◌≡◌, ℕ, Bool, filter, List, Option, Some, None}
+use Rattle.std.specs.Prelude.{◌≡◌, ℕ, Bool, filter, List, [], ◌∷◌, Option, Some, None}
 use Rattle.meaning.specs.Values.{Id, Outcome, Val, Value}
 use Rattle.event_log.specs.Entries.{Accepted, Attempt, Begun, Fault, Faulted, Got, Released, Resolved}
 use Rattle.event_log.specs.Words.{attempt}
@@ -8,10 +8,12 @@ use Rattle.protocol.specs.Messages.{At, Message}
 use Rattle.protocol.specs.Stores.{looked_up, with_primary, with_secondary}
 use Rattle.protocol.specs.Tables.{HasFaulted, Object, OwnTask, Run, Worker, settled_number}
 use Rattle.protocol.specs.Steps.{Here, logs, object_at, says, says_to_node, store_here, with_phase, with_run, with_store, with_task_of, with_worker}
-use Rattle.protocol.specs.Runs.{asks_for_slot, gives_slot_back, hears_by, is_heard}
+use Rattle.protocol.specs.Runs.{asks_for_slot, gives_slot_back, leaves_if_free}
 use Rattle.protocol.specs.Asking.{breaks, rests}
 use Rattle.protocol.specs.Places.{answers_settled, answers_settled_by, tells_places}
-use Rattle.protocol.specs.Commits.{asks_where, claim_by, claim_step, rests_if_waiting}
+use Rattle.protocol.specs.Commits.{asks_where, claim_by, claim_step, ends, stops_by}
+use Rattle.protocol.specs.Holders.{holds_ids}
+use Rattle.protocol.specs.Jobs.{AtEnd, AtGet, Stopped}
 use Rattle.smallest_steps.proofs.Smallest.{AnyGiven, AnyHeard, AnyOver, AnyPassed, AnyTold, Keeps, KeepsAccepted, KeepsBirths, KeepsHeard, KeepsOver, KeepsReplies}
 use Rattle.smallest_steps.proofs.Moves as S
 
@@ -109,3 +111,39 @@ module _ (P : Here → Type 0) (kept : KeepsPlainly P) where
     given = λ h n a t w s p. S.given_reached-kept P keeps replies h n a t w (λ _. s) p;
     elsewhere = λ h n a t m s p. S.elsewhere_reached-kept P keeps h a t m (λ _ _ _ _ _ _. s) p;
   }
+
+  -- ---- each step
+
+  pub breaks-kept : (h : Here) (o : Id) (task : OwnTask) → P h → P (breaks h o task)
+  breaks-kept h o task p = S.either P _ _ _ (kept.said_to_node _ _ _ (kept.worker h _ refl refl p))
+      (S.answers_faulted-kept P keeps _ o (kept.resolved _ o _ (kept.worker (with_task_of h o (rests task)) _ refl refl (kept.worker h _ refl refl p))))
+
+  pub tells_places-kept : (h : Here) (ws : List ℕ) (o : Id) (x : Object) → P h → P (tells_places h ws o x)
+  tells_places-kept h [] o x p = p
+  tells_places-kept h (w ∷ ws) o x p = tells_places-kept (says h w (At o (settled_number x) x.places x.kept)) ws o x (kept.said h _ _ p)
+
+  answers_settled_by-kept : (h : Here) (o : Id) (x : Option Object) → P h → P (answers_settled_by h o x)
+  answers_settled_by-kept h o None p = p
+  answers_settled_by-kept h o (Some x) p = S.needs_own_if_waiting-kept P keeps _ o (tells_places-kept _ x.askers o x (kept.worker h _ refl refl p))
+
+  pub answers_settled-kept : (h : Here) (o : Id) → P h → P (answers_settled h o)
+  answers_settled-kept h o p = answers_settled_by-kept h o (object_at h o) p
+
+  pub asks_where-kept : (h : Here) (y : Id) → P h → P (asks_where h y)
+  asks_where-kept h y p = S.either P _ _ _ (S.needs_own-kept P keeps h y p) (S.either P _ _ _ (S.faults-kept P keeps h _ p) (kept.said h _ _ p))
+
+  claim_by-kept : (h : Here) (j : ℕ) (r : Option Run) → P h → P (claim_by h j r)
+  claim_by-kept h j None p = p
+  claim_by-kept h j (Some run) p = kept.worker h _ refl refl p
+
+  pub claim_step-kept : (h : Here) (j : ℕ) → P h → P (claim_step h j)
+  claim_step-kept h j p = claim_by-kept h j h.worker.run p
+
+  -- with the attempt in its new phase, what it ended with in the store, and the ids in that passed on
+  pub ends_after : (h : Here) (o : Id) (ids : List Id) → P h → P (gives_slot_back (leaves_if_free (holds_ids h o ids)))
+  ends_after h o ids p = kept.frees _ (S.leaves_if_free-kept P over _ (S.holds_ids-kept P keeps births h o ids p))
+
+  pub stops_by-kept : ((h : Here) (run : Run) (c : Outcome) → P h → P (ends h run c)) → (h : Here) (stop : Stopped) (r : Option Run) → P h → P (stops_by h stop r)
+  stops_by-kept ended h stop None p = p
+  stops_by-kept ended h (AtGet y) (Some run) p = S.needs-kept P keeps h run y (kept.worker h _ refl refl p)
+  stops_by-kept ended h (AtEnd c) (Some run) p = ended h run c p

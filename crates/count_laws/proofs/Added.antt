@@ -14,7 +14,7 @@ use Rattle.protocol.specs.Jobs.{Outcomes, stop_of}
 use Rattle.protocol.specs.Nodes.{There, no_out}
 use Rattle.protocol.specs.Steps.{Here, logs_all, with_run}
 use Rattle.protocol.specs.Tables.{Run}
-use Rattle.owed_laws.proofs.SlotMoves as S
+use Rattle.smallest_steps.proofs.SlotMoves as S
 use Rattle.owed_laws.proofs.StoreMoves as M
 use Rattle.owed_laws.proofs.StoreMoves.{IsKept, is_mute, is_quiet}
 
@@ -51,7 +51,7 @@ quiet_neither [] q = record { born = refl; opens = refl }
 quiet_neither (x ∷ es) q = mute_neither x es (and_left (is_mute x) (is_quiet es) q) (quiet_neither es (and_right (is_mute x) (is_quiet es) q))
 
 module _ (k : ℕ) where
-  pub there_adds : S.IsKeptThere (Adds k)
+  pub there_adds : S.KeepsSlots (Adds k)
   there_adds = record {
     opens = λ t w p.
         let e = many born_in t.out.entries (Opened w t.number ∷ []) in

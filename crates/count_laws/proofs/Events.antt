@@ -36,7 +36,7 @@ use Rattle.protocol.specs.Whole.{worker_does_by}
 use Rattle.protocol_laws.specs.Sound.{IsSound}
 use Rattle.protocol_owed.proofs.CourseAll.{LiveOne, both_passed, live_one, passed}
 use Rattle.protocol_owed.proofs.CourseRuns.{OutOf, out_of}
-use Rattle.owed_laws.proofs.SlotMoves as S
+use Rattle.smallest_steps.proofs.SlotMoves as S
 use Rattle.owed_laws.proofs.StoreMoves as M
 use Rattle.owed_laws.proofs.StoreMoves.{IsKept}
 use Rattle.count_laws.specs.Counts.{borne}

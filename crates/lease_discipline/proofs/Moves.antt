@@ -20,7 +20,7 @@ use Rattle.protocol.specs.Ticks.{tick_step}
 use Rattle.protocol.specs.Releases.{release_step}
 use Rattle.protocol.specs.Deliveries.{reached}
 use Rattle.smallest_steps.specs.Steps.{IsNextOf, IsRunning}
-use Rattle.smallest_steps.proofs.Smallest.{Keeps, KeepsAccepted, KeepsBirths, KeepsHeard, KeepsOver, KeepsReplies}
+use Rattle.smallest_steps.proofs.Smallest.{KeepsHere, KeepsAccepted, KeepsBirths, KeepsHeard, KeepsOver, KeepsAnswers}
 use Rattle.smallest_steps.proofs.Moves as S
 use Rattle.protocol_owed.specs.Told.{pace_in}
 use Rattle.protocol_owed.proofs.RunMoves.{Alike}
@@ -94,7 +94,7 @@ module _ (IsToldBy : ℕ → Attempt → Type 0) (IsOverOf : Attempt → Type 0)
     back = kept.back;
   }
 
-  keeps : Keeps IsToldBy IsPassedBy (Unit {0}) (Unit {0}) P
+  keeps : KeepsHere IsToldBy IsPassedBy (Unit {0}) (Unit {0}) P
   keeps = record {
     alike = λ h o f same p. kept.objects h _ (untouched_left h.worker o.serial f (λ y. (same y).0)) p;
     asker = λ h o w p. kept.objects h _ (untouched_left h.worker o.serial (with_asker w) (λ y. refl)) p;
@@ -141,7 +141,7 @@ module _ (IsToldBy : ℕ → Attempt → Type 0) (IsOverOf : Attempt → Type 0)
     hold_sent = λ h e o p. kept.says_plain h _ _ refl p;
   }
 
-  replies : KeepsReplies IsToldBy IsOverOf IsGivenBy P
+  replies : KeepsAnswers IsToldBy IsOverOf IsGivenBy P
   replies = record { acked = kept.hears; back_of = kept.back_of; begun = kept.begins }
 
   accepted : KeepsAccepted IsToldBy P

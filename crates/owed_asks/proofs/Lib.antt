@@ -1,4 +1,3 @@
-pub mod NodeAnswers
 pub mod Routing
 pub mod RouteEvents
 pub mod Splits

@@ -42,7 +42,7 @@ use Rattle.lease_discipline.proofs.Moves.{notice_step-kept, reached-kept, releas
 use Rattle.lease_discipline.proofs.Opening.{only_driver}
 use Rattle.lease_discipline.proofs.TurnEvents.{GivenBy}
 use Rattle.owed_asks.specs.Routes.{AsksFollow, IsRouted, KeepsRoutes, OwnerAsks}
-use Rattle.owed_asks.proofs.NodeAnswers.{IsKeptBy, forgets-kept, node_reached-kept}
+use Rattle.smallest_steps.proofs.NodeMoves.{KeepsThere, forgets-kept, node_reached-kept}
 use Rattle.owed_asks.proofs.Routing.{AsksNothing, NodeSays, Routes, RoutesOf, asked_more, node_quiet, nothing_yet, owner_more, owner_same, routes_kept}
 use Rattle.owed_asks.proofs.Routing.{same_routes, says_kept, slot_back_routes}
 
@@ -69,7 +69,7 @@ module _ (d : Whole) (n : ℕ) (t : There) (letters : (l : Letter) → Among l (
     ];
   }
 
-node_routes : (d : Whole) (n : ℕ) (f : There → There) → ((Q : There → Type 0) → IsKeptBy Q → (t : There) → Q t → Q (f t)) → KeepsRoutes d →
+node_routes : (d : Whole) (n : ℕ) (f : There → There) → ((Q : There → Type 0) → KeepsThere Q → (t : There) → Q t → Q (f t)) → KeepsRoutes d →
     KeepsRoutes (node_does d n f).whole
 node_routes d n f moves k = by_node (node_at d n)
   where

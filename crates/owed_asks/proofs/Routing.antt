@@ -29,7 +29,7 @@ use Rattle.lease_discipline.proofs.Theres.{letter_cases, letter_last, letter_mor
 use Rattle.lease_discipline.proofs.Heres.{by_number}
 use Rattle.lease_discipline.proofs.Asking.{IsPut, own_task, same_task, put_task}
 use Rattle.owed_asks.specs.Routes.{AsksFollow, IsRouted, IsRoutedBetween, OwnerAsks, is_new, rests_now}
-use Rattle.owed_asks.proofs.NodeAnswers.{IsKeptBy, asks_slot-kept, frees-kept}
+use Rattle.smallest_steps.proofs.NodeMoves.{KeepsThere, asks_slot-kept, frees-kept}
 
 -- ---- letters
 
@@ -213,7 +213,7 @@ module _ (c : Whole) (me n : ℕ) where
     | inr f ↦ inr ((t.number, ap (λ (x : Letter). x.sender) f), subst IsRouted (sym f) is)
   ]
 
-  pub says_kept : (base : List Letter) → IsKeptBy (NodeSays base)
+  pub says_kept : (base : List Letter) → KeepsThere (NodeSays base)
   says_kept base = record {
     opens = λ t w q. record { before = q.before; since = q.since };
     answers = λ t k x q. record {

@@ -21,7 +21,7 @@ use Rattle.protocol.specs.Tables.{ByTask, HasEnded, OwnTask, Run, new_object, ne
 use Rattle.protocol_legal.proofs.Bearing.{still_holds}
 use Rattle.protocol_owed.proofs.Owing.{IsSame, holds_ids-same}
 use Rattle.owed_laws.proofs.MadeCopies.{IsNewEnd, IsNewIn, IsNewPut, Stays, stays_kept}
-use Rattle.owed_laws.proofs.SlotMoves as S
+use Rattle.smallest_steps.proofs.SlotMoves as S
 use Rattle.owed_laws.proofs.StoreMoves as M
 use Rattle.owed_laws.proofs.StoreMoves.{IsKept, Stores, stores_now}
 
@@ -31,7 +31,7 @@ module _ (o : Id) (n : ℕ) where
   abbrev pub IsStored : Here → Type 0
   IsStored h = Stores (store_here h) o n
 
-  there_stored : S.IsKeptThere (λ t. Stores t.node.store o n)
+  there_stored : S.KeepsSlots (λ t. Stores t.node.store o n)
   there_stored = record { opens = λ t w p. p; replies = λ t k x p. p; scheduler = λ t s p. p }
 
   pub stored_stays : IsKept IsStored

@@ -5,7 +5,6 @@ pub mod OwnNeeds
 pub mod OwnWaits
 pub mod NewWaits
 pub mod StoreMoves
-pub mod SlotMoves
 pub mod Senders
 pub mod MadeCopies
 pub mod CommitCopies

@@ -11,7 +11,7 @@ use Rattle.protocol.specs.Nodes.{There}
 use Rattle.protocol.specs.Steps.{Here}
 use Rattle.protocol.specs.Stores.{Store}
 use Rattle.protocol_owed.proofs.Letters.{among-append_cases}
-use Rattle.owed_laws.proofs.SlotMoves as S
+use Rattle.smallest_steps.proofs.SlotMoves as S
 use Rattle.owed_laws.proofs.StoreMoves.{IsKept, Stores, is_mute, is_quiet}
 
 -- the entries bear the put
@@ -74,7 +74,7 @@ module _ (before : Store) (made : List Entry) where
   abbrev pub Stays : Here → Type 0
   Stays h = StaysThere h.there
 
-  pub there_stays : S.IsKeptThere StaysThere
+  pub there_stays : S.KeepsSlots StaysThere
   there_stays = record {
     opens = λ t w p. record {
       copies = p.copies;

@@ -29,7 +29,7 @@ use Rattle.protocol_owed.proofs.Moves.{IsKept, claim_step-kept, commit_step-kept
 use Rattle.protocol_owed.proofs.Nodes.{there_more, there_still}
 use Rattle.protocol_owed.specs.Runs.{Handing, Running, after_event, after_events, opening_run}
 use Rattle.lease_discipline.proofs.Events.{among_at}
-use Rattle.owed_laws.proofs.SlotMoves as S
+use Rattle.smallest_steps.proofs.SlotMoves as S
 
 -- a worker that says something is there, and one to which a node says that it lacks a copy
 pub record IsSaidBy (Who : ℕ → Type 0) (l : Letter) : Type 0 where
@@ -72,7 +72,7 @@ module _ (Who : ℕ → Type 0) where
   abbrev SaidThere : There → Type 0
   SaidThere t = AllSaid Who t.out.letters
 
-  there_kept : S.IsKeptThere SaidThere
+  there_kept : S.KeepsSlots SaidThere
   there_kept = record {
     opens = λ t w p. p;
     replies = λ t k x p. one_more t.out.letters _ (by_node t.number k.attempt.object.owner (reply_message k x) (λ y number m e. absurd (replied k x y number m e))) p;

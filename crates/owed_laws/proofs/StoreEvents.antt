@@ -42,7 +42,7 @@ use Rattle.owed_laws.proofs.CommitCopies as C
 use Rattle.owed_laws.proofs.CommitCopies.{IsStored, stored_stays}
 use Rattle.owed_laws.proofs.Made.{runs_more}
 use Rattle.owed_laws.proofs.MadeCopies.{IsNewEnd, IsNewIn, IsNewPut, Stays, StaysThere, stays_kept, there_stays}
-use Rattle.owed_laws.proofs.SlotMoves as S
+use Rattle.smallest_steps.proofs.SlotMoves as S
 use Rattle.owed_laws.proofs.StoreMoves as M
 use Rattle.owed_laws.proofs.StoreMoves.{IsKept, Stores, copy_same, looked_keeps}
 

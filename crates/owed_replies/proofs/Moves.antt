@@ -23,7 +23,7 @@ use Rattle.protocol.specs.Ticks.{asks_again, sends_stop, sends_tasks, tick_step}
 use Rattle.protocol.specs.Releases.{release_step}
 use Rattle.protocol.specs.Deliveries.{reached, reached_from_worker}
 use Rattle.smallest_steps.specs.Steps.{Needs}
-use Rattle.smallest_steps.proofs.Smallest.{AnyOver, AnyPassed, AnyTold, Keeps, KeepsHeard, KeepsReplies}
+use Rattle.smallest_steps.proofs.Smallest.{AnyOver, AnyPassed, AnyTold, KeepsHere, KeepsHeard, KeepsAnswers}
 use Rattle.smallest_steps.proofs.Moves as S
 use Rattle.owed_replies.proofs.Objects.{Grows, answered_grows, answered_there, asker_grows, fault_grows, mapped_grows, put_grows, same_grows, succeeds_alike}
 
@@ -102,7 +102,7 @@ module _ {AnyHold AnyPush : Type 0} (P : Here → Type 0) (kept : IsKeptWhere An
   tells_stop-kept h run (Out j) u p = p
   tells_stop-kept h run (Waits y f) u p = p
 
-  keeps : Keeps AnyTold AnyPassed AnyHold AnyPush P
+  keeps : KeepsHere AnyTold AnyPassed AnyHold AnyPush P
   keeps = record {
     alike = λ h o f same p. kept.objects h _ (same_grows h.worker.objects o.serial f (λ y. succeeds_alike y (f y) (same y).1 (same y).2 (same y).3)) p;
     asker = λ h o w p. kept.objects h _ (asker_grows h.worker.objects o.serial w) p;
@@ -139,7 +139,7 @@ module _ {AnyHold AnyPush : Type 0} (P : Here → Type 0) (kept : IsKeptWhere An
     copy_dropped = λ h n e p. kept.says_to_node h _ _ p;
   }
 
-  replies : KeepsReplies AnyTold AnyOver (GivenWhere AnyPush) P
+  replies : KeepsAnswers AnyTold AnyOver (GivenWhere AnyPush) P
   replies = record {
     acked = λ h w a _ p. kept.says h _ _ tt p;
     back_of = λ h n a _ _ p. kept.says_to_node h _ _ p;

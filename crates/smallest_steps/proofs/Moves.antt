@@ -45,7 +45,7 @@ use Rattle.smallest_steps.specs.Steps.{IsRunning, Needs}
 use Rattle.smallest_steps.proofs.Known.{asked_where, fetching_foreign, held_task, hears_by-node, new_there, object_now, object_of, on_node, on_worker, own_at}
 use Rattle.smallest_steps.proofs.Known.{own_there, present_is, present_was, some_places, somewhere, task_now, waiting}
 use Rattle.smallest_steps.proofs.Untouched.{asks_again-worker, sends_holds-worker, sends_tasks-worker, tells_stop-worker}
-use Rattle.smallest_steps.proofs.Smallest.{Keeps, KeepsAccepted, KeepsBirths, KeepsHeard, KeepsOver, KeepsReplies}
+use Rattle.smallest_steps.proofs.Smallest.{KeepsHere, KeepsAccepted, KeepsBirths, KeepsHeard, KeepsOver, KeepsAnswers}
 
 module _ (P : Here → Type 0) where
   pub either : (b : Bool) (x y : Here) → P x → P y → P (if b then x else y)
@@ -99,7 +99,7 @@ module _ (P : Here → Type 0) (kept : KeepsOver P) where
 -- ---- answers, places, deaths, ticks, releases
 
 module _ {IsToldBy : ℕ → Attempt → Type 0} {IsPassedBy : Attempt → ℕ → ℕ → Type 0} {MayHold MayPush : Type 0} (P : Here → Type 0)
-    (kept : Keeps IsToldBy IsPassedBy MayHold MayPush P) where
+    (kept : KeepsHere IsToldBy IsPassedBy MayHold MayPush P) where
   pub faults_at-kept : (h : Here) (run : Run) (f : Fault) (phase : Phase) → h.worker.run ≡ Some run → run.phase ≡ phase → P h → P (faults_at h run f phase)
   faults_at-kept h run f (Waits y g) e q p = kept.faulted h run f y g e q p
   faults_at-kept h run f Ready e q p = p
@@ -595,7 +595,7 @@ module _ {IsToldBy : ℕ → Attempt → Type 0} {IsPassedBy : Attempt → ℕ �
 
   -- ---- replies to ends, and to asks
 
-  module _ {IsOverOf : Attempt → Type 0} {IsGivenBy : ℕ → ℕ → Attempt → ℕ → Type 0} (replies : KeepsReplies IsToldBy IsOverOf IsGivenBy P) where
+  module _ {IsOverOf : Attempt → Type 0} {IsGivenBy : ℕ → ℕ → Attempt → ℕ → Type 0} (replies : KeepsAnswers IsToldBy IsOverOf IsGivenBy P) where
     pub finished_ack_reached-kept : (h : Here) (a : Attempt) → IsOverOf a → P h → P (finished_ack_reached h a)
     finished_ack_reached-kept h a o p = replies.back_of (hears_by h a h.worker.run) h.worker.node a (hears_by-node h a h.worker.run) o
         (hears_by-kept h a h.worker.run refl p)

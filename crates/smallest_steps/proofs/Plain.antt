@@ -14,7 +14,7 @@ use Rattle.protocol.specs.Places.{answers_settled, answers_settled_by, tells_pla
 use Rattle.protocol.specs.Commits.{asks_where, claim_by, claim_step, ends, stops_by}
 use Rattle.protocol.specs.Holders.{holds_ids}
 use Rattle.protocol.specs.Jobs.{AtEnd, AtGet, Stopped}
-use Rattle.smallest_steps.proofs.Smallest.{AnyGiven, AnyHeard, AnyOver, AnyPassed, AnyTold, Keeps, KeepsAccepted, KeepsBirths, KeepsHeard, KeepsOver, KeepsReplies}
+use Rattle.smallest_steps.proofs.Smallest.{AnyGiven, AnyHeard, AnyOver, AnyPassed, AnyTold, KeepsHere, KeepsAccepted, KeepsBirths, KeepsHeard, KeepsOver, KeepsAnswers}
 use Rattle.smallest_steps.proofs.Moves as S
 
 -- it logs, it says, its tables are changed, its node's store is looked at or has one more copy, and the node is asked for a slot or has one back
@@ -46,7 +46,7 @@ module _ (P : Here → Type 0) (kept : KeepsPlainly P) where
     back = λ h run _ _ p. kept.said_to_node h _ _ p;
   }
 
-  pub keeps : Keeps AnyTold AnyPassed (Unit {0}) (Unit {0}) P
+  pub keeps : KeepsHere AnyTold AnyPassed (Unit {0}) (Unit {0}) P
   keeps = record {
     alike = λ h o f _ p. kept.worker h _ refl refl p;
     asker = λ h o w p. kept.worker h _ refl refl p;
@@ -92,7 +92,7 @@ module _ (P : Here → Type 0) (kept : KeepsPlainly P) where
     hold_sent = λ h e o p. kept.said h _ _ p;
   }
 
-  pub replies : KeepsReplies AnyTold AnyOver AnyGiven P
+  pub replies : KeepsAnswers AnyTold AnyOver AnyGiven P
   replies = record {
     acked = λ h w a _ p. kept.said h _ _ p;
     back_of = λ h n a _ _ p. kept.said_to_node h _ _ p;

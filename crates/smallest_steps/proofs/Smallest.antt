@@ -39,7 +39,7 @@ AnyHeard h from m = Unit {0}
 
 -- IsToldBy w a: worker w told that attempt a is over there. IsPassedBy a t n: node n passes ask t of attempt a on, or is dead. Where Holds and
 -- Pushes may go out again.
-pub record Keeps (IsToldBy : ℕ → Attempt → Type 0) (IsPassedBy : Attempt → ℕ → ℕ → Type 0) (MayHold MayPush : Type 0) (P : Here → Type 0) : Type 0 where
+pub record KeepsHere (IsToldBy : ℕ → Attempt → Type 0) (IsPassedBy : Attempt → ℕ → ℕ → Type 0) (MayHold MayPush : Type 0) (P : Here → Type 0) : Type 0 where
   -- an own object is changed; places of copies are lost; a death is known; the node's store is looked at, or has one more copy
   pub alike : (h : Here) (o : Id) (f : Object → Object) → LeavesAlike f → P h → P (changes h o f)
   pub asker : (h : Here) (o : Id) (w : ℕ) → P h → P (changes h o (with_asker w))
@@ -111,7 +111,7 @@ pub record KeepsBirths (P : Here → Type 0) : Type 0 where
 
 -- IsOverOf a: the worker was told that its owner heard of attempt a. IsGivenBy n t a w: node n told the worker that it gave w for ask t of
 -- attempt a. To an end FinishedAck is said, to that Back; an own attempt begins on the worker that was given.
-pub record KeepsReplies (IsToldBy : ℕ → Attempt → Type 0) (IsOverOf : Attempt → Type 0) (IsGivenBy : ℕ → ℕ → Attempt → ℕ → Type 0)
+pub record KeepsAnswers (IsToldBy : ℕ → Attempt → Type 0) (IsOverOf : Attempt → Type 0) (IsGivenBy : ℕ → ℕ → Attempt → ℕ → Type 0)
     (P : Here → Type 0) : Type 0 where
   pub acked : (h : Here) (w : ℕ) (a : Attempt) → IsToldBy w a → P h → P (says h w (FinishedAck a))
   pub back_of : (h : Here) (n : ℕ) (a : Attempt) → n ≡ h.worker.node → IsOverOf a → P h → P (says_to_node h n (Back a))

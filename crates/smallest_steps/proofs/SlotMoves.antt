@@ -6,12 +6,12 @@ use Rattle.protocol.specs.Nodes.{AskKey, Leased, Queued, Reply, Scheduler, SentO
 use Rattle.protocol.specs.Slots.{asked_by, asks_slot, forgets, frees, gives_worker, grants, grants_next, grants_queued, has_free_slot, has_no_slot_for, is_back}
 use Rattle.protocol.specs.Slots.{leases_idle, may_be_idle, next_in_circle, next_worker, queues, replies, replies_anew, with_answered, with_idle, without_slot, without_worker}
 
-pub record IsKeptThere (Q : There → Type 0) : Type 0 where
+pub record KeepsSlots (Q : There → Type 0) : Type 0 where
   pub opens : (h : There) (w : ℕ) → Q h → Q (node_logs (record h { opened = h.opened + 1 }) (Opened w h.number ∷ []))
   pub replies : (h : There) (k : AskKey) (x : Reply) → Q h → Q (replies h k x)
   pub scheduler : (h : There) (s : Scheduler) → Q h → Q (with_scheduler h s)
 
-module _ (Q : There → Type 0) (kept : IsKeptThere Q) where
+module _ (Q : There → Type 0) (kept : KeepsSlots Q) where
   either : (b : Bool) (x y : There) → Q x → Q y → Q (if b then x else y)
   either true x y p q = p
   either false x y p q = q

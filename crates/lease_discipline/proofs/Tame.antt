@@ -1,34 +1,14 @@
 -- Changes of a worker's objects in which no attempt comes to run, and what tests tell of them.
-use Rattle.std.proofs.Common.{◌⊎◌, ◌+◌, length}
-use Rattle.sequence.proofs.Places.{and_right}
-use Rattle.protocol.specs.Tables.{Progress}
-use Rattle.std.proofs.Common.{◌≡◌, ℕ, zero, suc, List, [], ◌∷◌, ◌++◌, map, Some, None, Option, refl, ap, sym, ◌∙◌, inl, inr, arith}
-use Rattle.std.specs.Prelude.{true, if◌then◌else◌, slice_get, ◌==◌}
-use Rattle.std.proofs.lemmas.Bool.Decides.{nat_tests}
-use Rattle.std.proofs.lemmas.Bool.{eqb-true}
-use Rattle.sequence.proofs.Places.{and_left}
-use Rattle.meaning.proofs.BirthLaws.{at_test}
-use Rattle.meaning.specs.Values.{Id, Birth}
-use Rattle.event_log.specs.Entries.{Attempt}
-use Rattle.event_log.specs.Words.{attempt}
+use Rattle.std.proofs.Common.{◌≡◌, ℕ, zero, suc, List, [], ◌∷◌, ◌++◌, map, Some, None, Option, refl, ap, sym, ◌∙◌, inl, inr}
+use Rattle.std.specs.Prelude.{slice_get}
+use Rattle.meaning.specs.Values.{Birth}
 use Rattle.protocol.specs.Numbered.{item_at, changed_at}
-use Rattle.protocol.specs.Tables.{ByTask, Fetching, HasEnded, HasFaulted, Object, Out, OwnTask, Phase, AtRest, AskedAt, Ready, Run, RunsOn, Waits, WasPut}
+use Rattle.protocol.specs.Tables.{ByTask, Object, OwnTask, AtRest, AskedAt, RunsOn, WasPut}
 use Rattle.protocol.specs.Tables.{Worker}
-use Rattle.protocol.specs.Tables.{is_same_id, is_waiting_for, needed_by, new_task, object_needed, task_in, task_of, with_task, without_place}
-use Rattle.protocol.specs.Steps.{Here, is_own, object_at, own_object}
-use Rattle.protocol.specs.Asking.{if_asked, stands_at}
-use Rattle.protocol.specs.Asking.{next_attempt}
-use Rattle.protocol.specs.Holders.{adds_holder, awaits_hold_by, holding, holds_id, holds_ids, sends_hold}
-use Rattle.protocol.specs.Commits.{next_id_here, with_object}
-use Rattle.protocol.specs.Tables.{knows_dead, with_dead_holder, with_holder}
-use Rattle.protocol.specs.Steps.{changes, own_id, with_task_of}
-use Rattle.sequence.proofs.Places.{slice_get-last}
-use Rattle.protocol.specs.Notices.{runs_on_node, runs_on_worker}
-use Rattle.protocol.specs.Ends.{if_present}
-use Rattle.protocol.specs.Tables.{is_pending_task}
+use Rattle.protocol.specs.Tables.{new_task, task_in, task_of, with_task, without_place}
 use Rattle.smallest_steps.proofs.Known.{same_tasks}
-use Rattle.protocol_owed.proofs.CourseEvents.{append_none, changed_none}
-use Rattle.protocol_owed.proofs.Nodes.{changed_cases, push_cases, there_more, there_still}
+use Rattle.protocol_owed.proofs.CourseEvents.{append_none}
+use Rattle.protocol_owed.proofs.Nodes.{changed_cases, push_cases, there_more}
 
 -- the present attempt of the object's task ran there before
 pub record RanAlready (x : Worker) (k number v n : ℕ) : Type 0 where

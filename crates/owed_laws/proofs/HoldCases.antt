@@ -12,7 +12,6 @@ use Rattle.event_log.specs.Commits.{commit_entries}
 use Rattle.event_log.specs.Entries.{Attempt, Deliver, Ended, Entry, Event, In, main_attempt}
 use Rattle.event_log.specs.Events.{accepted_events}
 use Rattle.event_log.specs.Holding.{HasId, InBirth, InContent}
-use Rattle.event_log.specs.Legal as L
 use Rattle.event_log.specs.Rules.{Setting}
 use Rattle.event_log.specs.Sane.{Sane}
 use Rattle.event_log.specs.Words.{attempt, births, next_serial, same_attempt}

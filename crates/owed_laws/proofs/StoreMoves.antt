@@ -5,14 +5,14 @@ use Rattle.std.proofs.lemmas.Bool.{and_parts, eqb-true}
 use Rattle.std.proofs.lemmas.Bool.Decides.{nat_tests}
 use Rattle.meaning.proofs.BirthLaws.{at_test, same_id-refl, same_id-true}
 use Rattle.meaning.specs.Births.{same_id}
-use Rattle.std.specs.Prelude.{◌≡◌, ℕ, zero, suc, ◌+◌, ◌==◌, ◌&&◌, length, not, Bool, true, false, if◌then◌else◌, List, [], ◌∷◌, Option, Some, None, ◌++◌, ◌||◌, take}
+use Rattle.std.specs.Prelude.{◌≡◌, ℕ, ◌==◌, ◌&&◌, not, Bool, true, false, if◌then◌else◌, List, [], ◌∷◌, Option, Some, None, ◌++◌, ◌||◌, take}
 use Rattle.meaning.specs.Values.{Id, Outcome, Birth, Val}
 use Rattle.values.specs.Cells.{is_small}
 use Rattle.values.specs.Listed.{each_once, ids_in_outcome}
 use Rattle.event_log.specs.Entries.{Attempt, Entry, In, Refused, Opened, Born, Ended}
 use Rattle.protocol.specs.Messages.{Message, Party}
 use Rattle.protocol.specs.Jobs.{Stopped}
-use Rattle.protocol.specs.Stores.{Copy, Store, brought_to_front, copy, copy_in, is_copy_of, looked_up, with_ended, with_primary, with_secondary}
+use Rattle.protocol.specs.Stores.{Copy, Store, brought_to_front, copy, is_copy_of, looked_up, with_ended, with_primary, with_secondary}
 use Rattle.protocol.specs.Tables.{HasEnded, Run, Worker}
 use Rattle.std.specs.List.{filter, find, list_any}
 use Rattle.protocol.specs.Steps.{Here, with_phase, logs_all, says, says_to_node, with_worker, with_store, store_here}
@@ -172,7 +172,7 @@ module _ (P : Here → Type 0) (kept : IsKept P) where
       let ids : List Id = each_once (ids_in_outcome c) in
       let stored : Here = with_store (with_phase h run (HasEnded c)) (with_ended (store_here h) o n c) in
       let there : P stored = kept.store (with_phase h run (HasEnded c)) (with_ended (store_here h) o n c) (ended_keeps (store_here h) o n c)
-            (kept.worker h _ refl refl p) in
+      (kept.worker h _ refl refl p) in
       L.ends_after P plain (passes_on stored o ids) o ids (kept.worker stored _ refl refl there)
 
   pub stops_by-kept : (h : Here) (stop : Stopped) (r : Option Run) → P h → P (stops_by h stop r)

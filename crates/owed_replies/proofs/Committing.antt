@@ -34,7 +34,7 @@ use Rattle.protocol_owed.proofs.Letters.{among-append_cases, among-push_cases}
 use Rattle.owed_replies.specs.Kept.{IsBornIn, IsOverInTime, RunIsRight}
 use Rattle.owed_replies.proofs.Objects.{Grows, pushed_grows, put_grows, same_grows, succeeds_alike}
 use Rattle.smallest_steps.proofs.Known.{somewhere}
-use Rattle.owed_replies.proofs.Moves.{IsKept, IsKeptWhere, answers_settled-kept, needs_own-kept, rests_if_waiting-kept}
+use Rattle.owed_replies.proofs.Moves.{IsKeptWhere, answers_settled-kept, needs_own-kept, rests_if_waiting-kept}
 use Rattle.owed_replies.proofs.Paying.{Does, Pays, frees_does, leaves_pays, objects_does, pays_kept, run_does, said, says_to_node_does, writes_does}
 use Rattle.smallest_steps.proofs.Known.{changed_here}
 

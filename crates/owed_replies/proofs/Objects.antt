@@ -1,17 +1,15 @@
 -- Changes of a worker's own objects: whoever waits for one waits on, unless it has its content or a fault.
 use Rattle.std.proofs.Common.{◌≡◌, ◌≢◌, ℕ, zero, suc, List, [], ◌∷◌, ◌++◌, map, Some, None, Option, refl, ap, sym, subst, ◌∙◌, ◌⊎◌, inl, inr}
-use Rattle.std.specs.Prelude.{true, false, if◌then◌else◌, is_some, not, slice_get, ◌==◌, Bool, ◌&&◌, is_none}
-use Rattle.std.proofs.lemmas.Bool.{not-true}
-use Rattle.sequence.proofs.Places.{and_right, list_any-push_left}
+use Rattle.std.specs.Prelude.{true, false, if◌then◌else◌, is_some, slice_get, ◌==◌, Bool, ◌&&◌, is_none}
+use Rattle.sequence.proofs.Places.{list_any-push_left}
 use Rattle.meaning.proofs.BirthLaws.{at_test}
 use Rattle.meaning.specs.Values.{Id, Outcome}
 use Rattle.event_log.specs.Entries.{Fault}
 use Rattle.protocol.specs.Numbered.{changed_at, item_at}
 use Rattle.protocol.specs.Sets.{has, is_empty, with_number}
-use Rattle.protocol.specs.Tables.{Fetching, HasEnded, HasFaulted, Object, Out, OwnTask, Phase, Ready, Run, Waits, has_content, is_whole, with_asker}
-use Rattle.protocol.specs.Tables.{with_fault, with_task, without_askers, is_nowhere, places_for}
+use Rattle.protocol.specs.Tables.{Object, OwnTask, with_asker}
+use Rattle.protocol.specs.Tables.{with_fault, with_task, without_askers}
 use Rattle.protocol.specs.Steps.{Here, is_own, object_at, own_object}
-use Rattle.protocol.specs.Runs.{with_fetching, with_fetching_at, with_fetching_by}
 use Rattle.owed_replies.specs.Kept.{IsAnswered}
 use Rattle.protocol_owed.proofs.Nodes.{changed_cases, there_more, there_still}
 

@@ -1,5 +1,5 @@
 -- Whoever asks for what is there is told where it is.
-use Rattle.std.proofs.Common.{◌≡◌, ◌≢◌, ℕ, [], Some, None, refl, ap, sym, subst, ◌∙◌, inl, inr, arith, Option}
+use Rattle.std.proofs.Common.{◌≡◌, ◌≢◌, ℕ, Some, None, refl, ap, sym, subst, ◌∙◌, inl, inr, arith, Option}
 use Rattle.std.specs.Prelude.{true, false, if◌then◌else◌, not, ◌==◌, ◌&&◌, is_some, is_none}
 use Rattle.std.proofs.lemmas.Bool.Decides.{nat_tests}
 use Rattle.sequence.proofs.Places.{and_left, and_right}

@@ -1,6 +1,6 @@
 -- What tests tell of own objects, their tasks and the attempt that waits, and what a change leaves of them.
-use Rattle.std.proofs.Common.{◌≡◌, ℕ, zero, suc, ◌+◌, List, [], ◌∷◌, ◌++◌, length, Some, None, Option, refl, ap, sym, ◌∙◌, arith}
-use Rattle.std.specs.Prelude.{Bool, true, false, if◌then◌else◌, ◌==◌, ◌&&◌, not, is_none}
+use Rattle.std.proofs.Common.{◌≡◌, ℕ, suc, ◌+◌, List, [], ◌∷◌, ◌++◌, length, Some, None, Option, refl, ap, sym, ◌∙◌, arith}
+use Rattle.std.specs.Prelude.{true, false, if◌then◌else◌, ◌==◌, ◌&&◌, not, is_none}
 use Rattle.std.proofs.lemmas.Bool.Decides.{nat_tests}
 use Rattle.std.proofs.lemmas.Bool.{eqb-true, not-true}
 use Rattle.sequence.proofs.Places.{and_left, and_right, slice_get-last}
@@ -9,16 +9,16 @@ use Rattle.meaning.specs.Values.{Id, Outcome}
 use Rattle.event_log.specs.Entries.{Attempt}
 use Rattle.event_log.specs.Words.{attempt}
 use Rattle.numbered.specs.Counting.{item_of, changed}
-use Rattle.numbered.proofs.Places.{counted, counted_changed, item_is, placed_changed, changed_is}
+use Rattle.numbered.proofs.Places.{counted, item_is, placed_changed, changed_is}
 use Rattle.protocol.specs.Numbered.{item_at, changed_at}
 use Rattle.protocol.specs.Sets.{is_empty}
 use Rattle.protocol.specs.Tables.{AskedAt, AtRest, Fetching, HasEnded, HasFaulted, Object, Out, OwnTask, Phase, Progress, Ready, Run, RunsOn, Waits, Worker}
 use Rattle.protocol.specs.Tables.{has_content, is_nowhere, is_pending_task, is_same_id, is_waiting_for, is_whole, knows_dead, needed_by, object_needed}
-use Rattle.protocol.specs.Tables.{places_for, task_in, task_of, with_content, with_dead_holder, with_holder, with_task}
+use Rattle.protocol.specs.Tables.{places_for, task_in, task_of, with_dead_holder, with_holder, with_task}
 use Rattle.protocol.specs.Steps.{Here, changes, is_own, object_at, own_id, own_object, with_run, with_task_of}
 use Rattle.protocol.specs.Runs.{hears_by, with_fetching, with_fetching_at, with_fetching_by}
 use Rattle.event_log.specs.Words.{same_attempt}
-use Rattle.protocol.specs.Asking.{if_asked, rests, stands_at}
+use Rattle.protocol.specs.Asking.{if_asked, stands_at}
 use Rattle.protocol.specs.Holders.{adds_holder, awaits_hold_by, holding, holds_id, holds_ids, sends_hold}
 use Rattle.protocol.specs.Commits.{next_id_here, with_object}
 use Rattle.protocol.specs.Ends.{if_present}
@@ -177,7 +177,8 @@ on_node m (AskedAt t n) e = absurd (cc)
 
 -- ---- births
 
-changed_one : (h : Here) (p o : Id) (f : Object → Object) → ((y : Object) → (f y).maker ≡ y.maker) → task_of (object_at (changes h p f) o) ≡ task_of (object_at h o)
+changed_one : (h : Here) (p o : Id) (f : Object → Object) → ((y : Object) → (f y).maker ≡ y.maker) →
+    task_of (object_at (changes h p f) o) ≡ task_of (object_at h o)
 changed_one h p o f keeps =
     at_test (λ b. task_of (if b then item_at (changed_at h.worker.objects p.serial f) o.serial else None) ≡ task_of (if b then own_object h o.serial else None))
     (is_own h o) (λ _. same_tasks h.worker.objects p.serial o.serial f keeps) (λ _. refl)
@@ -186,8 +187,9 @@ held_one : (h : Here) (e p o : Id) → task_of (object_at (holds_id h e p) o) �
 held_one h e p o =
     at_test (λ b. task_of (object_at (if b then adds_holder h e p else if knows_dead h.worker p.owner then h else sends_hold h e p) o) ≡ task_of
     (object_at h o)) (is_own h p)
-    (λ _. at_test (λ d. task_of (object_at (if d then changes (changes h p (with_holder e)) p (with_dead_holder e) else changes h p (with_holder e)) o) ≡ task_of
-    (object_at h o)) (knows_dead h.worker e.owner) (λ _. changed_one (changes h p (with_holder e)) p o (with_dead_holder e) (λ y. refl) ∙ changed_one h p o (with_holder e) (λ y. refl))
+    (λ _. at_test (λ d. task_of (object_at (if d then changes (changes h p (with_holder e)) p (with_dead_holder e) else changes h p (with_holder e)) o) ≡
+    task_of (object_at h o)) (knows_dead h.worker e.owner)
+    (λ _. changed_one (changes h p (with_holder e)) p o (with_dead_holder e) (λ y. refl) ∙ changed_one h p o (with_holder e) (λ y. refl))
     (λ _. changed_one h p o (with_holder e) (λ y. refl)))
     (λ _. at_test (λ b. task_of (object_at (if b then h else sends_hold h e p) o) ≡ task_of (object_at h o)) (knows_dead h.worker p.owner) (λ _. refl)
     (λ _. by_run h.worker.run))

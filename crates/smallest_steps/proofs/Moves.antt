@@ -223,7 +223,8 @@ module _ {IsToldBy : ℕ → Attempt → Type 0} {IsPassedBy : Attempt → ℕ �
   needs_released-kept h (Some e) p = faults-kept h _ p
 
   pub needs_unresolved-kept : (h : Here) (o : Id) (x : Object) → P h → P (needs_unresolved h o x)
-  needs_unresolved-kept h o x p = either P _ _ _ (looks_for-kept h o x p) (either P _ _ _ (recovers-kept h o p) (either P _ _ _ (needs_released-kept h x.dead_holder p) p))
+  needs_unresolved-kept h o x p = either P _ _ _ (looks_for-kept h o x p)
+      (either P _ _ _ (recovers-kept h o p) (either P _ _ _ (needs_released-kept h x.dead_holder p) p))
 
   pub needs_by-kept : (h : Here) (o : Id) (x : Object) (f : Option Fault) → P h → P (needs_by h o x f)
   needs_by-kept h o x None p = needs_unresolved-kept h o x p
@@ -263,7 +264,8 @@ module _ {IsToldBy : ℕ → Attempt → Type 0} {IsPassedBy : Attempt → ℕ �
 
   pub answers_asker-kept : (h : Here) (o : Id) (w : ℕ) (x : Object) (f : Option Fault) → P h → P (answers_asker h o w x f)
   answers_asker-kept h o w x None p =
-      either_by P (has_content x) _ _ (λ t. kept.place_told h w o (settled_number x) x.places x.kept (some_places x t) p) (λ _. answers_unsettled-kept h o w x p)
+      either_by P (has_content x) _ _ (λ t. kept.place_told h w o (settled_number x) x.places x.kept (some_places x t) p)
+      (λ _. answers_unsettled-kept h o w x p)
   answers_asker-kept h o w x (Some f) p = kept.gone_told h w o f p
 
   pub asker_by-kept : (h : Here) (o : Id) (w : ℕ) (x : Option Object) → P h → P (asker_by h o w x)
@@ -374,7 +376,8 @@ module _ {IsToldBy : ℕ → Attempt → Type 0} {IsPassedBy : Attempt → ℕ �
       (h : Here) (k : ℕ) (task : Option OwnTask) → task_of (own_object h k) ≡ task → P h → P (breaks_if test h k task)
   breaks_if-kept test runs h k None e p = p
   breaks_if-kept test runs h k (Some task) e p =
-      either_by P (test task.progress) (breaks h (own_id h k) task) h (λ t. breaks-kept h (own_id h k) task (own_there h k ∙ e) (runs task.progress t) p) (λ _. p)
+      either_by P (test task.progress) (breaks h (own_id h k) task) h
+      (λ t. breaks-kept h (own_id h k) task (own_there h k ∙ e) (runs task.progress t) p) (λ _. p)
 
   breaks_where-kept : (test : Progress → Bool) → ((q : Progress) → test q ≡ true → (w n : ℕ) × (q ≡ RunsOn w n)) → (h : Here) → P h → P (breaks_where test h)
   breaks_where-kept test runs h p =

@@ -1,6 +1,6 @@
 -- Whatever the smallest steps of a worker keep, each of its steps keeps, where nothing needs to be known of the worker's attempt and objects.
 use Rattle.std.proofs.Common.{refl}
-use Rattle.std.specs.Prelude.{◌≡◌, ℕ, Bool, filter, List, [], ◌∷◌, Option, Some, None}
+use Rattle.std.specs.Prelude.{◌≡◌, ℕ, filter, List, [], ◌∷◌, Option, Some, None}
 use Rattle.meaning.specs.Values.{Id, Outcome, Val, Value}
 use Rattle.event_log.specs.Entries.{Accepted, Attempt, Begun, Fault, Faulted, Got, Released, Resolved}
 use Rattle.event_log.specs.Words.{attempt}
@@ -14,7 +14,8 @@ use Rattle.protocol.specs.Places.{answers_settled, answers_settled_by, tells_pla
 use Rattle.protocol.specs.Commits.{asks_where, claim_by, claim_step, ends, stops_by}
 use Rattle.protocol.specs.Holders.{holds_ids}
 use Rattle.protocol.specs.Jobs.{AtEnd, AtGet, Stopped}
-use Rattle.smallest_steps.proofs.Smallest.{AnyGiven, AnyHeard, AnyOver, AnyPassed, AnyTold, KeepsHere, KeepsAccepted, KeepsBirths, KeepsHeard, KeepsOver, KeepsAnswers}
+use Rattle.smallest_steps.proofs.Smallest.{AnyGiven, AnyHeard, AnyOver, AnyPassed, AnyTold, KeepsAccepted, KeepsAnswers, KeepsBirths, KeepsHeard}
+use Rattle.smallest_steps.proofs.Smallest.{KeepsHere, KeepsOver}
 use Rattle.smallest_steps.proofs.Moves as S
 
 -- it logs, it says, its tables are changed, its node's store is looked at or has one more copy, and the node is asked for a slot or has one back
@@ -143,7 +144,8 @@ module _ (P : Here → Type 0) (kept : KeepsPlainly P) where
   pub ends_after : (h : Here) (o : Id) (ids : List Id) → P h → P (gives_slot_back (leaves_if_free (holds_ids h o ids)))
   ends_after h o ids p = kept.frees _ (S.leaves_if_free-kept P over _ (S.holds_ids-kept P keeps births h o ids p))
 
-  pub stops_by-kept : ((h : Here) (run : Run) (c : Outcome) → P h → P (ends h run c)) → (h : Here) (stop : Stopped) (r : Option Run) → P h → P (stops_by h stop r)
+  pub stops_by-kept : ((h : Here) (run : Run) (c : Outcome) → P h → P (ends h run c)) →
+      (h : Here) (stop : Stopped) (r : Option Run) → P h → P (stops_by h stop r)
   stops_by-kept ended h stop None p = p
   stops_by-kept ended h (AtGet y) (Some run) p = S.needs-kept P keeps h run y (kept.worker h _ refl refl p)
   stops_by-kept ended h (AtEnd c) (Some run) p = ended h run c p

@@ -4,7 +4,8 @@ use Rattle.event_log.specs.Entries.{Attempt, Opened}
 use Rattle.protocol.specs.Sets.{first_item, has, least, rest_of}
 use Rattle.protocol.specs.Nodes.{AskKey, Leased, Queued, Reply, Scheduler, SentOn, There, node_logs, with_scheduler}
 use Rattle.protocol.specs.Slots.{asked_by, asks_slot, forgets, frees, gives_worker, grants, grants_next, grants_queued, has_free_slot, has_no_slot_for, is_back}
-use Rattle.protocol.specs.Slots.{leases_idle, may_be_idle, next_in_circle, next_worker, queues, replies, replies_anew, with_answered, with_idle, without_slot, without_worker}
+use Rattle.protocol.specs.Slots.{leases_idle, may_be_idle, next_in_circle, next_worker, queues, replies, replies_anew, with_answered, with_idle}
+use Rattle.protocol.specs.Slots.{without_slot, without_worker}
 
 pub record KeepsSlots (Q : There → Type 0) : Type 0 where
   pub opens : (h : There) (w : ℕ) → Q h → Q (node_logs (record h { opened = h.opened + 1 }) (Opened w h.number ∷ []))
@@ -23,20 +24,24 @@ module _ (Q : There → Type 0) (kept : KeepsSlots Q) where
   pub asked_by-kept : (h : There) (k : AskKey) (x : Option Reply) → Q h → Q (asked_by h k x)
   asked_by-kept h k None p =
       either (has_free_slot h.node.scheduler) (gives_worker h k) (has_no_slot_for h k) (leases_idle-kept h k (least h.node.scheduler.idle) p)
-      (either (nat_lt (k.t + 1) h.nodes) (replies_anew h k (SentOn (next_in_circle h.nodes h.number))) (queues h k) (kept.replies _ k (SentOn (next_in_circle h.nodes h.number)) (kept.scheduler h _ p))
-      (kept.replies _ k Queued (kept.scheduler h _ p)))
+      (either (nat_lt (k.t + 1) h.nodes) (replies_anew h k (SentOn (next_in_circle h.nodes h.number))) (queues h k)
+      (kept.replies _ k (SentOn (next_in_circle h.nodes h.number)) (kept.scheduler h _ p)) (kept.replies _ k Queued (kept.scheduler h _ p)))
   asked_by-kept h k (Some x) p = kept.replies h k x p
 
   grants_queued-kept : (h : There) (k : Option AskKey) → Q h → Q (grants_queued h k)
   grants_queued-kept h None p = p
-  grants_queued-kept h (Some k) p = leases_idle-kept (with_scheduler h (record h.node.scheduler { queue = rest_of h.node.scheduler.queue })) k (least h.node.scheduler.idle) (kept.scheduler h _ p)
+  grants_queued-kept h (Some k) p =
+      leases_idle-kept (with_scheduler h (record h.node.scheduler { queue = rest_of h.node.scheduler.queue })) k (least h.node.scheduler.idle)
+      (kept.scheduler h _ p)
 
   grants_next-kept : (h : There) (w : Option ℕ) → Q h → Q (grants_next h w)
   grants_next-kept h None p = grants_queued-kept h (first_item h.node.scheduler.queue) p
   grants_next-kept h (Some w) p = kept.scheduler h _ p
 
   grants-kept : (h : There) → Q h → Q (grants h)
-  grants-kept h p = either (has_free_slot h.node.scheduler) (grants_next h (first_item h.node.scheduler.answered)) h (grants_next-kept h (first_item h.node.scheduler.answered) p) p
+  grants-kept h p =
+      either (has_free_slot h.node.scheduler) (grants_next h (first_item h.node.scheduler.answered)) h
+      (grants_next-kept h (first_item h.node.scheduler.answered) p) p
 
   pub frees-kept : (h : There) (w : ℕ) → Q h → Q (frees h w)
   frees-kept h w p =

@@ -1,9 +1,8 @@
 -- What is known where a smallest step is made.
-use Rattle.std.specs.Prelude.{◌≡◌, ◌⊎◌, ℕ, Bool, true, false, Option, Some, is_some}
+use Rattle.std.specs.Prelude.{◌≡◌, ◌⊎◌, ℕ, true, Option, Some, is_some}
 use Rattle.meaning.specs.Values.{Birth, Id}
 use Rattle.protocol.specs.Steps.{Here}
 use Rattle.protocol.specs.Asking.{next_attempt}
-use Rattle.protocol.specs.Messages.{Ask, Back, Failed, Finished, FinishedAck, Give, Message, Push}
 use Rattle.protocol.specs.Tables.{Fetching, Object, OwnTask, Run, RunsOn, Waits, new_task}
 
 -- a change of an object that leaves what makes it, who waits for it, and whether it has a content or a fault

@@ -1,5 +1,5 @@
 -- The smallest steps of a worker, each with what is known where it is made. A property that they keep is kept by every step.
-use Rattle.std.specs.Prelude.{◌≡◌, ◌⊎◌, ◌&&◌, ◌+◌, ℕ, Bool, true, false, List, Option, Some, is_none}
+use Rattle.std.specs.Prelude.{◌≡◌, ◌⊎◌, ◌&&◌, ◌+◌, ℕ, Bool, true, false, List, Option, Some, is_none, is_some}
 use Rattle.meaning.specs.Values.{Birth, Id, Outcome, Val, Value}
 use Rattle.event_log.specs.Breaks.{Among}
 use Rattle.event_log.specs.Entries.{Attempt, Fault, Faulted, Got, Released}
@@ -19,7 +19,7 @@ use Rattle.protocol.specs.Commits.{with_object}
 use Rattle.protocol.specs.Ends.{accepts, failed_reached, finished_reached}
 use Rattle.protocol.specs.Notices.{loses_places, with_dead_node, with_dead_worker}
 use Rattle.std.specs.List.{filter}
-use Rattle.smallest_steps.specs.Steps.{IsAnswered, IsNextOf, IsRunning, LeavesAlike, Needs}
+use Rattle.smallest_steps.specs.Steps.{IsNextOf, IsRunning, LeavesAlike, Needs}
 
 -- where nothing needs to be known
 abbrev pub AnyTold : ℕ → Attempt → Type 0
@@ -43,7 +43,8 @@ pub record KeepsHere (IsToldBy : ℕ → Attempt → Type 0) (IsPassedBy : Attem
   -- an own object is changed; places of copies are lost; a death is known; the node's store is looked at, or has one more copy
   pub alike : (h : Here) (o : Id) (f : Object → Object) → LeavesAlike f → P h → P (changes h o f)
   pub asker : (h : Here) (o : Id) (w : ℕ) → P h → P (changes h o (with_asker w))
-  pub answered : (h : Here) (o : Id) (x : Object) → object_at h o ≡ Some x → IsAnswered x → P h → P (changes h o without_askers)
+  pub answered : (h : Here) (o : Id) (x : Object) → object_at h o ≡ Some x →
+      (is_some x.settled ≡ true) ⊎ (is_some x.fault ≡ true) → P h → P (changes h o without_askers)
   pub resolved : (h : Here) (o : Id) (f : Fault) → P h → P (resolves h o f)
   pub freed : (h : Here) (o : Id) → P h → P (logs (changes h o released) (Released o))
   pub places_lost : (h : Here) (m : ℕ) → P h → P (loses_places h m)

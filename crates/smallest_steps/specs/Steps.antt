@@ -1,5 +1,5 @@
 -- What is known where a smallest step is made.
-use Rattle.std.specs.Prelude.{◌≡◌, ◌⊎◌, ℕ, true, Option, Some, is_some}
+use Rattle.std.specs.Prelude.{◌≡◌, ◌⊎◌, ℕ, true, Option, Some}
 use Rattle.meaning.specs.Values.{Birth, Id}
 use Rattle.protocol.specs.Steps.{Here}
 use Rattle.protocol.specs.Asking.{next_attempt}
@@ -8,10 +8,6 @@ use Rattle.protocol.specs.Tables.{Fetching, Object, OwnTask, Run, RunsOn, Waits,
 -- a change of an object that leaves what makes it, who waits for it, and whether it has a content or a fault
 abbrev pub LeavesAlike : (Object → Object) → Type 0
 LeavesAlike f = (x : Object) → ((f x).maker ≡ x.maker) × ((f x).askers ≡ x.askers) × ((f x).settled ≡ x.settled) × ((f x).fault ≡ x.fault)
-
--- whoever waits for the object can be answered
-abbrev pub IsAnswered : Object → Type 0
-IsAnswered x = (is_some x.settled ≡ true) ⊎ (is_some x.fault ≡ true)
 
 -- the next attempt of a task, or the first one of a new task
 abbrev pub IsNextOf : OwnTask → OwnTask → Type 0

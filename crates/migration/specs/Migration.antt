@@ -49,7 +49,8 @@ pub record Begins (p : Play) : Type 0 where
 -- the history of a replay of a file of format 1 replays to the same run
 abbrev pub HistoriesReplay : Type 0
 HistoriesReplay =
-    (script : Script) (lines : List Line) (first after : Play) (log : List CodeEntry) → Begins first → Plays script lines first after → log_of log ≡ after.run.log →
+    (script : Script) (lines : List Line) (first after : Play) (log : List CodeEntry) →
+    Begins first → Plays script lines first after → log_of log ≡ after.run.log →
     (again : Play) × PlaysHistory script (recorded_in log) first again × (again.run ≡ after.run)
 
 -- a history replays to one run
@@ -61,5 +62,6 @@ OneRun =
 -- whatever comes of the history of a replay of a file of format 1 is the same run, with the same log
 abbrev pub MigratedIsSame : Type 0
 MigratedIsSame =
-    (script : Script) (lines : List Line) (first after again : Play) (log : List CodeEntry) → Begins first → Plays script lines first after → log_of log ≡ after.run.log →
+    (script : Script) (lines : List Line) (first after again : Play) (log : List CodeEntry) →
+    Begins first → Plays script lines first after → log_of log ≡ after.run.log →
     PlaysHistory script (recorded_in log) first again → again.run ≡ after.run

@@ -51,7 +51,8 @@ IsReportIn forms.WhyMain a text = text ≡ why_main_text a.log a.lines
 IsReportIn forms.Timeline a text = IsTimelineOf a text
 IsReportIn forms.Lineage a text = text ≡ lineage_text a.log
 
--- as text, with the books behind it too, or as JSON it says of main what `serial` writes of the script: the whole of it, or a first part, with a fault's cause in the log
+-- as text, with the books behind it too, or as JSON it says of main what `serial` writes of the script: the whole of it, or a first
+-- part, with a fault's cause in the log
 abbrev pub IsAsSerialIn : Form → Script → List Entry → List ℕ → ℕ → Type 0
 IsAsSerialIn forms.Text script log text status = BeginsAsSerial script log text status
 IsAsSerialIn forms.Json script log text status = SaysAsSerial script log text status

@@ -69,7 +69,9 @@ CHAPTERS = [
     ("What a log says, where a fault has its cause", {
         "values/Listed": "The ids that stand in a value.",
         "task_spec/Dereferenced": "Which objects a task gets before its body.",
-        "event_log/Entries": "The events of a run, and the entries of its log.",
+        "ids/Attempts": "An attempt: an object, and a number.",
+        "values/Faults": "A fault: why an object has no content, and the object in which that began.",
+        "event_log/Entries": "The entries of a run's log; what an event is, and the kind of a fault, is read in the code: `log_entries/src/event.rt`, `values/src/fault.rt`.",
         "event_log/Words": "What a log says of births, attempts and objects: each word joins what the entries say one by one.",
         "event_log/Events": "Which events were accepted, and what they say of workers, nodes and jobs.",
         "event_log/Breaks": "What breaks an attempt, and what causes a fault.",
@@ -158,7 +160,7 @@ class Module:
         self.title = first[2:].strip() if first.startswith("--") else ""
         self.names, self.prefixes = uses(text)
         self.units, self.of_name, self.constructors = [], {}, set()
-        body = re.sub(r"^(?:pub )?use [^{\n]*(?:\{[^}]*\})?.*$|^pub mod .*$|^infix.*$", "", text, flags=re.M)
+        body = re.sub(r"^(?:unfoldable )?(?:pub )?use [^{\n]*(?:\{[^}]*\})?.*$|^pub mod .*$|^infix.*$", "", text, flags=re.M)
         self.read_block(body.split("\n")[1:], set(), [], None)
         for unit in self.units:
             self.constructors.update(unit.constructors)

@@ -3,11 +3,11 @@
 ghost use Rattle.std.specs.Prelude.{◌≡◌, IfOk, OnOk};
 ghost use Rattle.answers.specs.Replies.{reply_of};
 ghost use Rattle.protocol.specs.Answers.{answer, whole_after};
-ghost use Rattle.protocol_data.specs.Entries.{event_of};
 
 use crate::given::given_out;
-use crate::reply::{Reply, refused, taken};
-use protocol_data::{Handed, Happening, Whole};
+use crate::reply::{Answered, refused, taken};
+use log_entries::Event;
+use protocol_data::{Handed, Whole};
 use refusals::refusal;
 use std::alloc::{AllocError, Global};
 use whole_events::happen;
@@ -17,12 +17,12 @@ use whole_events::happen;
 pub fn answer(
     alloc: Global,
     whole: &mut Whole,
-    event: &Happening,
+    event: &Event,
     seat: u8,
     handed: Handed,
-) -> Result<Reply, AllocError>
-    ensures whole { OnOk result (whole.new ≡ whole_after whole.old (answer whole.old (event_of event.now) handed)) }
-    ensures reply { IfOk result (λ reply. reply ≡ reply_of (event_of event.now) seat (answer whole.old (event_of event.now) handed)) }
+) -> Result<Answered, AllocError>
+    ensures whole { OnOk result (whole.new ≡ whole_after whole.old (answer whole.old event.now handed)) }
+    ensures reply { IfOk result (λ reply. reply ≡ reply_of event.now seat (answer whole.old event.now handed)) }
 {
     if let Some(code) = refusal(whole, event, &handed) {
         let reply = refused(alloc, event, seat, code)?;

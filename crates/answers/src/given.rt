@@ -3,11 +3,11 @@
 ghost use Rattle.std.specs.Prelude.{◌≡◌, IfOk};
 ghost use Rattle.protocol.specs.Answers.{given_out, job_at, job_of};
 ghost use Rattle.protocol.specs.Whole.{worker_at};
-ghost use Rattle.protocol_data.specs.Entries.{event_of};
 
+use ids::WorkerId;
+use log_entries::Event;
 use number_lists::item_at_number;
-use numbers::WorkerId;
-use protocol_data::{Happening, Job, Run, Whole};
+use protocol_data::{Job, Run, Whole};
 use std::alloc::{AllocError, Global};
 use whole_events::next_job;
 
@@ -49,11 +49,11 @@ fn job_at(
 }
 
 /// The job that the event gives out, if it is a claim.
-pub fn given_out(alloc: Global, whole: &Whole, event: &Happening) -> Result<Option<Job>, AllocError>
-    ensures { IfOk result (λ job. job ≡ given_out whole.now (event_of event.now)) }
+pub fn given_out(alloc: Global, whole: &Whole, event: &Event) -> Result<Option<Job>, AllocError>
+    ensures { IfOk result (λ job. job ≡ given_out whole.now event.now) }
 {
     match event {
-        Happening::Claim(worker) => {
+        Event::Claim(worker) => {
             let number = next_job(whole);
             job_at(alloc, whole, number, *worker)
         }

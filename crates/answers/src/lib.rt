@@ -1,9 +1,9 @@
 //! What is answered to an event of the whole run.
-#![tactic(auto, unfolding(meaning::specs::Births::same_id, event_log::specs::Words::same_attempt))]
+#![tactic(auto, unfolding(meaning::specs::Births::same_id, ids::specs::Attempts::same_attempt))]
 
 mod answering;
 mod given;
 mod reply;
 
 pub use answering::answer;
-pub use reply::{Outcome, Reply};
+pub use reply::{Answered, Verdict};

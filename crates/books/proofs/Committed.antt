@@ -6,11 +6,11 @@ use Rattle.std.proofs.lemmas.List.Concat.{flat_map-append}
 use Rattle.event_log.specs.Books.{sum}
 use Rattle.event_log.specs.Events as logs
 use Rattle.event_log.specs.Entries as logged
-use Rattle.event_log.specs.Views.{event_of, log_of}
+use Rattle.event_log.specs.Views.{log_of}
 use Rattle.event_log.specs.declared.entry.Entry.{Entry}
 use Rattle.event_log.specs.declared.entry.Entry.TheVariants as entries
-use Rattle.event_log.specs.declared.event.Event.{Event}
-use Rattle.event_log.specs.declared.event.Event.TheVariants as events
+use Rattle.log_entries.specs.declared.event.Event.{Event}
+use Rattle.log_entries.specs.declared.event.Event.TheVariants as events
 use Rattle.books.specs.SeatTotals.{arrival, arrivals, commit_from, commits_from, seat_totals}
 use Rattle.books.specs.Lines.{book_line, book_text, lines_below}
 use Rattle.books.specs.Summing.{Sums, added_by, counts_for, no_sums, plus, refused_next, sums_of}
@@ -47,15 +47,15 @@ sums_parts a a' b b' e f = cc
 sums_more : (xs ys : List ℕ) → sums_at (xs ++ ys) ≡ plus (sums_at xs) (sums_at ys)
 sums_more xs ys = sums_parts _ _ _ _ (length-append xs ys) (sum-more xs ys)
 
-counted : (e : Event) (counts : Bool) → sums_at (if counts then logs.commit_in (event_of e) else []) ≡ added_by e counts
+counted : (e : Event) (counts : Bool) → sums_at (if counts then logs.commit_in e else []) ≡ added_by e counts
 counted (events.Commit j) true = sums_parts _ _ _ _ refl (omega arith)
 counted (events.Commit j) false = refl
 counted e true = refl
 counted e false = refl
 
-one_sum : (seat : ℕ) (refused : Bool) (e : Event) (s : ℕ) → sums_at (commits_here seat refused (event_of e) s) ≡ added_by e (counts_for seat s refused)
+one_sum : (seat : ℕ) (refused : Bool) (e : Event) (s : ℕ) → sums_at (commits_here seat refused e s) ≡ added_by e (counts_for seat s refused)
 one_sum seat true e s = counted e false
-one_sum seat false e s = ap sums_at (append-nil (if s == seat then logs.commit_in (event_of e) else [])) ∙ counted e (s == seat)
+one_sum seat false e s = ap sums_at (append-nil (if s == seat then logs.commit_in e else [])) ∙ counted e (s == seat)
 
 other : (seat : ℕ) (x : Entry) (rest : List Entry) → logged_is_in x ≡ false → commits_from seat (log_of (x ∷ rest)) ≡ commits_from seat (log_of rest)
 unfolding arrivals
@@ -65,9 +65,9 @@ other seat x rest h = refl
 pub same_sums : (seat : ℕ) (log : List Entry) → sums_at (commits_from seat (log_of log)) ≡ sums_of seat log
 same_sums seat [] = none seat
 same_sums seat (entries.In e s ∷ rest) =
-    ap sums_at (commits-in seat (event_of e) s (log_of rest))
-    ∙ sums_more (commits_here seat (logs.refused_next (log_of rest)) (event_of e) s) (commits_from seat (log_of rest))
-    ∙ ap (λ b. plus (sums_at (commits_here seat b (event_of e) s)) (sums_at (commits_from seat (log_of rest)))) (same_next rest)
+    ap sums_at (commits-in seat e s (log_of rest))
+    ∙ sums_more (commits_here seat (logs.refused_next (log_of rest)) e s) (commits_from seat (log_of rest))
+    ∙ ap (λ b. plus (sums_at (commits_here seat b e s)) (sums_at (commits_from seat (log_of rest)))) (same_next rest)
     ∙ ap (λ t. plus t (sums_at (commits_from seat (log_of rest)))) (one_sum seat (refused_next rest) e s)
     ∙ ap (λ t. plus (added_by e (counts_for seat s (refused_next rest))) t) (same_sums seat rest)
 same_sums seat (x ∷ rest) = ap sums_at (other seat x rest refl) ∙ same_sums seat rest

@@ -2,8 +2,8 @@
 use Rattle.std.specs.Prelude.{ℕ, ◌+◌, ◌==◌, Bool, true, false, if◌then◌else◌, List, [], ◌∷◌}
 use Rattle.event_log.specs.declared.entry.Entry.{Entry}
 use Rattle.event_log.specs.declared.entry.Entry.TheVariants.{In, Refused}
-use Rattle.event_log.specs.declared.event.Event.{Event}
-use Rattle.event_log.specs.declared.event.Event.TheVariants.{Commit}
+use Rattle.log_entries.specs.declared.event.Event.{Event}
+use Rattle.log_entries.specs.declared.event.Event.TheVariants.{Commit}
 use Rattle.books.specs.declared.lines.Committed.{Committed}
 
 -- how many commits of a seat were accepted, and the sum of the numbers of their jobs

@@ -6,7 +6,8 @@ ghost use Rattle.books.specs.Lines.{book_line, book_lines};
 ghost use Rattle.books.specs.SeatTotals.{seat_totals};
 ghost use Rattle.books.specs.Summing.{added_by, counts_for, plus, refused_next, sums_in, sums_of};
 
-use event_log::{Entry, Event};
+use event_log::Entry;
+use log_entries::Event;
 use std::alloc::{AllocError, Global};
 
 /// How many commits were accepted, and the sum of the numbers of their jobs.

@@ -8,7 +8,7 @@ ghost use Rattle.protocol.specs.Tables.{is_held, with_holder, without_holder};
 ghost use Rattle.borrow.specs.Held.{holds};
 
 use crate::holders::{add, is_held, remove};
-use numbers::ObjectId;
+use ids::ObjectId;
 use protocol_data::Object;
 use std::alloc::AllocError;
 

@@ -7,8 +7,8 @@ ghost use Rattle.protocol.specs.Sets.{has_id};
 ghost use Rattle.protocol.specs.Tables.{id_or, is_held, with_dead_holder, with_holder, without_holder};
 ghost use Rattle.borrow.specs.Held.{holds};
 
+use ids::ObjectId;
 use number_lists::{add_object, has_object};
-use numbers::ObjectId;
 use protocol_data::Object;
 use std::alloc::AllocError;
 

@@ -6,7 +6,7 @@ use Rattle.meaning.specs.Values.{Id, Named, Outcome}
 use Rattle.meaning.specs.Runs as runs
 use Rattle.values.specs.declared.value.RunValue.{RunValue}
 use Rattle.values.specs.declared.content.Content.{Content}
-use Rattle.values.specs.Values.{value_of, content_of, id_of}
+use Rattle.values.specs.Values.{value_of, content_of}
 use Rattle.task_spec.specs.Births.{birth_of}
 use Rattle.task_spec.specs.declared.birth.Birth.{Birth}
 use Rattle.frame_laws.specs.Resuming.{after}
@@ -22,7 +22,7 @@ use Rattle.evaluation.specs.declared.piece.Stop.TheVariants as stops
 use Rattle.evaluation.specs.declared.piece.Piece.{Piece}
 
 abbrev pub stop_of : Stop → runs.Stop
-stop_of (stops.Needs o) = runs.Needs (Named (id_of o))
+stop_of (stops.Needs o) = runs.Needs (Named o)
 stop_of (stops.Ends c) = runs.Over (content_of c)
 
 abbrev pub piece_of : Piece → runs.Piece

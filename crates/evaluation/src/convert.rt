@@ -2,7 +2,7 @@
 
 ghost use Rattle.std.specs.Prelude.{◌≡◌, IfOk, IfErr, map};
 ghost use Rattle.meaning.specs.Values as meant;
-ghost use Rattle.values.specs.Values.{value_of as task_value, content_of, id_of};
+ghost use Rattle.values.specs.Values.{value_of as task_value, content_of};
 ghost use Rattle.task_spec.specs.Births.{argument_of as task_argument, birth_of};
 ghost use Rattle.frames.specs.Values.{value_of, outcome_of};
 ghost use Rattle.frames.specs.Machines.{argument_of, made_of};
@@ -107,7 +107,7 @@ pub(crate) fn from_arguments(
 
 /// The object that a reference names.
 pub(crate) fn named(reference: &Value) -> Result<ObjectId, ConversionError>
-    ensures value { IfOk result (λ o. value_of reference.now ≡ meant.Named (id_of o)) }
+    ensures value { IfOk result (λ o. value_of reference.now ≡ meant.Named o) }
     ensures kind { IfErr result (λ e. e ≡ ConversionError.Broken → ⊥) }
     ensures plain { IfErr result (λ e. e ≡ ConversionError.HasOutcome → IsNamed (value_of reference.now) → ⊥) }
 {

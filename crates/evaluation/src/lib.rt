@@ -2,9 +2,11 @@
 #![tactic(auto)]
 
 mod convert;
+mod no_memory;
 mod piece;
 mod serial;
 
 pub use frames::{Compiled, Frame};
+pub use no_memory::NoMemory;
 pub use piece::{Piece, PieceError, Stop, go_on, run_piece};
 pub use serial::{SerialError, SerialRun, run_serially};

@@ -6,7 +6,7 @@ ghost use Rattle.meaning.specs.Runs.{Over, stopped};
 ghost use Rattle.meaning.specs.Runs as runs;
 ghost use Rattle.meaning.specs.Meaning.{replay};
 ghost use Rattle.script_check.specs.Trees.{script_of};
-ghost use Rattle.values.specs.Values.{value_of, content_of, id_of};
+ghost use Rattle.values.specs.Values.{value_of, content_of};
 ghost use Rattle.task_spec.specs.Births.{birth_of};
 ghost use Rattle.frame_laws.specs.Resuming.{after};
 ghost use Rattle.frame_laws.specs.Steps.{HasSteps};
@@ -201,14 +201,14 @@ pub fn run_piece(
     answers: &[Content],
 ) -> Result<Piece, PieceError>
     // What is given is the task's replay.
-    ensures replayed { IfOk result (λ p. piece_of p ≡ replay (script_of script.now) (birth_of spec.now) (id_of base) (map content_of answers.now)) }
+    ensures replayed { IfOk result (λ p. piece_of p ≡ replay (script_of script.now) (birth_of spec.now) base (map content_of answers.now)) }
     // It is broken only where the replay is.
     ensures broken { IfErr result (λ e. e ≡ PieceError.Broken →
-        (replay (script_of script.now) (birth_of spec.now) (id_of base) (map content_of answers.now)).stop ≡ Over (Trapped Broken)) }
+        (replay (script_of script.now) (birth_of spec.now) base (map content_of answers.now)).stop ≡ Over (Trapped Broken)) }
     // Its frame, if it has one, is where the task waits that was so answered.
-    ensures keeps { IfOk result (λ p. Keeps (script_of script.now) (birth_of spec.now) (id_of base) no_past (map content_of answers.now) p) }
+    ensures keeps { IfOk result (λ p. Keeps (script_of script.now) (birth_of spec.now) base no_past (map content_of answers.now) p) }
     // Its steps are those that the task began since the last of the answers.
-    ensures counts { IfOk result (λ p. HasSteps (script_of script.now) (birth_of spec.now) (id_of base) (map content_of answers.now) p.steps) }
+    ensures counts { IfOk result (λ p. HasSteps (script_of script.now) (birth_of spec.now) base (map content_of answers.now) p.steps) }
 {
     match spec {
         Birth::Put(value) => Ok(put_piece(alloc, value)?),

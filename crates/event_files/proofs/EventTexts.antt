@@ -6,12 +6,10 @@ use Rattle.std.specs.Fmt.{decimal}
 use Rattle.std.specs.Str.{bytes_eq}
 use Rattle.std.proofs.lemmas.Slice.Eq.{bytes_eq-Decides}
 use Rattle.ids.specs.Texts.{object_text, IsObject}
-use Rattle.ids.specs.declared.worker.WorkerId.{WorkerId}
-use Rattle.ids.specs.declared.node.NodeId.{NodeId}
-use Rattle.ids.specs.declared.object.ObjectId.{ObjectId}
-use Rattle.event_log.specs.Texts.{event_text}
-use Rattle.event_log.specs.declared.event.Event.{Event}
-use Rattle.event_log.specs.declared.event.Event.TheVariants.{Claim, Commit, Deliver, Tick, Notice, NoticeNode, Evict, Lose, Kill, KillNode, Join}
+use Rattle.meaning.specs.Values.{Id}
+use Rattle.log_entries.specs.Texts.{event_text}
+use Rattle.log_entries.specs.declared.event.Event.{Event}
+use Rattle.log_entries.specs.declared.event.Event.TheVariants.{Claim, Commit, Deliver, Tick, Notice, NoticeNode, Evict, Lose, Kill, KillNode, Join}
 use Rattle.event_files.specs.Lines.{IsEvent}
 use Rattle.event_files.specs.Reading.{pick, go_on, both, has, parted, behind, number_in, worker_in, node_in, object_in, two_workers_in, worker_and_node_in, node_and_object_in, event_in}
 use Rattle.event_files.proofs.Decimals.{number_in-decimal, number_in-is, given_of}
@@ -28,39 +26,45 @@ small n h = number_in-decimal 32 n (omega arith) h
 
 pub event_in-text : (e : Event) → IsEvent e → event_in (event_text e) ≡ Some e
 unfolding event_in
-event_in-text (Claim w) h = rw (small w.0 h) refl
+event_in-text (Claim w) h = rw (small w h) refl
 event_in-text (Commit j) h = rw (number_in-decimal 64 j h h) refl
 event_in-text (Deliver m) h = rw (number_in-decimal 64 m h h) refl
-event_in-text (Tick w) h = rw (small w.0 h) refl
-event_in-text (Notice w v) h = rw (space w.0 (decimal v.0) h.0, small w.0 h.0, small v.0 h.1) refl
-event_in-text (NoticeNode w n) h = rw (space w.0 (decimal n.0) h.0, small w.0 h.0, small n.0 h.1) refl
-event_in-text (Evict n o) h = rw (space n.0 (object_text o) h.0, small n.0 h.0, object_in-text o h.1) refl
-event_in-text (Lose n o) h = rw (space n.0 (object_text o) h.0, small n.0 h.0, object_in-text o h.1) refl
-event_in-text (Kill w) h = rw (small w.0 h) refl
-event_in-text (KillNode n) h = rw (small n.0 h) refl
+event_in-text (Tick w) h = rw (small w h) refl
+event_in-text (Notice w v) h = rw (space w (decimal v) h.0, small w h.0, small v h.1) refl
+event_in-text (NoticeNode w n) h = rw (space w (decimal n) h.0, small w h.0, small n h.1) refl
+event_in-text (Evict n o) h = rw (space n (object_text o) h.0, small n h.0, object_in-text o h.1) refl
+event_in-text (Lose n o) h = rw (space n (object_text o) h.0, small n h.0, object_in-text o h.1) refl
+event_in-text (Kill w) h = rw (small w h) refl
+event_in-text (KillNode n) h = rw (small n h) refl
 event_in-text Join h = refl
 
 -- ---- what is read is written so
 
-pub record IsWorkerIn (x : List ℕ) (w : WorkerId) : Type 0 where
-  pub fits : w.0 < 2 ^ 32
-  pub written : x ≡ decimal w.0
+pub record IsWorkerIn (x : List ℕ) (w : ℕ) : Type 0 where
+  pub fits : w < 2 ^ 32
+  pub written : x ≡ decimal w
 
-record IsNodeIn (x : List ℕ) (n : NodeId) : Type 0 where
-  pub fits : n.0 < 2 ^ 32
-  pub written : x ≡ decimal n.0
+record IsNodeIn (x : List ℕ) (n : ℕ) : Type 0 where
+  pub fits : n < 2 ^ 32
+  pub written : x ≡ decimal n
 
 record IsNumberIn (x : List ℕ) (n : ℕ) : Type 0 where
   pub fits : n < 2 ^ 64
   pub written : x ≡ decimal n
 
 pub worker_in-is : (x : List ℕ) → IfSome (worker_in x) (IsWorkerIn x)
-worker_in-is x = map_keeps (IsWorkerIn x) (number_in 32 x) (λ n. record { 0 = n }) (λ n e.
-    let k = given_of (λ m. (m < 2 ^ 32) × (x ≡ decimal m)) (number_in 32 x) n (number_in-is 32 x) e in record { fits = k.0; written = k.1 })
+worker_in-is x = by_case (number_in 32 x) (number_in-is 32 x)
+  where
+    by_case : (r : Option ℕ) → IfSome r (λ n. (n < 2 ^ 32) × (x ≡ decimal n)) → IfSome r (IsWorkerIn x)
+    by_case None h = tt
+    by_case (Some n) h = record { fits = h.0; written = h.1 }
 
 node_in-is : (x : List ℕ) → IfSome (node_in x) (IsNodeIn x)
-node_in-is x = map_keeps (IsNodeIn x) (number_in 32 x) (λ n. record { 0 = n }) (λ n e.
-    let k = given_of (λ m. (m < 2 ^ 32) × (x ≡ decimal m)) (number_in 32 x) n (number_in-is 32 x) e in record { fits = k.0; written = k.1 })
+node_in-is x = by_case (number_in 32 x) (number_in-is 32 x)
+  where
+    by_case : (r : Option ℕ) → IfSome r (λ n. (n < 2 ^ 32) × (x ≡ decimal n)) → IfSome r (IsNodeIn x)
+    by_case None h = tt
+    by_case (Some n) h = record { fits = h.0; written = h.1 }
 
 number_is : (x : List ℕ) → IfSome (number_in 64 x) (IsNumberIn x)
 number_is x = by_case (number_in 64 x) (number_in-is 64 x)
@@ -91,14 +95,14 @@ fields P Q a b p q x =
     let parts = given_of (IsParted 32 x) (parted 32 x) y (parted-is 32 x) e in
     two_fields P Q x y.0 y.1 (a y.0) (b y.1) (p y.0) (q y.1) parts.are) tt
 
-record IsObjectIn (x : List ℕ) (o : ObjectId) : Type 0 where
+record IsObjectIn (x : List ℕ) (o : Id) : Type 0 where
   pub fits : IsObject o
   pub written : x ≡ object_text o
 
 object_is : (x : List ℕ) → IfSome (object_in x) (IsObjectIn x)
 object_is x = by_case (object_in x) (object_in-is x)
   where
-    by_case : (r : Option ObjectId) → IfSome r (λ o. IsObject o × (x ≡ object_text o)) → IfSome r (IsObjectIn x)
+    by_case : (r : Option Id) → IfSome r (λ o. IsObject o × (x ≡ object_text o)) → IfSome r (IsObjectIn x)
     by_case None h = tt
     by_case (Some n) h = record { fits = h.0; written = h.1 }
 
@@ -132,13 +136,13 @@ event_in-is bytes =
     of_kind IsNumberIn (codes "deliver ") bytes (number_in 64) (λ m. Deliver m) _ number_is (λ x m h. record { fits = h.fits; written = ap (λ z. codes "deliver " ++ z) h.written }) (
     of_kind IsWorkerIn (codes "tick ") bytes worker_in (λ w. Tick w) _ worker_in-is (λ x w h. record { fits = h.fits; written = ap (λ z. codes "tick " ++ z) h.written }) (
     of_kind (AreFields IsWorkerIn IsWorkerIn) (codes "notice ") bytes two_workers_in (λ p. Notice p.0 p.1) _ (fields IsWorkerIn IsWorkerIn worker_in worker_in worker_in-is worker_in-is)
-    (λ x p h. record { fits = (h.first.fits, h.second.fits); written = ap (λ z. codes "notice " ++ z) (two_written x h.front h.back (decimal p.0.0) (decimal p.1.0) h.are h.first.written h.second.written) }) (
+    (λ x p h. record { fits = (h.first.fits, h.second.fits); written = ap (λ z. codes "notice " ++ z) (two_written x h.front h.back (decimal p.0) (decimal p.1) h.are h.first.written h.second.written) }) (
     of_kind (AreFields IsWorkerIn IsNodeIn) (codes "notice-node ") bytes worker_and_node_in (λ p. NoticeNode p.0 p.1) _ (fields IsWorkerIn IsNodeIn worker_in node_in worker_in-is node_in-is)
-    (λ x p h. record { fits = (h.first.fits, h.second.fits); written = ap (λ z. codes "notice-node " ++ z) (two_written x h.front h.back (decimal p.0.0) (decimal p.1.0) h.are h.first.written h.second.written) }) (
+    (λ x p h. record { fits = (h.first.fits, h.second.fits); written = ap (λ z. codes "notice-node " ++ z) (two_written x h.front h.back (decimal p.0) (decimal p.1) h.are h.first.written h.second.written) }) (
     of_kind (AreFields IsNodeIn IsObjectIn) (codes "evict ") bytes node_and_object_in (λ p. Evict p.0 p.1) _ (fields IsNodeIn IsObjectIn node_in object_in node_in-is object_is)
-    (λ x p h. record { fits = (h.first.fits, h.second.fits); written = ap (λ z. codes "evict " ++ z) (two_written x h.front h.back (decimal p.0.0) (object_text p.1) h.are h.first.written h.second.written) }) (
+    (λ x p h. record { fits = (h.first.fits, h.second.fits); written = ap (λ z. codes "evict " ++ z) (two_written x h.front h.back (decimal p.0) (object_text p.1) h.are h.first.written h.second.written) }) (
     of_kind (AreFields IsNodeIn IsObjectIn) (codes "lose ") bytes node_and_object_in (λ p. Lose p.0 p.1) _ (fields IsNodeIn IsObjectIn node_in object_in node_in-is object_is)
-    (λ x p h. record { fits = (h.first.fits, h.second.fits); written = ap (λ z. codes "lose " ++ z) (two_written x h.front h.back (decimal p.0.0) (object_text p.1) h.are h.first.written h.second.written) }) (
+    (λ x p h. record { fits = (h.first.fits, h.second.fits); written = ap (λ z. codes "lose " ++ z) (two_written x h.front h.back (decimal p.0) (object_text p.1) h.are h.first.written h.second.written) }) (
     of_kind IsWorkerIn (codes "kill ") bytes worker_in (λ w. Kill w) _ worker_in-is (λ x w h. record { fits = h.fits; written = ap (λ z. codes "kill " ++ z) h.written }) (
     of_kind IsNodeIn (codes "kill-node ") bytes node_in (λ n. KillNode n) _ node_in-is (λ x n h. record { fits = h.fits; written = ap (λ z. codes "kill-node " ++ z) h.written }) (
     is_join bytes))))))))))
@@ -148,21 +152,21 @@ event_in-is bytes =
 feed : (n : ℕ) → n < 2 ^ 64 → has 10 (decimal n) ≡ false
 feed n h = no_mark_in_decimal 10 n (omega arith) h
 
-feed_in_object : (o : ObjectId) → IsObject o → has 10 (object_text o) ≡ false
-feed_in_object o h = has-append 10 (decimal o.owner.0) (codes "." ++ decimal o.serial) (feed o.owner.0 (omega (arith, h.0))) (feed o.serial h.1)
+feed_in_object : (o : Id) → IsObject o → has 10 (object_text o) ≡ false
+feed_in_object o h = has-append 10 (decimal o.owner) (codes "." ++ decimal o.serial) (feed o.owner (omega (arith, h.0))) (feed o.serial h.1)
 
 feed_in_two : (m : ℕ) (back : List ℕ) → m < 2 ^ 32 → has 10 back ≡ false → has 10 (decimal m ++ (codes " " ++ back)) ≡ false
 feed_in_two m back h k = has-append 10 (decimal m) (codes " " ++ back) (feed m (omega arith)) k
 
 pub event_in_a_line : (e : Event) → IsEvent e → has 10 (event_text e) ≡ false
-event_in_a_line (Claim w) h = feed w.0 (omega arith)
+event_in_a_line (Claim w) h = feed w (omega arith)
 event_in_a_line (Commit j) h = feed j h
 event_in_a_line (Deliver m) h = feed m h
-event_in_a_line (Tick w) h = feed w.0 (omega arith)
-event_in_a_line (Notice w v) h = feed_in_two w.0 (decimal v.0) h.0 (feed v.0 (omega (arith, h.1)))
-event_in_a_line (NoticeNode w n) h = feed_in_two w.0 (decimal n.0) h.0 (feed n.0 (omega (arith, h.1)))
-event_in_a_line (Evict n o) h = feed_in_two n.0 (object_text o) h.0 (feed_in_object o h.1)
-event_in_a_line (Lose n o) h = feed_in_two n.0 (object_text o) h.0 (feed_in_object o h.1)
-event_in_a_line (Kill w) h = feed w.0 (omega arith)
-event_in_a_line (KillNode n) h = feed n.0 (omega arith)
+event_in_a_line (Tick w) h = feed w (omega arith)
+event_in_a_line (Notice w v) h = feed_in_two w (decimal v) h.0 (feed v (omega (arith, h.1)))
+event_in_a_line (NoticeNode w n) h = feed_in_two w (decimal n) h.0 (feed n (omega (arith, h.1)))
+event_in_a_line (Evict n o) h = feed_in_two n (object_text o) h.0 (feed_in_object o h.1)
+event_in_a_line (Lose n o) h = feed_in_two n (object_text o) h.0 (feed_in_object o h.1)
+event_in_a_line (Kill w) h = feed w (omega arith)
+event_in_a_line (KillNode n) h = feed n (omega arith)
 event_in_a_line Join h = refl

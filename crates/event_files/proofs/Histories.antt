@@ -8,10 +8,9 @@ use Rattle.std.specs.List.{flat_map}
 use Rattle.std.specs.Fmt.{decimal}
 use Rattle.std.proofs.lemmas.Bool.Decides.{nat_tests}
 use Rattle.std.proofs.lemmas.List.{append_assoc}
-use Rattle.ids.specs.declared.worker.WorkerId.{WorkerId}
-use Rattle.event_log.specs.Texts.{event_text}
-use Rattle.event_log.specs.declared.event.Event.{Event}
-use Rattle.event_log.specs.declared.event.Event.TheVariants.{Claim}
+use Rattle.log_entries.specs.Texts.{event_text}
+use Rattle.log_entries.specs.declared.event.Event.{Event}
+use Rattle.log_entries.specs.declared.event.Event.TheVariants.{Claim}
 use Rattle.event_files.specs.declared.recorded.RecordedEvent.{RecordedEvent}
 use Rattle.event_files.specs.Lines.{IsEvent}
 use Rattle.event_files.specs.Files.{Row, Said, is_passed, AreRows, rows_text, all_said}
@@ -35,9 +34,9 @@ seat_read s h =
 said_read : (s : ℕ) (e : Event) (given : Option ℕ) → IsEvent e → IsGiven e given → said_in s (event_text e ++ given_text given) ≡ Some (recorded s e given)
 said_read s (Claim w) None h k = absurd k
 said_read s (Claim w) (Some j) h k =
-    let space : parted 32 (decimal w.0 ++ 32 ∷ decimal j) ≡ Some (decimal w.0, decimal j) =
-    parted-at 32 (decimal w.0) (decimal j) (no_mark_in_decimal 32 w.0 (omega arith) (omega (arith, h))) in
-    let worker = number_in-decimal 32 w.0 (omega (arith, h)) h in
+    let space : parted 32 (decimal w ++ 32 ∷ decimal j) ≡ Some (decimal w, decimal j) =
+    parted-at 32 (decimal w) (decimal j) (no_mark_in_decimal 32 w (omega arith) (omega (arith, h))) in
+    let worker = number_in-decimal 32 w (omega (arith, h)) h in
     let job = number_in-decimal 64 j k k in
     rw (space, worker, job) refl
 said_read s e (Some j) h k = absurd k
@@ -71,14 +70,14 @@ seat_in-is bytes =
     by_test n e true f = (grind (arith, nat_tests), e)
     by_test n e false f = tt
 
-job_is : (seat : ℕ) (bytes front back : List ℕ) (w : WorkerId) → bytes ≡ codes "claim " ++ (front ++ 32 ∷ back) → IsWorkerIn front w →
+job_is : (seat : ℕ) (bytes front back : List ℕ) (w : ℕ) → bytes ≡ codes "claim " ++ (front ++ 32 ∷ back) → IsWorkerIn front w →
     (o : Option ℕ) → IfSome o (λ j. (j < 2 ^ 64) × (back ≡ decimal j)) → IfSome (option_map (λ j. recorded seat (Claim w) (Some j)) o) (IsSaidIn seat bytes)
 job_is seat bytes front back w e worker None h = tt
 job_is seat bytes front back w e worker (Some j) h = record {
   same_seat = refl;
   fits = worker.fits;
   given = h.0;
-  written = e ∙ ap (λ z. codes "claim " ++ (z ++ 32 ∷ back)) worker.written ∙ ap (λ z. codes "claim " ++ (decimal w.0 ++ 32 ∷ z)) h.1;
+  written = e ∙ ap (λ z. codes "claim " ++ (z ++ 32 ∷ back)) worker.written ∙ ap (λ z. codes "claim " ++ (decimal w ++ 32 ∷ z)) h.1;
 }
 
 claim_is : (seat : ℕ) (bytes x : List ℕ) → bytes ≡ codes "claim " ++ x → IfSome (claim_in seat x) (IsSaidIn seat bytes)
@@ -89,7 +88,7 @@ claim_is seat bytes x e =
     (given_of (IsWorkerIn y.0) (worker_in y.0) w (worker_in-is y.0) g) (number_in 64 y.1) (number_in-is 64 y.1)) tt) tt
 
 not_claim : (e : Event) → behind (codes "claim ") (event_text e) ≡ None → IsGiven e None
-not_claim (Claim w) h = let f = behind-append (codes "claim ") (decimal w.0) in absurd (cc)
+not_claim (Claim w) h = let f = behind-append (codes "claim ") (decimal w) in absurd (cc)
 not_claim e h = tt
 
 other_is : (seat : ℕ) (bytes : List ℕ) → behind (codes "claim ") bytes ≡ None → (o : Option Event) → IfSome o (IsEventIn bytes) →

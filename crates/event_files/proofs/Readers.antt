@@ -12,10 +12,9 @@ use Rattle.std.proofs.lemmas.List.{append_assoc}
 use Rattle.std.proofs.lemmas.Fmt.{decimal_is_IsNumeral, decimal_nonempty}
 use Rattle.std.proofs.lemmas.Str.Parse.{digit_at}
 use Rattle.std.proofs.lemmas.Bool.Decides.{nat_tests}
-use Rattle.ids.specs.declared.worker.WorkerId.{WorkerId}
-use Rattle.event_log.specs.Texts.{event_text}
-use Rattle.event_log.specs.declared.event.Event.{Event}
-use Rattle.event_log.specs.declared.event.Event.TheVariants as events
+use Rattle.log_entries.specs.Texts.{event_text}
+use Rattle.log_entries.specs.declared.event.Event.{Event}
+use Rattle.log_entries.specs.declared.event.Event.TheVariants as events
 use Rattle.event_files.specs.declared.line.Line.{Line}
 use Rattle.event_files.specs.declared.line.Line.TheVariants as lines
 use Rattle.event_files.specs.declared.plan.PlanLine.{PlanLine}
@@ -60,7 +59,7 @@ record IsLineIn (bytes : List ℕ) (l : Line) : Type 0 where
 settle_is : (bytes x : List ℕ) → bytes ≡ codes "settle but " ++ x → IfSome (settle_in x) (IsLineIn bytes)
 settle_is bytes x e = by_case (workers_in x) (workers_in-is x)
   where
-    by_case : (r : Option (List WorkerId)) → IfSome r (AreWorkersIn (32 ∷ x)) → IfSome (option_map (λ ws. lines.Settle ws) r) (IsLineIn bytes)
+    by_case : (r : Option (List ℕ)) → IfSome r (AreWorkersIn (32 ∷ x)) → IfSome (option_map (λ ws. lines.Settle ws) r) (IsLineIn bytes)
     by_case None h = tt
     by_case (Some []) h = let f = h.written in absurd (cc)
     by_case (Some (w ∷ ws)) h = record { fits = h.fit; written = e ∙ ap (λ z. codes "settle but" ++ z) h.written }
@@ -82,10 +81,10 @@ line_in-is bytes = by_test (bytes_eq bytes (codes "settle")) refl
     by_test false e = pick_keeps (IsLineIn bytes) (behind (codes "settle but ") bytes) (λ x. settle_in x) (option_map (λ f. lines.Event f) (event_in bytes))
         (λ x f. settle_is bytes x (behind-is (codes "settle but ") bytes x f)) (event_is bytes)
 
-workers_in_a_line : (ws : List WorkerId) → AreWorkers ws → has 10 (workers_text ws) ≡ false
+workers_in_a_line : (ws : List ℕ) → AreWorkers ws → has 10 (workers_text ws) ≡ false
 workers_in_a_line [] h = refl
 workers_in_a_line (w ∷ ws) h =
-    has-append 10 (decimal w.0) (workers_text ws) (no_mark_in_decimal 10 w.0 (omega arith) (omega (arith, h.0))) (workers_in_a_line ws h.1)
+    has-append 10 (decimal w) (workers_text ws) (no_mark_in_decimal 10 w (omega arith) (omega (arith, h.0))) (workers_in_a_line ws h.1)
 
 line_in_a_line : (l : Line) → IsLine l → has 10 (line_text l) ≡ false
 line_in_a_line (lines.Event e) h = event_in_a_line e h

@@ -1,8 +1,8 @@
 -- Events, written as a file.
 use Rattle.std.specs.Prelude.{ℕ, List, ◌++◌, ◌∷◌, []}
 use Rattle.std.specs.List.{flat_map}
-use Rattle.event_log.specs.Texts.{event_text}
-use Rattle.event_log.specs.declared.event.Event.{Event}
+use Rattle.log_entries.specs.Texts.{event_text}
+use Rattle.log_entries.specs.declared.event.Event.{Event}
 
 -- an event, and a line feed
 abbrev pub event_line : Event → List ℕ

@@ -4,11 +4,9 @@ use Rattle.std.specs.Option.{option_map}
 use Rattle.std.specs.Str.{bytes_eq}
 use Rattle.std.specs.Str.Parse.{digits_value}
 use Rattle.std.specs.Fmt.{decimal}
-use Rattle.ids.specs.declared.worker.WorkerId.{WorkerId}
-use Rattle.ids.specs.declared.node.NodeId.{NodeId}
-use Rattle.ids.specs.declared.object.ObjectId.{ObjectId}
-use Rattle.event_log.specs.declared.event.Event.{Event}
-use Rattle.event_log.specs.declared.event.Event.TheVariants as events
+use Rattle.meaning.specs.Values.{Id}
+use Rattle.log_entries.specs.declared.event.Event.{Event}
+use Rattle.log_entries.specs.declared.event.Event.TheVariants as events
 use Rattle.event_files.specs.declared.line.Line.{Line}
 use Rattle.event_files.specs.declared.line.Line.TheVariants as lines
 
@@ -47,30 +45,30 @@ checked bits n bytes = if bytes_eq (decimal n) bytes then (if nat_lt n (2 ^ bits
 unfoldable pub number_in : ℕ → List ℕ → Option ℕ
 number_in bits bytes = checked bits (digits_value 10 bytes) bytes
 
-abbrev pub worker_in : List ℕ → Option WorkerId
-worker_in bytes = option_map (λ n. record { 0 = n }) (number_in 32 bytes)
+abbrev pub worker_in : List ℕ → Option ℕ
+worker_in bytes = number_in 32 bytes
 
-abbrev pub node_in : List ℕ → Option NodeId
-node_in bytes = option_map (λ n. record { 0 = n }) (number_in 32 bytes)
+abbrev pub node_in : List ℕ → Option ℕ
+node_in bytes = number_in 32 bytes
 
-abbrev pub object_of : ℕ → ℕ → ObjectId
-object_of owner serial = record { owner = record { 0 = owner }; serial = serial }
+abbrev pub object_of : ℕ → ℕ → Id
+object_of owner serial = record { owner = owner; serial = serial }
 
 -- two parts with a mark between
 abbrev pub both : {A B : Type 0} → Option A → Option B → Option (A × B)
 both a b = go_on a (λ x. go_on b (λ y. Some (x, y)))
 
-unfoldable pub object_in : List ℕ → Option ObjectId
+unfoldable pub object_in : List ℕ → Option Id
 object_in bytes = go_on (behind (codes "o") bytes) (λ rest. go_on (parted 46 rest) (λ x.
     option_map (λ (y : ℕ × ℕ). object_of y.0 y.1) (both (number_in 32 x.0) (number_in 64 x.1))))
 
-abbrev pub two_workers_in : List ℕ → Option (WorkerId × WorkerId)
+abbrev pub two_workers_in : List ℕ → Option (ℕ × ℕ)
 two_workers_in bytes = go_on (parted 32 bytes) (λ x. both (worker_in x.0) (worker_in x.1))
 
-abbrev pub worker_and_node_in : List ℕ → Option (WorkerId × NodeId)
+abbrev pub worker_and_node_in : List ℕ → Option (ℕ × ℕ)
 worker_and_node_in bytes = go_on (parted 32 bytes) (λ x. both (worker_in x.0) (node_in x.1))
 
-abbrev pub node_and_object_in : List ℕ → Option (NodeId × ObjectId)
+abbrev pub node_and_object_in : List ℕ → Option (ℕ × Id)
 node_and_object_in bytes = go_on (parted 32 bytes) (λ x. both (node_in x.0) (object_in x.1))
 
 unfoldable pub event_in : List ℕ → Option Event
@@ -96,11 +94,11 @@ abbrev pub words_in : List ℕ → List (List ℕ)
 words_in [] = [] ∷ []
 words_in (b ∷ bytes) = if b == 32 then [] ∷ words_in bytes else before_first b (words_in bytes)
 
-abbrev pub all_workers : List (List ℕ) → Option (List WorkerId)
+abbrev pub all_workers : List (List ℕ) → Option (List ℕ)
 all_workers [] = Some []
 all_workers (x ∷ xs) = go_on (worker_in x) (λ w. go_on (all_workers xs) (λ ws. Some (w ∷ ws)))
 
-abbrev pub workers_in : List ℕ → Option (List WorkerId)
+abbrev pub workers_in : List ℕ → Option (List ℕ)
 workers_in bytes = all_workers (words_in bytes)
 
 abbrev pub settle_in : List ℕ → Option Line

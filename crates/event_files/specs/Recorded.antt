@@ -3,9 +3,9 @@ use Rattle.std.specs.Prelude.{◌≡◌, ℕ, ◌+◌, ◌<◌, ◌^◌, if◌th
 use Rattle.std.specs.List.{flat_map}
 use Rattle.std.specs.Option.{option_map}
 use Rattle.std.specs.Fmt.{decimal}
-use Rattle.event_log.specs.Texts.{event_text}
-use Rattle.event_log.specs.declared.event.Event.{Event}
-use Rattle.event_log.specs.declared.event.Event.TheVariants.{Claim}
+use Rattle.log_entries.specs.Texts.{event_text}
+use Rattle.log_entries.specs.declared.event.Event.{Event}
+use Rattle.log_entries.specs.declared.event.Event.TheVariants.{Claim}
 use Rattle.event_files.specs.declared.error.EventError.{EventError}
 use Rattle.event_files.specs.declared.error.EventError.TheVariants as errors
 use Rattle.event_files.specs.declared.event_file.EventFile.{EventFile}

@@ -5,8 +5,8 @@ ghost use Rattle.event_files.specs.Reading.{event_in, two_workers_in, worker_and
 
 use crate::numbers::{read_node, read_number, read_object, read_worker};
 use crate::parts::{behind, parted};
-use event_log::Event;
 use ids::{NodeId, ObjectId, WorkerId};
+use log_entries::Event;
 
 fn two_workers(text: &[u8]) -> Option<(WorkerId, WorkerId)>
     ensures { result ≡ two_workers_in text.now }

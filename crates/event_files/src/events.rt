@@ -9,7 +9,7 @@ use crate::error::EventError;
 use crate::line::{Line, read_line};
 use crate::parts::parted;
 use crate::passing::is_passed;
-use event_log::Event;
+use log_entries::Event;
 use sequence::Seq;
 use std::alloc::{AllocError, Global};
 

@@ -1,7 +1,7 @@
 // The laws of event files and plans.
 
 ghost use Rattle.std.specs.Prelude.{◌≡◌, ℕ, List, map};
-ghost use Rattle.event_log.specs.declared.event.Event.{Event};
+ghost use Rattle.log_entries.specs.declared.event.Event.{Event};
 ghost use Rattle.event_files.specs.declared.line.Line.{Line};
 ghost use Rattle.event_files.specs.declared.line.Line.TheVariants as lines;
 ghost use Rattle.event_files.specs.declared.plan.PlanLine.{PlanLine};

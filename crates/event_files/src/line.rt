@@ -6,8 +6,8 @@ ghost use Rattle.event_files.specs.Reading.{line_in, settle_in, workers_in};
 use crate::event::read_event;
 use crate::numbers::read_worker;
 use crate::parts::{behind, parted};
-use event_log::Event;
 use ids::WorkerId;
+use log_entries::Event;
 use sequence::Seq;
 use std::alloc::{AllocError, Global};
 

@@ -1,38 +1,15 @@
 // Numbers and objects in texts.
 
-ghost use Rattle.std.specs.Prelude.{◌≡◌, ◌<◌, ◌^◌, ℕ, IfSome, Some};
-ghost use Rattle.std.specs.Fmt.{decimal};
-ghost use Rattle.std.specs.Option.{option_map};
+ghost use Rattle.std.specs.Prelude.{◌≡◌};
 ghost use Rattle.event_files.specs.Reading.{number_in, worker_in, node_in, object_in};
 
 use ids::{NodeId, ObjectId, WorkerId};
-use std::str;
-
-/// The number that a text writes in decimal, with no leading zeros.
-fn number(text: &[u8]) -> Option<u64>
-    ensures found { IfSome result (λ n. text.now ≡ decimal n) }
-    ensures only { (n : ℕ) → n < 2 ^ 64 → text.now ≡ decimal n → result ≡ Some n }
-{
-    if text.is_empty() {
-        return None;
-    }
-    if text[0] == b'+' {
-        return None;
-    }
-    if text[0] == b'0' {
-        return if text.len() == 1 { Some(0) } else { None };
-    }
-    let Ok(text) = str::from_utf8(text) else {
-        return None;
-    };
-    text.parse::<u64>().ok()
-}
 
 /// The number of 64 bits that a text writes.
 pub fn read_number(text: &[u8]) -> Option<u64>
     ensures { result ≡ number_in 64 text.now }
 {
-    let Some(number) = number(text) else {
+    let Some(number) = ids::read_number(text) else {
         return None;
     };
     Some(number)
@@ -42,7 +19,7 @@ pub fn read_number(text: &[u8]) -> Option<u64>
 fn read_small(text: &[u8]) -> Option<u32>
     ensures { result ≡ number_in 32 text.now }
 {
-    let Some(number) = number(text) else {
+    let Some(number) = ids::read_number(text) else {
         return None;
     };
     if number > 4294967295 {

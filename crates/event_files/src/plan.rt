@@ -9,7 +9,7 @@ use crate::event::read_event;
 use crate::numbers::read_number;
 use crate::parts::parted;
 use crate::passing::is_passed;
-use event_log::Event;
+use log_entries::Event;
 use sequence::Seq;
 use std::alloc::Global;
 
@@ -27,8 +27,8 @@ pub struct RunPlan {
 }
 
 /// Whether a plan may have the event: a claim, a commit and a delivery are the run's own.
-fn may_be_planned(event: Event) -> bool
-    ensures { result ≡ may_be_planned event }
+fn may_be_planned(event: &Event) -> bool
+    ensures { result ≡ may_be_planned event.now }
 {
     !matches!(
         event,
@@ -50,7 +50,7 @@ fn read_plan_line(text: &[u8]) -> Option<PlanLine>
     let Some(event) = read_event(back) else {
         return None;
     };
-    if may_be_planned(event) {
+    if may_be_planned(&event) {
         return Some(PlanLine { commits, event });
     }
     None
@@ -70,10 +70,10 @@ pub fn parse_plan(alloc: Global, text: &[u8]) -> Result<RunPlan, EventError>
     while let Some((line, after)) = parted(rest, b'\n') {
         number += 1;
         if !is_passed(line) {
-            let Some(said) = read_plan_line(line) else {
+            let Some(PlanLine { commits, event }) = read_plan_line(line) else {
                 return Err(EventError::BadLine(number));
             };
-            lines.push(said)?;
+            lines.push(PlanLine { commits, event })?;
         }
         rest = after;
     }

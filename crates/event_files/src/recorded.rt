@@ -10,7 +10,7 @@ use crate::event::read_event;
 use crate::numbers::{read_number, read_worker};
 use crate::parts::{behind, parted};
 use crate::passing::is_passed;
-use event_log::Event;
+use log_entries::Event;
 use sequence::Seq;
 use std::alloc::{AllocError, Global};
 
@@ -97,10 +97,10 @@ pub fn parse_recorded(alloc: Global, text: &[u8]) -> Result<Seq<RecordedEvent>, 
     while let Some((line, after)) = parted(rest, b'\n') {
         number += 1;
         if !is_passed(line) {
-            let Some(said) = read_recorded(line) else {
+            let Some(RecordedEvent { seat, event, given }) = read_recorded(line) else {
                 return Err(EventError::BadLine(number + 1));
             };
-            events.push(said)?;
+            events.push(RecordedEvent { seat, event, given })?;
         }
         rest = after;
     }

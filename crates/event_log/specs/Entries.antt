@@ -1,44 +1,12 @@
 -- The events of a run, and the entries of its log.
 use Rattle.std.specs.Prelude.{ℕ}
 use Rattle.meaning.specs.Values.{Value, Outcome, Birth, Id}
-
--- an attempt of an object's task, counted from 0
-pub record Attempt : Type 0 where
-  pub object : Id
-  pub number : ℕ
-
-pub data FaultKind : Type 0 where
-  OwnerDied : FaultKind
-  PutLost : FaultKind
-  RetriesUsed : FaultKind
-
--- why an object has no content, and the object in which the fault began
-pub record Fault : Type 0 where
-  pub kind : FaultKind
-  pub object : Id
-
-pub data Event : Type 0 where
-  -- the worker's next job is given out
-  Claim : (w : ℕ) → Event
-  -- the outcome of the job is applied
-  Commit : (j : ℕ) → Event
-  -- the message reaches its receiver
-  Deliver : (m : ℕ) → Event
-  -- the worker sends again what it waits for
-  Tick : (w : ℕ) → Event
-  -- the worker is told that worker v is dead
-  Notice : (w v : ℕ) → Event
-  -- the worker is told that the node is dead
-  NoticeNode : (w n : ℕ) → Event
-  -- the node's secondary copies of the object go
-  Evict : (n : ℕ) (o : Id) → Event
-  -- every copy of the object at the node goes
-  Lose : (n : ℕ) (o : Id) → Event
-  Kill : (w : ℕ) → Event
-  -- the node and all its workers die
-  KillNode : (n : ℕ) → Event
-  -- a node with the next number comes
-  Join : Event
+pub use Rattle.ids.specs.Attempts.{Attempt}
+pub use Rattle.values.specs.declared.fault.FaultKind.{FaultKind}
+pub use Rattle.values.specs.declared.fault.FaultKind.TheVariants.{OwnerDied, PutLost, RetriesUsed}
+pub use Rattle.values.specs.Faults.{Fault}
+pub use Rattle.log_entries.specs.declared.event.Event.{Event}
+pub use Rattle.log_entries.specs.declared.event.Event.TheVariants.{Claim, Commit, Deliver, Tick, Notice, NoticeNode, Evict, Lose, Kill, KillNode, Join}
 
 pub data Entry : Type 0 where
   -- an event, and the seat from which it came

@@ -15,5 +15,4 @@ pub mod Commits
 pub mod Claims
 pub mod Sane
 pub mod Fresh
-pub mod Texts
 pub mod Views

@@ -1,13 +1,11 @@
 -- What a log says. Each word joins what the entries say one by one.
-use Rattle.std.specs.Prelude.{ℕ, ◌+◌, Bool, ◌&&◌, ◌==◌, if◌then◌else◌, List, [], ◌∷◌, Option, slice_get}
+use Rattle.std.specs.Prelude.{ℕ, ◌+◌, ◌==◌, if◌then◌else◌, List, [], ◌∷◌, Option, slice_get}
 use Rattle.std.specs.List.{flat_map}
 use Rattle.meaning.specs.Values.{Value, Outcome, Id, main_birth}
 use Rattle.meaning.specs.Births.{Bearing, same_id}
 use Rattle.event_log.specs.Entries.{Attempt, Fault, Event, Entry, In, Opened, Begun, Born, Got, Printed, Ended, Accepted, Faulted, Resolved}
 use Rattle.event_log.specs.Entries.{Released, main_object, main_attempt}
-
-unfoldable pub same_attempt : Attempt → Attempt → Bool
-same_attempt a b = same_id a.object b.object && (a.number == b.number)
+unfoldable pub use Rattle.ids.specs.Attempts.{same_attempt}
 
 abbrev pub attempt : Id → ℕ → Attempt
 attempt o number = record { object = o; number = number }

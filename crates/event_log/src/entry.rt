@@ -3,9 +3,8 @@
 ghost use Rattle.std.specs.Prelude.{◌≡◌, IfOk};
 ghost use Rattle.event_log.specs.Views.{entry_of};
 
-use crate::event::Event;
-use crate::refusal::Refusal;
 use ids::{AttemptId, NodeId, ObjectId, WorkerId};
+use log_entries::{Event, Refusal};
 use std::alloc::{AllocError, Global};
 use task_spec::Birth;
 use values::{Content, Fault, RunValue};

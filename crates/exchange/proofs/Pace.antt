@@ -5,9 +5,8 @@ use Rattle.meaning.specs.Lists.{IsFirst}
 use Rattle.meaning.specs.Meaning.{replay}
 use Rattle.meaning.specs.Syntax.{Script}
 use Rattle.meaning.specs.Values as meant
-use Rattle.values.specs.Values.{content_of, id_of, value_of}
+use Rattle.values.specs.Values.{content_of, value_of}
 use Rattle.task_spec.specs.Births.{birth_of}
-use Rattle.event_log.specs.Views.{attempt_of}
 use Rattle.event_log.specs.Entries.{Attempt}
 use Rattle.segment.specs.Jobs.{IsBegun, JobData}
 use Rattle.protocol.specs.Answers.{job_of}
@@ -38,10 +37,10 @@ same_job n m a c b d o p bs ds vs ws cs es en ea eb eo es1 es2 es3 =
 pub like_is_same : (script : Script) (j : JobData) (number : ℕ) (run : Run) → IsInPace script run → IsBegun script j → IsLike j number run →
     job_in j ≡ job_of number run
 like_is_same script j number run pace begun is =
-    let whole : replay script (birth_of j.spec) (id_of j.base) (map content_of j.answers) ≡ replay script run.spec run.base run.answers =
-    ap (λ b. replay script b (id_of j.base) (map content_of j.answers)) is.spec ∙ ap (λ o. replay script run.spec o (map content_of j.answers)) is.base
+    let whole : replay script (birth_of j.spec) j.base (map content_of j.answers) ≡ replay script run.spec run.base run.answers =
+    ap (λ b. replay script b j.base (map content_of j.answers)) is.spec ∙ ap (λ o. replay script run.spec o (map content_of j.answers)) is.base
     ∙ ap (replay script run.spec run.base) is.answers in
-    same_job j.number number (attempt_of j.attempt) run.attempt (birth_of j.spec) run.spec (id_of j.base) run.base (map birth_of j.births) run.births
+    same_job j.number number j.attempt run.attempt (birth_of j.spec) run.spec j.base run.base (map birth_of j.births) run.births
     (map value_of j.printed) run.prints (map content_of j.answers) run.answers is.number is.attempt is.spec is.base
     (beginnings_same (map birth_of j.births) run.births (replay script run.spec run.base run.answers).births (subst (λ r. IsFirst (map birth_of j.births) r.births) whole begun.births)
     pace.births (length-map j.births birth_of ∙ is.births))

@@ -1,8 +1,8 @@
 -- Refusals by their numbers.
 use Rattle.std.specs.Prelude.{◌≡◌, ℕ, List, Some, slice_get}
 use Rattle.event_log.specs.Entries.{Entry, Refused}
-use Rattle.event_log.specs.Views.{code_of}
-use Rattle.event_log.specs.declared.refusal.Refusal.{Refusal}
+use Rattle.log_entries.specs.Refusals.{code_of}
+use Rattle.log_entries.specs.declared.refusal.Refusal.{Refusal}
 
 -- no refusal has that number
 abbrev pub IsNoCode : ℕ → Type 0

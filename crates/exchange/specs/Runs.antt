@@ -3,9 +3,8 @@ use Rattle.std.specs.Prelude.{◌≡◌, ℕ, length, map}
 use Rattle.meaning.specs.Lists.{IsFirst}
 use Rattle.meaning.specs.Meaning.{replay}
 use Rattle.meaning.specs.Syntax.{Script}
-use Rattle.values.specs.Values.{content_of, id_of}
+use Rattle.values.specs.Values.{content_of}
 use Rattle.task_spec.specs.Births.{birth_of}
-use Rattle.event_log.specs.Views.{attempt_of}
 use Rattle.segment.specs.Jobs.{JobData}
 use Rattle.protocol.specs.Tables.{Run}
 
@@ -17,9 +16,9 @@ pub record IsInPace (script : Script) (run : Run) : Type 0 where
 -- the job has the number, the attempt, its task, base and answers, and as many births and prints
 pub record IsLike (j : JobData) (n : ℕ) (run : Run) : Type 0 where
   pub number : j.number ≡ n
-  pub attempt : attempt_of j.attempt ≡ run.attempt
+  pub attempt : j.attempt ≡ run.attempt
   pub spec : birth_of j.spec ≡ run.spec
-  pub base : id_of j.base ≡ run.base
+  pub base : j.base ≡ run.base
   pub answers : map content_of j.answers ≡ run.answers
   pub births : length j.births ≡ length run.births
   pub prints : length j.printed ≡ length run.prints
@@ -27,13 +26,13 @@ pub record IsLike (j : JobData) (n : ℕ) (run : Run) : Type 0 where
 -- the job has the number, the attempt, its task and base, and as many births, prints and answers
 pub record IsShaped (j : JobData) (n : ℕ) (run : Run) : Type 0 where
   pub number : j.number ≡ n
-  pub attempt : attempt_of j.attempt ≡ run.attempt
+  pub attempt : j.attempt ≡ run.attempt
   pub spec : birth_of j.spec ≡ run.spec
-  pub base : id_of j.base ≡ run.base
+  pub base : j.base ≡ run.base
   pub births : length j.births ≡ length run.births
   pub prints : length j.printed ≡ length run.prints
   pub answers : length j.answers ≡ length run.answers
 
 -- as many answers of the job are the attempt's, where the job is of that attempt
 abbrev pub HasItsAnswers : JobData → Run → Type 0
-HasItsAnswers j run = attempt_of j.attempt ≡ run.attempt → length j.answers ≡ length run.answers → map content_of j.answers ≡ run.answers
+HasItsAnswers j run = j.attempt ≡ run.attempt → length j.answers ≡ length run.answers → map content_of j.answers ≡ run.answers

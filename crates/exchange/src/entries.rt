@@ -4,8 +4,6 @@ ghost use Rattle.std.specs.Prelude.{◌≡◌, IfOk, IfSome, IfNone, Some, map};
 ghost use Rattle.event_log.specs.Views.{entry_of};
 ghost use Rattle.exchange.specs.Refusals.{HasUnknown, IsUnknown};
 
-use crate::across::{attempt, fault, node, object, worker};
-use crate::events::event_out;
 use crate::refusals::refusal_of;
 use event_log::Entry;
 use protocol_data::{LogEntry, Said};
@@ -19,7 +17,7 @@ fn logged_entry(alloc: Global, entry: &LogEntry) -> Result<Option<Entry>, AllocE
 {
     let logged = match &entry.said {
         Said::In(event, seat) => Entry::In {
-            event: event_out(event),
+            event: *event,
             seat: *seat,
         },
         Said::Refused(code) => {
@@ -28,40 +26,40 @@ fn logged_entry(alloc: Global, entry: &LogEntry) -> Result<Option<Entry>, AllocE
             };
             Entry::Refused(refusal)
         }
-        Said::Opened(w, n) => Entry::Opened {
-            worker: worker(*w),
-            node: node(*n),
+        Said::Opened(worker, node) => Entry::Opened {
+            worker: *worker,
+            node: *node,
         },
         Said::Begun(a, w) => Entry::Begun {
-            attempt: attempt(*a),
-            worker: worker(*w),
+            attempt: *a,
+            worker: *w,
         },
         Said::Born(o, a, birth) => Entry::Born {
-            object: object(*o),
-            attempt: attempt(*a),
+            object: *o,
+            attempt: *a,
             birth: birth.inner.copy(alloc)?,
         },
         Said::Got(a, o, content) => Entry::Got {
-            attempt: attempt(*a),
-            object: object(*o),
+            attempt: *a,
+            object: *o,
             content: content.inner.copy(alloc)?,
         },
         Said::Printed(value) => Entry::Printed(value.inner.copy(alloc)?),
         Said::Ended(a, content) => Entry::Ended {
-            attempt: attempt(*a),
+            attempt: *a,
             content: content.inner.copy(alloc)?,
         },
-        Said::Accepted(a) => Entry::Accepted(attempt(*a)),
+        Said::Accepted(a) => Entry::Accepted(*a),
         Said::Faulted(a, o, f) => Entry::Faulted {
-            attempt: attempt(*a),
-            object: object(*o),
-            fault: fault(*f),
+            attempt: *a,
+            object: *o,
+            fault: *f,
         },
         Said::Resolved(o, f) => Entry::Resolved {
-            object: object(*o),
-            fault: fault(*f),
+            object: *o,
+            fault: *f,
         },
-        Said::Released(o) => Entry::Released(object(*o)),
+        Said::Released(o) => Entry::Released(*o),
     };
     Ok(Some(logged))
 }

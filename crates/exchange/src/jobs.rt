@@ -4,7 +4,6 @@ ghost use Rattle.std.specs.Prelude.{◌≡◌};
 ghost use Rattle.segment.specs.Parts.{data_of};
 ghost use Rattle.exchange.specs.Jobs.{job_in};
 
-use crate::across::{attempt, object};
 use protocol_data::Job;
 use segment::JobParts;
 
@@ -14,9 +13,9 @@ pub fn job_parts(job: Job) -> JobParts
 {
     JobParts {
         number: job.number,
-        attempt: attempt(job.attempt),
+        attempt: job.attempt,
         spec: job.spec.inner,
-        base: object(job.base),
+        base: job.base,
         births: job.births.inner,
         printed: job.prints.inner,
         answers: job.answers.inner,

@@ -5,7 +5,6 @@ ghost use Rattle.values.specs.Values.{value_of};
 ghost use Rattle.task_spec.specs.Births.{birth_of};
 ghost use Rattle.exchange.specs.Jobs.{stopped_of, work_of};
 
-use crate::across::object_in;
 use evaluation::Stop;
 use held::{Content, Origin, Printed};
 use protocol_data::{Outcomes, Stopped};
@@ -38,7 +37,7 @@ fn stopped(alloc: Global, stop: Stop) -> Result<Stopped, AllocError>
     ensures { IfOk result (λ s. s ≡ stopped_of stop) }
 {
     match stop {
-        Stop::Needs(object) => Ok(Stopped::AtGet(object_in(object))),
+        Stop::Needs(object) => Ok(Stopped::AtGet(object)),
         Stop::Ends(content) => Ok(Stopped::AtEnd(Content::new(alloc, content)?)),
     }
 }

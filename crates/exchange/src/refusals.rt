@@ -1,10 +1,10 @@
 // Refusals by their numbers.
 
 ghost use Rattle.std.specs.Prelude.{◌≡◌, IfSome, IfNone, Some};
-ghost use Rattle.event_log.specs.Views.{code_of};
+ghost use Rattle.log_entries.specs.Refusals.{code_of};
 ghost use Rattle.exchange.specs.Refusals.{IsNoCode};
 
-use event_log::Refusal;
+use log_entries::Refusal;
 
 /// The refusal of that number.
 pub fn refusal_of(code: u8) -> Option<Refusal>

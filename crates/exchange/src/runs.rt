@@ -8,7 +8,6 @@ ghost use Rattle.protocol.specs.Answers.{job_of};
 ghost use Rattle.exchange.specs.Jobs.{job_in};
 ghost use Rattle.exchange.specs.Runs.{HasItsAnswers, IsInPace, IsLike, IsShaped};
 
-use crate::across::{attempt, object};
 use held::{Answers, Births, Prints};
 use protocol_data::Run;
 use segment::{Job, ScriptName};
@@ -86,8 +85,8 @@ fn is_shaped<S: ScriptName>(job: &Job<S>, number: u64, run: &Run) -> bool
     ensures only { job_in job.now ≡ job_of number run.now → result ≡ true }
 {
     job.number() == number
-        && job.attempt() == attempt(run.attempt)
-        && job.base() == object(run.base)
+        && job.attempt() == run.attempt
+        && job.base() == run.base
         && job.births().len() == run.births.len()
         && job.printed().len() == run.prints.len()
         && are_as_many(job.answers(), &run.answers)

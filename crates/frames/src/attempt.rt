@@ -4,7 +4,6 @@ ghost use Rattle.std.specs.Prelude.{◌≡◌, ℕ, [], ◌++◌, IfOk, None, ma
 ghost use Rattle.meaning.specs.Syntax.{Script};
 ghost use Rattle.meaning.specs.Values.{Birth, Id, Task};
 ghost use Rattle.script_check.specs.Trees.{script_of};
-ghost use Rattle.values.specs.Values.{id_of};
 ghost use Rattle.frames.specs.Values.{outcome_of};
 ghost use Rattle.frames.specs.Machines.{argument_of, is_stop};
 ghost use Rattle.frames.specs.Courses.{Past, Stops, answers_of, no_past};
@@ -107,13 +106,13 @@ pub fn run_task(
     answers: Vec<Outcome>,
 ) -> Result<Attempt, AllocError>
     ensures halts { IfOk result (λ a. (retries : ℕ) →
-        Halts (script_of script.now) (Task function.now (map argument_of arguments.now) depth retries) (id_of base) (map outcome_of answers.items) a) }
+        Halts (script_of script.now) (Task function.now (map argument_of arguments.now) depth retries) base (map outcome_of answers.items) a) }
     // Where it waits for an answer, its frame is where it waits.
     ensures keeps { IfOk result (λ a. (retries : ℕ) → KeepsFrame (script_of script.now) (Task function.now (map argument_of arguments.now) depth retries)
-        (id_of base) no_past (map outcome_of answers.items) a) }
+        base no_past (map outcome_of answers.items) a) }
     // Its steps are those that it began since the last of the answers.
     ensures counts { IfOk result (λ a. (retries : ℕ) → CountsSteps (script_of script.now)
-        (Task function.now (map argument_of arguments.now) depth retries) (id_of base) (map outcome_of answers.items) a) }
+        (Task function.now (map argument_of arguments.now) depth retries) base (map outcome_of answers.items) a) }
     // It stopped where a run in pieces stops.
     ensures stops { IfOk result (λ a. is_stop a.halt ≡ true) }
 {

@@ -4,7 +4,6 @@ ghost use Rattle.std.specs.Prelude.{◌≡◌, ◌+◌, ◌-◌, ◌≤◌, ◌+
 ghost use Rattle.meaning.specs.Values.{Name, Task};
 ghost use Rattle.meaning.specs.Syntax.{Function, Script};
 ghost use Rattle.meaning.specs.Meaning.{find};
-ghost use Rattle.values.specs.Values.{id_of};
 ghost use Rattle.frame_laws.specs.Compile.{number_of};
 ghost use Rattle.frame_laws.specs.Law as laws;
 ghost use Rattle.frame_laws.specs.Law.{entry_or, values_in, marks_in};
@@ -80,7 +79,7 @@ impl Course {
     ) -> Result<Course, AllocError>
         ensures stands { IfOk result (λ k. (script : Script) (g : Name) (f : Function) (depth retries : ℕ) → code_of code.now ≡ laws.code_of script →
             function ≡ number_of script g (length arguments.now) → find script g ≡ Some f → length arguments.now ≡ length f.parameters → depth ≤ 32 →
-            Standing script (32 - depth) (Task g (map argument_of arguments.now) depth retries) (id_of base) no_past k) }
+            Standing script (32 - depth) (Task g (map argument_of arguments.now) depth retries) base no_past k) }
         ensures answers { IfOk result (λ k. answers_of k ≡ map outcome_of answers.items) }
     {
         let state = first_state(alloc, code, function, arguments)?;

@@ -2,8 +2,8 @@
 use Rattle.std.specs.Prelude.{ℕ, ◌+◌, Bool, true, false, if◌then◌else◌, List, [], ◌∷◌, Option, Some, None}
 use Rattle.event_log.specs.declared.entry.Entry.{Entry}
 use Rattle.event_log.specs.declared.entry.Entry.TheVariants.{In, Refused}
-use Rattle.event_log.specs.declared.event.Event.{Event}
-use Rattle.event_log.specs.declared.event.Event.TheVariants.{Claim}
+use Rattle.log_entries.specs.declared.event.Event.{Event}
+use Rattle.log_entries.specs.declared.event.Event.TheVariants.{Claim}
 use Rattle.event_files.specs.declared.recorded.RecordedEvent.{RecordedEvent}
 
 abbrev pub is_refusal : Entry → Bool

@@ -5,7 +5,8 @@ ghost use Rattle.event_files.specs.Recorded.{recorded_file};
 ghost use Rattle.histories.specs.Recorded.{claims_behind, given_by, recorded_in, refused_next};
 
 use event_files::{RecordedEvent, print_recorded};
-use event_log::{Entry, Event};
+use event_log::Entry;
+use log_entries::Event;
 use std::alloc::{AllocError, Global};
 
 /// Whether a refusal stands at that place.

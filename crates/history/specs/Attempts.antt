@@ -3,10 +3,8 @@ use Rattle.std.specs.Prelude.{◌≡◌, ℕ, Bool, true, false, if◌then◌els
 use Rattle.std.specs.List.{list_any}
 use Rattle.std.specs.Fmt.{decimal}
 use Rattle.indexmap.specs.IndexSet.{IndexSet}
-use Rattle.ids.specs.declared.attempt.AttemptId.{AttemptId}
 use Rattle.event_log.specs.Entries.{Attempt, Entry, Begun, main_attempt}
 use Rattle.event_log.specs.Words.{same_attempt, accepts_of, ends_of, faults_of}
-use Rattle.event_log.specs.Views.{attempt_of}
 use Rattle.history.specs.Texts.{attempt_text}
 use Rattle.history.specs.declared.attempts.AttemptStates.{AttemptStates}
 
@@ -34,11 +32,11 @@ attempt_in log (Begun a w) = if same_attempt a main_attempt then [] else attempt
 attempt_in log _ = []
 
 -- whether the attempt is in a set
-abbrev pub has : {S : Type 0} → IndexSet AttemptId S → AttemptId → Bool
-has set a = list_any (λ b. same_attempt (attempt_of a) (attempt_of b)) set.keys
+abbrev pub has : {S : Type 0} → IndexSet Attempt S → Attempt → Bool
+has set a = list_any (λ b. same_attempt a b) set.keys
 
 -- the sets have the attempts that the log accepts, ends and faults
 pub record AreStatesOf (states : AttemptStates) (log : List Entry) : Type 0 where
-  pub accepted : (a : AttemptId) → has states.accepted a ≡ any (accepts_of (attempt_of a) log)
-  pub ended : (a : AttemptId) → has states.ended a ≡ any (ends_of (attempt_of a) log)
-  pub faulted : (a : AttemptId) → has states.faulted a ≡ any (faults_of (attempt_of a) log)
+  pub accepted : (a : Attempt) → has states.accepted a ≡ any (accepts_of a log)
+  pub ended : (a : Attempt) → has states.ended a ≡ any (ends_of a log)
+  pub faulted : (a : Attempt) → has states.faulted a ≡ any (faults_of a log)

@@ -2,10 +2,10 @@
 
 ghost use Rattle.std.specs.Prelude.{◌≡◌, ◌++◌, ◌||◌, List, [], OnOk, IfOk, string_bytes};
 ghost use Rattle.std.specs.List.{flat_map};
-ghost use Rattle.ids.specs.declared.attempt.AttemptId.{AttemptId};
+ghost use Rattle.ids.specs.Attempts.{Attempt};
 ghost use Rattle.event_log.specs.Entries as logged;
 ghost use Rattle.event_log.specs.Words.{same_attempt, accepted_in, ended_in, faulted_in};
-ghost use Rattle.event_log.specs.Views.{attempt_of, entry_of, log_of};
+ghost use Rattle.event_log.specs.Views.{entry_of, log_of};
 ghost use Rattle.history.specs.Attempts.{any, attempt_in, has, state_of, AreStatesOf};
 
 use crate::main_end::is_main;
@@ -22,15 +22,15 @@ pub struct AttemptStates {
     faulted: IndexSet<AttemptId>,
 }
 
-#[tactic(auto, unfolding(event_log::specs::Words::same_attempt, meaning::specs::Births::same_id))]
+#[tactic(auto, unfolding(ids::specs::Attempts::same_attempt, meaning::specs::Births::same_id))]
 fn add(attempts: &mut IndexSet<AttemptId>, attempt: AttemptId) -> Result<(), AllocError>
-    ensures { OnOk result ((a : AttemptId) → has attempts.new a ≡ (has attempts.old a || same_attempt (attempt_of a) (attempt_of attempt))) }
+    ensures { OnOk result ((a : Attempt) → has attempts.new a ≡ (has attempts.old a || same_attempt a attempt)) }
 {
     attempts.insert(attempt)?;
     Ok(())
 }
 
-#[tactic(auto, unfolding(event_log::specs::Words::same_attempt, meaning::specs::Births::same_id))]
+#[tactic(auto, unfolding(ids::specs::Attempts::same_attempt, meaning::specs::Births::same_id))]
 fn is_among(attempts: &IndexSet<AttemptId>, attempt: AttemptId) -> bool
     ensures { result ≡ has attempts.now attempt }
 {
@@ -51,12 +51,12 @@ impl AttemptStates {
 
     /// Notes what the entry says of an attempt.
     fn note(&mut self, entry: &Entry) -> Result<(), AllocError>
-        ensures accepted { OnOk result ((a : AttemptId) →
-            has self.new.accepted a ≡ (has self.old.accepted a || any (accepted_in (attempt_of a) (entry_of entry.now)))) }
-        ensures ended { OnOk result ((a : AttemptId) →
-            has self.new.ended a ≡ (has self.old.ended a || any (ended_in (attempt_of a) (entry_of entry.now)))) }
-        ensures faulted { OnOk result ((a : AttemptId) →
-            has self.new.faulted a ≡ (has self.old.faulted a || any (faulted_in (attempt_of a) (entry_of entry.now)))) }
+        ensures accepted { OnOk result ((a : Attempt) →
+            has self.new.accepted a ≡ (has self.old.accepted a || any (accepted_in a (entry_of entry.now)))) }
+        ensures ended { OnOk result ((a : Attempt) →
+            has self.new.ended a ≡ (has self.old.ended a || any (ended_in a (entry_of entry.now)))) }
+        ensures faulted { OnOk result ((a : Attempt) →
+            has self.new.faulted a ≡ (has self.old.faulted a || any (faulted_in a (entry_of entry.now)))) }
     {
         match entry {
             Entry::Accepted(attempt) => add(&mut self.accepted, *attempt),
@@ -79,7 +79,7 @@ impl AttemptStates {
 
     /// The word for an attempt's state.
     pub fn name(&self, attempt: AttemptId) -> &'static str
-        ensures { (log : List logged.Entry) → AreStatesOf self.now log → result.now ≡ state_of log (attempt_of attempt) }
+        ensures { (log : List logged.Entry) → AreStatesOf self.now log → result.now ≡ state_of log attempt }
     {
         if is_among(&self.accepted, attempt) {
             return "accepted";

@@ -1,7 +1,6 @@
 // Faults, written.
 
 ghost use Rattle.std.specs.Prelude.{◌≡◌, ◌++◌, OnOk, string_bytes};
-ghost use Rattle.event_log.specs.Views.{fault_of, kind_of};
 ghost use Rattle.history.specs.Texts.{fault_text, kind_name};
 
 use std::alloc::AllocError;
@@ -9,7 +8,7 @@ use values::{Fault, FaultKind};
 
 /// The word for a kind of fault.
 pub fn kind_name(kind: FaultKind) -> &'static str
-    ensures { result.now ≡ kind_name (kind_of kind) }
+    ensures { result.now ≡ kind_name kind }
 {
     match kind {
         FaultKind::OwnerDied => "OwnerDied",
@@ -20,7 +19,7 @@ pub fn kind_name(kind: FaultKind) -> &'static str
 
 /// Writes a fault as `PutLost o1.1`: its kind, and the object in which it began.
 pub fn write_fault(text: &mut String, fault: Fault) -> Result<(), AllocError>
-    ensures { OnOk result (string_bytes text.new ≡ string_bytes text.old ++ fault_text (fault_of fault)) }
+    ensures { OnOk result (string_bytes text.new ≡ string_bytes text.old ++ fault_text fault) }
 {
     let kind = kind_name(fault.kind);
     let object = fault.object;

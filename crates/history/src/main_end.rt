@@ -5,7 +5,7 @@ ghost use Rattle.std.specs.Option.{option_map};
 ghost use Rattle.values.specs.Values.{content_of};
 ghost use Rattle.event_log.specs.Entries.{main_attempt};
 ghost use Rattle.event_log.specs.Words.{same_attempt, ended_in, faulted_in};
-ghost use Rattle.event_log.specs.Views.{attempt_of, entry_of, fault_of, log_of};
+ghost use Rattle.event_log.specs.Views.{entry_of, log_of};
 ghost use Rattle.history.specs.Main.{first, main_end, main_fault, main_line, unended_line, status_of};
 
 use crate::faults::write_fault;
@@ -16,9 +16,9 @@ use std::alloc::AllocError;
 use values::{Content, Fault};
 
 /// Whether the attempt is main's.
-#[tactic(auto, unfolding(event_log::specs::Words::same_attempt, meaning::specs::Births::same_id))]
+#[tactic(auto, unfolding(ids::specs::Attempts::same_attempt, meaning::specs::Births::same_id))]
 pub fn is_main(attempt: AttemptId) -> bool
-    ensures { result ≡ same_attempt (attempt_of attempt) main_attempt }
+    ensures { result ≡ same_attempt attempt main_attempt }
 {
     attempt.object.owner.0 == 1 && attempt.object.serial == 0 && attempt.number == 0
 }
@@ -50,7 +50,7 @@ pub fn main_end(log: &[Entry]) -> Option<&Content>
 
 /// The fault that a get of main is answered with at an entry.
 fn fault_in(entry: &Entry) -> Option<Fault>
-    ensures { option_map fault_of result ≡ option_map (λ x. x.fault) (first (faulted_in main_attempt (entry_of entry.now))) }
+    ensures { result ≡ option_map (λ x. x.fault) (first (faulted_in main_attempt (entry_of entry.now))) }
 {
     let Entry::Faulted { attempt, fault, .. } = entry else {
         return None;
@@ -63,7 +63,7 @@ fn fault_in(entry: &Entry) -> Option<Fault>
 
 /// The fault that a get of main was answered with first.
 pub fn main_fault(log: &[Entry]) -> Option<Fault>
-    ensures { option_map fault_of result ≡ main_fault (log_of log.now) }
+    ensures { result ≡ main_fault (log_of log.now) }
 {
     for entry in log {
         if let Some(fault) = fault_in(entry) {
@@ -75,7 +75,7 @@ pub fn main_fault(log: &[Entry]) -> Option<Fault>
 
 /// Writes the line of a main that didn't end: of its fault, or `main open`.
 fn write_unended(text: &mut String, fault: Option<Fault>) -> Result<(), AllocError>
-    ensures { OnOk result (string_bytes text.new ≡ string_bytes text.old ++ unended_line (option_map fault_of fault)) }
+    ensures { OnOk result (string_bytes text.new ≡ string_bytes text.old ++ unended_line fault) }
 {
     let Some(fault) = fault else {
         return text.push_str("main open\n");

@@ -1,16 +1,16 @@
 // The refused events.
 
 ghost use Rattle.std.specs.Prelude.{◌≡◌, ◌++◌, OnOk, None, string_bytes};
-ghost use Rattle.std.specs.Option.{option_map};
-ghost use Rattle.event_log.specs.Views.{entry_of, event_of, log_of};
+ghost use Rattle.event_log.specs.Views.{entry_of, log_of};
 ghost use Rattle.history.specs.Refusals.{last_in, refused_in, refused_lines};
 
-use event_log::{Entry, Event};
+use event_log::Entry;
+use log_entries::Event;
 use std::alloc::AllocError;
 
 /// The last event of a log, after one more entry.
 pub fn last_event(last: Option<Event>, entry: &Entry) -> Option<Event>
-    ensures { option_map event_of result ≡ last_in (option_map event_of last) (entry_of entry.now) }
+    ensures { result ≡ last_in last (entry_of entry.now) }
 {
     match entry {
         Entry::In { event, .. } => Some(*event),
@@ -19,8 +19,8 @@ pub fn last_event(last: Option<Event>, entry: &Entry) -> Option<Event>
 }
 
 /// Writes `refused 30 kill 2` where the entry is a refusal, of the last event before it.
-fn write_refusal(text: &mut String, last: Option<Event>, entry: &Entry) -> Result<(), AllocError>
-    ensures { OnOk result (string_bytes text.new ≡ string_bytes text.old ++ refused_in (option_map event_of last) (entry_of entry.now)) }
+fn write_refusal(text: &mut String, last: &Option<Event>, entry: &Entry) -> Result<(), AllocError>
+    ensures { OnOk result (string_bytes text.new ≡ string_bytes text.old ++ refused_in last.now (entry_of entry.now)) }
 {
     let Entry::Refused(refusal) = entry else {
         return Ok(());
@@ -38,7 +38,7 @@ pub fn write_refusals(text: &mut String, log: &[Entry]) -> Result<(), AllocError
 {
     let mut last = None;
     for entry in log {
-        write_refusal(text, last, entry)?;
+        write_refusal(text, &last, entry)?;
         last = last_event(last, entry);
     }
     Ok(())

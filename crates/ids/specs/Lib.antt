@@ -1,1 +1,3 @@
+pub mod Attempts
+pub mod Codes
 pub mod Texts

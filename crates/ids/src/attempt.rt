@@ -1,7 +1,9 @@
 // Attempts.
 
 use crate::object::ObjectId;
+use crate::worker::WorkerId;
 use std::fmt;
+use std::marker::Model;
 
 /// A run of the task that makes an object: the object, and the attempt's number, counted from 0. Its text is `a3.7#1`.
 /// Ordered by object, then by number.
@@ -9,6 +11,19 @@ use std::fmt;
 pub struct AttemptId {
     pub object: ObjectId,
     pub number: u32,
+}
+
+impl Model for AttemptId {
+    ghost use Rattle.ids.specs.Attempts.{Attempt};
+    ghost use Rattle.ids.specs.Codes.{attempt_code};
+
+    ghost Value = { Attempt };
+
+    ghost coded = { attempt_code };
+
+    ghost view = { λ a. record { object = a.object; number = a.number } };
+
+    ghost inverse = { λ a. record { object = a.object; number = a.number } };
 }
 
 impl fmt::Display for AttemptId {
@@ -22,5 +37,24 @@ impl fmt::Display for AttemptId {
         let serial = self.object.serial;
         let number = self.number;
         write!(f, "a{owner}.{serial}#{number}")
+    }
+}
+
+impl AttemptId {
+    ghost use Rattle.std.specs.Prelude.{◌≡◌};
+    ghost use Rattle.ids.specs.Attempts.{same_attempt};
+
+    /// Whether the attempts are the same.
+    pub fn is(self, other: AttemptId) -> bool
+        ensures { result ≡ same_attempt self other }
+    {
+        self.object.is(other.object) && self.number == other.number
+    }
+
+    /// The worker that owns the attempt's object.
+    pub fn owner(self) -> WorkerId
+        ensures { result ≡ self.object.owner }
+    {
+        self.object.owner
     }
 }

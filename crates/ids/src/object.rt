@@ -3,6 +3,7 @@
 use crate::number::{read_number, split_at_dot};
 use crate::worker::WorkerId;
 use std::fmt;
+use std::marker::Model;
 
 /// An object: the worker that owns it, and its number there, in the order in which the worker made its objects. Main's own
 /// object is `o1.0`. Ordered by owner, then by serial.
@@ -10,6 +11,19 @@ use std::fmt;
 pub struct ObjectId {
     pub owner: WorkerId,
     pub serial: u64,
+}
+
+impl Model for ObjectId {
+    ghost use Rattle.meaning.specs.Values.{Id};
+    ghost use Rattle.ids.specs.Codes.{id_code};
+
+    ghost Value = { Id };
+
+    ghost coded = { id_code };
+
+    ghost view = { λ o. record { owner = o.owner; serial = o.serial } };
+
+    ghost inverse = { λ o. record { owner = o.owner; serial = o.serial } };
 }
 
 impl fmt::Display for ObjectId {
@@ -26,14 +40,41 @@ impl fmt::Display for ObjectId {
 }
 
 impl ObjectId {
-    ghost use Rattle.std.specs.Prelude.{◌≡◌, IfSome, Some};
-    ghost use Rattle.ids.specs.declared.object.ObjectId.{ObjectId};
+    ghost use Rattle.std.specs.Prelude.{◌≡◌, ◌==◌, ◌+◌, ◌<◌, ◌^◌, IfSome, Some};
+    ghost use Rattle.meaning.specs.Values.{Id};
+    ghost use Rattle.meaning.specs.Births.{same_id};
+    ghost use Rattle.meaning.specs.Runs.{next_id};
     ghost use Rattle.ids.specs.Texts.{object_text, IsObject};
+
+    /// Whether the ids are the same.
+    pub fn is(self, other: ObjectId) -> bool
+        ensures { result ≡ same_id self other }
+    {
+        self.owner.0 == other.owner.0 && self.serial == other.serial
+    }
+
+    /// The next object of the same owner.
+    pub fn next(self) -> ObjectId
+        requires { self.serial + 1 < 2 ^ 64 }
+        ensures { result ≡ next_id self }
+    {
+        ObjectId {
+            owner: self.owner,
+            serial: self.serial + 1,
+        }
+    }
+
+    /// Whether the worker owns the object.
+    pub fn owned_by(self, worker: WorkerId) -> bool
+        ensures { result ≡ (self.owner == worker) }
+    {
+        self.owner.is(worker)
+    }
 
     /// The object that a text such as `o3.7` names, with no leading zeros; no other text names one. Takes no memory.
     pub fn read(text: &[u8]) -> Option<ObjectId>
         ensures found { IfSome result (λ o. text.now ≡ object_text o) }
-        ensures only { (o : ObjectId) → IsObject o → text.now ≡ object_text o → result ≡ Some o }
+        ensures only { (o : Id) → IsObject o → text.now ≡ object_text o → result ≡ Some o }
     {
         let [b'o', rest @ ..] = text else {
             return None;

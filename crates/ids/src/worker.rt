@@ -1,10 +1,21 @@
 // Workers.
 
 use std::fmt;
+use std::marker::Model;
 
 /// A worker's number, counted from 1: worker 1 is the driver. Its text is `w2`.
 #[derive(Clone, Copy, PartialEq, Eq, PartialOrd, Ord, Hash, Debug)]
 pub struct WorkerId(pub u32);
+
+impl Model for WorkerId {
+    ghost use Rattle.std.specs.Prelude.{ℕ};
+
+    ghost Value = { ℕ };
+
+    ghost view = { λ w. w.0 };
+
+    ghost inverse = { λ n. record { 0 = n } };
+}
 
 impl fmt::Display for WorkerId {
     ghost use Rattle.std.specs.Prelude.{Some};
@@ -15,5 +26,16 @@ impl fmt::Display for WorkerId {
     fn fmt<W: fmt::Write>(&self, f: &mut fmt::Formatter<W>) -> fmt::Result {
         let number = self.0;
         write!(f, "w{number}")
+    }
+}
+
+impl WorkerId {
+    ghost use Rattle.std.specs.Prelude.{◌≡◌, ◌==◌};
+
+    /// Whether the numbers are the same.
+    pub fn is(self, other: WorkerId) -> bool
+        ensures { result ≡ (self == other) }
+    {
+        self.0 == other.0
     }
 }

@@ -6,7 +6,7 @@ use Rattle.meaning.specs.Values as meant
 use Rattle.meaning.specs.Runs.{Piece, piece}
 use Rattle.meaning.specs.Meaning.{replay}
 use Rattle.meaning.specs.Syntax.{Script}
-use Rattle.values.specs.Values.{content_of, id_of, value_of}
+use Rattle.values.specs.Values.{content_of, value_of}
 use Rattle.values.specs.declared.content.Content.{Content}
 use Rattle.task_spec.specs.Births.{birth_of}
 use Rattle.frames.specs.Courses.{Past}
@@ -44,11 +44,11 @@ same_past : (cs ds : List meant.Outcome) (xs ys : List meant.Birth) (vs ws : Lis
 same_past cs ds xs ys vs ws ec eb ev = ap (λ x. past x xs vs) ec ∙ ap (λ x. past ds x vs) eb ∙ ap (λ x. past ds ys x) ev
 
 module _ (script : Script) (k : KnownData) (f : Frame) where
-  moved : (b : meant.Birth) (o : meant.Id) (x y : Past) → birth_of k.spec ≡ b → id_of k.base ≡ o → x ≡ y → IsWaiting script (birth_of k.spec) (id_of k.base) x f →
+  moved : (b : meant.Birth) (o : meant.Id) (x y : Past) → birth_of k.spec ≡ b → k.base ≡ o → x ≡ y → IsWaiting script (birth_of k.spec) k.base x f →
       IsWaiting script b o y f
   moved b o x y eb eo ey waits =
       subst (λ c. IsWaiting script c o y f) eb
-      (subst (λ c. IsWaiting script (birth_of k.spec) c y f) eo (subst (λ c. IsWaiting script (birth_of k.spec) (id_of k.base) c f) ey waits))
+      (subst (λ c. IsWaiting script (birth_of k.spec) c y f) eo (subst (λ c. IsWaiting script (birth_of k.spec) k.base c f) ey waits))
 
   -- what a job's task does on the job's answers goes on from what it did before the frame
   goes_on : (j : JobData) → (waits : WaitsFor script k f) → (is : IsNext k j) →
@@ -58,11 +58,11 @@ module _ (script : Script) (k : KnownData) (f : Frame) where
       let left = waits.waits.stood.left (c ∷ []) in
       let answers : map content_of j.answers ≡ map content_of k.answers ++ c ∷ [] =
       ap (map content_of) is.ends ∙ map_last content_of is.earlier is.answer ∙ ap (λ cs. cs ++ c ∷ []) (sym is.answers) in
-      let same : replay_of script j ≡ replay script (birth_of k.spec) (id_of k.base) (map content_of k.answers ++ c ∷ []) =
-      ap (λ b. replay script b (id_of j.base) (map content_of j.answers)) (sym is.spec)
-      ∙ ap (λ o. replay script (birth_of k.spec) o (map content_of j.answers)) (sym (ap id_of is.base))
-      ∙ ap (replay script (birth_of k.spec) (id_of k.base)) answers in
-      (piece waits.waits.stood.run (id_of f.next) (c ∷ []), ap (λ (p : Piece). p.births) (same ∙ left), ap (λ (p : Piece). p.prints) (same ∙ left))
+      let same : replay_of script j ≡ replay script (birth_of k.spec) k.base (map content_of k.answers ++ c ∷ []) =
+      ap (λ b. replay script b j.base (map content_of j.answers)) (sym is.spec)
+      ∙ ap (λ o. replay script (birth_of k.spec) o (map content_of j.answers)) (sym is.base)
+      ∙ ap (replay script (birth_of k.spec) k.base) answers in
+      (piece waits.waits.stood.run f.next (c ∷ []), ap (λ (p : Piece). p.births) (same ∙ left), ap (λ (p : Piece). p.prints) (same ∙ left))
 
   pub fits_next : (j : JobData) → WaitsFor script k f → IsNext k j → IsBegun script j → Fits script j f
   fits_next j waits is begun =
@@ -77,7 +77,7 @@ module _ (script : Script) (k : KnownData) (f : Frame) where
         earlier = is.earlier;
         answer = is.answer;
         answers = is.ends;
-        waits = moved (birth_of j.spec) (id_of j.base) _ _ is.spec (ap id_of is.base)
+        waits = moved (birth_of j.spec) j.base _ _ is.spec is.base
             (same_past (map content_of k.answers) (map content_of is.earlier) waits.births (map birth_of j.births) waits.prints (map value_of j.printed)
             is.answers (sym bs) (sym vs))
             waits.waits;
@@ -94,9 +94,9 @@ module _ (script : Script) (k : KnownData) (f : Frame) where
         ∙ ap (λ n. n + length (map value_of d.prints)) (length-map d.job.printed value_of) ∙ ap (λ n. length d.job.printed + n) (length-map d.prints value_of)
         ∙ sym is.prints;
     waits =
-        subst (λ x. IsWaiting script x (id_of k.base) (past (map content_of k.answers) (whole_of d).births (whole_of d).prints) f) (sym is.spec)
-        (subst (λ x. IsWaiting script (birth_of d.job.spec) x (past (map content_of k.answers) (whole_of d).births (whole_of d).prints) f) (sym (ap id_of is.base))
-        (subst (λ x. IsWaiting script (birth_of d.job.spec) (id_of d.job.base) (past x (whole_of d).births (whole_of d).prints) f) (sym is.answers) waits));
+        subst (λ x. IsWaiting script x k.base (past (map content_of k.answers) (whole_of d).births (whole_of d).prints) f) (sym is.spec)
+        (subst (λ x. IsWaiting script (birth_of d.job.spec) x (past (map content_of k.answers) (whole_of d).births (whole_of d).prints) f) (sym is.base)
+        (subst (λ x. IsWaiting script (birth_of d.job.spec) d.job.base (past x (whole_of d).births (whole_of d).prints) f) (sym is.answers) waits));
   }
 
 -- ---- the job of a known attempt, told by how many answers it has

@@ -2,11 +2,11 @@
 use Rattle.std.specs.Prelude.{◌≡◌, ◌⊎◌, ℕ, ◌+◌, List, [], ◌∷◌, ◌++◌, length, map, slice_get, Option, Some}
 use Rattle.meaning.specs.Syntax.{Script}
 use Rattle.meaning.specs.Values as meant
+use Rattle.meaning.specs.Values.{Id}
 use Rattle.meaning.specs.Lists.{IsFirst}
-use Rattle.ids.specs.declared.attempt.AttemptId.{AttemptId}
-use Rattle.ids.specs.declared.object.ObjectId.{ObjectId}
+use Rattle.ids.specs.Attempts.{Attempt}
 use Rattle.values.specs.declared.content.Content.{Content}
-use Rattle.values.specs.Values.{content_of, id_of}
+use Rattle.values.specs.Values.{content_of}
 use Rattle.task_spec.specs.declared.birth.Birth.{Birth}
 use Rattle.task_spec.specs.Births.{birth_of}
 use Rattle.frames.specs.Frames.{IsWaiting}
@@ -15,9 +15,9 @@ use Rattle.segment.specs.Jobs.{Done, JobData}
 
 -- an attempt, its task, the id of its first birth, how many births and prints it made, and its answers
 pub record KnownData : Type 0 where
-  pub attempt : AttemptId
+  pub attempt : Attempt
   pub spec : Birth
-  pub base : ObjectId
+  pub base : Id
   pub births : ℕ
   pub prints : ℕ
   pub answers : List Content
@@ -28,7 +28,7 @@ pub record WaitsFor (script : Script) (k : KnownData) (f : Frame) : Type 0 where
   pub prints : List meant.Value
   pub borne : length births ≡ k.births
   pub printed : length prints ≡ k.prints
-  pub waits : IsWaiting script (birth_of k.spec) (id_of k.base) (record { answers = map content_of k.answers; births = births; prints = prints }) f
+  pub waits : IsWaiting script (birth_of k.spec) k.base (record { answers = map content_of k.answers; births = births; prints = prints }) f
 
 -- the job's attempt, before its last answer
 pub record IsNext (k : KnownData) (j : JobData) : Type 0 where

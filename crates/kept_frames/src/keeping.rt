@@ -39,7 +39,7 @@ impl<S: ScriptName> Model for Frames<S> {
 
 /// The place of an attempt by the id of its first own birth, whose owner is its worker.
 fn place_of(base: ObjectId) -> usize
-    ensures { result ≡ base.owner.0 % 1024 }
+    ensures { result ≡ base.owner % 1024 }
 {
     (base.owner.0 % PLACES) as usize
 }

@@ -6,7 +6,7 @@ ghost use Rattle.protocol.specs.Slots.{asked, asks_slot, forgets, frees, is_back
 ghost use Rattle.lease.specs.Promises.{IsWithinSlots};
 
 use crate::scheduler::{ask, back, blocked, killed, unblocked};
-use numbers::{AttemptId, WorkerId};
+use ids::{AttemptId, WorkerId};
 use protocol_data::{AskKey, There};
 use std::alloc::{AllocError, Global};
 

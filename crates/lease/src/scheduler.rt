@@ -7,7 +7,7 @@ ghost use Rattle.lease.specs.Promises.{IsWithinSlots};
 
 use crate::asks::asked;
 use crate::grants::{ask_slot, forget, free, note_back};
-use numbers::{AttemptId, WorkerId};
+use ids::{AttemptId, WorkerId};
 use protocol_data::{AskKey, There};
 use std::alloc::{AllocError, Global};
 

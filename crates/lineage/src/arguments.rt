@@ -6,8 +6,8 @@ ghost use Rattle.protocol.specs.Tables.{task_in};
 ghost use Rattle.protocol.specs.Recovery.{arguments_by, made_from};
 
 use held::Origin;
+use ids::ObjectId;
 use number_lists::object_at_number;
-use numbers::ObjectId;
 use protocol_data::{Here, Maker};
 use sequence::Seq;
 use std::alloc::{AllocError, Global};

@@ -9,11 +9,12 @@ use crate::arguments::made_from;
 use crate::recovery::{Plan, Stop};
 use crate::serials::{add_serial, has_serial, in_order};
 use crate::tables::{is_lost_at, may_try_again};
+use ids::ObjectId;
 use number_lists::object_at_number;
-use numbers::{Cause, Fault, ObjectId};
 use protocol_data::{Here, Maker};
 use sequence::Seq;
 use std::alloc::{AllocError, Global};
+use values::{Fault, FaultKind};
 
 /// Adds the serials of those that are lost.
 fn add_lost(here: &Here, objects: &Seq<ObjectId>, serials: &mut Seq<u64>) -> Result<(), AllocError>
@@ -76,17 +77,17 @@ fn stop_at(here: &Here, serial: u64) -> Option<Fault>
     let owner = here.me;
     let object = ObjectId { owner, serial };
     let Some(found) = object_at_number(&here.worker.objects, serial) else {
-        let kind = Cause::PutLost;
+        let kind = FaultKind::PutLost;
         return Some(Fault { kind, object });
     };
     let Maker::ByTask(task) = &found.maker else {
-        let kind = Cause::PutLost;
+        let kind = FaultKind::PutLost;
         return Some(Fault { kind, object });
     };
     if may_try_again(task) {
         return None;
     }
-    let kind = Cause::RetriesUsed;
+    let kind = FaultKind::RetriesUsed;
     Some(Fault { kind, object })
 }
 

@@ -1,9 +1,9 @@
 // A plan, and why there is none.
 
-use numbers::Fault;
 use sequence::Seq;
 use std::alloc::AllocError;
 use thiserror::Error;
+use values::Fault;
 
 /// Which objects are made again for a lost one.
 #[derive(Drop)]

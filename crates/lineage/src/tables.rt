@@ -7,7 +7,7 @@ ghost use Rattle.protocol.specs.Steps.{object_at};
 ghost use Rattle.protocol.specs.Recovery.{is_lost_at};
 
 use held::Origin;
-use numbers::ObjectId;
+use ids::ObjectId;
 use protocol_data::{Here, Object, OwnTask};
 use task_spec::Birth;
 use worker_steps::{is_pending, object_at};

@@ -3,16 +3,15 @@
 ghost use Rattle.std.specs.Prelude.{◌≡◌, ◌++◌, List, OnOk, string_bytes};
 ghost use Rattle.values.specs.Values.{content_of};
 ghost use Rattle.event_log.specs.Entries as logged;
-ghost use Rattle.event_log.specs.Views.{attempt_of, fault_of};
 ghost use Rattle.history.specs.Attempts.{AreStatesOf};
 ghost use Rattle.lineage_text.specs.Attempts.{attempt_edge, attempt_node, begun_text, ended_text, fate_head, fate_tail, fault_tail, faulted_text};
 
 use crate::edges::write_named_edges;
 use history::{AttemptStates, kind_name};
-use ids::{AttemptId, WorkerId};
+use ids::{AttemptId, ObjectId, WorkerId};
 use log_words::write_content;
 use std::alloc::{AllocError, Global};
-use values::{Content, Fault, ids_in};
+use values::{Content, Fault, FaultKind, ids_in};
 
 #[tactic(auto, unfolding(crate::specs::Attempts::attempt_node))]
 fn write_attempt_node(
@@ -22,7 +21,7 @@ fn write_attempt_node(
     worker: WorkerId,
 ) -> Result<(), AllocError>
     ensures { (log : List logged.Entry) → AreStatesOf states.now log → OnOk result
-        (string_bytes text.new ≡ string_bytes text.old ++ attempt_node log (attempt_of attempt) worker.0) }
+        (string_bytes text.new ≡ string_bytes text.old ++ attempt_node log attempt worker) }
 {
     let state = states.name(attempt);
     writeln!(
@@ -33,7 +32,7 @@ fn write_attempt_node(
 
 #[tactic(auto, unfolding(crate::specs::Attempts::attempt_edge))]
 fn write_attempt_edge(text: &mut String, attempt: AttemptId) -> Result<(), AllocError>
-    ensures { OnOk result (string_bytes text.new ≡ string_bytes text.old ++ attempt_edge (attempt_of attempt)) }
+    ensures { OnOk result (string_bytes text.new ≡ string_bytes text.old ++ attempt_edge attempt) }
 {
     let object = attempt.object;
     writeln!(
@@ -50,7 +49,7 @@ pub fn write_begun(
     worker: WorkerId,
 ) -> Result<(), AllocError>
     ensures { (log : List logged.Entry) → AreStatesOf states.now log → OnOk result
-        (string_bytes text.new ≡ string_bytes text.old ++ begun_text log (attempt_of attempt) worker.0) }
+        (string_bytes text.new ≡ string_bytes text.old ++ begun_text log attempt worker) }
 {
     write_attempt_node(text, states, attempt, worker)?;
     write_attempt_edge(text, attempt)
@@ -58,7 +57,7 @@ pub fn write_begun(
 
 #[tactic(auto, unfolding(crate::specs::Attempts::fate_head))]
 fn write_fate_head(text: &mut String, attempt: AttemptId) -> Result<(), AllocError>
-    ensures { OnOk result (string_bytes text.new ≡ string_bytes text.old ++ fate_head (attempt_of attempt)) }
+    ensures { OnOk result (string_bytes text.new ≡ string_bytes text.old ++ fate_head attempt) }
 {
     let object = attempt.object;
     write!(text, "    \"{object}\" -> \"{attempt}\" [label=\"")
@@ -78,7 +77,7 @@ pub fn write_ended(
     attempt: AttemptId,
     content: &Content,
 ) -> Result<(), AllocError>
-    ensures { OnOk result (string_bytes text.new ≡ string_bytes text.old ++ ended_text (attempt_of attempt) (content_of content.now)) }
+    ensures { OnOk result (string_bytes text.new ≡ string_bytes text.old ++ ended_text attempt (content_of content.now)) }
 {
     let named = ids_in(content, alloc)?;
     write_fate_head(text, attempt)?;
@@ -87,19 +86,24 @@ pub fn write_ended(
     write_named_edges(text, attempt.object, &named)
 }
 
-/// Writes the end of a red label that is a fault.
 #[tactic(auto, unfolding(crate::specs::Attempts::fault_tail))]
-pub fn write_fault_tail(text: &mut String, fault: Fault) -> Result<(), AllocError>
-    ensures { OnOk result (string_bytes text.new ≡ string_bytes text.old ++ fault_tail (fault_of fault)) }
+fn write_tail_of(text: &mut String, kind: FaultKind, object: ObjectId) -> Result<(), AllocError>
+    ensures { OnOk result (string_bytes text.new ≡ string_bytes text.old ++ fault_tail (record { kind = kind; object = object })) }
 {
-    let kind = kind_name(fault.kind);
-    let object = fault.object;
+    let kind = kind_name(kind);
     writeln!(text, "{kind} {object}\", color=red];")
+}
+
+/// Writes the end of a red label that is a fault.
+pub fn write_fault_tail(text: &mut String, fault: Fault) -> Result<(), AllocError>
+    ensures { OnOk result (string_bytes text.new ≡ string_bytes text.old ++ fault_tail fault) }
+{
+    write_tail_of(text, fault.kind, fault.object)
 }
 
 /// Writes the fault with which an attempt ended.
 pub fn write_faulted(text: &mut String, attempt: AttemptId, fault: Fault) -> Result<(), AllocError>
-    ensures { OnOk result (string_bytes text.new ≡ string_bytes text.old ++ faulted_text (attempt_of attempt) (fault_of fault)) }
+    ensures { OnOk result (string_bytes text.new ≡ string_bytes text.old ++ faulted_text attempt fault) }
 {
     write_fate_head(text, attempt)?;
     write_fault_tail(text, fault)

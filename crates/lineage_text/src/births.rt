@@ -1,7 +1,6 @@
 // The node of an object, with the edges that its birth gives.
 
 ghost use Rattle.std.specs.Prelude.{◌≡◌, ◌++◌, OnOk, string_bytes};
-ghost use Rattle.values.specs.Values.{id_of};
 ghost use Rattle.task_spec.specs.Births.{birth_of};
 ghost use Rattle.lineage_text.specs.Births.{birth_edges, born_text, label_text, node_head, node_tail, node_text};
 
@@ -14,7 +13,7 @@ use task_spec::Birth;
 
 #[tactic(auto, unfolding(crate::specs::Births::node_head))]
 fn write_head(text: &mut String, object: ObjectId) -> Result<(), AllocError>
-    ensures { OnOk result (string_bytes text.new ≡ string_bytes text.old ++ node_head (id_of object)) }
+    ensures { OnOk result (string_bytes text.new ≡ string_bytes text.old ++ node_head object) }
 {
     write!(text, "    \"{object}\" [label=\"{object}: ")
 }
@@ -47,7 +46,7 @@ fn write_tail(text: &mut String, birth: &Birth) -> Result<(), AllocError>
 
 #[tactic(auto, unfolding(crate::specs::Births::node_text))]
 fn write_node(text: &mut String, object: ObjectId, birth: &Birth) -> Result<(), AllocError>
-    ensures { OnOk result (string_bytes text.new ≡ string_bytes text.old ++ node_text (id_of object) (birth_of birth.now)) }
+    ensures { OnOk result (string_bytes text.new ≡ string_bytes text.old ++ node_text object (birth_of birth.now)) }
 {
     write_head(text, object)?;
     write_label(text, birth)?;
@@ -60,7 +59,7 @@ fn write_edges(
     object: ObjectId,
     birth: &Birth,
 ) -> Result<(), AllocError>
-    ensures { OnOk result (string_bytes text.new ≡ string_bytes text.old ++ birth_edges (id_of object) (birth_of birth.now)) }
+    ensures { OnOk result (string_bytes text.new ≡ string_bytes text.old ++ birth_edges object (birth_of birth.now)) }
 {
     match birth {
         Birth::Put(value) => {
@@ -78,7 +77,7 @@ pub fn write_born(
     object: ObjectId,
     birth: &Birth,
 ) -> Result<(), AllocError>
-    ensures { OnOk result (string_bytes text.new ≡ string_bytes text.old ++ born_text (id_of object) (birth_of birth.now)) }
+    ensures { OnOk result (string_bytes text.new ≡ string_bytes text.old ++ born_text object (birth_of birth.now)) }
 {
     write_node(text, object, birth)?;
     write_edges(alloc, text, object, birth)

@@ -2,7 +2,6 @@
 
 ghost use Rattle.std.specs.Prelude.{◌≡◌, ◌++◌, OnOk, map, string_bytes};
 ghost use Rattle.std.specs.List.{flat_map};
-ghost use Rattle.values.specs.Values.{id_of};
 ghost use Rattle.task_spec.specs.Births.{argument_of};
 ghost use Rattle.lineage_text.specs.Edges.{argument_edge, argument_edges, named_edge};
 
@@ -12,13 +11,13 @@ use std::alloc::{AllocError, Global};
 use task_spec::Argument;
 
 fn write_argument_edge(text: &mut String, to: ObjectId, from: ObjectId) -> Result<(), AllocError>
-    ensures { OnOk result (string_bytes text.new ≡ string_bytes text.old ++ argument_edge (id_of to) (id_of from)) }
+    ensures { OnOk result (string_bytes text.new ≡ string_bytes text.old ++ argument_edge to from) }
 {
     writeln!(text, "    \"{from}\" -> \"{to}\";")
 }
 
 fn write_named_edge(text: &mut String, from: ObjectId, to: ObjectId) -> Result<(), AllocError>
-    ensures { OnOk result (string_bytes text.new ≡ string_bytes text.old ++ named_edge (id_of from) (id_of to)) }
+    ensures { OnOk result (string_bytes text.new ≡ string_bytes text.old ++ named_edge from to) }
 {
     writeln!(text, "    \"{from}\" -> \"{to}\" [style=dashed];")
 }
@@ -28,7 +27,7 @@ fn write_argument_edges(
     to: ObjectId,
     from: &[ObjectId],
 ) -> Result<(), AllocError>
-    ensures { OnOk result (string_bytes text.new ≡ string_bytes text.old ++ flat_map (argument_edge (id_of to)) (map id_of from.now)) }
+    ensures { OnOk result (string_bytes text.new ≡ string_bytes text.old ++ flat_map (argument_edge to) from.now) }
 {
     for object in from {
         write_argument_edge(text, to, *object)?;
@@ -42,7 +41,7 @@ pub fn write_named_edges(
     from: ObjectId,
     to: &[ObjectId],
 ) -> Result<(), AllocError>
-    ensures { OnOk result (string_bytes text.new ≡ string_bytes text.old ++ flat_map (named_edge (id_of from)) (map id_of to.now)) }
+    ensures { OnOk result (string_bytes text.new ≡ string_bytes text.old ++ flat_map (named_edge from) to.now) }
 {
     for object in to {
         write_named_edge(text, from, *object)?;
@@ -58,7 +57,7 @@ pub fn write_arguments(
     arguments: &[Argument],
 ) -> Result<(), AllocError>
     ensures { OnOk result
-        (string_bytes text.new ≡ string_bytes text.old ++ flat_map (argument_edges (id_of to)) (map argument_of arguments.now)) }
+        (string_bytes text.new ≡ string_bytes text.old ++ flat_map (argument_edges to) (map argument_of arguments.now)) }
 {
     for argument in arguments {
         let from = ids_of(alloc, &argument.value)?;

@@ -1,9 +1,8 @@
 // What each entry adds to the graph.
 
 ghost use Rattle.std.specs.Prelude.{◌≡◌, ◌++◌, List, OnOk, string_bytes};
-ghost use Rattle.values.specs.Values.{id_of};
 ghost use Rattle.event_log.specs.Entries as logged;
-ghost use Rattle.event_log.specs.Views.{entry_of, fault_of};
+ghost use Rattle.event_log.specs.Views.{entry_of};
 ghost use Rattle.history.specs.Attempts.{AreStatesOf};
 ghost use Rattle.lineage_text.specs.Entries.{lineage_in, released_text, resolved_head, resolved_text};
 
@@ -17,13 +16,13 @@ use values::Fault;
 
 #[tactic(auto, unfolding(crate::specs::Entries::resolved_head))]
 fn write_resolved_head(text: &mut String, object: ObjectId) -> Result<(), AllocError>
-    ensures { OnOk result (string_bytes text.new ≡ string_bytes text.old ++ resolved_head (id_of object)) }
+    ensures { OnOk result (string_bytes text.new ≡ string_bytes text.old ++ resolved_head object) }
 {
     write!(text, "    \"{object}\" [xlabel=\"")
 }
 
 fn write_resolved(text: &mut String, object: ObjectId, fault: Fault) -> Result<(), AllocError>
-    ensures { OnOk result (string_bytes text.new ≡ string_bytes text.old ++ resolved_text (id_of object) (fault_of fault)) }
+    ensures { OnOk result (string_bytes text.new ≡ string_bytes text.old ++ resolved_text object fault) }
 {
     write_resolved_head(text, object)?;
     write_fault_tail(text, fault)
@@ -31,7 +30,7 @@ fn write_resolved(text: &mut String, object: ObjectId, fault: Fault) -> Result<(
 
 #[tactic(auto, unfolding(crate::specs::Entries::released_text))]
 fn write_released(text: &mut String, object: ObjectId) -> Result<(), AllocError>
-    ensures { OnOk result (string_bytes text.new ≡ string_bytes text.old ++ released_text (id_of object)) }
+    ensures { OnOk result (string_bytes text.new ≡ string_bytes text.old ++ released_text object) }
 {
     writeln!(text, "    \"{object}\" [fontcolor=gray];")
 }

@@ -1,13 +1,13 @@
 -- Why an event was refused.
 use Rattle.std.specs.Prelude.{ℕ, ◌==◌, if◌then◌else◌, List, ◌++◌, codes}
 use Rattle.std.specs.Fmt.{decimal}
-use Rattle.raysim_explain.specs.declared.reason.Reason.{Reason}
-use Rattle.raysim_explain.specs.declared.reason.Reason.TheVariants.{Pinned, NoCopy, NoWorker, NotReady, NoJob, Stale, NoMessage, NotDead, NoNode, Limit}
-use Rattle.raysim_explain.specs.declared.reason.Reason.TheVariants.{Halted, NoMemory}
+use Rattle.raysim_explain.specs.declared.reason.RefusalCause.{RefusalCause}
+use Rattle.raysim_explain.specs.declared.reason.RefusalCause.TheVariants.{Pinned, NoCopy, NoWorker, NotReady, NoJob, Stale, NoMessage, NotDead, NoNode, Limit}
+use Rattle.raysim_explain.specs.declared.reason.RefusalCause.TheVariants.{Halted, NoMemory}
 use Rattle.raysim_explain.specs.Texts.{cause_of}
 
 -- the reason of a refusal's number; no log has another number than these
-abbrev pub reason_of : ℕ → Reason
+abbrev pub reason_of : ℕ → RefusalCause
 reason_of code =
     if code == 20 then Pinned else (if code == 21 then NoCopy else (if code == 30 then NoWorker else (if code == 31 then NotReady else
     (if code == 32 then NoJob else (if code == 33 then Stale else (if code == 34 then NoMessage else (if code == 35 then NotDead else

@@ -2,8 +2,8 @@
 
 ghost use Rattle.std.specs.Prelude.{◌≡◌, ◌+◌, ◌++◌, ◌<◌, ◌^◌, OnOk, string_bytes};
 ghost use Rattle.event_log.specs.Words.{births};
-ghost use Rattle.values.specs.Values.{id_of, value_of};
-ghost use Rattle.event_log.specs.Views.{entry_of, fault_of, log_of};
+ghost use Rattle.values.specs.Values.{value_of};
+ghost use Rattle.event_log.specs.Views.{entry_of, log_of};
 ghost use Rattle.log_words.specs.Index.{IsIndexOf};
 ghost use Rattle.log_text.specs.Entries.{act_text, entry_text, indent, lack_head, lack_text, line, print_text};
 ghost use Rattle.log_text.specs.Entries.{resolve_head, resolve_text};
@@ -20,21 +20,21 @@ use std::alloc::AllocError;
 use values::{Fault, RunValue};
 
 fn write_lack_head(text: &mut String, object: ObjectId) -> Result<(), AllocError>
-    ensures { OnOk result (string_bytes text.new ≡ string_bytes text.old ++ lack_head (id_of object)) }
+    ensures { OnOk result (string_bytes text.new ≡ string_bytes text.old ++ lack_head object) }
 {
     write!(text, " ends with a fault at get {object}: ")
 }
 
 /// Writes how a get was answered with a fault.
 fn write_lack(text: &mut String, object: ObjectId, fault: Fault) -> Result<(), AllocError>
-    ensures { OnOk result (string_bytes text.new ≡ string_bytes text.old ++ lack_text (id_of object) (fault_of fault)) }
+    ensures { OnOk result (string_bytes text.new ≡ string_bytes text.old ++ lack_text object fault) }
 {
     write_lack_head(text, object)?;
     write_fault(text, fault)
 }
 
 fn write_resolve_head(text: &mut String, object: ObjectId) -> Result<(), AllocError>
-    ensures { OnOk result (string_bytes text.new ≡ string_bytes text.old ++ resolve_head (id_of object)) }
+    ensures { OnOk result (string_bytes text.new ≡ string_bytes text.old ++ resolve_head object) }
 {
     let owner = object.owner;
     write!(text, "{owner} gives up {object}: ")
@@ -42,7 +42,7 @@ fn write_resolve_head(text: &mut String, object: ObjectId) -> Result<(), AllocEr
 
 /// Writes that an object will have no content.
 fn write_resolve(text: &mut String, object: ObjectId, fault: Fault) -> Result<(), AllocError>
-    ensures { OnOk result (string_bytes text.new ≡ string_bytes text.old ++ resolve_text (id_of object) (fault_of fault)) }
+    ensures { OnOk result (string_bytes text.new ≡ string_bytes text.old ++ resolve_text object fault) }
 {
     write_resolve_head(text, object)?;
     write_fault(text, fault)

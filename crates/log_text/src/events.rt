@@ -1,17 +1,15 @@
 // Events, and what they do.
 
-ghost use Rattle.std.specs.Prelude.{◌≡◌, ◌++◌, OnOk, map, string_bytes};
-ghost use Rattle.std.specs.Option.{option_map};
-ghost use Rattle.event_log.specs.Views.{event_of};
+ghost use Rattle.std.specs.Prelude.{◌≡◌, ◌++◌, OnOk, string_bytes};
 ghost use Rattle.log_text.specs.Events.{done_text, event_line, meaning_note, meaning_text, seat_note};
 
-use event_log::Event;
 use ids::WorkerId;
+use log_entries::Event;
 use log_words::worker_of_job;
 use std::alloc::AllocError;
 
 fn write_done(text: &mut String, worker: Option<WorkerId>, job: u64) -> Result<(), AllocError>
-    ensures { OnOk result (string_bytes text.new ≡ string_bytes text.old ++ done_text (option_map (λ w. w.0) worker) job) }
+    ensures { OnOk result (string_bytes text.new ≡ string_bytes text.old ++ done_text worker job) }
 {
     match worker {
         Some(worker) => write!(text, "{worker} has done job {job}"),
@@ -21,7 +19,7 @@ fn write_done(text: &mut String, worker: Option<WorkerId>, job: u64) -> Result<(
 
 /// Writes what an accepted event does.
 fn write_meaning(text: &mut String, jobs: &[WorkerId], event: &Event) -> Result<(), AllocError>
-    ensures { OnOk result (string_bytes text.new ≡ string_bytes text.old ++ meaning_text (map (λ w. w.0) jobs.now) (event_of event.now)) }
+    ensures { OnOk result (string_bytes text.new ≡ string_bytes text.old ++ meaning_text jobs.now event.now) }
 {
     match event {
         Event::Claim(worker) => {
@@ -50,7 +48,7 @@ fn write_meaning_unless(
     is_refused: bool,
 ) -> Result<(), AllocError>
     ensures { OnOk result
-        (string_bytes text.new ≡ string_bytes text.old ++ meaning_note (map (λ w. w.0) jobs.now) (event_of event.now) is_refused) }
+        (string_bytes text.new ≡ string_bytes text.old ++ meaning_note jobs.now event.now is_refused) }
 {
     if is_refused {
         return Ok(());
@@ -79,7 +77,7 @@ pub fn write_event(
     is_refused: bool,
 ) -> Result<(), AllocError>
     ensures { OnOk result (string_bytes text.new ≡ string_bytes text.old
-        ++ event_line number (map (λ w. w.0) jobs.now) (event_of event.now) seat is_refused) }
+        ++ event_line number jobs.now event.now seat is_refused) }
 {
     write!(text, "{number}. {event}")?;
     write_meaning_unless(text, jobs, event, is_refused)?;

@@ -1,30 +1,30 @@
 // Refusals, with their causes.
 
 ghost use Rattle.std.specs.Prelude.{◌≡◌, ◌++◌, OnOk, string_bytes};
-ghost use Rattle.event_log.specs.Views.{code_of};
+ghost use Rattle.log_entries.specs.Refusals.{code_of};
 ghost use Rattle.log_text.specs.Refusals.{reason_of, refusal_text};
 
-use event_log::Refusal;
-use raysim_explain::Reason;
+use log_entries::Refusal;
+use raysim_explain::RefusalCause;
 use std::alloc::AllocError;
 
 /// The reason that explains a refusal.
-fn reason_of(refusal: Refusal) -> Reason
+fn reason_of(refusal: Refusal) -> RefusalCause
     ensures { result ≡ reason_of (code_of refusal) }
 {
     match refusal {
-        Refusal::Pinned => Reason::Pinned,
-        Refusal::NoCopy => Reason::NoCopy,
-        Refusal::NoWorker => Reason::NoWorker,
-        Refusal::NotReady => Reason::NotReady,
-        Refusal::NoJob => Reason::NoJob,
-        Refusal::Stale => Reason::Stale,
-        Refusal::NoMessage => Reason::NoMessage,
-        Refusal::NotDead => Reason::NotDead,
-        Refusal::NoNode => Reason::NoNode,
-        Refusal::Limit => Reason::Limit,
-        Refusal::Halted => Reason::Halted,
-        Refusal::NoMemory => Reason::NoMemory,
+        Refusal::Pinned => RefusalCause::Pinned,
+        Refusal::NoCopy => RefusalCause::NoCopy,
+        Refusal::NoWorker => RefusalCause::NoWorker,
+        Refusal::NotReady => RefusalCause::NotReady,
+        Refusal::NoJob => RefusalCause::NoJob,
+        Refusal::Stale => RefusalCause::Stale,
+        Refusal::NoMessage => RefusalCause::NoMessage,
+        Refusal::NotDead => RefusalCause::NotDead,
+        Refusal::NoNode => RefusalCause::NoNode,
+        Refusal::Limit => RefusalCause::Limit,
+        Refusal::Halted => RefusalCause::Halted,
+        Refusal::NoMemory => RefusalCause::NoMemory,
     }
 }
 

@@ -3,7 +3,6 @@ use Rattle.std.proofs.Common.{◌≡◌, ℕ, suc, ◌<◌, Bool, true, false, i
 use Rattle.std.specs.List.{flat_map}
 use Rattle.std.proofs.Math.Seq.{drop-cons}
 use Rattle.std.proofs.lemmas.Option.{slice_get_read}
-use Rattle.values.specs.Values.{id_of}
 use Rattle.task_spec.specs.Births.{birth_of}
 use Rattle.meaning.specs.Values.{Id, Birth}
 use Rattle.meaning.specs.Births.{same_id, birth_at}
@@ -22,7 +21,7 @@ by_entry : (log : List Entry) (k : ℕ) (x : Entry) (r : Option ℕ) (rest : Lis
     birth_found log r ≡ birth_at (flat_map born_in (log_of rest)) o →
     birth_found log (if is_born_in o (entry_of x) then Some k else r) ≡ birth_at (flat_map born_in (log_of (x ∷ rest))) o
 by_entry log k (entries.Born p a b) r rest o at e =
-    by_test log k (birth_of b) r (birth_at (flat_map born_in (log_of rest)) o) (same_id (id_of p) o) (ap birth_in at) e
+    by_test log k (birth_of b) r (birth_at (flat_map born_in (log_of rest)) o) (same_id p o) (ap birth_in at) e
 by_entry log k (entries.In v seat) r rest o at e = e
 by_entry log k (entries.Refused v) r rest o at e = e
 by_entry log k (entries.Opened v n) r rest o at e = e

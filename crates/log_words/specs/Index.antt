@@ -3,8 +3,6 @@ use Rattle.std.specs.Prelude.{◌≡◌, ℕ, Bool, false, List, Option, Some, N
 use Rattle.std.specs.List.{flat_map}
 use Rattle.std.specs.Map.{lookup}
 use Rattle.indexmap.specs.IndexMap.{IndexMap}
-use Rattle.ids.specs.declared.object.ObjectId.{ObjectId}
-use Rattle.values.specs.Values.{id_of}
 use Rattle.task_spec.specs.Births.{birth_of}
 use Rattle.meaning.specs.Values.{Id, Birth, main_birth}
 use Rattle.meaning.specs.Births.{same_id, birth_at}
@@ -21,8 +19,8 @@ birth_in (Some (entries.Born o a b)) = Some (birth_of b)
 birth_in _ = None
 
 -- the place that is noted for the object
-abbrev pub found : {S : Type 0} → IndexMap ObjectId ℕ S → ObjectId → Option ℕ
-found places o = lookup (λ p. same_id (id_of o) (id_of p)) places.entries
+abbrev pub found : {S : Type 0} → IndexMap Id ℕ S → Id → Option ℕ
+found places o = lookup (λ p. same_id o p) places.entries
 
 -- the entry is the object's birth
 abbrev pub is_born_in : Id → logged.Entry → Bool
@@ -34,9 +32,9 @@ birth_found log None = None
 birth_found log (Some place) = birth_in (slice_get log place)
 
 -- the births from the place on are noted
-abbrev pub AreIndexed : {S : Type 0} → IndexMap ObjectId ℕ S → List Entry → ℕ → Type 0
+abbrev pub AreIndexed : {S : Type 0} → IndexMap Id ℕ S → List Entry → ℕ → Type 0
 AreIndexed places log from =
-    (o : ObjectId) → birth_found log (found places o) ≡ birth_at (flat_map born_in (log_of (drop from log))) (id_of o)
+    (o : Id) → birth_found log (found places o) ≡ birth_at (flat_map born_in (log_of (drop from log))) o
 
 pub record IsIndexOf (index : BirthIndex) (log : List Entry) : Type 0 where
   pub main : birth_of index.main ≡ main_birth

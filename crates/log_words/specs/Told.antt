@@ -1,5 +1,5 @@
 -- What has been told when an entry comes.
-use Rattle.std.specs.Prelude.{ℕ, ◌+◌, Bool, if◌then◌else◌, List, [], ◌++◌, map}
+use Rattle.std.specs.Prelude.{ℕ, ◌+◌, Bool, if◌then◌else◌, List, [], ◌++◌}
 use Rattle.event_log.specs.Entries.{Entry, In}
 use Rattle.event_log.specs.Events.{claim_in}
 use Rattle.log_words.specs.declared.told.Told.{Told as CodeTold}
@@ -10,7 +10,7 @@ pub record Told : Type 0 where
   pub jobs : List ℕ
 
 abbrev pub told_of : CodeTold → Told
-told_of t = record { events = t.events; jobs = map (λ w. w.0) t.jobs.items }
+told_of t = record { events = t.events; jobs = t.jobs.items }
 
 abbrev pub nothing_told : Told
 nothing_told = record { events = 0; jobs = [] }

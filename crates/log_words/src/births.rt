@@ -2,8 +2,7 @@
 
 ghost use Rattle.std.specs.Prelude.{◌≡◌, IfOk, OnOk, Some, if◌then◌else◌, option_copied, slice_get};
 ghost use Rattle.std.specs.Option.{option_map};
-ghost use Rattle.ids.specs.declared.object.ObjectId.{ObjectId};
-ghost use Rattle.values.specs.Values.{id_of};
+ghost use Rattle.meaning.specs.Values.{Id};
 ghost use Rattle.task_spec.specs.Births.{birth_of};
 ghost use Rattle.meaning.specs.Values.{main_birth};
 ghost use Rattle.meaning.specs.Births.{same_id, birth_at};
@@ -31,8 +30,8 @@ fn add(
     object: ObjectId,
     place: usize,
 ) -> Result<(), AllocError>
-    ensures { OnOk result ((o : ObjectId) →
-        found places.new o ≡ (if same_id (id_of object) (id_of o) then Some place else found places.old o)) }
+    ensures { OnOk result ((o : Id) →
+        found places.new o ≡ (if same_id object o then Some place else found places.old o)) }
 {
     places.insert(object, place)?;
     Ok(())
@@ -44,8 +43,8 @@ fn note(
     entry: &Entry,
     place: usize,
 ) -> Result<(), AllocError>
-    ensures { OnOk result ((o : ObjectId) →
-        found places.new o ≡ (if is_born_in (id_of o) (entry_of entry.now) then Some place else found places.old o)) }
+    ensures { OnOk result ((o : Id) →
+        found places.new o ≡ (if is_born_in o (entry_of entry.now) then Some place else found places.old o)) }
 {
     match entry {
         Entry::Born { object, .. } => add(places, *object, place),
@@ -98,7 +97,7 @@ fn main_birth(alloc: Global) -> Result<Birth, AllocError>
 /// Whether the object is main's own.
 #[tactic(auto, unfolding(meaning::specs::Births::same_id))]
 fn is_main(object: ObjectId) -> bool
-    ensures { result ≡ same_id main_object (id_of object) }
+    ensures { result ≡ same_id main_object object }
 {
     object.owner.0 == 1 && object.serial == 0
 }
@@ -116,7 +115,7 @@ impl BirthIndex {
     /// What the object was born as, by the log of which this is the index. Takes no memory.
     pub fn birth<'a>(&'a self, log: &'a [Entry], object: ObjectId) -> Option<&'a Birth>
         ensures { IsIndexOf self.now log.now →
-            option_map birth_of (option_copied result) ≡ birth_at (births (log_of log.now)) (id_of object) }
+            option_map birth_of (option_copied result) ≡ birth_at (births (log_of log.now)) object }
     {
         if is_main(object) {
             return Some(&self.main);

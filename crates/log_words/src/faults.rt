@@ -1,7 +1,6 @@
 // Faults, written with what they mean.
 
 ghost use Rattle.std.specs.Prelude.{◌≡◌, ◌++◌, OnOk, string_bytes};
-ghost use Rattle.event_log.specs.Views.{fault_of, kind_of};
 ghost use Rattle.log_words.specs.Faults.{kind_words, fault_words};
 
 use history::kind_name;
@@ -10,7 +9,7 @@ use values::{Fault, FaultKind};
 
 /// What a kind of fault says of the object in which it began.
 pub fn kind_words(kind: FaultKind) -> &'static str
-    ensures { result.now ≡ kind_words (kind_of kind) }
+    ensures { result.now ≡ kind_words kind }
 {
     match kind {
         FaultKind::OwnerDied => "its owner died",
@@ -21,7 +20,7 @@ pub fn kind_words(kind: FaultKind) -> &'static str
 
 /// Writes a fault, such as `PutLost o1.1 (it was put, and its copy was lost)`.
 pub fn write_fault(text: &mut String, fault: Fault) -> Result<(), AllocError>
-    ensures { OnOk result (string_bytes text.new ≡ string_bytes text.old ++ fault_words (fault_of fault)) }
+    ensures { OnOk result (string_bytes text.new ≡ string_bytes text.old ++ fault_words fault) }
 {
     let kind = kind_name(fault.kind);
     let object = fault.object;

@@ -1,13 +1,13 @@
 // What has been told when an entry comes.
 
-ghost use Rattle.std.specs.Prelude.{◌≡◌, ◌+◌, ◌++◌, ◌<◌, ◌≤◌, ◌^◌, OnOk, [], if◌then◌else◌, drop, map};
-ghost use Rattle.std.specs.Option.{option_map};
+ghost use Rattle.std.specs.Prelude.{◌≡◌, ◌+◌, ◌++◌, ◌<◌, ◌≤◌, ◌^◌, OnOk, [], if◌then◌else◌, drop};
 ghost use Rattle.event_log.specs.Events.{claim_in, from_one, refused_next};
-ghost use Rattle.event_log.specs.Views.{entry_of, event_of, log_of};
+ghost use Rattle.event_log.specs.Views.{entry_of, log_of};
 ghost use Rattle.log_words.specs.Told.{nothing_told, told_after, told_of};
 
-use event_log::{Entry, Event};
+use event_log::Entry;
 use ids::WorkerId;
+use log_entries::Event;
 use std::alloc::{AllocError, Global};
 
 /// How many events came, and the workers to which jobs were given, by job.
@@ -19,8 +19,8 @@ pub struct Told {
 
 /// Notes the job that an accepted event gives out.
 fn note_job(jobs: &mut Vec<WorkerId>, event: &Event, is_refused: bool) -> Result<(), AllocError>
-    ensures { OnOk result (map (λ w. w.0) jobs.new.items
-        ≡ map (λ w. w.0) jobs.old.items ++ (if is_refused then [] else claim_in (event_of event.now))) }
+    ensures { OnOk result (jobs.new.items
+        ≡ jobs.old.items ++ (if is_refused then [] else claim_in event.now)) }
 {
     if is_refused {
         return Ok(());
@@ -33,7 +33,7 @@ fn note_job(jobs: &mut Vec<WorkerId>, event: &Event, is_refused: bool) -> Result
 
 /// The worker to which the job was given, where `jobs` are those to which jobs were given, by job.
 pub fn worker_of_job(jobs: &[WorkerId], job: u64) -> Option<WorkerId>
-    ensures { option_map (λ w. w.0) result ≡ from_one (map (λ w. w.0) jobs.now) job }
+    ensures { result ≡ from_one jobs.now job }
 {
     if job == 0 {
         return None;

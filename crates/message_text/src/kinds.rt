@@ -5,11 +5,10 @@ ghost use Rattle.message_text.specs.Messages.{at_text, carrying_text, closed_tex
 ghost use Rattle.message_text.specs.Messages.{message_text, place_text, push_text, reason_text, stop_text, unhold_text};
 
 use crate::lists::{write_nodes, write_objects};
-use crate::parties::{attempt_out, fault_out, object_out};
 use held::{Content, Origin};
 use history::kind_name;
+use ids::{AttemptId, NodeId, ObjectId};
 use log_words::{write_birth, write_content};
-use numbers::{AttemptId, NodeId, ObjectId};
 use protocol_data::{Message, Reason};
 use sequence::Seq;
 use std::alloc::AllocError;
@@ -17,7 +16,6 @@ use std::alloc::AllocError;
 fn write_push(text: &mut String, attempt: AttemptId, birth: &Origin) -> Result<(), AllocError>
     ensures { OnOk result (string_bytes text.new ≡ string_bytes text.old ++ push_text attempt birth.now) }
 {
-    let attempt = attempt_out(attempt);
     write!(text, "Push({attempt}, ")?;
     write_birth(text, &birth.inner)?;
     text.push_str(")")
@@ -42,7 +40,6 @@ fn write_finished(
 ) -> Result<(), AllocError>
     ensures { OnOk result (string_bytes text.new ≡ string_bytes text.old ++ finished_text attempt node ids.now kept.now) }
 {
-    let attempt = attempt_out(attempt);
     let node = node.0;
     write!(text, "Finished({attempt}, n{node}, ")?;
     write_objects(text, ids.as_slice())?;
@@ -59,7 +56,6 @@ fn write_at(
 ) -> Result<(), AllocError>
     ensures { OnOk result (string_bytes text.new ≡ string_bytes text.old ++ at_text object number nodes.now kept.now) }
 {
-    let object = object_out(object);
     write!(text, "At({object}, {number}, ")?;
     write_nodes(text, nodes.as_slice())?;
     write_kept(text, kept)?;
@@ -74,7 +70,6 @@ fn write_copy(
 ) -> Result<(), AllocError>
     ensures { OnOk result (string_bytes text.new ≡ string_bytes text.old ++ copy_text object number content.now) }
 {
-    let object = object_out(object);
     write!(text, "Copy({object}, {number}, ")?;
     write_content(text, &content.inner)?;
     text.push_str(")")
@@ -113,8 +108,6 @@ fn write_unhold(
 ) -> Result<(), AllocError>
     ensures { OnOk result (string_bytes text.new ≡ string_bytes text.old ++ unhold_text holder object reason) }
 {
-    let holder = object_out(holder);
-    let object = object_out(object);
     let reason = reason_name(reason);
     write!(text, "Unhold({holder}, {object}, {reason})")
 }
@@ -125,13 +118,13 @@ fn write_hold(text: &mut String, message: &Message) -> Result<(), AllocError>
 {
     match message {
         Message::Hold(holder, object) => {
-            let holder = object_out(*holder);
-            let object = object_out(*object);
+            let holder = *holder;
+            let object = *object;
             write!(text, "Hold({holder}, {object})")
         }
         Message::HoldAck(holder, object) => {
-            let holder = object_out(*holder);
-            let object = object_out(*object);
+            let holder = *holder;
+            let object = *object;
             write!(text, "HoldAck({holder}, {object})")
         }
         Message::Unhold(holder, object, reason) => write_unhold(text, *holder, *object, *reason),
@@ -145,15 +138,15 @@ fn write_place(text: &mut String, message: &Message) -> Result<(), AllocError>
 {
     match message {
         Message::Where(object) => {
-            let object = object_out(*object);
+            let object = *object;
             write!(text, "Where({object})")
         }
         Message::Fetch(object, number) => {
-            let object = object_out(*object);
+            let object = *object;
             write!(text, "Fetch({object}, {number})")
         }
         Message::Missing(object, number, node) => {
-            let object = object_out(*object);
+            let object = *object;
             let node = node.0;
             write!(text, "Missing({object}, {number}, n{node})")
         }
@@ -164,7 +157,6 @@ fn write_place(text: &mut String, message: &Message) -> Result<(), AllocError>
 fn write_closed(text: &mut String, attempt: AttemptId) -> Result<(), AllocError>
     ensures { OnOk result (string_bytes text.new ≡ string_bytes text.old ++ closed_text attempt) }
 {
-    let attempt = attempt_out(attempt);
     write!(text, "{attempt})")
 }
 
@@ -182,19 +174,19 @@ fn write_stop(text: &mut String, message: &Message) -> Result<(), AllocError>
     match message {
         Message::FinishedAck(attempt) => write_finished_ack(text, *attempt),
         Message::Back(attempt) => {
-            let attempt = attempt_out(*attempt);
+            let attempt = *attempt;
             write!(text, "Back({attempt})")
         }
         Message::Failed(attempt, fault) => {
-            let attempt = attempt_out(*attempt);
-            let fault = fault_out(*fault);
+            let attempt = *attempt;
+            let fault = *fault;
             let kind = kind_name(fault.kind);
             let object = fault.object;
             write!(text, "Failed({attempt}, {kind} {object})")
         }
         Message::Gone(lost, fault) => {
-            let lost = object_out(*lost);
-            let fault = fault_out(*fault);
+            let lost = *lost;
+            let fault = *fault;
             let kind = kind_name(fault.kind);
             let object = fault.object;
             write!(text, "Gone({lost}, {kind} {object})")
@@ -209,21 +201,21 @@ pub fn write_message(text: &mut String, message: &Message) -> Result<(), AllocEr
 {
     match message {
         Message::Ask(attempt, ask) => {
-            let attempt = attempt_out(*attempt);
+            let attempt = *attempt;
             write!(text, "Ask({attempt}, {ask})")
         }
         Message::Give(attempt, ask, worker) => {
-            let attempt = attempt_out(*attempt);
+            let attempt = *attempt;
             let worker = worker.0;
             write!(text, "Give({attempt}, {ask}, w{worker})")
         }
         Message::Elsewhere(attempt, ask, node) => {
-            let attempt = attempt_out(*attempt);
+            let attempt = *attempt;
             let node = node.0;
             write!(text, "Elsewhere({attempt}, {ask}, n{node})")
         }
         Message::Wait(attempt, ask) => {
-            let attempt = attempt_out(*attempt);
+            let attempt = *attempt;
             write!(text, "Wait({attempt}, {ask})")
         }
         _ => write_stop(text, message),

@@ -4,8 +4,7 @@ ghost use Rattle.std.specs.Prelude.{◌≡◌, ◌++◌, OnOk, string_bytes};
 ghost use Rattle.std.specs.List.{flat_map};
 ghost use Rattle.message_text.specs.Messages.{inner_nodes, inner_objects, nodes_text, objects_text, other_node, other_object};
 
-use crate::parties::object_out;
-use numbers::{NodeId, ObjectId};
+use ids::{NodeId, ObjectId};
 use std::alloc::AllocError;
 
 /// Writes the nodes behind the first.
@@ -44,7 +43,7 @@ fn write_other_objects(text: &mut String, objects: &[ObjectId]) -> Result<(), Al
     ensures { OnOk result (string_bytes text.new ≡ string_bytes text.old ++ flat_map other_object objects.now) }
 {
     for object in objects {
-        let object = object_out(*object);
+        let object = *object;
         write!(text, ", {object}")?;
     }
     Ok(())
@@ -56,7 +55,7 @@ fn write_inner_objects(text: &mut String, objects: &[ObjectId]) -> Result<(), Al
     let [first, others @ ..] = objects else {
         return Ok(());
     };
-    let object = object_out(*first);
+    let object = *first;
     write!(text, "{object}")?;
     write_other_objects(text, others)
 }

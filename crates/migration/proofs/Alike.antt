@@ -15,7 +15,6 @@ use Rattle.evaluation.specs.declared.piece.Stop.TheVariants as stops
 use Rattle.evaluation.specs.Pieces.{stop_of}
 use Rattle.segment.specs.Jobs.{Done, IsTrueOf, JobData, replay_of, whole_of}
 use Rattle.event_log.specs.Entries.{Entry, Event, Commit}
-use Rattle.event_log.specs.Views.{event_of}
 use Rattle.event_files.specs.declared.recorded.RecordedEvent.{RecordedEvent}
 use Rattle.protocol.specs.Jobs.{AtEnd, AtGet, Handed, Job, OfJob, Outcomes, Stopped}
 use Rattle.protocol.specs.Numbered.{changed_by}
@@ -219,7 +218,7 @@ alike_all : (script : Script) (events : List RecordedEvent) (p q r s : Play) →
 unfolding AllPlay
 alike_all script [] p q r s h a b = subst (λ x. Alike x s) (sym a) (subst (Alike p) (sym b) h)
 alike_all script (v ∷ events) p q r s h (x, here, rest) (y, there, more) =
-    alike_all script events x y r s (alike_step script (next_line p) (next_line q) x y (event_of v.event) v.seat (alike_next p q h) here.0 there.0) rest more
+    alike_all script events x y r s (alike_step script (next_line p) (next_line q) x y v.event v.seat (alike_next p q h) here.0 there.0) rest more
 
 same_self : (xs : List (Option JobData)) → SameJobs xs xs
 unfolding SameJobs

@@ -9,12 +9,12 @@ use Rattle.segment.specs.Jobs.{Done}
 use Rattle.event_log.specs.Entries.{Entry, In, Refused, Event, Claim}
 use Rattle.event_log.specs.Events.{accepted_events, claims, claim_in, refused_next}
 use Rattle.event_log.specs.Legal.{has_event}
-use Rattle.event_log.specs.Views.{event_of, log_of}
+use Rattle.event_log.specs.Views.{log_of}
 use Rattle.event_log.specs.declared.entry.Entry.{Entry as CodeEntry}
 use Rattle.event_log.specs.declared.entry.Entry.TheVariants as entries
-use Rattle.event_log.specs.declared.event.Event.{Event as CodeEvent}
-use Rattle.event_log.specs.declared.event.Event.TheVariants as events
-use Rattle.event_log.specs.declared.refusal.Refusal.{Refusal}
+use Rattle.log_entries.specs.declared.event.Event.{Event as CodeEvent}
+use Rattle.log_entries.specs.declared.event.Event.TheVariants as events
+use Rattle.log_entries.specs.declared.refusal.Refusal.{Refusal}
 use Rattle.event_files.specs.declared.line.Line.{Line}
 use Rattle.event_files.specs.declared.line.Line.TheVariants as lines
 use Rattle.event_files.specs.declared.recorded.RecordedEvent.{RecordedEvent}
@@ -29,7 +29,7 @@ use Rattle.protocol_board.specs.Cores.{RunState}
 use Rattle.protocol_core.specs.Steps.{GivesThat, Reply, Tells, Answers, Follows}
 use Rattle.protocol_core.specs.Steps as replies
 use Rattle.seats.specs.Counted.{ClaimsGaveJobs}
-use Rattle.protocol_board.specs.Replays.{AllPlay, LinePlays, Play, PlaysHistory, Plays, Settles, Step, found_no_memory, given_by, next_line, numbers_of}
+use Rattle.protocol_board.specs.Replays.{AllPlay, LinePlays, Play, PlaysHistory, Plays, Settles, Step, found_no_memory, given_by, next_line}
 use Rattle.migration.specs.Migration.{Begins, HistoriesReplay, Said, SaidPlays, claims_after, given_at, said_by, said_from}
 use Rattle.seats.proofs.Counted.{answers_counted, fresh_claims}
 use Rattle.seats.proofs.Jobs.{claim_gives}
@@ -210,9 +210,9 @@ behind_settles script but (suc n) first q r h (between, e, before, named, step) 
     behind_step script first between r e (behind_settles script but n first q between h before) step
 
 behind_line : (script : Script) (line : Line) (first q r : Play) → Reached script first q → LinePlays script line q r → Reached script first r
-behind_line script (lines.Event e) first q r h step = behind_step script first (next_line q) r (event_of e) (at_next_line script first q h) step
+behind_line script (lines.Event e) first q r h step = behind_step script first (next_line q) r e (at_next_line script first q h) step
 behind_line script (lines.Settle workers) first q r h (n, settles, rest) =
-    behind_settles script (numbers_of workers) n first (next_line q) r (at_next_line script first q h) settles
+    behind_settles script workers n first (next_line q) r (at_next_line script first q h) settles
 
 behind_lines : (script : Script) (ls : List Line) (first q r : Play) → Reached script first q → Plays script ls q r → Reached script first r
 unfolding AllPlay
@@ -227,11 +227,11 @@ same_next [] = refl
 same_next (entries.Refused r ∷ rest) = refl
 same_next (x ∷ rest) = refl
 
-same_given : (e : CodeEvent) (b : Bool) (n : ℕ) → recorded.given_by e b n ≡ given_at (event_of e) b n
+same_given : (e : CodeEvent) (b : Bool) (n : ℕ) → recorded.given_by e b n ≡ given_at e b n
 same_given (events.Claim w) b n = refl
 same_given e b n = refl
 
-same_claims : (e : CodeEvent) (b : Bool) (n : ℕ) → recorded.claims_behind e b n ≡ claims_after (event_of e) b n
+same_claims : (e : CodeEvent) (b : Bool) (n : ℕ) → recorded.claims_behind e b n ≡ claims_after e b n
 same_claims (events.Claim w) b n = refl
 same_claims e b n = refl
 
@@ -239,10 +239,10 @@ pub same_said : (n : ℕ) (log : List CodeEntry) → map said_by (recorded.recor
 same_said n [] = refl
 same_said n (entries.In e s ∷ rest) =
     let b = recorded.refused_next rest in
-    ap (λ g. said s (event_of e) g ∷ map said_by (recorded.recorded_from (recorded.claims_behind e b n) rest)) (same_given e b n)
-    ∙ ap (λ xs. said s (event_of e) (given_at (event_of e) b n) ∷ xs) (same_said (recorded.claims_behind e b n) rest)
-    ∙ ap (λ k. said s (event_of e) (given_at (event_of e) b n) ∷ said_from k (log_of rest)) (same_claims e b n)
-    ∙ ap (λ c. said s (event_of e) (given_at (event_of e) c n) ∷ said_from (claims_after (event_of e) c n) (log_of rest)) (sym (same_next rest))
+    ap (λ g. said s e g ∷ map said_by (recorded.recorded_from (recorded.claims_behind e b n) rest)) (same_given e b n)
+    ∙ ap (λ xs. said s e (given_at e b n) ∷ xs) (same_said (recorded.claims_behind e b n) rest)
+    ∙ ap (λ k. said s e (given_at e b n) ∷ said_from k (log_of rest)) (same_claims e b n)
+    ∙ ap (λ c. said s e (given_at e c n) ∷ said_from (claims_after e c n) (log_of rest)) (sym (same_next rest))
 same_said n (x ∷ rest) = same_said n rest
 
 pub recorded_plays : (script : Script) (rs : List RecordedEvent) (a b : Play) → AllPlay (SaidPlays script) (map said_by rs) a b → PlaysHistory script rs a b

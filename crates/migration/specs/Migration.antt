@@ -4,7 +4,7 @@ use Rattle.meaning.specs.Syntax.{Script}
 use Rattle.event_log.specs.Entries.{Claim, Entry, Event, In}
 use Rattle.event_log.specs.Events.{refused_next}
 use Rattle.event_log.specs.Legal.{opening}
-use Rattle.event_log.specs.Views.{event_of, log_of}
+use Rattle.event_log.specs.Views.{log_of}
 use Rattle.event_log.specs.declared.entry.Entry.{Entry as CodeEntry}
 use Rattle.event_files.specs.declared.line.Line.{Line}
 use Rattle.event_files.specs.declared.recorded.RecordedEvent.{RecordedEvent}
@@ -18,7 +18,7 @@ pub record Said : Type 0 where
   pub given : Option ℕ
 
 abbrev pub said_by : RecordedEvent → Said
-said_by r = record { seat = r.seat; event = event_of r.event; given = r.given }
+said_by r = record { seat = r.seat; event = r.event; given = r.given }
 
 -- the number of the job that a claim gives behind so many others that were accepted, 0 where it is refused; of another event none
 abbrev pub given_at : Event → Bool → ℕ → Option ℕ

@@ -1,7 +1,7 @@
 -- What an evict or a loss answers.
 use Rattle.std.specs.Prelude.{Err, None, Ok, Option, Result, Some, ℕ}
-use Rattle.event_log.specs.Views.{code_of}
-use Rattle.event_log.specs.declared.refusal.Refusal.{Refusal}
+use Rattle.log_entries.specs.Refusals.{code_of}
+use Rattle.log_entries.specs.declared.refusal.Refusal.{Refusal}
 
 -- the number of the refusal, if it is one
 abbrev pub refused : Result (Unit {0}) Refusal → Option ℕ

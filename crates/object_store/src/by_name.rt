@@ -5,9 +5,9 @@ ghost use Rattle.protocol.specs.Stores.{copy_in, evict_refusal, evicted, lose_re
 ghost use Rattle.object_store.specs.Refusals.{refused};
 
 use crate::stores::{evict, get, lose, put_primary, put_secondary};
-use event_log::Refusal;
 use held::Content;
-use numbers::ObjectId;
+use ids::ObjectId;
+use log_entries::Refusal;
 use protocol_data::Store;
 use std::alloc::{AllocError, Global};
 

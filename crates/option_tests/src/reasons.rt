@@ -1,6 +1,6 @@
 // What a refusal's number means, and its place.
 
-use raysim_explain::{Reason, Shown};
+use raysim_explain::{RefusalCause, Shown};
 use std::test::Fail;
 
 #[test]
@@ -25,13 +25,13 @@ fn a_place_is_shown(rt: HostRuntime) -> Result<(), Fail> {
 #[test]
 fn a_reason_is_told(rt: HostRuntime) -> Result<(), Fail> {
     let alloc = rt.alloc();
-    let Some(reason) = Reason::of(16) else {
+    let Some(reason) = RefusalCause::of(16) else {
         return Err(Fail::from("a reason"));
     };
     let text = format!(in alloc; "{reason}")?;
     let told =
         "16 BadRetries\nA remote call asks for more than 10 retries. The place is the number.\nExample: let r = remote(11) f();";
     assert_eq!(rt; text.as_str(), told);
-    assert!(rt; Reason::of(5).is_none());
+    assert!(rt; RefusalCause::of(5).is_none());
     Ok(())
 }

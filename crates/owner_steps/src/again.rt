@@ -8,12 +8,13 @@ ghost use Rattle.protocol_data.specs.declared.tables.OwnTask.{OwnTask};
 
 use crate::ends::rest;
 use crate::faulted::answer_faulted;
+use ids::{AttemptId, NodeId, ObjectId, WorkerId};
 use lease::next_in_circle;
 use lineage::may_try_again;
-use number_lists::{has_node, object_at_number};
-use numbers::{AttemptId, Cause, Fault, NodeId, ObjectId, WorkerId};
+use number_lists::{has_node, object_at_number, row_of};
 use protocol_data::{Here, Maker, Message, Object, Objects, OwnTask, Progress, Said, Worker};
 use std::alloc::{AllocError, Global};
+use values::{Fault, FaultKind};
 use worker_steps::{ask_at, is_own, knows_dead, log, request, resolve, say};
 
 /// The present attempt of the pending task that makes the object is broken: its worker or its node is dead. While there are retries left the
@@ -33,7 +34,7 @@ pub fn break_attempt(alloc: Global, here: &mut Here, object: ObjectId) -> Result
         return request(here, object, number + 1);
     }
     rest(here, object, number);
-    let kind = Cause::RetriesUsed;
+    let kind = FaultKind::RetriesUsed;
     resolve(here, object, Fault { kind, object })?;
     answer_faulted(alloc, here, object)
 }
@@ -61,14 +62,10 @@ fn set_begun_at(
     ensures { (task : OwnTask) → task_of (item_at objects.old serial) ≡ Some task
         → OnOk result (objects.new ≡ changed_at objects.old serial (with_task (with_begun task worker node))) }
 {
-    if serial == 0 {
+    let Some(place) = row_of(objects, serial) else {
         return Ok(());
-    }
-    let place = serial - 1;
-    if place >= objects.len() as u64 {
-        return Ok(());
-    }
-    let object = objects.row_mut(place as usize);
+    };
+    let object = objects.row_mut(place);
     set_begun(object, worker, node)?;
     Ok(())
 }

@@ -8,7 +8,7 @@ ghost use Rattle.protocol_data.specs.declared.tables.Object.{Object};
 use crate::faulted::clear_askers;
 use crate::needs::{need_own_if_waiting, settled_number};
 use held::Content;
-use numbers::{NodeId, ObjectId, WorkerId};
+use ids::{NodeId, ObjectId, WorkerId};
 use protocol_data::{Here, Message, copy_of};
 use sequence::Seq;
 use std::alloc::{AllocError, Global};

@@ -8,25 +8,22 @@ ghost use Rattle.protocol.specs.Places.{hands_missing_on, missing_from, missing_
 
 use crate::needs::{need_own_if_waiting, remove_place, settled_number};
 use crate::recovery::recover;
+use ids::{NodeId, ObjectId, WorkerId};
 use lineage::{has_content, is_lost};
-use number_lists::add_worker;
-use numbers::{Cause, Fault, NodeId, ObjectId, WorkerId};
+use number_lists::{add_worker, row_of};
 use protocol_data::{Here, Message, Object, Objects, Party, copy_of};
 use std::alloc::{AllocError, Global};
+use values::{Fault, FaultKind};
 use worker_steps::{find_none, is_own, is_present, is_waiting_for, object_at, report_missing, say};
 
 /// The worker waits for the object of that serial.
 fn add_asker_at(objects: &mut Objects, serial: u64, worker: WorkerId) -> Result<(), AllocError>
     ensures { OnOk result (objects.new ≡ changed_at objects.old serial (with_asker worker)) }
 {
-    if serial == 0 {
+    let Some(place) = row_of(objects, serial) else {
         return Ok(());
-    }
-    let place = serial - 1;
-    if place >= objects.len() as u64 {
-        return Ok(());
-    }
-    let object = objects.row_mut(place as usize);
+    };
+    let object = objects.row_mut(place);
     add_worker(&mut object.askers, worker)?;
     Ok(())
 }
@@ -51,7 +48,7 @@ fn tell_released(
         return Ok(());
     };
     let why = Fault {
-        kind: Cause::OwnerDied,
+        kind: FaultKind::OwnerDied,
         object: held_by,
     };
     say(here, worker, Message::Gone(object, why))

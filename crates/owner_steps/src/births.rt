@@ -10,7 +10,8 @@ ghost use Rattle.protocol.specs.Commits.{bears, bears_all, bears_put, bears_task
 
 use crate::birth_ids::ids_in_birth;
 use held::{Content, Origin};
-use numbers::{AttemptId, NodeId, ObjectId};
+use ids::{AttemptId, NodeId, ObjectId};
+use number_lists::row_of;
 use object_store::put_primary;
 use protocol_data::{Here, Maker, Message, Object, Objects, OwnTask, Progress};
 use sequence::Seq;
@@ -131,14 +132,10 @@ fn bear_put(
 fn set_task_at(objects: &mut Objects, serial: u64, task: OwnTask)
     ensures { objects.new ≡ changed_at objects.old serial (with_task task) }
 {
-    if serial == 0 {
+    let Some(place) = row_of(objects, serial) else {
         return;
-    }
-    let place = serial - 1;
-    if place >= objects.len() as u64 {
-        return;
-    }
-    let object = objects.row_mut(place as usize);
+    };
+    let object = objects.row_mut(place);
     object.maker = Maker::ByTask(task);
 }
 

@@ -12,11 +12,12 @@ use crate::births::{bear_all, next_id};
 use crate::logged::log_outcomes;
 use crate::needs::need_own;
 use held::{Births, Content, Origin, Printed, Prints};
-use numbers::{Cause, Fault, ObjectId};
+use ids::ObjectId;
 use object_store::put_end;
 use protocol_data::{Here, Message, Outcomes, Phase, Stopped};
 use sequence::Seq;
 use std::alloc::{AllocError, Global};
+use values::{Fault, FaultKind};
 use worker_steps::{
     fault, give_slot_back, hold_ids, ids_in_content, is_own, is_waiting_for, knows_dead,
     leave_if_free, pass_on, say, set_phase,
@@ -32,7 +33,7 @@ fn ask_where(alloc: Global, here: &mut Here, object: ObjectId) -> Result<(), All
         return need_own(alloc, here, object);
     }
     if knows_dead(&here.worker, object.owner) {
-        let kind = Cause::OwnerDied;
+        let kind = FaultKind::OwnerDied;
         return fault(alloc, here, Fault { kind, object });
     }
     say(here, object.owner, Message::Where(object))

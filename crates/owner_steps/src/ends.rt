@@ -11,11 +11,12 @@ ghost use Rattle.protocol_data.specs.declared.tables.OwnTask.{OwnTask};
 use crate::answers::answer_settled;
 use crate::faulted::answer_faulted;
 use held::Content;
-use number_lists::{add_objects, object_at_number};
-use numbers::{AttemptId, Fault, NodeId, ObjectId, WorkerId};
+use ids::{AttemptId, NodeId, ObjectId, WorkerId};
+use number_lists::{add_objects, object_at_number, row_of};
 use protocol_data::{Here, Maker, Message, Object, Objects, OwnTask, Progress, Said, copy_of};
 use sequence::Seq;
 use std::alloc::{AllocError, Global};
+use values::Fault;
 use worker_steps::{is_own, log, resolve, say, set_progress_at};
 
 /// Whether it is the present attempt of a pending task.
@@ -77,16 +78,12 @@ fn set_content_at(
 ) -> Result<(), AllocError>
     ensures { OnOk result (objects.new ≡ changed_at objects.old serial (with_content number node ids.now kept.now)) }
 {
-    if serial == 0 {
+    let Some(place) = row_of(objects, serial) else {
         return Ok(());
-    }
-    let place = serial - 1;
-    if place >= objects.len() as u64 {
-        return Ok(());
-    }
+    };
     let places = places_for(alloc, node, kept)?;
     let kept = copy_of(kept, alloc)?;
-    let object = objects.row_mut(place as usize);
+    let object = objects.row_mut(place);
     object.settled = Some(number);
     object.places = places;
     object.kept = kept;

@@ -8,7 +8,7 @@ ghost use Rattle.protocol.specs.Steps.{logs_all};
 ghost use Rattle.owner_steps.specs.Logged.{born, ended};
 
 use held::{Origin, Printed};
-use numbers::{AttemptId, ObjectId};
+use ids::{AttemptId, ObjectId};
 use protocol_data::{Here, Outcomes, Said, Stopped};
 use sequence::Seq;
 use std::alloc::{AllocError, Global};

@@ -12,13 +12,14 @@ ghost use Rattle.protocol_data.specs.declared.tables.Object.{Object};
 
 use crate::recovery::recover;
 use held::Content;
+use ids::{NodeId, ObjectId};
 use lineage::{has_content, is_lost};
-use number_lists::{has_node, remove_node};
-use numbers::{Cause, Fault, NodeId, ObjectId};
+use number_lists::{has_node, remove_node, row_of};
 use object_store::get as get_copy;
 use protocol_data::{Here, Object, Objects, Worker, copy_of};
 use sequence::Seq;
 use std::alloc::{AllocError, Global};
+use values::{Fault, FaultKind};
 use worker_steps::{fault, fetch, get, is_waiting_for, live_place, object_at, set_fetching};
 
 /// The number of the attempt whose content it has, 0 for what was put.
@@ -32,14 +33,10 @@ pub fn settled_number(object: &Object) -> u32
 fn remove_place_at(objects: &mut Objects, serial: u64, node: NodeId)
     ensures { objects.new ≡ changed_at objects.old serial (without_place node) }
 {
-    if serial == 0 {
+    let Some(place) = row_of(objects, serial) else {
         return;
-    }
-    let place = serial - 1;
-    if place >= objects.len() as u64 {
-        return;
-    }
-    let object = objects.row_mut(place as usize);
+    };
+    let object = objects.row_mut(place);
     remove_node(&mut object.places, node);
 }
 
@@ -54,14 +51,10 @@ pub fn remove_place(here: &mut Here, object: ObjectId, node: NodeId)
 fn clear_places_at(alloc: Global, objects: &mut Objects, serial: u64)
     ensures { objects.new ≡ changed_at objects.old serial without_places }
 {
-    if serial == 0 {
+    let Some(place) = row_of(objects, serial) else {
         return;
-    }
-    let place = serial - 1;
-    if place >= objects.len() as u64 {
-        return;
-    }
-    let object = objects.row_mut(place as usize);
+    };
+    let object = objects.row_mut(place);
     object.places = Seq::new(alloc);
 }
 
@@ -167,7 +160,7 @@ fn need_released(
     let Some(object) = dead_holder else {
         return Ok(());
     };
-    let kind = Cause::OwnerDied;
+    let kind = FaultKind::OwnerDied;
     fault(alloc, here, Fault { kind, object })
 }
 

@@ -8,13 +8,14 @@ ghost use Rattle.protocol.specs.Laws.{CanBeMade, Rises};
 ghost use Rattle.lineage.specs.Plans.{IsPlanned};
 
 use crate::faulted::answer_faulted;
+use ids::ObjectId;
 use lineage::{Stop, may_try_again, plan};
 use number_lists::object_at_number;
-use numbers::{Fault, ObjectId};
 use protocol::laws::plans_are_least_closed_sets;
 use protocol_data::{Here, Maker};
 use sequence::Seq;
 use std::alloc::{AllocError, Global};
+use values::Fault;
 use worker_steps::{request, resolve};
 
 /// The object of that serial is asked for again.

@@ -9,13 +9,14 @@ ghost use Rattle.protocol.specs.Places.{adds_places, missing_reached, where_reac
 ghost use Rattle.protocol.specs.Releases.{release_step};
 
 use held::{Content, Origin};
-use numbers::{AttemptId, Fault, NodeId, ObjectId, WorkerId};
+use ids::{AttemptId, NodeId, ObjectId, WorkerId};
 use owner_steps::{
     bear_all, failed_reached, finished_reached, given_reached, missing_reached, where_reached,
 };
 use protocol_data::{Here, Party};
 use sequence::Seq;
 use std::alloc::{AllocError, Global};
+use values::Fault;
 use worker_acts::{notice_node_step, notice_step};
 use worker_steps::{add_places_of, release_all};
 

@@ -6,7 +6,7 @@ ghost use Rattle.protocol.specs.Deliveries.{reached};
 ghost use Rattle.protocol.specs.Notices.{notice_node_step, notice_step};
 ghost use Rattle.protocol.specs.Ticks.{tick_step};
 
-use numbers::{NodeId, WorkerId};
+use ids::{NodeId, WorkerId};
 use owner_steps::{claim_step, commit_step};
 use protocol_data::{Here, Message, Outcomes, Party};
 use std::alloc::{AllocError, Global};

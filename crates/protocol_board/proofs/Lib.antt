@@ -1,5 +1,4 @@
 mod Jobs
-mod Meant
 mod Own
 mod Playing
 mod Turning

@@ -7,7 +7,6 @@ use Rattle.meaning.specs.Lists.{IsFirst}
 use Rattle.meaning.specs.Syntax.{Script}
 use Rattle.values.specs.Values.{content_of}
 use Rattle.event_log.specs.Entries.{Commit, Entry, Event, Claim, Deliver, Tick, Notice, NoticeNode, Evict, Lose, Kill, KillNode, Join}
-use Rattle.event_log.specs.Views.{attempt_of}
 use Rattle.event_log.specs.Words.{answers_of}
 use Rattle.exchange.specs.Jobs.{job_in}
 use Rattle.kept_frames.specs.Known.{Agrees, AllAgree, IsOfJob, KeepsWith, KnownData}
@@ -48,13 +47,13 @@ jobs_behind : (before after : RunState) {e : Event} {seat : ℕ} {done : Option 
     JobsAreOwn before.log jobs → JobsAreOwn after.log jobs
 jobs_behind before after {e} {seat} {done} {told} jobs h own place j at =
     let l = longer before after e seat done told h in
-    subst (λ log. IsOfLog log (job_in j)) (sym l.1) (begins_longer (map content_of j.answers) (attempt_of j.attempt) before.log l.0 (own place j at))
+    subst (λ log. IsOfLog log (job_in j)) (sym l.1) (begins_longer (map content_of j.answers) j.attempt before.log l.0 (own place j at))
 
 pub frames_behind : (before after : RunState) {e : Event} {seat : ℕ} {done : Option Done} {told : Reply} (kept : List (Option KnownData)) → Answers before e seat done after told →
     FramesAreOwn before.log kept → FramesAreOwn after.log kept
 frames_behind before after {e} {seat} {done} {told} kept h own place k at =
     let l = longer before after e seat done told h in
-    subst (λ log. IsOwnAttempt log k) (sym l.1) (begins_longer (map content_of k.answers) (attempt_of k.attempt) before.log l.0 (own place k at))
+    subst (λ log. IsOwnAttempt log k) (sym l.1) (begins_longer (map content_of k.answers) k.attempt before.log l.0 (own place k at))
 
 -- ---- a job and what is known of its attempt
 
@@ -67,8 +66,8 @@ shorter_first (x ∷ xs) (y ∷ ys) (z ∷ zs) f g h = (sym g.0 ∙ f.0, shorter
 
 agrees : (log : List Entry) (k : KnownData) (j : JobData) → IsOwnAttempt log k → IsOfLog log (job_in j) → Agrees k j
 agrees log k j known own same one_more =
-    shorter_first (map content_of k.answers) (map content_of j.answers) (answers_of (attempt_of j.attempt) log)
-    (subst (λ a. IsFirst (map content_of k.answers) (answers_of (attempt_of a) log)) same known) own
+    shorter_first (map content_of k.answers) (map content_of j.answers) (answers_of j.attempt log)
+    (subst (λ a. IsFirst (map content_of k.answers) (answers_of a log)) same known) own
     (let a = length-map k.answers content_of in let b = length-map j.answers content_of in omega (arith, a, b, one_more))
 
 pub all_agree : (log : List Entry) (kept : List (Option KnownData)) (j : JobData) → FramesAreOwn log kept → IsOfLog log (job_in j) → AllAgree kept j
@@ -80,8 +79,8 @@ kept_with log j before after all own h place k at = elim (h place k at) [ inl ol
   where
     of_job : IsOfJob k j → IsOwnAttempt log k
     of_job is =
-        subst (λ cs. IsFirst cs (answers_of (attempt_of k.attempt) log)) (sym is.answers)
-        (subst (λ a. IsFirst (map content_of j.answers) (answers_of (attempt_of a) log)) (sym is.attempt) own)
+        subst (λ cs. IsFirst cs (answers_of k.attempt log)) (sym is.answers)
+        (subst (λ a. IsFirst (map content_of j.answers) (answers_of a log)) (sym is.attempt) own)
 
 -- ---- the jobs of a replay
 

@@ -4,7 +4,7 @@ use Rattle.std.specs.Prelude.{slice_set}
 use Rattle.meaning.specs.Syntax.{Script}
 use Rattle.segment.specs.Jobs.{JobData, Done, IsTrueOf}
 use Rattle.event_log.specs.Entries.{Commit}
-use Rattle.event_log.specs.declared.refusal.Refusal.{Refusal}
+use Rattle.log_entries.specs.declared.refusal.Refusal.{Refusal}
 use Rattle.protocol.specs.Settling.{next}
 use Rattle.protocol_core.specs.Steps.{Reply, Refuses}
 use Rattle.event_log.specs.Entries.{Event}

@@ -3,8 +3,8 @@ use Rattle.std.specs.Prelude.{◌≡◌, ◌⊎◌, ℕ, zero, suc, List, [], �
 use Rattle.meaning.specs.Syntax.{Script}
 use Rattle.segment.specs.Jobs.{JobData, Done, IsTrueOf}
 use Rattle.event_log.specs.Entries.{Commit, Event}
-use Rattle.event_log.specs.declared.refusal.Refusal.{Refusal}
-use Rattle.event_log.specs.declared.refusal.Refusal.TheVariants as refusals
+use Rattle.log_entries.specs.declared.refusal.Refusal.{Refusal}
+use Rattle.log_entries.specs.declared.refusal.Refusal.TheVariants as refusals
 use Rattle.protocol.specs.Settling.{next}
 use Rattle.protocol_core.specs.States.{RunState}
 use Rattle.protocol_core.specs.Steps.{Answers, Reply, GivesJob, Accepts, Refuses}

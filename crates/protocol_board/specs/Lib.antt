@@ -1,6 +1,5 @@
 pub mod Cores
 pub mod Drives
-pub mod Meant
 pub mod Replays
 pub mod Reports
 pub mod Stops

@@ -3,7 +3,6 @@ use Rattle.std.specs.Prelude.{◌≡◌, ℕ, List, map, slice_get, Option, Some
 use Rattle.meaning.specs.Lists.{IsFirst}
 use Rattle.values.specs.Values.{content_of}
 use Rattle.event_log.specs.Entries.{Entry}
-use Rattle.event_log.specs.Views.{attempt_of}
 use Rattle.event_log.specs.Words.{answers_of}
 use Rattle.exchange.specs.Jobs.{job_in}
 use Rattle.kept_frames.specs.Known.{AllAgree, KeepsWith, KnownData}
@@ -21,7 +20,7 @@ JobsAreOwn log jobs = (place : ℕ) (j : JobData) → slice_get jobs place ≡ S
 
 -- the attempt
 abbrev pub IsOwnAttempt : List Entry → KnownData → Type 0
-IsOwnAttempt log k = IsFirst (map content_of k.answers) (answers_of (attempt_of k.attempt) log)
+IsOwnAttempt log k = IsFirst (map content_of k.answers) (answers_of k.attempt log)
 
 -- each of the attempts
 abbrev pub FramesAreOwn : List Entry → List (Option KnownData) → Type 0

@@ -1,13 +1,11 @@
 -- The replay of an event file: the run that comes of the events that its lines stand for, one after the other.
-use Rattle.std.specs.Prelude.{◌≡◌, ◌≢◌, ◌<◌, ◌≤◌, ◌⊎◌, ◌+◌, ℕ, zero, suc, Bool, true, false, List, [], ◌∷◌, ◌++◌, map, take, slice_get, length, Option, Some, None}
+use Rattle.std.specs.Prelude.{◌≡◌, ◌≢◌, ◌<◌, ◌≤◌, ◌⊎◌, ◌+◌, ℕ, zero, suc, Bool, true, false, List, [], ◌∷◌, ◌++◌, take, slice_get, length, Option, Some, None}
 use Rattle.std.specs.Option.{option_flatten}
 use Rattle.meaning.specs.Syntax.{Script}
-use Rattle.ids.specs.declared.worker.WorkerId.{WorkerId}
 use Rattle.segment.specs.Jobs.{JobData, Done, IsTrueOf}
 use Rattle.event_log.specs.Entries.{Claim, Commit, Event}
-use Rattle.event_log.specs.Views.{event_of}
-use Rattle.event_log.specs.declared.refusal.Refusal.{Refusal}
-use Rattle.event_log.specs.declared.refusal.Refusal.TheVariants as refusals
+use Rattle.log_entries.specs.declared.refusal.Refusal.{Refusal}
+use Rattle.log_entries.specs.declared.refusal.Refusal.TheVariants as refusals
 use Rattle.event_files.specs.declared.line.Line.{Line}
 use Rattle.event_files.specs.declared.line.Line.TheVariants as lines
 use Rattle.event_files.specs.declared.event_file.EventFile.{EventFile}
@@ -17,8 +15,8 @@ use Rattle.protocol.specs.Numbered.{item_at, changed_at}
 use Rattle.protocol.specs.Settling.{next}
 use Rattle.protocol_core.specs.States.{RunState}
 use Rattle.protocol_core.specs.Steps.{Answers, Reply, GivesJob, Accepts, Refuses}
-use Rattle.protocol_board.specs.declared.stopped.Stopped.{Stopped}
-use Rattle.protocol_board.specs.declared.stopped.Stopped.TheVariants as stops
+use Rattle.protocol_board.specs.declared.stopped.ReplayStop.{ReplayStop}
+use Rattle.protocol_board.specs.declared.stopped.ReplayStop.TheVariants as stops
 
 -- the run; the jobs that were given out, one after the other, where None stands for one that was handed in; how many events were applied; behind
 -- each event how many messages had been sent; how many lines were begun; and of each event the number of its line
@@ -93,7 +91,7 @@ pub record Step (script : Script) (before : Play) (e : Event) (seat : ℕ) (afte
   pub lines : after.lines ≡ before.lines ++ before.begun ∷ []
 
 -- an event at which a replay stops: there is no memory for what is done on its job or for its answer, or 100,000 events were applied
-abbrev pub StopsAt : Script → Play → Event → ℕ → Play → Stopped → Type 0
+abbrev pub StopsAt : Script → Play → Event → ℕ → Play → ReplayStop → Type 0
 StopsAt script before e seat after stops.NoMemory = (after.run ≡ before.run) ⊎ ((told : Reply) × IsAnswered script before e seat after.run told)
 StopsAt script before e seat after stops.TooLong = (after ≡ before) × (100000 ≤ before.applied)
 StopsAt script before e seat after stops.WrongJob = ⊥
@@ -119,24 +117,20 @@ Settles script but (suc n) before after =
 abbrev pub ComesToRest : Script → List ℕ → Play → Play → Type 0
 ComesToRest script but before after = (n : ℕ) × Settles script but n before after × (next after.run.whole but ≡ None)
 
-abbrev pub SettleStops : Script → List ℕ → Play → Play → Stopped → Type 0
+abbrev pub SettleStops : Script → List ℕ → Play → Play → ReplayStop → Type 0
 SettleStops script but before after stopped =
     (n : ℕ) × (between : Play) × (e : Event)
     × Settles script but n before between × (next between.run.whole but ≡ Some e) × StopsAt script between e 0 after stopped
 
--- the workers that a settle leaves out
-abbrev pub numbers_of : List WorkerId → List ℕ
-numbers_of workers = map (λ w. w.0) workers
-
 -- the line is begun, and is its event or a settle
 abbrev pub LinePlays : Script → Line → Play → Play → Type 0
-LinePlays script (lines.Event e) before after = Step script (next_line before) (event_of e) 0 after
-LinePlays script (lines.Settle workers) before after = ComesToRest script (numbers_of workers) (next_line before) after
+LinePlays script (lines.Event e) before after = Step script (next_line before) e 0 after
+LinePlays script (lines.Settle workers) before after = ComesToRest script workers (next_line before) after
 
-abbrev pub LineStops : Script → Line → Play → Play → Stopped → Type 0
-LineStops script (lines.Event e) before after stopped = StopsAt script (next_line before) (event_of e) 0 after stopped
+abbrev pub LineStops : Script → Line → Play → Play → ReplayStop → Type 0
+LineStops script (lines.Event e) before after stopped = StopsAt script (next_line before) e 0 after stopped
 LineStops script (lines.Settle workers) before after stopped =
-    ((after ≡ next_line before) × (stopped ≡ stops.NoMemory)) ⊎ SettleStops script (numbers_of workers) (next_line before) after stopped
+    SettleStops script workers (next_line before) after stopped
 
 -- all items, one after the other, where each takes a play to a play so
 unfoldable pub AllPlay : {A : Type 0} → (A → Play → Play → Type 0) → List A → Play → Play → Type 0
@@ -144,7 +138,7 @@ AllPlay plays [] before after = after ≡ before
 AllPlay plays (x ∷ rest) before after = (between : Play) × plays x before between × AllPlay plays rest between after
 
 -- items up to the one at which the replay stops
-abbrev pub OneStops : {A : Type 0} → (A → Play → Play → Type 0) → (A → Play → Play → Stopped → Type 0) → List A → Play → Play → Stopped → Type 0
+abbrev pub OneStops : {A : Type 0} → (A → Play → Play → Type 0) → (A → Play → Play → ReplayStop → Type 0) → List A → Play → Play → ReplayStop → Type 0
 OneStops {A} plays stops all before after stopped =
     (n : ℕ) × (x : A) × (between : Play) × (slice_get all n ≡ Some x) × AllPlay plays (take n all) before between × stops x between after stopped
 
@@ -153,26 +147,26 @@ abbrev pub Plays : Script → List Line → Play → Play → Type 0
 Plays script lines before after = AllPlay (LinePlays script) lines before after
 
 -- lines up to the one at which the replay stops
-abbrev pub PlayStops : Script → List Line → Play → Play → Stopped → Type 0
+abbrev pub PlayStops : Script → List Line → Play → Play → ReplayStop → Type 0
 PlayStops script lines before after stopped = OneStops (LinePlays script) (LineStops script) lines before after stopped
 
 -- ---- a recorded history
 
 -- the line is begun, and its event comes from its seat and gives the job that stands there
 abbrev pub EventPlays : Script → RecordedEvent → Play → Play → Type 0
-EventPlays script r before after = Gives script (next_line before) (event_of r.event) r.seat after r.given
+EventPlays script r before after = Gives script (next_line before) r.event r.seat after r.given
 
 -- the event can't be applied, or it gives another job
-abbrev pub EventStops : Script → RecordedEvent → Play → Play → Stopped → Type 0
+abbrev pub EventStops : Script → RecordedEvent → Play → Play → ReplayStop → Type 0
 EventStops script r before after stops.WrongJob =
-    (given : Option ℕ) × Gives script (next_line before) (event_of r.event) r.seat after given × (given ≢ r.given)
-EventStops script r before after stopped = StopsAt script (next_line before) (event_of r.event) r.seat after stopped
+    (given : Option ℕ) × Gives script (next_line before) r.event r.seat after given × (given ≢ r.given)
+EventStops script r before after stopped = StopsAt script (next_line before) r.event r.seat after stopped
 
 abbrev pub PlaysHistory : Script → List RecordedEvent → Play → Play → Type 0
 PlaysHistory script events before after = AllPlay (EventPlays script) events before after
 
 -- events up to the first at which the replay stops
-abbrev pub HistoryStops : Script → List RecordedEvent → Play → Play → Stopped → Type 0
+abbrev pub HistoryStops : Script → List RecordedEvent → Play → Play → ReplayStop → Type 0
 HistoryStops script events before after stopped = OneStops (EventPlays script) (EventStops script) events before after stopped
 
 -- ---- a file of either format
@@ -181,6 +175,6 @@ abbrev pub PlaysFile : Script → EventFile → Play → Play → Type 0
 PlaysFile script (files.Lines lines) before after = Plays script lines before after
 PlaysFile script (files.Recorded events) before after = PlaysHistory script events before after
 
-abbrev pub FileStops : Script → EventFile → Play → Play → Stopped → Type 0
+abbrev pub FileStops : Script → EventFile → Play → Play → ReplayStop → Type 0
 FileStops script (files.Lines lines) before after stopped = PlayStops script lines before after stopped
 FileStops script (files.Recorded events) before after stopped = HistoryStops script events before after stopped

@@ -1,8 +1,7 @@
 // Boards.
 
 ghost use Rattle.std.specs.Prelude.{◌≡◌, IfOk, string_bytes};
-ghost use Rattle.std.specs.Option.{option_map};
-ghost use Rattle.event_log.specs.Views.{event_of, log_of};
+ghost use Rattle.event_log.specs.Views.{log_of};
 ghost use Rattle.protocol.specs.Settling.{next};
 ghost use Rattle.protocol_core.specs.Own.{GivesOwn, IsOwn};
 ghost use Rattle.protocol_core.specs.Limits.{Limits};
@@ -11,13 +10,13 @@ ghost use Rattle.protocol_core.specs.Steps.{Answers, AnswersAsShown, reply_of};
 ghost use Rattle.protocol_core.specs.Views.{state_of};
 ghost use Rattle.history.specs.Main.{status_of};
 ghost use Rattle.history.specs.Report.{report_text};
-ghost use Rattle.protocol_board.specs.Meant.{IsSoundLog};
+ghost use Rattle.protocol_core.specs.Meant.{IsSoundLog};
 ghost use Rattle.protocol_board.specs.Reports.{json_text};
 
-use event_log::{Entry, Event};
+use event_log::Entry;
 use history::{report_text, status_of};
-use meaning_laws::law::{legal_logs_read_as_serial, main_begins_the_serial_run};
-use numbers::WorkerId;
+use ids::WorkerId;
+use log_entries::Event;
 use protocol_core::{Core, Reply};
 use protocol_data::Letter;
 use report_json::report_json;
@@ -36,19 +35,18 @@ pub struct Board<S: ScriptName> {
 
 impl<S: ScriptName> Model for Board<S> {
     ghost use Rattle.std.specs.Coded.{codes};
-    ghost use Rattle.held.specs.Codes.{value_code, outcome_code, birth_code, id_code};
-    ghost use Rattle.numbers.specs.Codes.{attempt_code, fault_code};
+    ghost use Rattle.ids.specs.Codes.{id_code};
+    ghost use Rattle.held.specs.Codes.{value_code, outcome_code, birth_code};
+    ghost use Rattle.ids.specs.Codes.{attempt_code};
+    ghost use Rattle.values.specs.FaultCodes.{fault_code};
     ghost use Rattle.values.specs.contracts.value.RunValue as run_values;
-    ghost use Rattle.protocol_core.specs.Views.{RunData, state_of};
-    ghost use Rattle.protocol_board.specs.Meant.{IsSoundLog};
+    ghost use Rattle.protocol_core.specs.Views.{RunData};
 
     ghost Value = { RunData };
 
     ghost coded = { Prim.hlevel (codes, run_values.the_row.coded, value_code, outcome_code, birth_code, id_code, attempt_code, fault_code) };
 
     ghost view = { λ b. b.core };
-
-    ghost invariant = { λ b. IsSoundLog S.script (state_of b.core) };
 }
 
 impl<S: ScriptName> Board<S> {
@@ -56,9 +54,6 @@ impl<S: ScriptName> Board<S> {
     pub fn new(core: Core<S>) -> Board<S>
         ensures { result ≡ core }
     {
-        legal_logs_read_as_serial();
-        main_begins_the_serial_run();
-        let _ = core.log();
         Board { core }
     }
 
@@ -70,14 +65,12 @@ impl<S: ScriptName> Board<S> {
         seat: u8,
         done: Option<Done<S>>,
     ) -> Reply<S>
-        ensures answers { Answers (state_of self.old) (event_of event) seat done (state_of self.new) (reply_of result) }
-        ensures shown { AnswersAsShown S.script (state_of self.old) (event_of event) done (state_of self.new) (reply_of result) }
-        ensures paid { Pays S.script (state_of self.old) (event_of event) seat done (state_of self.new) (reply_of result) }
-        ensures limited { Limits S.script (state_of self.old) (event_of event) seat done (state_of self.new) (reply_of result) }
+        ensures answers { Answers (state_of self.old) event seat done (state_of self.new) (reply_of result) }
+        ensures shown { AnswersAsShown S.script (state_of self.old) event done (state_of self.new) (reply_of result) }
+        ensures paid { Pays S.script (state_of self.old) event seat done (state_of self.new) (reply_of result) }
+        ensures limited { Limits S.script (state_of self.old) event seat done (state_of self.new) (reply_of result) }
         ensures meant { IsSoundLog S.script (state_of self.new) }
     {
-        legal_logs_read_as_serial();
-        main_begins_the_serial_run();
         self.core.apply(alloc, event, seat, done)
     }
 
@@ -90,21 +83,19 @@ impl<S: ScriptName> Board<S> {
         done: Option<Done<S>>,
     ) -> Reply<S>
         requires { IsOwn (log_of self.old.log) done }
-        ensures answers { Answers (state_of self.old) (event_of event) seat done (state_of self.new) (reply_of result) }
-        ensures shown { AnswersAsShown S.script (state_of self.old) (event_of event) done (state_of self.new) (reply_of result) }
-        ensures paid { Pays S.script (state_of self.old) (event_of event) seat done (state_of self.new) (reply_of result) }
-        ensures limited { Limits S.script (state_of self.old) (event_of event) seat done (state_of self.new) (reply_of result) }
+        ensures answers { Answers (state_of self.old) event seat done (state_of self.new) (reply_of result) }
+        ensures shown { AnswersAsShown S.script (state_of self.old) event done (state_of self.new) (reply_of result) }
+        ensures paid { Pays S.script (state_of self.old) event seat done (state_of self.new) (reply_of result) }
+        ensures limited { Limits S.script (state_of self.old) event seat done (state_of self.new) (reply_of result) }
         ensures own { GivesOwn (log_of self.new.log) (reply_of result) }
         ensures meant { IsSoundLog S.script (state_of self.new) }
     {
-        legal_logs_read_as_serial();
-        main_begins_the_serial_run();
         self.core.apply_own(alloc, event, seat, done)
     }
 
     /// The next event where nothing else is asked for: see `Core::next`.
     pub fn next(&self, but: &Seq<WorkerId>) -> Option<Event>
-        ensures { option_map event_of result ≡ next self.now.whole but.now }
+        ensures { result ≡ next self.now.whole but.now }
     {
         self.core.next(but)
     }

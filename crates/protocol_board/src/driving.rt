@@ -2,8 +2,8 @@
 
 ghost use Rattle.std.specs.Prelude.{◌≡◌, IfOk, OnOk, IfErr};
 ghost use Rattle.script_check.specs.Trees.{script_of};
-ghost use Rattle.event_log.specs.Views.{event_of, log_of};
-ghost use Rattle.event_log.specs.declared.refusal.Refusal.TheVariants.{NoMemory};
+ghost use Rattle.event_log.specs.Views.{log_of};
+ghost use Rattle.log_entries.specs.declared.refusal.Refusal.TheVariants.{NoMemory};
 ghost use Rattle.exchange.specs.Jobs.{job_in};
 ghost use Rattle.protocol_laws.specs.Given.{IsOfLog};
 ghost use Rattle.protocol_core.specs.Own.{GivesOwn, IsOwn};
@@ -14,8 +14,8 @@ ghost use Rattle.protocol_board.specs.Views.{course_of};
 
 use crate::board::Board;
 use crate::unfinished::Unfinished;
-use event_log::{Event, Refusal};
 use kept_frames::Frames;
+use log_entries::{Event, Refusal};
 use protocol_core::Reply;
 use segment::{Compiled, Done, Job, ScriptName};
 use sequence::Seq;
@@ -46,7 +46,7 @@ fn go<S: ScriptName>(
 ) -> Result<Reply<S>, Refusal>
     requires { IsOwn (log_of board.old.log) done }
     ensures own { IfOk result (λ told. GivesOwn (log_of board.new.log) (reply_of told)) }
-    ensures goes { IfOk result (λ told. Goes (course_of board.old sent.old) (event_of event) done (course_of board.new sent.new) (reply_of told)) }
+    ensures goes { IfOk result (λ told. Goes (course_of board.old sent.old) event done (course_of board.new sent.new) (reply_of told)) }
     ensures lacks { IfErr result (λ refusal. (course_of board.new sent.new ≡ course_of board.old sent.old) × (refusal ≡ NoMemory)) }
 {
     let place = sent.len();
@@ -99,9 +99,9 @@ fn take_turn<S: ScriptName>(
     requires script { script_of script.now ≡ S.script }
     requires frames { FramesAreOwn (log_of board.old.log) frames.old }
     ensures frames { OnOk result (FramesAreOwn (log_of board.new.log) frames.new) }
-    ensures taken { OnOk result (Turn S.script (course_of board.old sent.old) (event_of event) (course_of board.new sent.new)) }
+    ensures taken { OnOk result (Turn S.script (course_of board.old sent.old) event (course_of board.new sent.new)) }
     ensures broken { IfErr result (λ refusal.
-        BreaksOff S.script (course_of board.old sent.old) (event_of event) (course_of board.new sent.new) refusal) }
+        BreaksOff S.script (course_of board.old sent.old) event (course_of board.new sent.new) refusal) }
 {
     match go(alloc, board, sent, event, None) {
         Ok(Reply::Job(job)) => match commit(alloc, board, sent, script, frames, job) {

@@ -2,15 +2,14 @@
 
 ghost use Rattle.std.specs.Prelude.{◌≡◌, ◌≢◌, true, false, IfOk, OnOk, OnErr, IfErr};
 ghost use Rattle.script_check.specs.Trees.{script_of};
-ghost use Rattle.event_log.specs.Views.{event_of};
 ghost use Rattle.protocol_core.specs.Steps.{reply_of};
 ghost use Rattle.protocol_board.specs.Own.{JobAgrees, KeepsWithJob};
 ghost use Rattle.protocol_board.specs.Replays.{IsDoneOn, found_no_memory, given_by, handed_in, is_no_memory, job_at, job_for, left_by, with_given};
-ghost use Rattle.protocol_board.specs.declared.stopped.Stopped.TheVariants.{NoMemory};
+ghost use Rattle.protocol_board.specs.declared.stopped.ReplayStop.TheVariants.{NoMemory};
 
-use crate::stopped::Stopped;
-use event_log::{Event, Refusal};
+use crate::stopped::ReplayStop;
 use kept_frames::Frames;
+use log_entries::{Event, Refusal};
 use number_lists::place_of;
 use protocol_core::Reply;
 use segment::{Compiled, Done, Job, ScriptName};
@@ -31,12 +30,12 @@ fn take_job<S: ScriptName>(jobs: &mut Seq<Option<Job<S>>>, number: u64) -> Optio
 }
 
 /// Takes out the job that the event hands in.
-pub fn hand_in<S: ScriptName>(jobs: &mut Seq<Option<Job<S>>>, event: Event) -> Option<Job<S>>
-    ensures job { result ≡ job_for (event_of event) jobs.old }
-    ensures rest { jobs.new ≡ left_by (event_of event) jobs.old }
+pub fn hand_in<S: ScriptName>(jobs: &mut Seq<Option<Job<S>>>, event: &Event) -> Option<Job<S>>
+    ensures job { result ≡ job_for event.now jobs.old }
+    ensures rest { jobs.new ≡ left_by event.now jobs.old }
 {
     match event {
-        Event::Commit(number) => take_job(jobs, number),
+        Event::Commit(number) => take_job(jobs, *number),
         _ => None,
     }
 }
@@ -47,7 +46,7 @@ pub fn run_job<S: ScriptName>(
     script: &Compiled,
     frames: &mut Frames<S>,
     job: Option<Job<S>>,
-) -> Result<Option<Done<S>>, Stopped>
+) -> Result<Option<Done<S>>, ReplayStop>
     requires script { script_of script.now ≡ S.script }
     requires own { JobAgrees job frames.old }
     ensures done { IfOk result (λ done. IsDoneOn S.script job done) }
@@ -59,7 +58,7 @@ pub fn run_job<S: ScriptName>(
     };
     match frames.run_own(alloc, script, job) {
         Ok(done) => Ok(Some(done)),
-        Err(_) => Err(Stopped::NoMemory),
+        Err(_) => Err(ReplayStop::NoMemory),
     }
 }
 
@@ -70,7 +69,7 @@ fn is_no_memory(refusal: Refusal) -> bool
 }
 
 /// Keeps the job that is given out; it fails where the event or the job finds no memory.
-pub fn keep<S: ScriptName>(jobs: &mut Seq<Option<Job<S>>>, told: Reply<S>) -> Result<(), Stopped>
+pub fn keep<S: ScriptName>(jobs: &mut Seq<Option<Job<S>>>, told: Reply<S>) -> Result<(), ReplayStop>
     ensures jobs { OnOk result (jobs.new ≡ with_given (reply_of told) jobs.old) }
     ensures goes_on { OnOk result (found_no_memory (reply_of told) ≡ false) }
     ensures same { OnErr result (jobs.new ≡ jobs.old) }
@@ -84,7 +83,7 @@ pub fn keep<S: ScriptName>(jobs: &mut Seq<Option<Job<S>>>, told: Reply<S>) -> Re
         Reply::Ok => Ok(()),
         Reply::Refused(refusal) => {
             if is_no_memory(refusal) {
-                return Err(Stopped::NoMemory);
+                return Err(ReplayStop::NoMemory);
             }
             Ok(())
         }
@@ -92,8 +91,8 @@ pub fn keep<S: ScriptName>(jobs: &mut Seq<Option<Job<S>>>, told: Reply<S>) -> Re
 }
 
 /// The number of the job that a claim gave, 0 where it was refused; of another event none.
-pub fn given_by<S: ScriptName>(event: Event, told: &Reply<S>) -> Option<u64>
-    ensures { result ≡ given_by (event_of event) (reply_of told.now) }
+pub fn given_by<S: ScriptName>(event: &Event, told: &Reply<S>) -> Option<u64>
+    ensures { result ≡ given_by event.now (reply_of told.now) }
 {
     match (event, told) {
         (Event::Claim(_), Reply::Job(job)) => Some(job.number()),

@@ -13,5 +13,5 @@ pub use crate::board::Board;
 pub use driving::drive;
 pub use protocol_core::{Cluster, Core, Reply};
 pub use replay::Replay;
-pub use stopped::Stopped;
+pub use stopped::ReplayStop;
 pub use unfinished::Unfinished;

@@ -1,21 +1,19 @@
 // The replay of an event file.
 
 ghost use Rattle.std.specs.Prelude.{◌≡◌, ◌+◌, ◌<◌, ◌^◌, [], IfOk, OnOk, IfErr};
-ghost use Rattle.std.specs.Option.{option_map};
 ghost use Rattle.script_check.specs.Trees.{script_of};
-ghost use Rattle.event_log.specs.Views.{event_of};
 ghost use Rattle.protocol.specs.Settling.{next};
-ghost use Rattle.protocol_board.specs.Replays.{ComesToRest, LinePlays, LineStops, PlayStops, Plays, SettleStops, Step, StopsAt, from_first, numbers_of};
+ghost use Rattle.protocol_board.specs.Replays.{ComesToRest, LinePlays, LineStops, PlayStops, Plays, SettleStops, Step, StopsAt, from_first};
 ghost use Rattle.protocol_board.specs.Replays.{EventPlays, EventStops, FileStops, Gives, HistoryStops, PlaysFile, PlaysHistory};
 ghost use Rattle.protocol_board.specs.Views.{noted, play_of};
 
 use crate::board::Board;
 use crate::given::{given_by, hand_in, is_same, keep, run_job};
-use crate::stopped::Stopped;
+use crate::stopped::ReplayStop;
 use event_files::{EventFile, Line, MOST_EVENTS, RecordedEvent};
-use event_log::Event;
+use ids::WorkerId;
 use kept_frames::Frames;
-use numbers::WorkerId;
+use log_entries::Event;
 use protocol_core::Core;
 use segment::{Compiled, Job, ScriptName};
 use sequence::Seq;
@@ -43,8 +41,10 @@ pub struct Replay<S: ScriptName> {
 
 impl<S: ScriptName> Model for Replay<S> {
     ghost use Rattle.std.specs.Coded.{codes};
-    ghost use Rattle.held.specs.Codes.{value_code, outcome_code, birth_code, id_code};
-    ghost use Rattle.numbers.specs.Codes.{attempt_code, fault_code};
+    ghost use Rattle.ids.specs.Codes.{id_code};
+    ghost use Rattle.held.specs.Codes.{value_code, outcome_code, birth_code};
+    ghost use Rattle.ids.specs.Codes.{attempt_code};
+    ghost use Rattle.values.specs.FaultCodes.{fault_code};
     ghost use Rattle.values.specs.contracts.value.RunValue as run_values;
     ghost use Rattle.protocol_board.specs.Views.{PlayData};
 
@@ -58,17 +58,6 @@ impl<S: ScriptName> Model for Replay<S> {
     ghost view = { λ r. record { run = r.board; jobs = r.jobs; applied = r.applied; sent = r.sent; begun = r.begun; lines = r.lines } };
 
     ghost invariant = { λ r. JobsAreOwn (log_of r.board.log) r.jobs × FramesAreOwn (log_of r.board.log) r.frames };
-}
-
-/// The workers of a settle, as a run takes them.
-fn numbers_of(alloc: Global, workers: &Seq<ids::WorkerId>) -> Result<Seq<WorkerId>, AllocError>
-    ensures { IfOk result (λ numbers. numbers ≡ numbers_of workers.now) }
-{
-    let mut numbers = Seq::new(alloc);
-    for worker in &workers.items {
-        numbers.push(WorkerId(worker.0))?;
-    }
-    Ok(numbers)
 }
 
 impl<S: ScriptName> Replay<S> {
@@ -133,31 +122,31 @@ impl<S: ScriptName> Replay<S> {
         script: &Compiled,
         event: Event,
         seat: u8,
-    ) -> Result<Option<u64>, Stopped>
+    ) -> Result<Option<u64>, ReplayStop>
         requires { script_of script.now ≡ S.script }
-        ensures gives { IfOk result (λ given. Gives S.script (play_of self.old) (event_of event) seat (play_of self.new) given) }
+        ensures gives { IfOk result (λ given. Gives S.script (play_of self.old) event seat (play_of self.new) given) }
         ensures same { OnOk result (self.new.begun ≡ self.old.begun) }
-        ensures stops { IfErr result (λ stopped. StopsAt S.script (play_of self.old) (event_of event) seat (play_of self.new) stopped) }
+        ensures stops { IfErr result (λ stopped. StopsAt S.script (play_of self.old) event seat (play_of self.new) stopped) }
     {
         if self.applied >= MOST_EVENTS {
-            return Err(Stopped::TooLong);
+            return Err(ReplayStop::TooLong);
         }
-        let job = hand_in(&mut self.jobs, event);
+        let job = hand_in(&mut self.jobs, &event);
         let done = run_job(alloc, script, &mut self.frames, job)?;
         self.applied += 1;
         let told = self.board.apply_own(alloc, event, seat, done);
-        let given = given_by(event, &told);
+        let given = given_by(&event, &told);
         keep(&mut self.jobs, told)?;
         self.note()?;
         Ok(given)
     }
 
     /// Applies one event from seat 0.
-    fn take(&mut self, alloc: Global, script: &Compiled, event: Event) -> Result<(), Stopped>
+    fn take(&mut self, alloc: Global, script: &Compiled, event: Event) -> Result<(), ReplayStop>
         requires { script_of script.now ≡ S.script }
-        ensures step { OnOk result (Step S.script (play_of self.old) (event_of event) 0 (play_of self.new)) }
+        ensures step { OnOk result (Step S.script (play_of self.old) event 0 (play_of self.new)) }
         ensures same { OnOk result (self.new.begun ≡ self.old.begun) }
-        ensures stops { IfErr result (λ stopped. StopsAt S.script (play_of self.old) (event_of event) 0 (play_of self.new) stopped) }
+        ensures stops { IfErr result (λ stopped. StopsAt S.script (play_of self.old) event 0 (play_of self.new) stopped) }
     {
         self.apply(alloc, script, event, 0)?;
         Ok(())
@@ -165,7 +154,7 @@ impl<S: ScriptName> Replay<S> {
 
     /// The next event where nothing else is asked for.
     fn next(&self, but: &Seq<WorkerId>) -> Option<Event>
-        ensures { option_map event_of result ≡ next self.now.run.whole but.now }
+        ensures { result ≡ next self.now.run.whole but.now }
     {
         self.board.next(but)
     }
@@ -176,7 +165,7 @@ impl<S: ScriptName> Replay<S> {
         alloc: Global,
         script: &Compiled,
         but: &Seq<WorkerId>,
-    ) -> Result<(), Stopped>
+    ) -> Result<(), ReplayStop>
         requires { script_of script.now ≡ S.script }
         ensures rests { OnOk result (ComesToRest S.script but.now (play_of self.old) (play_of self.new)) }
         ensures same { OnOk result (self.new.begun ≡ self.old.begun) }
@@ -197,7 +186,7 @@ impl<S: ScriptName> Replay<S> {
     }
 
     /// Applies what a line says.
-    fn play_line(&mut self, alloc: Global, script: &Compiled, line: &Line) -> Result<(), Stopped>
+    fn play_line(&mut self, alloc: Global, script: &Compiled, line: &Line) -> Result<(), ReplayStop>
         requires script { script_of script.now ≡ S.script }
         requires counts { self.old.begun + 1 < 2 ^ 64 }
         ensures counted { OnOk result (self.new.begun ≡ self.old.begun + 1) }
@@ -207,10 +196,7 @@ impl<S: ScriptName> Replay<S> {
         self.begun += 1;
         match line {
             Line::Event(event) => self.take(alloc, script, *event),
-            Line::Settle(workers) => {
-                let but = numbers_of(alloc, workers)?;
-                self.settle(alloc, script, &but)
-            }
+            Line::Settle(workers) => self.settle(alloc, script, workers),
         }
     }
 
@@ -224,7 +210,7 @@ impl<S: ScriptName> Replay<S> {
         alloc: Global,
         script: &Compiled,
         lines: &Seq<Line>,
-    ) -> Result<(), Stopped>
+    ) -> Result<(), ReplayStop>
         requires { script_of script.now ≡ S.script }
         ensures plays { OnOk result (Plays S.script lines.now (from_first (play_of self.old)) (play_of self.new)) }
         ensures stops { IfErr result (λ stopped. PlayStops S.script lines.now (from_first (play_of self.old)) (play_of self.new) stopped) }
@@ -242,7 +228,7 @@ impl<S: ScriptName> Replay<S> {
         alloc: Global,
         script: &Compiled,
         said: &RecordedEvent,
-    ) -> Result<(), Stopped>
+    ) -> Result<(), ReplayStop>
         requires script { script_of script.now ≡ S.script }
         requires counts { self.old.begun + 1 < 2 ^ 64 }
         ensures counted { OnOk result (self.new.begun ≡ self.old.begun + 1) }
@@ -254,7 +240,7 @@ impl<S: ScriptName> Replay<S> {
         if is_same(given, said.given) {
             return Ok(());
         }
-        Err(Stopped::WrongJob)
+        Err(ReplayStop::WrongJob)
     }
 
     /// Applies the events of a recorded history, one after the other, each from its seat; with the first commit of a job comes what was done on it.
@@ -266,7 +252,7 @@ impl<S: ScriptName> Replay<S> {
         alloc: Global,
         script: &Compiled,
         events: &Seq<RecordedEvent>,
-    ) -> Result<(), Stopped>
+    ) -> Result<(), ReplayStop>
         requires { script_of script.now ≡ S.script }
         ensures plays { OnOk result (PlaysHistory S.script events.now (from_first (play_of self.old)) (play_of self.new)) }
         ensures stops { IfErr result (λ stopped. HistoryStops S.script events.now (from_first (play_of self.old)) (play_of self.new) stopped) }
@@ -284,7 +270,7 @@ impl<S: ScriptName> Replay<S> {
         alloc: Global,
         script: &Compiled,
         file: &EventFile,
-    ) -> Result<(), Stopped>
+    ) -> Result<(), ReplayStop>
         requires { script_of script.now ≡ S.script }
         ensures plays { OnOk result (PlaysFile S.script file.now (from_first (play_of self.old)) (play_of self.new)) }
         ensures stops { IfErr result (λ stopped. FileStops S.script file.now (from_first (play_of self.old)) (play_of self.new) stopped) }

@@ -8,7 +8,7 @@ use thiserror::Error;
 
 /// Why a replay is stopped before its last event. `From` is written by hand, since the causes that clauses tell apart have to pass through `?`.
 #[derive(Clone, Copy, PartialEq, Eq, Debug, Drop, Error)]
-pub enum Stopped {
+pub enum ReplayStop {
     /// 39: a growth was refused.
     #[error("refused 39: want of memory")]
     NoMemory,
@@ -20,25 +20,25 @@ pub enum Stopped {
     WrongJob,
 }
 
-impl Stopped {
+impl ReplayStop {
     /// The number that is printed.
     pub fn number(self) -> u16
         ensures { result ≡ stopped_code self }
     {
         match self {
-            Stopped::NoMemory => 39,
-            Stopped::TooLong => 41,
-            Stopped::WrongJob => 42,
+            ReplayStop::NoMemory => 39,
+            ReplayStop::TooLong => 41,
+            ReplayStop::WrongJob => 42,
         }
     }
 }
 
-impl From<AllocError> for Stopped {
-    ghost use Rattle.protocol_board.specs.declared.stopped.Stopped.TheVariants.{NoMemory};
+impl From<AllocError> for ReplayStop {
+    ghost use Rattle.protocol_board.specs.declared.stopped.ReplayStop.TheVariants.{NoMemory};
 
     ghost from_gives = { λ _ e. e ≡ NoMemory };
 
-    fn from(_error: AllocError) -> Stopped {
-        Stopped::NoMemory
+    fn from(_error: AllocError) -> ReplayStop {
+        ReplayStop::NoMemory
     }
 }

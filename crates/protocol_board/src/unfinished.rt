@@ -3,7 +3,7 @@
 ghost use Rattle.std.specs.Prelude.{◌≡◌};
 ghost use Rattle.protocol_board.specs.Stops.{unfinished_code};
 
-use event_log::Refusal;
+use log_entries::Refusal;
 use thiserror::Error;
 
 /// Why a run is stopped before nothing is left to do. `From` is written by hand, since the causes that clauses tell apart have to pass through `?`.

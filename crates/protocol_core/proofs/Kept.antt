@@ -5,13 +5,13 @@ use Rattle.std.specs.List.{AllByRecursion}
 use Rattle.script_check.specs.Scripts.{IsWellTyped}
 use Rattle.event_log.specs.Entries.{Entry, Event}
 use Rattle.event_log.specs.Legal as logs
-use Rattle.event_log.specs.Views.{code_of}
-use Rattle.event_log.specs.declared.refusal.Refusal.{Refusal}
+use Rattle.log_entries.specs.Refusals.{code_of}
+use Rattle.log_entries.specs.declared.refusal.Refusal.{Refusal}
 use Rattle.segment.specs.Jobs.{JobData, Done, IsBegun, IsTrueOf}
 use Rattle.answers.specs.Replies.{outcome_of, reply_of}
-use Rattle.answers.specs.declared.reply.Reply.{Reply}
-use Rattle.answers.specs.declared.reply.Outcome.{Outcome}
-use Rattle.answers.specs.declared.reply.Outcome.TheVariants.{Taken, Refused}
+use Rattle.answers.specs.declared.reply.Answered.{Answered}
+use Rattle.answers.specs.declared.reply.Verdict.{Verdict}
+use Rattle.answers.specs.declared.reply.Verdict.TheVariants.{Taken, Refused}
 use Rattle.exchange.specs.Jobs.{job_in}
 use Rattle.protocol.specs.Answers.{Answer, Takes, Refuses, answer, logged, whole_after}
 use Rattle.protocol.specs.Jobs.{Handed, Job}
@@ -142,7 +142,7 @@ module _ (script : Script) (before after : RunState) (e : Event) (seat : ℕ) (w
   pub job_begun : ClaimsGiveGoodJobs → (job : JobData) → outcome_of (answer before.whole e handed) ≡ Taken (Some (job_in job)) → IsBegun script job
   job_begun law job gives = begun script job (is_good script (answer before.whole e handed) (job_in job) (gives_good script kept.typed law before.first_nodes before.log before.whole sound_before e handed) gives)
     where
-      given_in : Outcome → Option Job
+      given_in : Verdict → Option Job
       given_in (Taken g) = g
       given_in (Refused code) = None
 
@@ -157,7 +157,7 @@ module _ (script : Script) (before after : RunState) (e : Event) (seat : ℕ) (w
   pub job_own : ClaimsGiveJobsOfTheLog → (job : JobData) → outcome_of (answer before.whole e handed) ≡ Taken (Some (job_in job)) → IsOfLog before.log (job_in job)
   job_own law job gives = is_own (answer before.whole e handed) (job_in job) (gives_own script law before.first_nodes before.log before.whole sound_before e handed) gives
     where
-      given_in : Outcome → Option Job
+      given_in : Verdict → Option Job
       given_in (Taken g) = g
       given_in (Refused code) = None
 
@@ -170,11 +170,11 @@ module _ (script : Script) (before after : RunState) (e : Event) (seat : ℕ) (w
 
 -- ---- what is told
 
-abbrev given_by : Outcome → Option Job
+abbrev given_by : Verdict → Option Job
 given_by (Taken g) = g
 given_by (Refused code) = None
 
-abbrev code_by : Outcome → Option ℕ
+abbrev code_by : Verdict → Option ℕ
 code_by (Taken g) = None
 code_by (Refused code) = Some code
 
@@ -198,7 +198,7 @@ tells_job (Refuses code) job e = absurd (none_is_some code (sym (ap code_by e)))
 
 -- ---- an event that was answered, and stands in the log
 
-pub record Came (script : Script) (before after : RunState) (e : Event) (seat : ℕ) (work : Option Done) (outcome : Outcome) : Type 0 where
+pub record Came (script : Script) (before after : RunState) (e : Event) (seat : ℕ) (work : Option Done) (outcome : Verdict) : Type 0 where
   pub handed : Handed
   pub is_handed : IsHanded before.whole e work handed
   pub is_true : IfSome work (λ d. IsTrueOf script d)
@@ -209,13 +209,13 @@ pub record Came (script : Script) (before after : RunState) (e : Event) (seat : 
   pub outcome_is : outcome ≡ outcome_of (answer before.whole e handed)
 
 -- what the whole answered to the event as it takes it
-pub came : (script : Script) (before after : RunState) (e taken : Event) (seat : ℕ) (work : Option Done) (handed : Handed) (reply : Reply) (chunk : List Entry) →
+pub came : (script : Script) (before after : RunState) (e taken : Event) (seat : ℕ) (work : Option Done) (handed : Handed) (reply : Answered) (chunk : List Entry) →
     taken ≡ e → IsHanded before.whole e work handed → IfSome work (λ d. IsTrueOf script d) →
     reply ≡ reply_of taken seat (answer before.whole taken handed) → chunk ≡ reply.entries →
     after.log ≡ before.log ++ chunk → after.whole ≡ whole_after before.whole (answer before.whole taken handed) →
     after.first_nodes ≡ before.first_nodes → after.is_halted ≡ false → Came script before after e seat work reply.outcome
 came script before after e taken seat work handed reply chunk same is_handed is_true replied logs log whole nodes goes_on =
-    let entries : chunk ≡ logged taken seat (answer before.whole taken handed) = logs ∙ ap (λ (r : Reply). r.entries) replied in
+    let entries : chunk ≡ logged taken seat (answer before.whole taken handed) = logs ∙ ap (λ (r : Answered). r.entries) replied in
     record {
       handed = handed;
       is_handed = is_handed;
@@ -224,25 +224,25 @@ came script before after e taken seat work handed reply chunk same is_handed is_
       whole = subst (λ x. after.whole ≡ whole_after before.whole (answer before.whole x handed)) same whole;
       nodes = nodes;
       goes_on = goes_on;
-      outcome_is = subst (λ x. reply.outcome ≡ outcome_of (answer before.whole x handed)) same (ap (λ (r : Reply). r.outcome) replied);
+      outcome_is = subst (λ x. reply.outcome ≡ outcome_of (answer before.whole x handed)) same (ap (λ (r : Answered). r.outcome) replied);
     }
 
-pub applies : (script : Script) (before after : RunState) (e : Event) (seat : ℕ) (work : Option Done) (outcome : Outcome) (told : told.Reply) → (h : Came script before after e seat work outcome) →
+pub applies : (script : Script) (before after : RunState) (e : Event) (seat : ℕ) (work : Option Done) (outcome : Verdict) (told : told.Reply) → (h : Came script before after e seat work outcome) →
     Tells (answer before.whole e h.handed) told → Applies before e seat work after told
 applies script before after e seat work outcome told h tells =
     (h.handed, h.is_handed, record { log = h.log; whole = h.whole; nodes = h.nodes; goes_on = h.goes_on; told_so = tells })
 
-pub kept_behind : (script : Script) (before after : RunState) (e : Event) (seat : ℕ) (work : Option Done) (outcome : Outcome) → IsSoundRun script before → before.is_halted ≡ false →
+pub kept_behind : (script : Script) (before after : RunState) (e : Event) (seat : ℕ) (work : Option Done) (outcome : Verdict) → IsSoundRun script before → before.is_halted ≡ false →
     EventsKeepSound → SoundIsLegal → Came script before after e seat work outcome → IsSoundRun script after
 kept_behind script before after e seat work outcome kept goes_on law legal h =
     kept_applied script before after e seat work h.handed kept goes_on h.is_handed h.is_true law legal h.log h.whole h.nodes
 
-pub begun_behind : (script : Script) (before after : RunState) (e : Event) (seat : ℕ) (work : Option Done) (outcome : Outcome) → IsSoundRun script before → before.is_halted ≡ false →
+pub begun_behind : (script : Script) (before after : RunState) (e : Event) (seat : ℕ) (work : Option Done) (outcome : Verdict) → IsSoundRun script before → before.is_halted ≡ false →
     ClaimsGiveGoodJobs → Came script before after e seat work outcome → (job : JobData) → outcome ≡ Taken (Some (job_in job)) → IsBegun script job
 begun_behind script before after e seat work outcome kept goes_on law h job gives =
     job_begun script before after e seat work h.handed kept goes_on h.is_handed h.is_true law job (sym h.outcome_is ∙ gives)
 
-pub own_behind : (script : Script) (before after : RunState) (e : Event) (seat : ℕ) (work : Option Done) (outcome : Outcome) → IsSoundRun script before → before.is_halted ≡ false →
+pub own_behind : (script : Script) (before after : RunState) (e : Event) (seat : ℕ) (work : Option Done) (outcome : Verdict) → IsSoundRun script before → before.is_halted ≡ false →
     ClaimsGiveJobsOfTheLog → JobsStayOfTheLog → Came script before after e seat work outcome → (job : JobData) → outcome ≡ Taken (Some (job_in job)) → IsOfLog after.log (job_in job)
 own_behind script before after e seat work outcome kept goes_on law stay h job gives =
     let a : Answer = answer before.whole e h.handed in
@@ -251,18 +251,18 @@ own_behind script before after e seat work outcome kept goes_on law stay h job g
 
 -- ---- what can't come: an entry of a number that none has, a refusal of such a number
 
-pub known_entries : (script : Script) (before : RunState) (e taken : Event) (seat : ℕ) (work : Option Done) (handed : Handed) (reply : Reply) → IsSoundRun script before → before.is_halted ≡ false →
+pub known_entries : (script : Script) (before : RunState) (e taken : Event) (seat : ℕ) (work : Option Done) (handed : Handed) (reply : Answered) → IsSoundRun script before → before.is_halted ≡ false →
     taken ≡ e → IsHanded before.whole e work handed → IfSome work (λ d. IsTrueOf script d) → reply ≡ reply_of taken seat (answer before.whole taken handed) →
     EventsKeepSound → SoundIsLegal → HasUnknown reply.entries → ⊥
 known_entries script before e taken seat work handed reply kept goes_on same is_handed is_true replied law legal unknown =
     let known = known_applied script before before e seat work handed kept goes_on is_handed is_true law legal in
     let there : AllByRecursion IsKnown (logged taken seat (answer before.whole taken handed)) = subst (λ x. AllByRecursion IsKnown (logged x seat (answer before.whole x handed))) (sym same) known in
-    none_unknown (logged taken seat (answer before.whole taken handed)) there (subst HasUnknown (ap (λ (r : Reply). r.entries) replied) unknown)
+    none_unknown (logged taken seat (answer before.whole taken handed)) there (subst HasUnknown (ap (λ (r : Answered). r.entries) replied) unknown)
 
-pub known_code : (script : Script) (before : RunState) (e taken : Event) (seat code : ℕ) (work : Option Done) (handed : Handed) (reply : Reply) → IsSoundRun script before → before.is_halted ≡ false →
+pub known_code : (script : Script) (before : RunState) (e taken : Event) (seat code : ℕ) (work : Option Done) (handed : Handed) (reply : Answered) → IsSoundRun script before → before.is_halted ≡ false →
     taken ≡ e → IsHanded before.whole e work handed → IfSome work (λ d. IsTrueOf script d) → reply ≡ reply_of taken seat (answer before.whole taken handed) →
     EventsKeepSound → SoundIsLegal → reply.outcome ≡ Refused code → IsNoCode code → ⊥
 known_code script before e taken seat code work handed reply kept goes_on same is_handed is_true replied law legal refused none =
     let known = known_applied script before before e seat work handed kept goes_on is_handed is_true law legal in
     let there : AllByRecursion IsKnown (logged taken seat (answer before.whole taken handed)) = subst (λ x. AllByRecursion IsKnown (logged x seat (answer before.whole x handed))) (sym same) known in
-    refused_for_cause taken seat (answer before.whole taken handed) code there (sym (ap (λ (r : Reply). r.outcome) replied) ∙ refused) none
+    refused_for_cause taken seat (answer before.whole taken handed) code there (sym (ap (λ (r : Answered). r.outcome) replied) ∙ refused) none

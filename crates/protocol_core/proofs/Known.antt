@@ -9,12 +9,12 @@ use Rattle.event_log.specs.Events.{has_job_out, is_committed, is_killed, is_live
 use Rattle.event_log.specs.Legal.{LegalFrom, Legal, opening}
 use Rattle.event_log.specs.Rules.{Allowed}
 use Rattle.event_log.specs.Settings.{Setting}
-use Rattle.event_log.specs.Views.{code_of}
-use Rattle.event_log.specs.declared.refusal.Refusal.{Refusal}
-use Rattle.event_log.specs.declared.refusal.Refusal.TheVariants as refusals
+use Rattle.log_entries.specs.Refusals.{code_of}
+use Rattle.log_entries.specs.declared.refusal.Refusal.{Refusal}
+use Rattle.log_entries.specs.declared.refusal.Refusal.TheVariants as refusals
 use Rattle.answers.specs.Replies.{outcome_of}
-use Rattle.answers.specs.declared.reply.Outcome.{Outcome}
-use Rattle.answers.specs.declared.reply.Outcome.TheVariants as outcomes
+use Rattle.answers.specs.declared.reply.Verdict.{Verdict}
+use Rattle.answers.specs.declared.reply.Verdict.TheVariants as outcomes
 use Rattle.exchange.specs.Refusals.{HasUnknown, IsNoCode, IsUnknown}
 use Rattle.protocol.specs.Answers.{Answer, Refuses, Takes, logged}
 
@@ -139,7 +139,7 @@ none_unknown es all (k, e, at, unknown) = go e (all_at IsKnown es k e all at) un
     go (Resolved o f) is none = absurd none
     go (Released o) is none = absurd none
 
-code_by : Outcome → Option ℕ
+code_by : Verdict → Option ℕ
 code_by (outcomes.Taken g) = None
 code_by (outcomes.Refused code) = Some code
 

@@ -4,3 +4,4 @@ mod Known
 mod Cursors
 mod Shown
 mod Paid
+mod Meant

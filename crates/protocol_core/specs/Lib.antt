@@ -7,3 +7,4 @@ pub mod Opening
 pub mod Pace
 pub mod Owed
 pub mod Limits
+pub mod Meant

@@ -4,9 +4,9 @@ use Rattle.meaning.specs.Syntax.{Script}
 use Rattle.segment.specs.Jobs.{JobData, Done}
 use Rattle.event_log.specs.Causes.{shown}
 use Rattle.event_log.specs.Entries.{Commit, Event}
-use Rattle.event_log.specs.Views.{code_of}
-use Rattle.event_log.specs.declared.refusal.Refusal.{Refusal}
-use Rattle.event_log.specs.declared.refusal.Refusal.TheVariants as refusals
+use Rattle.log_entries.specs.Refusals.{code_of}
+use Rattle.log_entries.specs.declared.refusal.Refusal.{Refusal}
+use Rattle.log_entries.specs.declared.refusal.Refusal.TheVariants as refusals
 use Rattle.exchange.specs.Jobs.{job_in, work_of}
 use Rattle.protocol.specs.Answers.{Answer, answer, job_of, logged, whole_after}
 use Rattle.protocol.specs.Answers as answers

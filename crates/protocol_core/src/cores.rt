@@ -1,26 +1,27 @@
 // Runs.
 
 ghost use Rattle.std.specs.Prelude.{◌≡◌, true, IfOk};
-ghost use Rattle.std.specs.Option.{option_map};
 ghost use Rattle.script_check.specs.Trees.{script_of};
-ghost use Rattle.event_log.specs.Views.{event_of, log_of};
+ghost use Rattle.event_log.specs.Views.{log_of};
 ghost use Rattle.protocol.specs.Settling.{next};
 ghost use Rattle.protocol_core.specs.Own.{GivesOwn, IsOwn};
 ghost use Rattle.protocol_core.specs.Limits.{IsWithin, Limits};
+ghost use Rattle.protocol_core.specs.Meant.{IsSoundLog};
 ghost use Rattle.protocol_core.specs.Owed.{Pays};
-ghost use Rattle.protocol_core.specs.States.{IsLegalRun, IsReachedRun, first_state};
+ghost use Rattle.protocol_core.specs.States.{first_state};
 ghost use Rattle.protocol_core.specs.Steps.{Answers, AnswersAsShown, reply_of};
 ghost use Rattle.protocol_core.specs.Views.{state_of};
 
 use crate::cluster::Cluster;
-use crate::cursor::step_on;
 use crate::reply::Reply;
 use crate::state::State;
-use event_log::{Entry, Event, Refusal};
-use exchange::event_out;
-use numbers::WorkerId;
+use crate::steps::step;
+use event_log::Entry;
+use ids::WorkerId;
+use log_entries::Event;
+use meaning_laws::law::{legal_logs_read_as_serial, main_begins_the_serial_run};
 use protocol_data::Letter;
-use protocol_laws::law::{opening_is_sound, refusals_are_as_shown, sound_is_legal};
+use protocol_laws::law::{opening_is_sound, sound_is_legal};
 use script_check::Checked;
 use segment::{Done, ScriptName};
 use sequence::Seq;
@@ -40,8 +41,10 @@ pub struct Core<S: ScriptName> {
 
 impl<S: ScriptName> Model for Core<S> {
     ghost use Rattle.std.specs.Coded.{codes};
-    ghost use Rattle.held.specs.Codes.{value_code, outcome_code, birth_code, id_code};
-    ghost use Rattle.numbers.specs.Codes.{attempt_code, fault_code};
+    ghost use Rattle.ids.specs.Codes.{id_code};
+    ghost use Rattle.held.specs.Codes.{value_code, outcome_code, birth_code};
+    ghost use Rattle.ids.specs.Codes.{attempt_code};
+    ghost use Rattle.values.specs.FaultCodes.{fault_code};
     ghost use Rattle.values.specs.contracts.value.RunValue as run_values;
     ghost use Rattle.cursor_laws.specs.Cursors.{IsPast};
     ghost use Rattle.protocol_core.specs.States.{IsSoundRun};
@@ -77,10 +80,11 @@ impl<S: ScriptName> Core<S> {
     /// The entries so far, oldest first.
     pub fn log(&self) -> &[Entry]
         ensures log { result.now ≡ self.now.log }
-        ensures legal { IsLegalRun S.script (state_of self.now) }
-        ensures reached { IsReachedRun S.script (state_of self.now) }
+        ensures meant { IsSoundLog S.script (state_of self.now) }
         ensures within { IsWithin S.script (state_of self.now) }
     {
+        legal_logs_read_as_serial();
+        main_begins_the_serial_run();
         self.state.log.as_slice()
     }
 
@@ -94,45 +98,9 @@ impl<S: ScriptName> Core<S> {
     /// The next event where nothing else is asked for; see docs/protocol.md, "The settle rule". These workers neither claim nor commit.
     #[tactic(auto, using(crate::proofs::Cursors::next_there))]
     pub fn next(&self, but: &Seq<WorkerId>) -> Option<Event>
-        ensures { option_map event_of result ≡ next self.now.whole but.now }
+        ensures { result ≡ next self.now.whole but.now }
     {
-        match next_from(&self.state.whole, but, self.cursor) {
-            Some(event) => Some(event_out(&event)),
-            None => None,
-        }
-    }
-
-    /// One event; with `is_own` what was done is done on a job of this run.
-    fn take(
-        &mut self,
-        alloc: Global,
-        event: Event,
-        seat: u8,
-        done: Option<Done<S>>,
-        is_own: bool,
-    ) -> Reply<S>
-        requires { is_own ≡ true → IsOwn (log_of self.old.log) done }
-        ensures answers { Answers (state_of self.old) (event_of event) seat done (state_of self.new) (reply_of result) }
-        ensures own { GivesOwn (log_of self.new.log) (reply_of result) }
-        ensures legal { IsLegalRun S.script (state_of self.new) }
-        ensures shown { AnswersAsShown S.script (state_of self.old) (event_of event) done (state_of self.new) (reply_of result) }
-        ensures reached { IsReachedRun S.script (state_of self.new) }
-        ensures paid { Pays S.script (state_of self.old) (event_of event) seat done (state_of self.new) (reply_of result) }
-        ensures limited { Limits S.script (state_of self.old) (event_of event) seat done (state_of self.new) (reply_of result) }
-    {
-        refusals_are_as_shown();
-        if self.state.is_halted {
-            return Reply::Refused(Refusal::Halted);
-        }
-        step_on(
-            alloc,
-            &mut self.state,
-            &mut self.cursor,
-            event,
-            seat,
-            done,
-            is_own,
-        )
+        next_from(&self.state.whole, but, self.cursor)
     }
 
     /// One event, with the seat from which it comes. With a commit comes what was done on its job, if anything was.
@@ -147,15 +115,22 @@ impl<S: ScriptName> Core<S> {
         seat: u8,
         done: Option<Done<S>>,
     ) -> Reply<S>
-        ensures answers { Answers (state_of self.old) (event_of event) seat done (state_of self.new) (reply_of result) }
+        ensures answers { Answers (state_of self.old) event seat done (state_of self.new) (reply_of result) }
         ensures own { GivesOwn (log_of self.new.log) (reply_of result) }
-        ensures legal { IsLegalRun S.script (state_of self.new) }
-        ensures shown { AnswersAsShown S.script (state_of self.old) (event_of event) done (state_of self.new) (reply_of result) }
-        ensures reached { IsReachedRun S.script (state_of self.new) }
-        ensures paid { Pays S.script (state_of self.old) (event_of event) seat done (state_of self.new) (reply_of result) }
-        ensures limited { Limits S.script (state_of self.old) (event_of event) seat done (state_of self.new) (reply_of result) }
+        ensures meant { IsSoundLog S.script (state_of self.new) }
+        ensures shown { AnswersAsShown S.script (state_of self.old) event done (state_of self.new) (reply_of result) }
+        ensures paid { Pays S.script (state_of self.old) event seat done (state_of self.new) (reply_of result) }
+        ensures limited { Limits S.script (state_of self.old) event seat done (state_of self.new) (reply_of result) }
     {
-        self.take(alloc, event, seat, done, false)
+        step(
+            alloc,
+            &mut self.state,
+            &mut self.cursor,
+            event,
+            seat,
+            done,
+            false,
+        )
     }
 
     /// One event, as `apply` takes it, where what was done is done on a job whose answers begin what the log has of answers to its attempt. So
@@ -168,14 +143,21 @@ impl<S: ScriptName> Core<S> {
         done: Option<Done<S>>,
     ) -> Reply<S>
         requires { IsOwn (log_of self.old.log) done }
-        ensures answers { Answers (state_of self.old) (event_of event) seat done (state_of self.new) (reply_of result) }
+        ensures answers { Answers (state_of self.old) event seat done (state_of self.new) (reply_of result) }
         ensures own { GivesOwn (log_of self.new.log) (reply_of result) }
-        ensures legal { IsLegalRun S.script (state_of self.new) }
-        ensures shown { AnswersAsShown S.script (state_of self.old) (event_of event) done (state_of self.new) (reply_of result) }
-        ensures reached { IsReachedRun S.script (state_of self.new) }
-        ensures paid { Pays S.script (state_of self.old) (event_of event) seat done (state_of self.new) (reply_of result) }
-        ensures limited { Limits S.script (state_of self.old) (event_of event) seat done (state_of self.new) (reply_of result) }
+        ensures meant { IsSoundLog S.script (state_of self.new) }
+        ensures shown { AnswersAsShown S.script (state_of self.old) event done (state_of self.new) (reply_of result) }
+        ensures paid { Pays S.script (state_of self.old) event seat done (state_of self.new) (reply_of result) }
+        ensures limited { Limits S.script (state_of self.old) event seat done (state_of self.new) (reply_of result) }
     {
-        self.take(alloc, event, seat, done, true)
+        step(
+            alloc,
+            &mut self.state,
+            &mut self.cursor,
+            event,
+            seat,
+            done,
+            true,
+        )
     }
 }

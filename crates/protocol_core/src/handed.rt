@@ -1,7 +1,6 @@
 // What is handed in with an event.
 
 ghost use Rattle.std.specs.Prelude.{◌≡◌, IfOk, IfSome, true};
-ghost use Rattle.event_log.specs.Views.{event_of};
 ghost use Rattle.protocol.specs.Tables.{Out};
 ghost use Rattle.exchange.specs.Jobs.{job_in};
 ghost use Rattle.segment.specs.Jobs.{IsTrueOf};
@@ -9,8 +8,8 @@ ghost use Rattle.protocol_core.specs.Own.{HasAnswersIn, HaveAnswersIn};
 ghost use Rattle.protocol_core.specs.Pace.{AreInPace};
 ghost use Rattle.protocol_core.specs.Steps.{IsHanded, IsHandedFor, IsOut};
 
-use event_log::Event;
 use exchange::{is_job_in_pace, is_job_of, is_own_job, outcomes_of};
+use log_entries::Event;
 use number_lists::item_at_number;
 use protocol_data::{Handed, Phase, Run, Whole};
 use segment::{Done, DoneParts, ScriptName};
@@ -103,17 +102,17 @@ fn discard<S: ScriptName>(done: Option<Done<S>>)
 pub fn handed_with<S: ScriptName>(
     alloc: Global,
     whole: &Whole,
-    event: Event,
+    event: &Event,
     done: Option<Done<S>>,
     is_own: bool,
 ) -> Result<Handed, AllocError>
     requires pace { AreInPace S.script whole.now }
     requires own { is_own ≡ true → HaveAnswersIn whole.now done }
-    ensures handed { IfOk result (λ handed. IsHanded whole.now (event_of event) done handed) }
+    ensures handed { IfOk result (λ handed. IsHanded whole.now event.now done handed) }
     ensures is_true { IfSome done (λ d. IsTrueOf S.script d) }
 {
     match event {
-        Event::Commit(job) => handed_for(alloc, whole, job, done, is_own),
+        Event::Commit(job) => handed_for(alloc, whole, *job, done, is_own),
         _ => {
             discard(done);
             Ok(Handed::Nothing)

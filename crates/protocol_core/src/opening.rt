@@ -6,7 +6,7 @@ ghost use Rattle.protocol.specs.Whole.{driver, first_whole, main_run, with_drive
 ghost use Rattle.protocol_core.specs.Opening.{new_nodes};
 
 use held::{Answers, Births, Origin, Prints};
-use numbers::{NodeId, ObjectId, WorkerId};
+use ids::{NodeId, ObjectId, WorkerId};
 use protocol_data::{Attempts, Node, Objects, Phase, Run, Whole, Worker};
 use sequence::Seq;
 use std::alloc::{AllocError, Global};

@@ -1,6 +1,6 @@
 // Answers to events.
 
-use event_log::Refusal;
+use log_entries::Refusal;
 use segment::{Job, ScriptName};
 
 /// What is answered to an event.

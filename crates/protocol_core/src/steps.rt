@@ -1,32 +1,38 @@
-// The events of a run that isn't halted.
+// The events of a run.
 
-ghost use Rattle.std.specs.Prelude.{◌≡◌, false, true, IfOk, IfSome, OnOk, OnErr};
-ghost use Rattle.event_log.specs.Views.{event_of, log_of};
+ghost use Rattle.std.specs.Prelude.{◌≡◌, ◌≤◌, false, true, IfOk, IfSome, OnOk, OnErr};
+ghost use Rattle.cursor_laws.specs.Cursors.{IsPast};
+ghost use Rattle.event_log.specs.Views.{log_of};
 ghost use Rattle.segment.specs.Jobs.{IsTrueOf};
+ghost use Rattle.protocol_core.specs.Limits.{Limits};
+ghost use Rattle.protocol_core.specs.Meant.{IsSoundLog};
+ghost use Rattle.protocol_core.specs.Owed.{Pays};
 ghost use Rattle.protocol_core.specs.Own.{GivesOwn, IsOwn};
 ghost use Rattle.protocol_core.specs.States.{IsSoundRun};
-ghost use Rattle.protocol_core.specs.Steps.{Applies, Follows, RunsOut, reply_of};
+ghost use Rattle.protocol_core.specs.Steps.{Answers, AnswersAsShown, Applies, Follows, RunsOut, reply_of};
 ghost use Rattle.protocol_core.specs.Views.{data_of, state_of};
 
+use crate::cursor::cursor_behind;
 use crate::handed::handed_with;
-use crate::reply::Reply as Told;
+use crate::reply::Reply;
 use crate::state::State;
-use answers::{Outcome, Reply, answer};
-use event_log::{Event, Refusal};
-use exchange::{happening_of, job_parts, logged_entries, refusal_of};
+use answers::{Answered, Verdict, answer};
+use exchange::{job_parts, logged_entries, refusal_of};
+use log_entries::{Event, Refusal};
+use meaning_laws::law::{legal_logs_read_as_serial, main_begins_the_serial_run};
 use protocol_laws::law::{
     claims_give_good_jobs, claims_give_jobs_of_the_log, event_keeps_sound, jobs_stay_of_the_log,
-    runs_are_good, runs_have_the_logs_answers, sound_is_legal,
+    refusals_are_as_shown, runs_are_good, runs_have_the_logs_answers, sound_is_legal,
 };
 use segment::{Done, Job, ScriptName};
 use std::alloc::{AllocError, Global};
 
 /// An event that found no memory.
-fn run_out<S: ScriptName>(state: &mut State) -> Told<S>
+fn run_out<S: ScriptName>(state: &mut State) -> Reply<S>
     ensures { RunsOut (state_of (data_of state.old)) (state_of (data_of state.new)) (reply_of result) }
 {
     state.halt();
-    Told::Refused(Refusal::NoMemory)
+    Reply::Refused(Refusal::NoMemory)
 }
 
 /// One event. On an error the log is as it was.
@@ -37,11 +43,11 @@ fn try_step<S: ScriptName>(
     seat: u8,
     done: Option<Done<S>>,
     is_own: bool,
-) -> Result<Told<S>, AllocError>
+) -> Result<Reply<S>, AllocError>
     requires kept { IsSoundRun S.script (state_of (data_of state.old)) }
     requires goes_on { state.old.is_halted ≡ false }
     requires own { is_own ≡ true → IsOwn (log_of state.old.log) done }
-    ensures applied { IfOk result (λ told. Applies (state_of (data_of state.old)) (event_of event) seat done (state_of (data_of state.new)) (reply_of told)) }
+    ensures applied { IfOk result (λ told. Applies (state_of (data_of state.old)) event seat done (state_of (data_of state.new)) (reply_of told)) }
     ensures kept { OnOk result (IsSoundRun S.script (state_of (data_of state.new))) }
     ensures own { IfOk result (λ told. GivesOwn (log_of state.new.log) (reply_of told)) }
     ensures same { OnErr result (state.new.log ≡ state.old.log) }
@@ -55,46 +61,45 @@ fn try_step<S: ScriptName>(
     runs_are_good();
     runs_have_the_logs_answers();
     sound_is_legal();
-    let handed = handed_with(alloc, &state.whole, event, done, is_own)?;
-    let happening = happening_of(event);
-    let reply = answer(alloc, &mut state.whole, &happening, seat, handed)?;
-    let Reply { entries, outcome } = reply;
+    let handed = handed_with(alloc, &state.whole, &event, done, is_own)?;
+    let reply = answer(alloc, &mut state.whole, &event, seat, handed)?;
+    let Answered { entries, outcome } = reply;
     let Some(logged) = logged_entries(alloc, &entries)? else {
         unreachable!();
     };
     match outcome {
-        Outcome::Refused(code) => {
+        Verdict::Refused(code) => {
             let Some(refusal) = refusal_of(code) else {
                 unreachable!();
             };
             state.add(logged)?;
-            Ok(Told::Refused(refusal))
+            Ok(Reply::Refused(refusal))
         }
-        Outcome::Taken(None) => {
+        Verdict::Taken(None) => {
             state.add(logged)?;
-            Ok(Told::Ok)
+            Ok(Reply::Ok)
         }
-        Outcome::Taken(Some(job)) => {
+        Verdict::Taken(Some(job)) => {
             let parts = job_parts(job);
             state.add(logged)?;
-            Ok(Told::Job(Job::new(parts)))
+            Ok(Reply::Job(Job::new(parts)))
         }
     }
 }
 
-/// One event, with what was done on its job, if it is a commit; with `is_own` that is a job of this run.
-pub fn step<S: ScriptName>(
+/// One event; where no memory is found the run halts.
+fn taken<S: ScriptName>(
     alloc: Global,
     state: &mut State,
     event: Event,
     seat: u8,
     done: Option<Done<S>>,
     is_own: bool,
-) -> Told<S>
+) -> Reply<S>
     requires kept { IsSoundRun S.script (state_of (data_of state.old)) }
     requires goes_on { state.old.is_halted ≡ false }
     requires own { is_own ≡ true → IsOwn (log_of state.old.log) done }
-    ensures follows { Follows (state_of (data_of state.old)) (event_of event) seat done (state_of (data_of state.new)) (reply_of result) }
+    ensures follows { Follows (state_of (data_of state.old)) event seat done (state_of (data_of state.new)) (reply_of result) }
     ensures kept { IsSoundRun S.script (state_of (data_of state.new)) }
     ensures own { GivesOwn (log_of state.new.log) (reply_of result) }
     ensures is_true { IfSome done (λ d. IsTrueOf S.script d) }
@@ -103,4 +108,38 @@ pub fn step<S: ScriptName>(
         Ok(told) => told,
         Err(_) => run_out(state),
     }
+}
+
+/// One event, with what was done on its job, if it is a commit; with `is_own` that is a job of this run. The cursor goes on behind it.
+pub fn step<S: ScriptName>(
+    alloc: Global,
+    state: &mut State,
+    cursor: &mut usize,
+    event: Event,
+    seat: u8,
+    done: Option<Done<S>>,
+    is_own: bool,
+) -> Reply<S>
+    requires kept { IsSoundRun S.script (state_of (data_of state.old)) }
+    requires own { is_own ≡ true → IsOwn (log_of state.old.log) done }
+    requires past { IsPast cursor.old state.old.whole.delivered }
+    ensures answers { Answers (state_of (data_of state.old)) event seat done (state_of (data_of state.new)) (reply_of result) }
+    ensures own { GivesOwn (log_of state.new.log) (reply_of result) }
+    ensures meant { IsSoundLog S.script (state_of (data_of state.new)) }
+    ensures shown { AnswersAsShown S.script (state_of (data_of state.old)) event done (state_of (data_of state.new)) (reply_of result) }
+    ensures paid { Pays S.script (state_of (data_of state.old)) event seat done (state_of (data_of state.new)) (reply_of result) }
+    ensures limited { Limits S.script (state_of (data_of state.old)) event seat done (state_of (data_of state.new)) (reply_of result) }
+    ensures kept { IsSoundRun S.script (state_of (data_of state.new)) }
+    ensures past { IsPast cursor.new state.new.whole.delivered }
+    ensures on { state.new.is_halted ≡ false → cursor.old ≤ cursor.new }
+{
+    refusals_are_as_shown();
+    legal_logs_read_as_serial();
+    main_begins_the_serial_run();
+    if state.is_halted {
+        return Reply::Refused(Refusal::Halted);
+    }
+    let told = taken(alloc, state, event, seat, done, is_own);
+    *cursor = cursor_behind(state, *cursor);
+    told
 }

@@ -1,3 +1,4 @@
+pub mod Copying
 pub mod Noting
 pub mod Recency
 pub mod Searches

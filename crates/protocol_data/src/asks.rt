@@ -8,7 +8,7 @@ ghost use Rattle.meaning.specs.Values.{Id};
 ghost use Rattle.protocol_data.specs.Noted.{AreDistinct, AreNoted, is_that_ask, may_be_noted, serial_or};
 
 use crate::node::{AskKey, Asked, Reply};
-use numbers::ObjectId;
+use ids::ObjectId;
 use sequence::Seq;
 use std::alloc::{AllocError, Global};
 use std::marker::Model;
@@ -152,8 +152,8 @@ pub struct Asks {
 impl Model for Asks {
     ghost use Rattle.std.specs.Prelude.{List};
     ghost use Rattle.std.specs.Coded.{codes};
-    ghost use Rattle.held.specs.Codes.{id_code};
-    ghost use Rattle.numbers.specs.Codes.{attempt_code};
+    ghost use Rattle.ids.specs.Codes.{id_code};
+    ghost use Rattle.ids.specs.Codes.{attempt_code};
     ghost use Rattle.protocol_data.specs.declared.node.Asked.{Asked};
 
     ghost Value = { List Asked };

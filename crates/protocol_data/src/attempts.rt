@@ -6,7 +6,7 @@ ghost use Rattle.event_log.specs.Words.{same_attempt};
 ghost use Rattle.protocol_data.specs.Noted.{AreBounded};
 
 use crate::asks::{may_be_noted, note};
-use numbers::{AttemptId, ObjectId};
+use ids::{AttemptId, ObjectId};
 use sequence::Seq;
 use std::alloc::{AllocError, Global};
 use std::marker::Model;
@@ -45,8 +45,8 @@ pub struct Attempts {
 impl Model for Attempts {
     ghost use Rattle.std.specs.Prelude.{List};
     ghost use Rattle.std.specs.Coded.{codes};
-    ghost use Rattle.held.specs.Codes.{id_code};
-    ghost use Rattle.numbers.specs.Codes.{attempt_code};
+    ghost use Rattle.ids.specs.Codes.{id_code};
+    ghost use Rattle.ids.specs.Codes.{attempt_code};
     ghost use Rattle.event_log.specs.Entries.{Attempt};
 
     ghost Value = { List Attempt };

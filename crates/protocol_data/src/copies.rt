@@ -6,7 +6,7 @@ ghost use Rattle.protocol_data.specs.Shelves.{AreShelved, AreWithin, HaveNoneBef
 
 use crate::spans::{Span, is_outside, no_span, widened};
 use crate::store::Copy;
-use numbers::ObjectId;
+use ids::ObjectId;
 use sequence::Seq;
 use std::alloc::{AllocError, AllocFailed, Global};
 use std::marker::Model;
@@ -263,7 +263,8 @@ pub struct Copies {
 impl Model for Copies {
     ghost use Rattle.std.specs.Prelude.{List, ◌++◌};
     ghost use Rattle.std.specs.Coded.{codes};
-    ghost use Rattle.held.specs.Codes.{outcome_code, id_code};
+    ghost use Rattle.ids.specs.Codes.{id_code};
+    ghost use Rattle.held.specs.Codes.{outcome_code};
     ghost use Rattle.protocol_data.specs.declared.store.Copy.{Copy};
 
     ghost Value = { List Copy };

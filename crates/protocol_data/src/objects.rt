@@ -1,6 +1,6 @@
 // A worker's own objects, with an index of those that may be released.
 
-ghost use Rattle.std.specs.Prelude.{◌≡◌, ◌++◌, ◌∷◌, [], ◌<◌, ◌≤◌, ◌⊎◌, ◌^◌, ℕ, OnErr, OnOk, length, slice_get, slice_set, true, None, Some};
+ghost use Rattle.std.specs.Prelude.{◌≡◌, ◌++◌, ◌∷◌, [], ◌<◌, ◌≤◌, ◌⊎◌, ◌^◌, ℕ, OnErr, OnOk, length, slice_get, slice_set, true, IfOk, None, Some};
 ghost use Rattle.std.specs.Borrow.{Lends, sem};
 ghost use Rattle.meaning.specs.Births.{same_id};
 ghost use Rattle.std.specs.List.{list_any};
@@ -11,8 +11,8 @@ ghost use Rattle.protocol_data.specs.Bearers.{is_same_bearer};
 ghost use Rattle.indexmap.specs.IndexMap.{index_map_len, values};
 
 use crate::tables::{Maker, Object, Progress};
+use ids::{AttemptId, ObjectId};
 use indexmap::IndexMap;
-use numbers::{AttemptId, ObjectId};
 use sequence::Seq;
 use std::alloc::{AllocError, Global};
 use std::marker::Model;
@@ -211,8 +211,10 @@ pub struct Objects {
 impl Model for Objects {
     ghost use Rattle.std.specs.Prelude.{List};
     ghost use Rattle.std.specs.Coded.{codes};
-    ghost use Rattle.held.specs.Codes.{value_code, outcome_code, birth_code, id_code};
-    ghost use Rattle.numbers.specs.Codes.{attempt_code, fault_code};
+    ghost use Rattle.ids.specs.Codes.{id_code};
+    ghost use Rattle.held.specs.Codes.{value_code, outcome_code, birth_code};
+    ghost use Rattle.ids.specs.Codes.{attempt_code};
+    ghost use Rattle.values.specs.FaultCodes.{fault_code};
     ghost use Rattle.protocol_data.specs.declared.tables.Object.{Object};
 
     ghost Value = { List Object };
@@ -335,5 +337,19 @@ impl Objects {
         self.changed_to = to;
         self.seen = seen;
         self.own_from = own_behind(&self.bearer, self.own_from, seen);
+    }
+
+    /// An equal list. An error is want of memory.
+    #[tactic(auto, using(crate::proofs::Copying::one_more, crate::proofs::Copying::take_whole))]
+    pub fn copy(&self, alloc: Global) -> Result<Objects, AllocError>
+        ensures { IfOk result (λ xs. xs ≡ self.now) }
+    {
+        let mut copies = Objects::new(alloc);
+        let count = self.len();
+        for place in 0..count {
+            let copy = self.row(place).copy(alloc)?;
+            copies.push(copy)?;
+        }
+        Ok(copies)
     }
 }

@@ -10,8 +10,8 @@ ghost use Rattle.protocol_data.specs.Shelves.{is_sought, without};
 
 use crate::store::Copy;
 use held::Content;
+use ids::ObjectId;
 use lru::LruCache;
-use numbers::ObjectId;
 use std::alloc::{AllocError, Global};
 use std::marker::Model;
 use std::num::NonZeroUsize;
@@ -142,7 +142,8 @@ pub struct Secondaries {
 impl Model for Secondaries {
     ghost use Rattle.std.specs.Prelude.{List};
     ghost use Rattle.std.specs.Coded.{codes};
-    ghost use Rattle.held.specs.Codes.{outcome_code, id_code};
+    ghost use Rattle.ids.specs.Codes.{id_code};
+    ghost use Rattle.held.specs.Codes.{outcome_code};
     ghost use Rattle.protocol_data.specs.declared.store.Copy.{Copy};
 
     ghost Value = { List Copy };

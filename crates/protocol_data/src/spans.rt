@@ -4,7 +4,7 @@ ghost use Rattle.std.specs.Prelude.{◌≤◌, IsTrue};
 ghost use Rattle.meaning.specs.Values.{Id};
 ghost use Rattle.protocol_data.specs.Shelves.{IsWithin};
 
-use numbers::ObjectId;
+use ids::ObjectId;
 
 /// Bounds of objects' owners and serials.
 #[derive(Clone, Copy)]

@@ -3,7 +3,7 @@
 use crate::told::tell;
 use crate::views::{OUTPUT, View, Views};
 use raysim_commands::{
-    Cluster, Failure, Form, Refusal, Tracked, check, exit_status, migrate, read_at_most,
+    Cluster, CommandRefusal, Failure, Form, Tracked, check, exit_status, migrate, read_at_most,
     read_script, sim,
 };
 use raysim_options::ScriptOptions;
@@ -84,12 +84,12 @@ pub fn migrate_events<R: Files + Print + Eprint + AllocGlobal>(
 /// Tells the refusal.
 fn refused<R: Eprint>(
     rt: &R,
-    refusal: Refusal,
+    refusal: CommandRefusal,
     replayed: &Replayed<'_>,
     output: &str,
 ) -> io::Result<ExitCode> {
     let script = replayed.script;
-    if let Refusal::Failed(Failure::Read) = refusal {
+    if let CommandRefusal::Failed(Failure::Read) = refusal {
         let events = replayed.events;
         eprintln!(rt; "{refusal}\nreading {script} or {events} failed")?;
         return Ok(ExitCode::from(1));
@@ -100,9 +100,9 @@ fn refused<R: Eprint>(
 }
 
 /// Reads a file of any length.
-fn read_file<R: Files + AllocGlobal>(rt: &R, path: &str) -> Result<Vec<u8>, Refusal> {
+fn read_file<R: Files + AllocGlobal>(rt: &R, path: &str) -> Result<Vec<u8>, CommandRefusal> {
     let Ok(file) = fs::open(rt, path) else {
-        return Err(Refusal::Failed(Failure::Read));
+        return Err(CommandRefusal::Failed(Failure::Read));
     };
     read_at_most(rt.alloc(), &mut Tracked::reader(file), usize::MAX)
 }
@@ -112,7 +112,7 @@ pub fn read_behind<R: Files + AllocGlobal>(
     rt: &R,
     script: &[u8],
     path: &str,
-) -> Result<Vec<u8>, Refusal> {
+) -> Result<Vec<u8>, CommandRefusal> {
     match read_file(rt, path) {
         Ok(bytes) => Ok(bytes),
         Err(refusal) => {
@@ -125,9 +125,12 @@ pub fn read_behind<R: Files + AllocGlobal>(
 }
 
 /// Reads both files.
-fn read_texts<R: Files + AllocGlobal>(rt: &R, replayed: &Replayed<'_>) -> Result<Texts, Refusal> {
+fn read_texts<R: Files + AllocGlobal>(
+    rt: &R,
+    replayed: &Replayed<'_>,
+) -> Result<Texts, CommandRefusal> {
     let Ok(file) = fs::open(rt, replayed.script) else {
-        return Err(Refusal::Failed(Failure::Read));
+        return Err(CommandRefusal::Failed(Failure::Read));
     };
     let script = read_script(rt.alloc(), &mut Tracked::reader(file))?;
     let events = read_behind(rt, script.as_slice(), replayed.events)?;
@@ -161,9 +164,9 @@ fn write_view<R: Files + AllocGlobal>(
     cluster: Cluster,
     texts: &Texts,
     view: &View<'_>,
-) -> Result<u8, Refusal> {
+) -> Result<u8, CommandRefusal> {
     let Ok(file) = fs::create(rt, view.path) else {
-        return Err(Refusal::Failed(Failure::Write));
+        return Err(CommandRefusal::Failed(Failure::Write));
     };
     let mut script = Tracked::reader(texts.script.as_slice());
     let mut events = Tracked::reader(texts.events.as_slice());

@@ -3,7 +3,7 @@
 use crate::told::tell;
 use crate::views::{OUTPUT, View, Views};
 use raysim_commands::{
-    Cluster, Failure, Form, Refusal, Tracked, check, exit_status, read_script, run, serial,
+    Cluster, CommandRefusal, Failure, Form, Tracked, check, exit_status, read_script, run, serial,
 };
 use raysim_options::ScriptOptions;
 use std::process::ExitCode;
@@ -45,9 +45,9 @@ fn done<R: Files + Print + AllocGlobal>(
     command: &Command,
     path: &str,
     text: &mut Vec<u8>,
-) -> Result<u8, Refusal> {
+) -> Result<u8, CommandRefusal> {
     let Ok(file) = fs::open(rt, path) else {
-        return Err(Refusal::Failed(Failure::Read));
+        return Err(CommandRefusal::Failed(Failure::Read));
     };
     *text = read_script(rt.alloc(), &mut Tracked::reader(file))?;
     let mut reader = Tracked::reader(text.as_slice());
@@ -70,10 +70,10 @@ fn with_views<R: Files + Eprint + AllocGlobal>(
     views: &Views<'_>,
     status: u8,
 ) -> io::Result<ExitCode> {
-    if !is_written(rt, cluster, options, text, views.timeline())? {
+    if !is_written(rt, cluster, options, text, &views.timeline())? {
         return Ok(ExitCode::from(1));
     }
-    if !is_written(rt, cluster, options, text, views.lineage())? {
+    if !is_written(rt, cluster, options, text, &views.lineage())? {
         return Ok(ExitCode::from(1));
     }
     Ok(ExitCode::from(status))
@@ -85,12 +85,12 @@ fn is_written<R: Files + Eprint + AllocGlobal>(
     cluster: Cluster,
     options: &ScriptOptions<'_>,
     text: &[u8],
-    view: Option<View<'_>>,
+    view: &Option<View<'_>>,
 ) -> io::Result<bool> {
     let Some(view) = view else {
         return Ok(true);
     };
-    match write_view(rt, cluster, text, &view) {
+    match write_view(rt, cluster, text, view) {
         Ok(_) => Ok(true),
         Err(refusal) => {
             tell(rt, refusal, options, text, view.path)?;
@@ -105,9 +105,9 @@ fn write_view<R: Files + AllocGlobal>(
     cluster: Cluster,
     text: &[u8],
     view: &View<'_>,
-) -> Result<u8, Refusal> {
+) -> Result<u8, CommandRefusal> {
     let Ok(file) = fs::create(rt, view.path) else {
-        return Err(Refusal::Failed(Failure::Write));
+        return Err(CommandRefusal::Failed(Failure::Write));
     };
     let mut reader = Tracked::reader(text);
     let mut writer = Tracked::writer(file);

@@ -6,7 +6,7 @@ use crate::replays::{Replayed, Texts, read_behind, with_views};
 use crate::told::tell;
 use crate::views::{OUTPUT, Views};
 use raysim_commands::{
-    Cluster, Failure, Form, OpenGate, Refusal, Tracked, put_all, read_script, run_threaded,
+    Cluster, CommandRefusal, Failure, Form, OpenGate, Tracked, put_all, read_script, run_threaded,
 };
 use raysim_options::{RunOptions, ScriptOptions};
 use std::process::ExitCode;
@@ -49,14 +49,14 @@ pub fn over_threads<R: Files + Print + Eprint + AllocGlobal + Threads + Wait + C
     }
     let mut writer = Tracked::writer(io::writer(rt));
     if let Err(failure) = put_all(&mut writer, unwritten.report.as_slice()) {
-        return refused(rt, Refusal::Failed(failure), options, b"", OUTPUT);
+        return refused(rt, CommandRefusal::Failed(failure), options, b"", OUTPUT);
     }
     views_of(rt, options, script, unwritten, cluster, views)
 }
 
-fn read_script_file<R: Files + AllocGlobal>(rt: &R, path: &str) -> Result<Vec<u8>, Refusal> {
+fn read_script_file<R: Files + AllocGlobal>(rt: &R, path: &str) -> Result<Vec<u8>, CommandRefusal> {
     let Ok(file) = fs::open(rt, path) else {
-        return Err(Refusal::Failed(Failure::Read));
+        return Err(CommandRefusal::Failed(Failure::Read));
     };
     read_script(rt.alloc(), &mut Tracked::reader(file))
 }
@@ -66,7 +66,7 @@ fn read_plan<R: Files + AllocGlobal>(
     rt: &R,
     options: &RunOptions<'_>,
     script: &[u8],
-) -> Result<Vec<u8>, Refusal> {
+) -> Result<Vec<u8>, CommandRefusal> {
     match options.plan {
         Some(path) => read_behind(rt, script, path),
         None => Ok(Vec::new(rt.alloc())),
@@ -80,7 +80,7 @@ fn run_in_memory<R: Files + AllocGlobal + Threads + Wait + Clock + Sync>(
     script: &[u8],
     cluster: Cluster,
     form: Form,
-) -> Result<Unwritten, Refusal>
+) -> Result<Unwritten, CommandRefusal>
     requires { AreThreads options.now.threads }
 {
     let plan = read_plan(rt, options, script)?;
@@ -105,14 +105,14 @@ fn run_in_memory<R: Files + AllocGlobal + Threads + Wait + Clock + Sync>(
             status,
         }),
         // In memory a write fails for want of memory alone.
-        Err(Refusal::Failed(_)) => Err(Refusal::NoMemory),
+        Err(CommandRefusal::Failed(_)) => Err(CommandRefusal::NoMemory),
         Err(refusal) => Err(refusal),
     }
 }
 
-fn write_file<R: Files>(rt: &R, path: &str, bytes: &[u8]) -> Result<(), Refusal> {
+fn write_file<R: Files>(rt: &R, path: &str, bytes: &[u8]) -> Result<(), CommandRefusal> {
     let Ok(file) = fs::create(rt, path) else {
-        return Err(Refusal::Failed(Failure::Write));
+        return Err(CommandRefusal::Failed(Failure::Write));
     };
     put_all(&mut Tracked::writer(file), bytes)?;
     Ok(())
@@ -143,12 +143,12 @@ fn views_of<R: Files + Eprint + AllocGlobal>(
 /// Tells the refusal.
 fn refused<R: Eprint>(
     rt: &R,
-    refusal: Refusal,
+    refusal: CommandRefusal,
     options: &RunOptions<'_>,
     text: &[u8],
     output: &str,
 ) -> io::Result<ExitCode> {
-    if let (Refusal::Failed(Failure::Read), Some(plan)) = (refusal, options.plan) {
+    if let (CommandRefusal::Failed(Failure::Read), Some(plan)) = (refusal, options.plan) {
         let script = options.script;
         eprintln!(rt; "{refusal}\nreading {script} or {plan} failed")?;
         return Ok(ExitCode::from(1));

@@ -1,7 +1,7 @@
 // What is told on standard error, and explanations.
 
-use raysim_commands::{Failure, Refusal};
-use raysim_explain::{Reason, Shown};
+use raysim_commands::{CommandRefusal, Failure};
+use raysim_explain::{RefusalCause, Shown};
 use raysim_options::ScriptOptions;
 use std::io;
 use std::process::ExitCode;
@@ -15,19 +15,21 @@ pub fn fault<R: Eprint>(rt: &R, what: &str, why: &str) -> io::Result<ExitCode> {
 /// Tells a refusal on standard error; where nobody reads the output any more, nothing is told.
 pub fn tell<R: Eprint>(
     rt: &R,
-    refusal: Refusal,
+    refusal: CommandRefusal,
     options: &ScriptOptions<'_>,
     text: &[u8],
     output: &str,
 ) -> io::Result<()> {
     match refusal {
-        Refusal::Failed(Failure::Closed) => Ok(()),
-        Refusal::Failed(Failure::Read) => {
+        CommandRefusal::Failed(Failure::Closed) => Ok(()),
+        CommandRefusal::Failed(Failure::Read) => {
             let file = options.script;
             eprintln!(rt; "{refusal}\nreading {file} failed")
         }
-        Refusal::Failed(Failure::Write) => { eprintln!(rt; "{refusal}\nwriting {output} failed") }
-        Refusal::At { code, span } if options.explain => {
+        CommandRefusal::Failed(Failure::Write) => {
+            eprintln!(rt; "{refusal}\nwriting {output} failed")
+        }
+        CommandRefusal::At { code, span } if options.explain => {
             let shown = Shown {
                 file: options.script,
                 code,
@@ -43,7 +45,7 @@ pub fn tell<R: Eprint>(
 
 /// Tells what the refusals of this number are.
 pub fn explain<R: Print + Eprint>(rt: &R, number: u8) -> io::Result<ExitCode> {
-    let Some(reason) = Reason::of(number) else {
+    let Some(reason) = RefusalCause::of(number) else {
         eprintln!(rt; "nothing is refused {number}")?;
         return Ok(ExitCode::from(1));
     };

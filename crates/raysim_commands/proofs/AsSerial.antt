@@ -14,7 +14,7 @@ use Rattle.event_log.specs.Views.{log_of}
 use Rattle.history.specs.Main.{status_of}
 use Rattle.history.specs.Report.{report_text}
 use Rattle.protocol_board.specs.Cores.{RunState, Size, state_of}
-use Rattle.protocol_board.specs.Meant.{IsSoundLog}
+use Rattle.protocol_board.specs.Cores.{IsSoundLog}
 use Rattle.protocol_board.specs.Reports.{json_text}
 use Rattle.report_laws.specs.Begins.{BeginsAsSerial, BeginsWith}
 use Rattle.report_laws.specs.Json.{SaysAsSerial}

@@ -3,11 +3,11 @@ use Rattle.std.proofs.Common.{◌≡◌, ◌∙◌, ℕ, List, [], sym, ap, subs
 use Rattle.meaning.specs.Syntax.{Script}
 use Rattle.history.specs.Main.{status_of}
 use Rattle.protocol_board.specs.Cores.{Size, RunState, first_state}
-use Rattle.protocol_board.specs.Meant.{IsSoundLog}
+use Rattle.protocol_board.specs.Cores.{IsSoundLog}
 use Rattle.protocol_board.specs.declared.unfinished.Unfinished.{Unfinished}
 use Rattle.protocol_board.specs.Stops.{unfinished_code}
 use Rattle.protocol_board.specs.Drives.{Course, EndsSo, StopsSo}
-use Rattle.raysim_streams.specs.declared.Refusal.TheVariants.{Stopped}
+use Rattle.raysim_streams.specs.declared.CommandRefusal.TheVariants.{Stopped}
 use Rattle.raysim_commands.specs.declared.form.Form.{Form}
 use Rattle.raysim_commands.specs.Reports.{IsReportIn, account_of}
 use Rattle.raysim_commands.specs.RunReports.{IsReportOf, IsRunStop, first_run}

@@ -3,11 +3,11 @@ use Rattle.std.proofs.Common.{◌≡◌, ◌≢◌, ◌⊎◌, ◌∙◌, ◌+�
 use Rattle.std.specs.Prelude.{IfSome, ◌==◌}
 use Rattle.std.specs.Io.KnownBytes.{Appends}
 use Rattle.meaning.specs.Syntax.{Script}
-use Rattle.event_log.specs.Texts.{event_text}
+use Rattle.log_entries.specs.Texts.{event_text}
 use Rattle.event_log.specs.Views.{log_of}
 use Rattle.event_log.specs.declared.entry.Entry.{Entry as CodeEntry}
-use Rattle.event_log.specs.declared.event.Event.{Event}
-use Rattle.event_log.specs.declared.event.Event.TheVariants as events
+use Rattle.log_entries.specs.declared.event.Event.{Event}
+use Rattle.log_entries.specs.declared.event.Event.TheVariants as events
 use Rattle.event_files.specs.Files.{IsBadAt, IsRow, Passed, Row, Said, is_passed, row_text}
 use Rattle.event_files.specs.Lines.{IsLine, line_text}
 use Rattle.event_files.specs.Numbering.{line_numbers}
@@ -20,12 +20,12 @@ use Rattle.migration.proofs.Alike.{migrated_is_same}
 use Rattle.migration.proofs.Migrating.{histories_replay}
 use Rattle.migration.specs.Migration.{Begins}
 use Rattle.protocol_board.specs.Cores.{Size}
-use Rattle.protocol_board.specs.Meant.{IsSoundLog}
+use Rattle.protocol_board.specs.Cores.{IsSoundLog}
 use Rattle.protocol_board.specs.Replays.{LineStops, Play, PlayStops, Plays}
-use Rattle.protocol_board.specs.declared.stopped.Stopped.TheVariants as stops
+use Rattle.protocol_board.specs.declared.stopped.ReplayStop.TheVariants as stops
 use Rattle.raysim_streams.specs.declared.Failure.TheVariants.{Read, Write, Closed}
-use Rattle.raysim_streams.specs.declared.Refusal.{Refusal}
-use Rattle.raysim_streams.specs.declared.Refusal.TheVariants.{At, NoMemory, Stopped, BadLine, WrongJob, Failed}
+use Rattle.raysim_streams.specs.declared.CommandRefusal.{CommandRefusal}
+use Rattle.raysim_streams.specs.declared.CommandRefusal.TheVariants.{At, NoMemory, Stopped, BadLine, WrongJob, Failed}
 use Rattle.raysim_commands.specs.Migrations.{ExplainsLines, ExplainsMigration, IsHistoryOf, IsLinesFile, IsLinesStop, IsMigrated, IsMigrationBegun}
 use Rattle.raysim_commands.specs.Scripts.{Explains, IsAllowed, IsScript}
 use Rattle.raysim_commands.specs.SimReports.{IfBoth, first_play}
@@ -34,8 +34,7 @@ use Rattle.raysim_commands.specs.SimReports.{IfBoth, first_play}
 
 no_wrong_job_in : (script : Script) (line : Line) (before after : Play) → LineStops script line before after stops.WrongJob → ⊥
 no_wrong_job_in script (lines.Event e) before after h = h
-no_wrong_job_in script (lines.Settle workers) before after (inl (same, other)) = cc
-no_wrong_job_in script (lines.Settle workers) before after (inr (n, between, e, settles, comes, stop)) = stop
+no_wrong_job_in script (lines.Settle workers) before after (n, between, e, settles, comes, stop) = stop
 
 pub no_wrong_job : (script : Script) (lines : List Line) (before after : Play) → PlayStops script lines before after stops.WrongJob → ⊥
 no_wrong_job script lines before after (n, line, between, stands, plays, stop) = no_wrong_job_in script line between after stop
@@ -161,7 +160,7 @@ migration_begun_so size (Some t) (Some e) text script lines history bytes before
 -- ---- why nothing is
 
 -- a script is refused for the other commands' causes
-pub explains_no_script : (size : Size) (known events : Option (List ℕ)) (a b w : Bool) (r : Refusal) → Explains known a w r →
+pub explains_no_script : (size : Size) (known events : Option (List ℕ)) (a b w : Bool) (r : CommandRefusal) → Explains known a w r →
     ExplainsMigration size known events a b w r
 explains_no_script size known events a b w (At code span) h = h
 explains_no_script size known events a b w NoMemory h = tt
@@ -184,7 +183,7 @@ bad_line one size (Some t) None a b w n is h = tt
 bad_line one size (Some t) (Some e) a b w n is h = record { allowed = is; bad = h; of_recorded = first_is_bad one e n h }
 
 -- the lines aren't read
-pub explains_no_lines : OneIsBad → (size : Size) (known events : Option (List ℕ)) (text : List ℕ) (script : Script) (a b w : Bool) (r : Refusal) →
+pub explains_no_lines : OneIsBad → (size : Size) (known events : Option (List ℕ)) (text : List ℕ) (script : Script) (a b w : Bool) (r : CommandRefusal) →
     IfSome known (λ t. text ≡ t) → IsScript text script → ExplainsLines events b r → ExplainsMigration size known events a b w r
 explains_no_lines one size known events text script a b w (BadLine n) same is h = bad_line one size known events a b w n (allowed known text script same is) h
 explains_no_lines one size known events text script a b w NoMemory same is h = tt
@@ -204,7 +203,7 @@ too_long size (Some t) (Some e) text script lines a b w code same is ls h =
     (h.0, script, files.Lines lines, line_numbers e, subst (λ x. IsScript x script) same is, (ls, refl), h.1)
 
 -- the lines' replay stops
-pub explains_stop : (size : Size) (known events : Option (List ℕ)) (text : List ℕ) (script : Script) (lines : List Line) (a b w : Bool) (r : Refusal) →
+pub explains_stop : (size : Size) (known events : Option (List ℕ)) (text : List ℕ) (script : Script) (lines : List Line) (a b w : Bool) (r : CommandRefusal) →
     IfSome known (λ t. text ≡ t) → IsScript text script → IfSome events (λ e. IsLinesFile e lines) → IsLinesStop script size lines r →
     ExplainsMigration size known events a b w r
 explains_stop size known events text script lines a b w (Stopped code) same is ls h = too_long size known events text script lines a b w code same is ls h

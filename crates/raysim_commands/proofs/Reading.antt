@@ -6,7 +6,7 @@ use Rattle.std.proofs.lemmas.List.{take_all, length-take-le}
 use Rattle.script_tokens.specs.declared.error.SyntaxError.TheVariants as syntax
 use Rattle.script_syntax.specs.Trees.{Program}
 use Rattle.script_syntax.specs.Grammar.{Reads}
-use Rattle.raysim_streams.specs.declared.Refusal.TheVariants.{At}
+use Rattle.raysim_streams.specs.declared.CommandRefusal.TheVariants.{At}
 use Rattle.raysim_commands.specs.Scripts.{IsNoScriptFor}
 
 -- a long text reads as no program

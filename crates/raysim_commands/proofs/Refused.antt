@@ -11,23 +11,23 @@ use Rattle.script_syntax.specs.Refusals.{IsRefusalOfText}
 use Rattle.script_check.specs.Rules.{IsCheckedOf}
 use Rattle.script_check.specs.declared.error.CheckError.{CheckError}
 use Rattle.script_check.specs.declared.error.CheckError.TheVariants as faults
-use Rattle.raysim_streams.specs.declared.Refusal.{Refusal}
-use Rattle.raysim_streams.specs.declared.Refusal.TheVariants.{At, NoMemory, Stopped, BadLine, WrongJob, Failed}
+use Rattle.raysim_streams.specs.declared.CommandRefusal.{CommandRefusal}
+use Rattle.raysim_streams.specs.declared.CommandRefusal.TheVariants.{At, NoMemory, Stopped, BadLine, WrongJob, Failed}
 use Rattle.raysim_commands.specs.Scripts.{IsNoScript, IsRefusalOf, IsNoScriptFor, syntax_refusal, check_refusal, Explains}
 use Rattle.protocol_board.specs.Cores.{Size}
 use Rattle.raysim_commands.specs.RunReports.{ExplainsRun}
 
 -- the parser's error
-pub refused_by_parser : (text : List ℕ) (e : SyntaxError) (r : Refusal) → IsRefusalOfText text e → ((program : Program) → Reads text program → e ≡ syntax.NoMemory) → r ≡ syntax_refusal e → IsRefusalOf text r
+pub refused_by_parser : (text : List ℕ) (e : SyntaxError) (r : CommandRefusal) → IsRefusalOfText text e → ((program : Program) → Reads text program → e ≡ syntax.NoMemory) → r ≡ syntax_refusal e → IsRefusalOf text r
 refused_by_parser text e r cause only same = inl (e, record { cause = cause; only = only }, same)
 
 -- the checker's error, of the one program that the text reads as
-pub refused_by_checker : (text : List ℕ) (program : Program) (e : CheckError) (r : Refusal) → Reads text program → ((q : Program) → Reads text q → program ≡ q) → ((script : Script) → IsCheckedOf program script → e ≡ faults.NoMemory) → r ≡ check_refusal e → IsRefusalOf text r
+pub refused_by_checker : (text : List ℕ) (program : Program) (e : CheckError) (r : CommandRefusal) → Reads text program → ((q : Program) → Reads text q → program ≡ q) → ((script : Script) → IsCheckedOf program script → e ≡ faults.NoMemory) → r ≡ check_refusal e → IsRefusalOf text r
 refused_by_checker text program e r reads same h told =
     inr (e, record { program = program; reads = reads; only = λ script s. h script (subst (λ q. IsCheckedOf q script) (sym (same s.0 s.1)) s.2) }, told)
 
 -- what a refusal with a place tells is no want of memory
-abbrev pub HasPlace : Refusal → Type 0
+abbrev pub HasPlace : CommandRefusal → Type 0
 HasPlace (At code span) = Unit {0}
 HasPlace NoMemory = ⊥
 HasPlace (Stopped code) = ⊥
@@ -47,7 +47,7 @@ no_script text code span (inl (e, h, same)) = λ script s. placed_syntax e (subs
 no_script text code span (inr (e, h, same)) = λ script s. placed_check e (subst HasPlace same tt) (h.only script s)
 
 -- what is told of a text
-abbrev pub IsOfText : Refusal → Type 0
+abbrev pub IsOfText : CommandRefusal → Type 0
 IsOfText (At code span) = Unit {0}
 IsOfText NoMemory = Unit {0}
 IsOfText (Stopped code) = ⊥
@@ -74,12 +74,12 @@ of_text_check (faults.Duplicate span) = tt
 of_text_check faults.NoMemory = tt
 
 -- a text is refused by what is told of texts
-of_text : (text : List ℕ) (r : Refusal) → IsRefusalOf text r → IsOfText r
+of_text : (text : List ℕ) (r : CommandRefusal) → IsRefusalOf text r → IsOfText r
 of_text text r (inl (e, h, same)) = subst IsOfText (sym same) (of_text_syntax e)
 of_text text r (inr (e, h, same)) = subst IsOfText (sym same) (of_text_check e)
 
 -- what was read, where it is known, explains the refusal
-pub explains_read : (known : Option (List ℕ)) (text : List ℕ) (read_failed write_failed : Bool) (r : Refusal) → IfSome known (λ bytes. text ≡ bytes) → IsRefusalOf text r → Explains known read_failed write_failed r
+pub explains_read : (known : Option (List ℕ)) (text : List ℕ) (read_failed write_failed : Bool) (r : CommandRefusal) → IfSome known (λ bytes. text ≡ bytes) → IsRefusalOf text r → Explains known read_failed write_failed r
 explains_read None text a b (At code span) h k = tt
 explains_read (Some bytes) text a b (At code span) h k = subst (λ t. IsNoScriptFor t (At code span)) h (record { none = no_script text code span k; told = k })
 explains_read known text a b NoMemory h k = tt
@@ -89,7 +89,7 @@ explains_read known text a b (WrongJob line) h k = absurd (of_text text (WrongJo
 explains_read known text a b (Failed failure) h k = absurd (of_text text (Failed failure) k)
 
 -- `run` refuses for the other commands' causes
-pub explains_as_others : (size : Size) (known : Option (List ℕ)) (read_failed write_failed : Bool) (r : Refusal) → Explains known read_failed write_failed r → ExplainsRun size known read_failed write_failed r
+pub explains_as_others : (size : Size) (known : Option (List ℕ)) (read_failed write_failed : Bool) (r : CommandRefusal) → Explains known read_failed write_failed r → ExplainsRun size known read_failed write_failed r
 explains_as_others size known a b (At code span) h = h
 explains_as_others size known a b NoMemory h = h
 explains_as_others size known a b (Stopped code) h = absurd h

@@ -6,12 +6,12 @@ use Rattle.meaning.specs.Syntax.{Script}
 use Rattle.event_files.specs.declared.event_file.EventFile.{EventFile}
 use Rattle.history.specs.Main.{status_of}
 use Rattle.protocol_board.specs.Cores.{Size}
-use Rattle.protocol_board.specs.Meant.{IsSoundLog}
+use Rattle.protocol_board.specs.Cores.{IsSoundLog}
 use Rattle.protocol_board.specs.Replays.{Play, PlaysFile}
 use Rattle.raysim_commands.specs.Reports.{IsReportIn, account_of}
 use Rattle.raysim_streams.specs.declared.Failure.TheVariants.{Read, Write, Closed}
-use Rattle.raysim_streams.specs.declared.Refusal.{Refusal}
-use Rattle.raysim_streams.specs.declared.Refusal.TheVariants.{At, NoMemory, Stopped, BadLine, WrongJob, Failed}
+use Rattle.raysim_streams.specs.declared.CommandRefusal.{CommandRefusal}
+use Rattle.raysim_streams.specs.declared.CommandRefusal.TheVariants.{At, NoMemory, Stopped, BadLine, WrongJob, Failed}
 use Rattle.raysim_commands.specs.declared.form.Form.{Form}
 use Rattle.raysim_commands.specs.Scripts.{Explains, IsScript}
 use Rattle.raysim_commands.specs.SimReports.{AreEvents, ExplainsSim, IfBoth, IsSimBegun, IsSimReportOf, IsSimReported, first_play, lines_in_file}
@@ -46,7 +46,7 @@ of_read P known text shown same value bound h =
     of_known P known text (known_whole known text 18446744073709551615 same less) (subst P value h)
 
 -- `sim` refuses a script for the other commands' causes
-pub explains_script : (size : Size) (known events : Option (List ℕ)) (script_failed events_failed write_failed : Bool) (r : Refusal) →
+pub explains_script : (size : Size) (known events : Option (List ℕ)) (script_failed events_failed write_failed : Bool) (r : CommandRefusal) →
     Explains known script_failed write_failed r → ExplainsSim size known events script_failed events_failed write_failed r
 explains_script size known events a b w (At code span) h = h
 explains_script size known events a b w NoMemory h = tt

@@ -13,8 +13,8 @@ use Rattle.histories.specs.Recorded.{recorded_in}
 use Rattle.protocol_board.specs.Cores.{Size}
 use Rattle.protocol_board.specs.Replays.{Play, PlaysFile}
 use Rattle.raysim_streams.specs.declared.Failure.TheVariants.{Read, Write, Closed}
-use Rattle.raysim_streams.specs.declared.Refusal.{Refusal}
-use Rattle.raysim_streams.specs.declared.Refusal.TheVariants.{At, NoMemory, Stopped as Stops, BadLine, WrongJob, Failed}
+use Rattle.raysim_streams.specs.declared.CommandRefusal.{CommandRefusal}
+use Rattle.raysim_streams.specs.declared.CommandRefusal.TheVariants.{At, NoMemory, Stopped as Stops, BadLine, WrongJob, Failed}
 use Rattle.raysim_commands.specs.Scripts.{IsAllowed, IsScript}
 use Rattle.raysim_commands.specs.SimReports.{ExplainsSim, IfBoth, IsReplayed, IsTooLong, first_play}
 
@@ -62,7 +62,7 @@ pub record IsNoLine (n : ℕ) (text events : List ℕ) : Type 0 where
   pub of_recorded : (rest : List ℕ) → events ≡ header ++ rest → n ≡ 1
 
 -- why `migrate` refuses: as `sim` does, but that it takes files of format 1 alone, whose claims name no jobs
-abbrev pub ExplainsMigration : Size → Option (List ℕ) → Option (List ℕ) → Bool → Bool → Bool → Refusal → Type 0
+abbrev pub ExplainsMigration : Size → Option (List ℕ) → Option (List ℕ) → Bool → Bool → Bool → CommandRefusal → Type 0
 ExplainsMigration size text events script_failed events_failed write_failed (BadLine n) = IfBoth text events (IsNoLine n)
 ExplainsMigration size text events script_failed events_failed write_failed (WrongJob n) = ⊥
 ExplainsMigration size text events script_failed events_failed write_failed (At code span) =
@@ -77,7 +77,7 @@ ExplainsMigration size text events script_failed events_failed write_failed (Fai
 -- ---- on the way
 
 -- why the replay of the lines gives no history
-abbrev pub IsLinesStop : Script → Size → List Line → Refusal → Type 0
+abbrev pub IsLinesStop : Script → Size → List Line → CommandRefusal → Type 0
 IsLinesStop script size lines (Stops code) = (code ≡ 41) × IsTooLong script size (files.Lines lines)
 IsLinesStop script size lines NoMemory = Unit {0}
 IsLinesStop script size lines (At code span) = ⊥
@@ -86,7 +86,7 @@ IsLinesStop script size lines (WrongJob n) = ⊥
 IsLinesStop script size lines (Failed failure) = ⊥
 
 -- why the lines aren't read
-abbrev pub ExplainsLines : Option (List ℕ) → Bool → Refusal → Type 0
+abbrev pub ExplainsLines : Option (List ℕ) → Bool → CommandRefusal → Type 0
 ExplainsLines events failed (BadLine n) = IfSome events (λ e. IsBadAt IsLine line_text e n)
 ExplainsLines events failed NoMemory = Unit {0}
 ExplainsLines events failed (Failed Read) = failed ≡ true

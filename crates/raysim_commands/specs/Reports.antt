@@ -2,7 +2,6 @@
 use Rattle.std.specs.Prelude.{◌≡◌, ℕ, List, ◌++◌, codes}
 use Rattle.meaning.specs.Syntax.{Script}
 use Rattle.serde_json.specs.Written.{compact_text}
-use Rattle.values.specs.Values.{id_of}
 use Rattle.event_log.specs.Entries.{Entry}
 use Rattle.event_log.specs.Views.{log_of}
 use Rattle.event_log.specs.declared.entry.Entry.{Entry as CodeEntry}
@@ -46,7 +45,7 @@ IsReportIn forms.Json a text = text ≡ json_text a.log
 IsReportIn forms.TextWithBooks a text = text ≡ report_text a.log ++ book_lines a.log
 IsReportIn forms.Log a text = text ≡ log_text a.log
 IsReportIn forms.LogWithMessages a text = text ≡ log_with_messages a.log a.messages a.sent
-IsReportIn (forms.Why o) a text = text ≡ why_text a.log a.lines (id_of o)
+IsReportIn (forms.Why o) a text = text ≡ why_text a.log a.lines o
 IsReportIn forms.WhyMain a text = text ≡ why_main_text a.log a.lines
 IsReportIn forms.Timeline a text = IsTimelineOf a text
 IsReportIn forms.Lineage a text = text ≡ lineage_text a.log

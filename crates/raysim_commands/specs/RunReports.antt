@@ -4,12 +4,12 @@ use Rattle.std.specs.Io.KnownBytes.{Appends}
 use Rattle.meaning.specs.Syntax.{Script}
 use Rattle.history.specs.Main.{status_of}
 use Rattle.protocol_board.specs.Cores.{Size, first_state}
-use Rattle.protocol_board.specs.Meant.{IsSoundLog}
+use Rattle.protocol_board.specs.Cores.{IsSoundLog}
 use Rattle.protocol_board.specs.declared.unfinished.Unfinished.{Unfinished}
 use Rattle.protocol_board.specs.Stops.{unfinished_code}
 use Rattle.protocol_board.specs.Drives.{Course, EndsSo, StopsSo}
-use Rattle.raysim_streams.specs.declared.Refusal.{Refusal}
-use Rattle.raysim_streams.specs.declared.Refusal.TheVariants.{At, NoMemory, Stopped as Stops, BadLine, WrongJob, Failed}
+use Rattle.raysim_streams.specs.declared.CommandRefusal.{CommandRefusal}
+use Rattle.raysim_streams.specs.declared.CommandRefusal.TheVariants.{At, NoMemory, Stopped as Stops, BadLine, WrongJob, Failed}
 use Rattle.raysim_commands.specs.declared.form.Form.{Form}
 use Rattle.raysim_commands.specs.Scripts.{IsScript, Explains}
 use Rattle.raysim_commands.specs.Reports.{IsReportIn, IsAsSerialIn, account_of}
@@ -29,7 +29,7 @@ IsReportOf script size form report status =
     (c : Course) × IsEndOf script size c × IsReportIn form (account_of c.run c.sent []) report × (status ≡ status_of c.run.log)
 
 -- why a run of the script gives no report
-abbrev pub IsRunStop : Script → Size → Refusal → Type 0
+abbrev pub IsRunStop : Script → Size → CommandRefusal → Type 0
 IsRunStop script size (At code span) = ⊥
 IsRunStop script size NoMemory = Unit {0}
 IsRunStop script size (Stops code) =
@@ -54,7 +54,7 @@ IsRunBegun size form text before after = (after ≡ before) ⊎
     × Appends before after (take k report))
 
 -- why `run` refuses: as the other commands, or what was read, where it is known, is a script whose run stops so
-abbrev pub ExplainsRun : Size → Option (List ℕ) → Bool → Bool → Refusal → Type 0
+abbrev pub ExplainsRun : Size → Option (List ℕ) → Bool → Bool → CommandRefusal → Type 0
 ExplainsRun size text read_failed write_failed (Stops code) =
     IfSome text (λ bytes. (script : Script) × IsScript bytes script × IsRunStop script size (Stops code))
 ExplainsRun size text read_failed write_failed (At code span) = Explains text read_failed write_failed (At code span)

@@ -11,8 +11,8 @@ use Rattle.script_check.specs.declared.error.CheckError.{CheckError}
 use Rattle.script_check.specs.declared.error.CheckError.TheVariants as faults
 use Rattle.raysim_streams.specs.declared.Failure.{Failure}
 use Rattle.raysim_streams.specs.declared.Failure.TheVariants.{Read, Write, Closed}
-use Rattle.raysim_streams.specs.declared.Refusal.{Refusal}
-use Rattle.raysim_streams.specs.declared.Refusal.TheVariants.{At, NoMemory, Stopped, BadLine, WrongJob, Failed}
+use Rattle.raysim_streams.specs.declared.CommandRefusal.{CommandRefusal}
+use Rattle.raysim_streams.specs.declared.CommandRefusal.TheVariants.{At, NoMemory, Stopped, BadLine, WrongJob, Failed}
 
 -- the text reads as a program that the rules allow, and that becomes the script
 abbrev pub IsScript : List ℕ → Script → Type 0
@@ -22,14 +22,14 @@ IsScript text script = (program : Program) × Reads text program × IsCheckedOf 
 abbrev pub IsNoScript : List ℕ → Type 0
 IsNoScript text = (script : Script) → IsScript text script → ⊥
 
-abbrev pub syntax_refusal : SyntaxError → Refusal
+abbrev pub syntax_refusal : SyntaxError → CommandRefusal
 syntax_refusal (syntax.NotAscii span) = At 1 span
 syntax_refusal (syntax.BadToken span) = At 2 span
 syntax_refusal (syntax.Expected span) = At 3 span
 syntax_refusal (syntax.TooLarge span) = At 4 span
 syntax_refusal syntax.NoMemory = NoMemory
 
-abbrev pub check_refusal : CheckError → Refusal
+abbrev pub check_refusal : CheckError → CommandRefusal
 check_refusal (faults.UnknownName span) = At 10 span
 check_refusal (faults.WrongType span) = At 11 span
 check_refusal (faults.WrongCount span) = At 12 span
@@ -52,7 +52,7 @@ pub record IsCheckerError (text : List ℕ) (e : CheckError) : Type 0 where
   pub only : (script : Script) → IsScript text script → e ≡ faults.NoMemory
 
 -- the refusal tells the parser's error at the text, or the checker's
-abbrev pub IsRefusalOf : List ℕ → Refusal → Type 0
+abbrev pub IsRefusalOf : List ℕ → CommandRefusal → Type 0
 IsRefusalOf text r =
     ((e : SyntaxError) × IsParserError text e × (r ≡ syntax_refusal e))
     ⊎ ((e : CheckError) × IsCheckerError text e × (r ≡ check_refusal e))
@@ -62,7 +62,7 @@ abbrev pub IsAllowed : List ℕ → Type 0
 IsAllowed text = (script : Script) × IsScript text script
 
 -- the text is no script that the rules allow, and the refusal tells the error that says so
-pub record IsNoScriptFor (text : List ℕ) (r : Refusal) : Type 0 where
+pub record IsNoScriptFor (text : List ℕ) (r : CommandRefusal) : Type 0 where
   pub none : IsNoScript text
   pub told : IsRefusalOf text r
 
@@ -73,7 +73,7 @@ HasFailed read_failed write_failed Write = write_failed ≡ true
 HasFailed read_failed write_failed Closed = write_failed ≡ true
 
 -- why a command refuses: what was read, where it is known, is no script; or a read or a write failed
-abbrev pub Explains : Option (List ℕ) → Bool → Bool → Refusal → Type 0
+abbrev pub Explains : Option (List ℕ) → Bool → Bool → CommandRefusal → Type 0
 Explains text read_failed write_failed (At code span) = IfSome text (λ bytes. IsNoScriptFor bytes (At code span))
 Explains text read_failed write_failed NoMemory = Unit {0}
 Explains text read_failed write_failed (Stopped code) = ⊥
@@ -82,7 +82,7 @@ Explains text read_failed write_failed (WrongJob line) = ⊥
 Explains text read_failed write_failed (Failed failure) = HasFailed read_failed write_failed failure
 
 -- a refusal before anything was written
-abbrev pub IsUnwritten : Refusal → Type 0
+abbrev pub IsUnwritten : CommandRefusal → Type 0
 IsUnwritten (At code span) = Unit {0}
 IsUnwritten NoMemory = Unit {0}
 IsUnwritten (Stopped code) = Unit {0}
@@ -93,6 +93,6 @@ IsUnwritten (Failed Write) = ⊥
 IsUnwritten (Failed Closed) = ⊥
 
 -- the status of a command: its own, and 1 where it is refused
-abbrev pub exit_status : Result ℕ Refusal → ℕ
+abbrev pub exit_status : Result ℕ CommandRefusal → ℕ
 exit_status (Ok status) = status
 exit_status (Err refusal) = 1

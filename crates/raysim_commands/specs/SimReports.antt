@@ -10,13 +10,13 @@ use Rattle.event_files.specs.Numbering.{line_numbers}
 use Rattle.event_log.specs.Events.{from_one}
 use Rattle.history.specs.Main.{status_of}
 use Rattle.protocol_board.specs.Cores.{Size, first_state}
-use Rattle.protocol_board.specs.declared.stopped.Stopped.{Stopped}
-use Rattle.protocol_board.specs.declared.stopped.Stopped.TheVariants as stops
-use Rattle.protocol_board.specs.Meant.{IsSoundLog}
+use Rattle.protocol_board.specs.declared.stopped.ReplayStop.{ReplayStop}
+use Rattle.protocol_board.specs.declared.stopped.ReplayStop.TheVariants as stops
+use Rattle.protocol_board.specs.Cores.{IsSoundLog}
 use Rattle.protocol_board.specs.Replays.{FileStops, Play, PlaysFile}
 use Rattle.raysim_streams.specs.declared.Failure.TheVariants.{Read, Write, Closed}
-use Rattle.raysim_streams.specs.declared.Refusal.{Refusal}
-use Rattle.raysim_streams.specs.declared.Refusal.TheVariants.{At, NoMemory, Stopped as Stops, BadLine, WrongJob, Failed}
+use Rattle.raysim_streams.specs.declared.CommandRefusal.{CommandRefusal}
+use Rattle.raysim_streams.specs.declared.CommandRefusal.TheVariants.{At, NoMemory, Stopped as Stops, BadLine, WrongJob, Failed}
 use Rattle.raysim_commands.specs.declared.form.Form.{Form}
 use Rattle.raysim_commands.specs.Reports.{IsReportIn, IsAsSerialIn, account_of}
 use Rattle.raysim_commands.specs.Scripts.{IsAllowed, IsScript, IsNoScriptFor}
@@ -109,7 +109,7 @@ abbrev pub IsBadLine : ℕ → List ℕ → List ℕ → Type 0
 IsBadLine n text events = IsAllowed text × IsFileRefusal events (errors.BadLine n)
 
 -- why `sim` refuses; whether a read of the script, a read of the events, or a write has failed
-abbrev pub ExplainsSim : Size → Option (List ℕ) → Option (List ℕ) → Bool → Bool → Bool → Refusal → Type 0
+abbrev pub ExplainsSim : Size → Option (List ℕ) → Option (List ℕ) → Bool → Bool → Bool → CommandRefusal → Type 0
 ExplainsSim size text events script_failed events_failed write_failed (At code span) = IfSome text (λ t. IsNoScriptFor t (At code span))
 ExplainsSim size text events script_failed events_failed write_failed NoMemory = Unit {0}
 ExplainsSim size text events script_failed events_failed write_failed (Stops code) = IfBoth text events (IsStopped size code)
@@ -123,13 +123,13 @@ ExplainsSim size text events script_failed events_failed write_failed (Failed Cl
 -- ---- on the way
 
 -- what a replay that stopped in that line is refused as
-abbrev pub stop_refusal : Stopped → ℕ → Refusal
+abbrev pub stop_refusal : ReplayStop → ℕ → CommandRefusal
 stop_refusal stops.NoMemory n = NoMemory
 stop_refusal stops.TooLong n = Stops 41
 stop_refusal stops.WrongJob n = WrongJob n
 
 -- why the replay of what the file says, in lines of these numbers, gives no report
-abbrev pub IsStopOf : Script → Size → EventFile → List ℕ → Refusal → Type 0
+abbrev pub IsStopOf : Script → Size → EventFile → List ℕ → CommandRefusal → Type 0
 IsStopOf script size says numbers (Stops code) = (code ≡ 41) × IsTooLong script size says
 IsStopOf script size says numbers NoMemory = Unit {0}
 IsStopOf script size says numbers (At code span) = ⊥
@@ -138,7 +138,7 @@ IsStopOf script size says numbers (WrongJob n) = IsWrongJob script size says num
 IsStopOf script size says numbers (Failed failure) = ⊥
 
 -- why an event file isn't read
-abbrev pub ExplainsEvents : Option (List ℕ) → Bool → Refusal → Type 0
+abbrev pub ExplainsEvents : Option (List ℕ) → Bool → CommandRefusal → Type 0
 ExplainsEvents events failed (BadLine n) = IfSome events (λ e. IsFileRefusal e (errors.BadLine n))
 ExplainsEvents events failed (WrongJob n) = ⊥
 ExplainsEvents events failed NoMemory = Unit {0}

@@ -12,14 +12,14 @@ use Rattle.event_files.specs.Plans.{IsPlanLine, plan_line_text}
 use Rattle.event_files.specs.Recorded.{recorded_file}
 use Rattle.history.specs.Main.{status_of}
 use Rattle.protocol_board.specs.Cores.{RunData, RunState, Size, state_of}
-use Rattle.protocol_board.specs.Meant.{IsSoundLog}
+use Rattle.protocol_board.specs.Cores.{IsSoundLog}
 use Rattle.protocol_board.specs.Replays.{Play, PlaysFile}
 use Rattle.run_paths.specs.Handing.{HandsInOnce}
 use Rattle.seats.specs.Ends.{IsAtLimit, IsOver}
 use Rattle.seats.specs.Seated.{AreFrom}
 use Rattle.raysim_streams.specs.declared.Failure.TheVariants.{Read, Write, Closed}
-use Rattle.raysim_streams.specs.declared.Refusal.{Refusal}
-use Rattle.raysim_streams.specs.declared.Refusal.TheVariants.{At, NoMemory, Stopped as Stops, BadLine, WrongJob, Failed}
+use Rattle.raysim_streams.specs.declared.CommandRefusal.{CommandRefusal}
+use Rattle.raysim_streams.specs.declared.CommandRefusal.TheVariants.{At, NoMemory, Stopped as Stops, BadLine, WrongJob, Failed}
 use Rattle.raysim_commands.specs.declared.form.Form.{Form}
 use Rattle.raysim_commands.specs.Reports.{IsAsSerialIn, IsReportIn, account_of}
 use Rattle.raysim_commands.specs.Scripts.{IsAllowed, IsNoScriptFor, IsScript}
@@ -58,7 +58,7 @@ pub record IsRunOn (script : Script) (plan : List PlanLine) (size : Size) (threa
   pub outputs : AreOutputs script run form report history status
 
 -- why a run of the script on so many nodes at first gives neither: there was no memory, or it is at a limit
-abbrev pub IsStop : Script → ℕ → Refusal → Type 0
+abbrev pub IsStop : Script → ℕ → CommandRefusal → Type 0
 IsStop script nodes NoMemory = Unit {0}
 IsStop script nodes (Stops code) = (code ≡ 37) × (run : RunState) × IsSoundLog script run × IsAtLimit nodes run
 IsStop script nodes (At code span) = ⊥
@@ -115,7 +115,7 @@ abbrev pub IsBadPlan : ℕ → List ℕ → List ℕ → Type 0
 IsBadPlan n text plan = IsAllowed text × IsBadAt IsPlanLine plan_line_text plan n
 
 -- why `run` refuses; whether a read of the script, a read of the plan, a write of the history, or a write of the report has failed
-abbrev pub ExplainsThreads : Size → Option (List ℕ) → Option (List ℕ) → Bool → Bool → Bool → Bool → Refusal → Type 0
+abbrev pub ExplainsThreads : Size → Option (List ℕ) → Option (List ℕ) → Bool → Bool → Bool → Bool → CommandRefusal → Type 0
 ExplainsThreads size text plan script_failed plan_failed history_failed report_failed (At code span) = IfSome text (λ t. IsNoScriptFor t (At code span))
 ExplainsThreads size text plan script_failed plan_failed history_failed report_failed NoMemory = Unit {0}
 ExplainsThreads size text plan script_failed plan_failed history_failed report_failed (Stops code) = IfSome text (IsStoppedRun size code)
@@ -129,7 +129,7 @@ ExplainsThreads size text plan script_failed plan_failed history_failed report_f
 -- ---- on the way
 
 -- why a plan isn't read
-abbrev pub ExplainsPlan : Option (List ℕ) → Bool → Refusal → Type 0
+abbrev pub ExplainsPlan : Option (List ℕ) → Bool → CommandRefusal → Type 0
 ExplainsPlan plan failed (BadLine n) = IfSome plan (λ p. IsBadAt IsPlanLine plan_line_text p n)
 ExplainsPlan plan failed (WrongJob n) = ⊥
 ExplainsPlan plan failed NoMemory = Unit {0}
@@ -140,7 +140,7 @@ ExplainsPlan plan failed (At code span) = ⊥
 ExplainsPlan plan failed (Stops code) = ⊥
 
 -- why script and plan aren't read
-abbrev pub ExplainsInputs : Option (List ℕ) → Option (List ℕ) → Bool → Bool → Refusal → Type 0
+abbrev pub ExplainsInputs : Option (List ℕ) → Option (List ℕ) → Bool → Bool → CommandRefusal → Type 0
 ExplainsInputs text plan script_failed plan_failed (At code span) = IfSome text (λ t. IsNoScriptFor t (At code span))
 ExplainsInputs text plan script_failed plan_failed NoMemory = Unit {0}
 ExplainsInputs text plan script_failed plan_failed (Stops code) = ⊥
@@ -151,7 +151,7 @@ ExplainsInputs text plan script_failed plan_failed (Failed Write) = ⊥
 ExplainsInputs text plan script_failed plan_failed (Failed Closed) = ⊥
 
 -- a refusal for a failed write
-abbrev pub IsOfWriting : Refusal → Type 0
+abbrev pub IsOfWriting : CommandRefusal → Type 0
 IsOfWriting (Failed Write) = Unit {0}
 IsOfWriting (Failed Closed) = Unit {0}
 IsOfWriting (Failed Read) = ⊥

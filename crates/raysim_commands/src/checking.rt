@@ -5,7 +5,7 @@ ghost use Rattle.std.specs.Io.KnownBytes.{Appends};
 ghost use Rattle.raysim_commands.specs.Scripts.{IsAllowed, Explains, IsUnwritten};
 
 use crate::script::{checked_script, read_script};
-use raysim_streams::{Refusal, Sink, Source, put_all};
+use raysim_streams::{CommandRefusal, Sink, Source, put_all};
 use std::alloc::Global;
 
 /// Reads a script's text, and writes `ok` where the text is a script that the rules allow. The status is then 0.
@@ -16,7 +16,7 @@ pub fn check<R: Source, W: Sink>(
     alloc: Global,
     reader: &mut R,
     writer: &mut W,
-) -> Result<u8, Refusal>
+) -> Result<u8, CommandRefusal>
     ensures status { IfOk result (λ status. status ≡ 0) }
     ensures allowed { OnOk result (IfSome (R.left reader.old) IsAllowed) }
     ensures written { OnOk result (Appends (W.held writer.old) (W.held writer.new) (codes "ok\n")) }

@@ -4,7 +4,7 @@ ghost use Rattle.std.specs.Prelude.{◌≡◌, ◌++◌, IfOk, string_bytes};
 ghost use Rattle.event_log.specs.Views.{log_of};
 ghost use Rattle.books.specs.Lines.{book_lines};
 ghost use Rattle.history.specs.Report.{report_text};
-ghost use Rattle.protocol_board.specs.Meant.{IsSoundLog};
+ghost use Rattle.protocol_board.specs.Cores.{IsSoundLog};
 ghost use Rattle.protocol_board.specs.Cores.{state_of};
 ghost use Rattle.raysim_commands.specs.Reports.{IsReportIn, account_of};
 

@@ -20,7 +20,7 @@ pub use form::{Form, report};
 pub use migrate_command::migrate;
 pub use open_gate::OpenGate;
 pub use protocol_board::Cluster;
-pub use raysim_streams::{Failure, Refusal, Sink, Source, Tracked, put_all, read_at_most};
+pub use raysim_streams::{CommandRefusal, Failure, Sink, Source, Tracked, put_all, read_at_most};
 pub use run_command::run;
 pub use script::{MOST_BYTES, compiled_script, read_script};
 pub use serial_command::serial;

@@ -12,23 +12,23 @@ use crate::script::{compiled_script, read_script};
 use event_files::laws::one_bad_line;
 use event_files::{EventError, Line, parse_events};
 use histories::history;
-use protocol_board::{Cluster, Core, Replay, Stopped};
-use raysim_streams::{Refusal, Sink, Source, put_all, read_at_most};
+use protocol_board::{Cluster, Core, Replay, ReplayStop};
+use raysim_streams::{CommandRefusal, Sink, Source, put_all, read_at_most};
 use segment::{Compiled, ScriptName};
 use sequence::Seq;
 use std::alloc::Global;
 use std::marker::Brand;
 
 /// The lines of an event file of format 1. The first line of a file of format 2 is none of format 1.
-fn read_lines<E: Source>(alloc: Global, reader: &mut E) -> Result<Seq<Line>, Refusal>
+fn read_lines<E: Source>(alloc: Global, reader: &mut E) -> Result<Seq<Line>, CommandRefusal>
     ensures read { IfOk result (λ lines. IfSome (E.left reader.old) (λ bytes. IsFile IsLine line_text bytes lines)) }
     ensures refused { IfErr result (λ refusal. ExplainsLines (E.left reader.old) (E.has_failed reader.new) refusal) }
 {
     let text = read_at_most(alloc, reader, usize::MAX)?;
     match parse_events(alloc, text.as_slice()) {
         Ok(lines) => Ok(lines),
-        Err(EventError::BadLine(line)) => Err(Refusal::BadLine { line }),
-        Err(EventError::NoMemory) => Err(Refusal::NoMemory),
+        Err(EventError::BadLine(line)) => Err(CommandRefusal::BadLine { line }),
+        Err(EventError::NoMemory) => Err(CommandRefusal::NoMemory),
     }
 }
 
@@ -38,7 +38,7 @@ fn migrate_script<S: ScriptName>(
     script: &Compiled,
     lines: &Seq<Line>,
     cluster: Cluster,
-) -> Result<String, Refusal>
+) -> Result<String, CommandRefusal>
     requires { script_of script.now ≡ S.script }
     ensures written { IfOk result (λ text. IsHistoryOf (script_of script.now) cluster lines.now (string_bytes text)) }
     ensures stopped { IfErr result (IsLinesStop (script_of script.now) cluster lines.now) }
@@ -47,10 +47,10 @@ fn migrate_script<S: ScriptName>(
     let mut replay = Replay::new(alloc, core);
     match replay.play(alloc, script, lines) {
         Ok(()) => Ok(history(alloc, replay.board().log())?),
-        Err(Stopped::NoMemory) => Err(Refusal::NoMemory),
-        Err(Stopped::TooLong) => Err(Refusal::Stopped { code: 41 }),
+        Err(ReplayStop::NoMemory) => Err(CommandRefusal::NoMemory),
+        Err(ReplayStop::TooLong) => Err(CommandRefusal::Stopped { code: 41 }),
         // No line of format 1 says which job a claim gives.
-        Err(Stopped::WrongJob) => unreachable!(),
+        Err(ReplayStop::WrongJob) => unreachable!(),
     }
 }
 
@@ -67,7 +67,7 @@ pub fn migrate<R: Source, E: Source, W: Sink>(
     events: &mut E,
     cluster: Cluster,
     writer: &mut W,
-) -> Result<u8, Refusal>
+) -> Result<u8, CommandRefusal>
     ensures status { IfOk result (λ status. status ≡ 0) }
     ensures migrated { IfOk result (λ status. IfBoth (R.left reader.old) (E.left events.old) (λ text file.
         IsMigrated cluster text file (W.held writer.old) (W.held writer.new))) }

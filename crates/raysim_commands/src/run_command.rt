@@ -8,7 +8,7 @@ ghost use Rattle.raysim_commands.specs.RunReports.{ExplainsRun, IsReportOf, IsRu
 use crate::form::{Form, report};
 use crate::script::{compiled_script, read_script};
 use protocol_board::{Board, Cluster, Core, drive};
-use raysim_streams::{Refusal, Sink, Source, put_all};
+use raysim_streams::{CommandRefusal, Sink, Source, put_all};
 use segment::{Compiled, ScriptName};
 use sequence::Seq;
 use std::alloc::Global;
@@ -27,7 +27,7 @@ fn run_script<S: ScriptName>(
     script: &Compiled,
     cluster: Cluster,
     form: Form,
-) -> Result<RunReport, Refusal>
+) -> Result<RunReport, CommandRefusal>
     requires { script_of script.now ≡ S.script }
     ensures reported { IfOk result (λ report. IsReportOf (script_of script.now) cluster form (string_bytes report.text) report.status) }
     ensures stopped { IfErr result (IsRunStop (script_of script.now) cluster) }
@@ -36,7 +36,7 @@ fn run_script<S: ScriptName>(
     let mut board = Board::new(core);
     let mut sent = Seq::new(alloc);
     if let Err(unfinished) = drive(alloc, &mut board, &mut sent, script) {
-        return Err(Refusal::Stopped {
+        return Err(CommandRefusal::Stopped {
             code: unfinished.number(),
         });
     }
@@ -59,7 +59,7 @@ pub fn run<R: Source, W: Sink>(
     cluster: Cluster,
     form: Form,
     writer: &mut W,
-) -> Result<u8, Refusal>
+) -> Result<u8, CommandRefusal>
     ensures reported { IfOk result (λ status. IfSome (R.left reader.old) (λ text.
         IsRunReported cluster form text status (W.held writer.old) (W.held writer.new))) }
     ensures refused { IfErr result (λ refusal. ExplainsRun cluster (R.left reader.old) (R.has_failed reader.new) (W.has_failed writer.new) refusal) }

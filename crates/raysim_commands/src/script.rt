@@ -4,7 +4,7 @@ ghost use Rattle.std.specs.Prelude.{◌≡◌, Bool, IfOk, IfErr, IfSome};
 ghost use Rattle.script_check.specs.Trees.{script_of};
 ghost use Rattle.raysim_commands.specs.Scripts.{IsScript, IsRefusalOf, IsUnwritten, Explains, syntax_refusal, check_refusal};
 
-use raysim_streams::{Refusal, Source, read_at_most};
+use raysim_streams::{CommandRefusal, Source, read_at_most};
 use script_check::{CheckError, Checked, check};
 use script_syntax::{Span, SyntaxError, parse};
 use segment::Compiled;
@@ -14,14 +14,14 @@ use std::alloc::Global;
 pub const MOST_BYTES: usize = 65_536;
 
 /// The text of a script. One of more than 65,536 bytes is refused 4 at 0..0, and all but one byte of the rest stays unread.
-pub fn read_script<R: Source>(alloc: Global, reader: &mut R) -> Result<Vec<u8>, Refusal>
+pub fn read_script<R: Source>(alloc: Global, reader: &mut R) -> Result<Vec<u8>, CommandRefusal>
     ensures ok { IfOk result (λ all. IfSome (R.left reader.old) (λ bytes. all.items ≡ bytes)) }
     ensures refused { (written : Bool) → IfErr result (λ refusal. Explains (R.left reader.old) (R.has_failed reader.new) written refusal) }
     ensures unwritten { IfErr result IsUnwritten }
 {
     let text = read_at_most(alloc, reader, MOST_BYTES + 1)?;
     if text.len() > MOST_BYTES {
-        return Err(Refusal::At {
+        return Err(CommandRefusal::At {
             code: 4,
             span: Span { start: 0, end: 0 },
         });
@@ -29,32 +29,32 @@ pub fn read_script<R: Source>(alloc: Global, reader: &mut R) -> Result<Vec<u8>, 
     Ok(text)
 }
 
-fn syntax_refusal(error: SyntaxError) -> Refusal
+fn syntax_refusal(error: SyntaxError) -> CommandRefusal
     ensures { result ≡ syntax_refusal error }
 {
     match error.span() {
-        Some(span) => Refusal::At {
+        Some(span) => CommandRefusal::At {
             code: error.number(),
             span,
         },
-        None => Refusal::NoMemory,
+        None => CommandRefusal::NoMemory,
     }
 }
 
-fn check_refusal(error: CheckError) -> Refusal
+fn check_refusal(error: CheckError) -> CommandRefusal
     ensures { result ≡ check_refusal error }
 {
     match error.span() {
-        Some(span) => Refusal::At {
+        Some(span) => CommandRefusal::At {
             code: error.number(),
             span,
         },
-        None => Refusal::NoMemory,
+        None => CommandRefusal::NoMemory,
     }
 }
 
 /// The checked script of a text.
-pub fn checked_script(alloc: Global, text: &[u8]) -> Result<Checked, Refusal>
+pub fn checked_script(alloc: Global, text: &[u8]) -> Result<Checked, CommandRefusal>
     ensures found { IfOk result (λ script. IsScript text.now (script_of script)) }
     ensures refused { IfErr result (λ refusal. IsRefusalOf text.now refusal) }
 {
@@ -69,7 +69,7 @@ pub fn checked_script(alloc: Global, text: &[u8]) -> Result<Checked, Refusal>
 }
 
 /// The checked script of a text, with its code.
-pub fn compiled_script(alloc: Global, text: &[u8]) -> Result<Compiled, Refusal>
+pub fn compiled_script(alloc: Global, text: &[u8]) -> Result<Compiled, CommandRefusal>
     ensures found { IfOk result (λ script. IsScript text.now (script_of script)) }
     ensures refused { IfErr result (λ refusal. IsRefusalOf text.now refusal) }
 {
@@ -79,6 +79,6 @@ pub fn compiled_script(alloc: Global, text: &[u8]) -> Result<Compiled, Refusal>
     };
     match Compiled::new(alloc, script) {
         Ok(script) => Ok(script),
-        Err(_) => Err(Refusal::NoMemory),
+        Err(_) => Err(CommandRefusal::NoMemory),
     }
 }

@@ -9,7 +9,7 @@ ghost use Rattle.report_laws.specs.Serial.{serial_report, serial_status};
 ghost use Rattle.raysim_commands.specs.SerialReports.{status_of, IsReported, IsBegun};
 
 use crate::script::{checked_script, read_script};
-use raysim_streams::{Refusal, Sink, Source, put_all};
+use raysim_streams::{CommandRefusal, Sink, Source, put_all};
 use report::write_main_lines;
 use script_check::Checked;
 use serial::run_serial;
@@ -33,13 +33,13 @@ fn status_of(end: &Content) -> u8
 }
 
 /// The report of a script's serial run.
-fn serial_report(alloc: Global, script: &Checked) -> Result<SerialReport, Refusal>
+fn serial_report(alloc: Global, script: &Checked) -> Result<SerialReport, CommandRefusal>
     ensures text { IfOk result (λ report. string_bytes report.text ≡ serial_report (script_of script.now)) }
     ensures status { IfOk result (λ report. report.status ≡ serial_status (script_of script.now)) }
-    ensures only { IfErr result (λ refusal. refusal ≡ Refusal.NoMemory) }
+    ensures only { IfErr result (λ refusal. refusal ≡ CommandRefusal.NoMemory) }
 {
     let Ok(run) = run_serial(alloc, script) else {
-        return Err(Refusal::NoMemory);
+        return Err(CommandRefusal::NoMemory);
     };
     let mut text = String::new(alloc);
     write_main_lines(&mut text, run.prints.as_slice(), &run.end)?;
@@ -56,7 +56,7 @@ pub fn serial<R: Source, W: Sink>(
     alloc: Global,
     reader: &mut R,
     writer: &mut W,
-) -> Result<u8, Refusal>
+) -> Result<u8, CommandRefusal>
     ensures reported { IfOk result (λ status. IfSome (R.left reader.old) (λ text. IsReported text status (W.held writer.old) (W.held writer.new))) }
     ensures refused { IfErr result (λ refusal. Explains (R.left reader.old) (R.has_failed reader.new) (W.has_failed writer.new) refusal) }
     ensures unwritten { IfErr result (λ refusal. IsUnwritten refusal → W.held writer.new ≡ W.held writer.old) }

@@ -9,8 +9,8 @@ ghost use Rattle.raysim_commands.specs.SimReports.{IsSimReportOf, IsStopOf, line
 use crate::form::{Form, report};
 use crate::script::{compiled_script, read_script};
 use event_files::{EventError, EventFile, line_numbers, parse_event_file};
-use protocol_board::{Cluster, Core, Replay, Stopped};
-use raysim_streams::{Refusal, Sink, Source, put_all, read_at_most};
+use protocol_board::{Cluster, Core, Replay, ReplayStop};
+use raysim_streams::{CommandRefusal, Sink, Source, put_all, read_at_most};
 use segment::{Compiled, ScriptName};
 use sequence::Seq;
 use std::alloc::{AllocError, Global};
@@ -55,13 +55,13 @@ fn lines_in_file(
 }
 
 /// Why a replay that stopped in that line gives no report.
-fn stop_refusal(stopped: Stopped, line: usize) -> Refusal
+fn stop_refusal(stopped: ReplayStop, line: usize) -> CommandRefusal
     ensures { result ≡ stop_refusal stopped line }
 {
     match stopped {
-        Stopped::NoMemory => Refusal::NoMemory,
-        Stopped::TooLong => Refusal::Stopped { code: 41 },
-        Stopped::WrongJob => Refusal::WrongJob { line: line as u64 },
+        ReplayStop::NoMemory => CommandRefusal::NoMemory,
+        ReplayStop::TooLong => CommandRefusal::Stopped { code: 41 },
+        ReplayStop::WrongJob => CommandRefusal::WrongJob { line: line as u64 },
     }
 }
 
@@ -95,7 +95,7 @@ fn sim_script<S: ScriptName>(
     events: &EventLines,
     cluster: Cluster,
     form: Form,
-) -> Result<SimReport, Refusal>
+) -> Result<SimReport, CommandRefusal>
     requires { script_of script.now ≡ S.script }
     ensures reported { IfOk result (λ report. IsSimReportOf (script_of script.now) cluster form events.now.says events.now.numbers
         (string_bytes report.text) report.status) }
@@ -114,7 +114,7 @@ fn sim_script<S: ScriptName>(
 }
 
 /// The lines of an event file.
-fn read_events<E: Source>(alloc: Global, reader: &mut E) -> Result<EventLines, Refusal>
+fn read_events<E: Source>(alloc: Global, reader: &mut E) -> Result<EventLines, CommandRefusal>
     ensures read { IfOk result (λ events. IfSome (E.left reader.old) (λ bytes. AreEvents bytes events.says events.numbers)) }
     ensures refused { IfErr result (λ refusal. ExplainsEvents (E.left reader.old) (E.has_failed reader.new) refusal) }
 {
@@ -124,8 +124,8 @@ fn read_events<E: Source>(alloc: Global, reader: &mut E) -> Result<EventLines, R
             let numbers = said_numbers(alloc, &says, text.as_slice())?;
             Ok(EventLines { says, numbers })
         }
-        Err(EventError::BadLine(line)) => Err(Refusal::BadLine { line }),
-        Err(EventError::NoMemory) => Err(Refusal::NoMemory),
+        Err(EventError::BadLine(line)) => Err(CommandRefusal::BadLine { line }),
+        Err(EventError::NoMemory) => Err(CommandRefusal::NoMemory),
     }
 }
 
@@ -145,7 +145,7 @@ pub fn sim<R: Source, E: Source, W: Sink>(
     cluster: Cluster,
     form: Form,
     writer: &mut W,
-) -> Result<u8, Refusal>
+) -> Result<u8, CommandRefusal>
     ensures reported { IfOk result (λ status. IfBoth (R.left reader.old) (E.left events.old) (λ text file.
         IsSimReported cluster form text file status (W.held writer.old) (W.held writer.new))) }
     ensures refused { IfErr result (λ refusal. ExplainsSim cluster (R.left reader.old) (E.left events.old)

@@ -3,10 +3,10 @@
 ghost use Rattle.std.specs.Prelude.{◌≡◌};
 ghost use Rattle.raysim_commands.specs.Scripts.{exit_status};
 
-use raysim_streams::Refusal;
+use raysim_streams::CommandRefusal;
 
 /// The status that the program ends with: the command's own, and 1 where it is refused.
-pub fn exit_status(done: &Result<u8, Refusal>) -> u8
+pub fn exit_status(done: &Result<u8, CommandRefusal>) -> u8
     ensures { result ≡ exit_status done.now }
 {
     match done {

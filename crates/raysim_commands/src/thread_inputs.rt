@@ -7,7 +7,7 @@ ghost use Rattle.raysim_commands.specs.ThreadReports.{ExplainsInputs, ExplainsPl
 
 use crate::script::{compiled_script, read_script};
 use event_files::{EventError, RunPlan, parse_plan};
-use raysim_streams::{Refusal, Source, read_at_most};
+use raysim_streams::{CommandRefusal, Source, read_at_most};
 use segment::Compiled;
 use std::alloc::Global;
 
@@ -19,15 +19,15 @@ pub struct Inputs {
 }
 
 /// The lines of a plan.
-fn read_plan<P: Source>(alloc: Global, reader: &mut P) -> Result<RunPlan, Refusal>
+fn read_plan<P: Source>(alloc: Global, reader: &mut P) -> Result<RunPlan, CommandRefusal>
     ensures read { IfOk result (λ plan. IfSome (P.left reader.old) (λ bytes. IsPlan bytes plan.lines)) }
     ensures refused { IfErr result (λ refusal. ExplainsPlan (P.left reader.old) (P.has_failed reader.new) refusal) }
 {
     let text = read_at_most(alloc, reader, usize::MAX)?;
     match parse_plan(alloc, text.as_slice()) {
         Ok(plan) => Ok(plan),
-        Err(EventError::BadLine(line)) => Err(Refusal::BadLine { line }),
-        Err(EventError::NoMemory) => Err(Refusal::NoMemory),
+        Err(EventError::BadLine(line)) => Err(CommandRefusal::BadLine { line }),
+        Err(EventError::NoMemory) => Err(CommandRefusal::NoMemory),
     }
 }
 
@@ -36,7 +36,7 @@ pub fn read_inputs<A: Source, P: Source>(
     alloc: Global,
     reader: &mut A,
     plan: &mut P,
-) -> Result<Inputs, Refusal>
+) -> Result<Inputs, CommandRefusal>
     ensures script { IfOk result (λ inputs. IfSome (A.left reader.old) (λ text. IsScript text (script_of inputs.script))) }
     ensures plan { IfOk result (λ inputs. IfSome (P.left plan.old) (λ bytes. IsPlan bytes inputs.plan.lines)) }
     ensures refused { IfErr result (λ refusal. ExplainsInputs (A.left reader.old) (P.left plan.old)

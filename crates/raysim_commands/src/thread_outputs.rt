@@ -5,14 +5,14 @@ ghost use Rattle.std.specs.Io.KnownBytes.{Appends};
 ghost use Rattle.raysim_commands.specs.ThreadReports.{AreBegun, IsOfWriting};
 
 use crate::thread_run::Outputs;
-use raysim_streams::{Refusal, Sink, put_all};
+use raysim_streams::{CommandRefusal, Sink, put_all};
 
 /// Writes the history, and then the report.
 pub fn write_outputs<H: Sink, W: Sink>(
     history: &mut H,
     writer: &mut W,
     out: &Outputs,
-) -> Result<(), Refusal>
+) -> Result<(), CommandRefusal>
     ensures history { OnOk result (Appends (H.held history.old) (H.held history.new) (string_bytes out.now.history)) }
     ensures report { OnOk result (Appends (W.held writer.old) (W.held writer.new) (string_bytes out.now.report)) }
     ensures failed { IfErr result (λ refusal. IsOfWriting refusal × ((W.has_failed writer.new ≡ true) ⊎ (H.has_failed history.new ≡ true))) }

@@ -8,10 +8,10 @@ ghost use Rattle.raysim_commands.specs.ThreadReports.{AreOutputs, IsRunOn, IsSto
 
 use crate::form::{Form, report};
 use event_files::RunPlan;
-use event_log::Refusal as EventRefusal;
 use histories::history;
+use log_entries::Refusal as EventRefusal;
 use protocol_board::{Board, Cluster, Core};
-use raysim_streams::Refusal;
+use raysim_streams::CommandRefusal;
 use replay_laws::law::runs_replay;
 use seats::{Ended, Gate, run_on_threads};
 use segment::{Compiled, ScriptName};
@@ -49,12 +49,12 @@ fn outputs_of<S: ScriptName>(
 }
 
 /// The refusal of a run that is at a limit.
-fn at_limit<S: ScriptName>(board: &Board<S>) -> Refusal
+fn at_limit<S: ScriptName>(board: &Board<S>) -> CommandRefusal
     requires { WasLimited (log_of board.now.log) }
     ensures { IsStop S.script board.now.first_nodes result }
 {
     let _ = board.log();
-    Refusal::Stopped {
+    CommandRefusal::Stopped {
         code: EventRefusal::Limit.number(),
     }
 }
@@ -69,7 +69,7 @@ pub fn run_script<S: ScriptName + Send + Sync, K: Gate + Sync, R: Threads + Wait
     form: Form,
     threads: u8,
     gate: &K,
-) -> Result<Outputs, Refusal>
+) -> Result<Outputs, CommandRefusal>
     requires some { (1 ≤ threads) × (threads ≤ 8) }
     requires script { script_of script.now ≡ S.script }
     ensures run { IfOk result (λ out.
@@ -84,6 +84,6 @@ pub fn run_script<S: ScriptName + Send + Sync, K: Gate + Sync, R: Threads + Wait
     match run_on_threads(rt, alloc, board, plan, threads, script, gate)? {
         Ended::Over(board) => Ok(outputs_of(alloc, &board, form)?),
         Ended::AtLimit(board) => Err(at_limit(&board)),
-        Ended::NoMemory => Err(Refusal::NoMemory),
+        Ended::NoMemory => Err(CommandRefusal::NoMemory),
     }
 }

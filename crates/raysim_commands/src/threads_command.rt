@@ -10,7 +10,7 @@ use crate::thread_inputs::{Inputs, read_inputs};
 use crate::thread_outputs::write_outputs;
 use crate::thread_run::run_script;
 use protocol_board::Cluster;
-use raysim_streams::{Refusal, Sink, Source};
+use raysim_streams::{CommandRefusal, Sink, Source};
 use seats::Gate;
 use std::alloc::Global;
 use std::marker::Brand;
@@ -45,7 +45,7 @@ pub fn run_threaded<
     gate: &K,
     history: &mut H,
     writer: &mut W,
-) -> Result<u8, Refusal>
+) -> Result<u8, CommandRefusal>
     requires some { (1 ≤ threads) × (threads ≤ 8) }
     ensures reported { IfOk result (λ status. IfBoth (A.left reader.old) (P.left plan.old) (λ text bytes. AreWritten cluster threads form text bytes status
         (H.held history.old) (H.held history.new) (W.held writer.old) (W.held writer.new))) }

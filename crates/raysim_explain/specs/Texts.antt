@@ -1,12 +1,12 @@
 -- The texts of reasons.
 use Rattle.std.specs.Prelude.{ℕ, List, ◌++◌, codes}
 use Rattle.std.specs.Fmt.{decimal}
-use Rattle.raysim_explain.specs.declared.reason.Reason.{Reason}
-use Rattle.raysim_explain.specs.declared.reason.Reason.TheVariants.{NotAscii, BadToken, Expected, TooLarge, UnknownName, WrongType, WrongCount, NoMain}
-use Rattle.raysim_explain.specs.declared.reason.Reason.TheVariants.{PrintOutsideMain, MissingReturn, BadRetries, Duplicate, Pinned, NoCopy, NoWorker, NotReady, NoJob}
-use Rattle.raysim_explain.specs.declared.reason.Reason.TheVariants.{Stale, NoMessage, NotDead, NoNode, Limit, Halted, NoMemory, BadLine, TooLong, WrongJob, Failed}
+use Rattle.raysim_explain.specs.declared.reason.RefusalCause.{RefusalCause}
+use Rattle.raysim_explain.specs.declared.reason.RefusalCause.TheVariants.{NotAscii, BadToken, Expected, TooLarge, UnknownName, WrongType, WrongCount, NoMain}
+use Rattle.raysim_explain.specs.declared.reason.RefusalCause.TheVariants.{PrintOutsideMain, MissingReturn, BadRetries, Duplicate, Pinned, NoCopy, NoWorker, NotReady, NoJob}
+use Rattle.raysim_explain.specs.declared.reason.RefusalCause.TheVariants.{Stale, NoMessage, NotDead, NoNode, Limit, Halted, NoMemory, BadLine, TooLong, WrongJob, Failed}
 
-abbrev pub number_of : Reason → ℕ
+abbrev pub number_of : RefusalCause → ℕ
 number_of NotAscii = 1
 number_of BadToken = 2
 number_of Expected = 3
@@ -36,7 +36,7 @@ number_of TooLong = 41
 number_of WrongJob = 42
 number_of Failed = 50
 
-abbrev pub name_of : Reason → List ℕ
+abbrev pub name_of : RefusalCause → List ℕ
 name_of NotAscii = codes "NotAscii"
 name_of BadToken = codes "BadToken"
 name_of Expected = codes "Expected"
@@ -66,7 +66,7 @@ name_of TooLong = codes "TooLong"
 name_of WrongJob = codes "WrongJob"
 name_of Failed = codes "Failed"
 
-abbrev pub cause_of : Reason → List ℕ
+abbrev pub cause_of : RefusalCause → List ℕ
 cause_of NotAscii = codes "A byte of the script is above 127. The place is that byte."
 cause_of BadToken = codes "A byte begins no token, or a run of letters, digits and _ is none. The place is the byte or the run."
 cause_of Expected = codes "The grammar does not allow this token here, or the text ends too early. The place is the token or the end."
@@ -96,7 +96,7 @@ cause_of TooLong = codes "More than 100,000 events would be applied. A run that 
 cause_of WrongJob = codes "A claim gave another job than the line of a recorded history says. The file was recorded of another run."
 cause_of Failed = codes "A read or a write failed. After a failed write a beginning of the report is out."
 
-abbrev pub example_of : Reason → List ℕ
+abbrev pub example_of : RefusalCause → List ℕ
 example_of NotAscii = codes "a letter with an accent, in a comment too"
 example_of BadToken = codes "let aB = 1; since names have small letters"
 example_of Expected = codes "fn main() -> int { return 1 } since a ; is missing"
@@ -127,5 +127,5 @@ example_of WrongJob = codes "0 claim 1 2 as the first claim of a file of format 
 example_of Failed = codes "a script whose file is not there"
 
 -- the number and the name, the cause, and an example, each on a line of its own
-abbrev pub reason_text : Reason → List ℕ
+abbrev pub reason_text : RefusalCause → List ℕ
 reason_text r = decimal (number_of r) ++ (codes " " ++ (name_of r ++ (codes "\n" ++ (cause_of r ++ (codes "\nExample: " ++ example_of r)))))

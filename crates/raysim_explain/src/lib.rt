@@ -6,5 +6,5 @@ mod reason;
 mod shown;
 
 pub use place::{Place, line_at, place_of};
-pub use reason::Reason;
+pub use reason::RefusalCause;
 pub use shown::Shown;

@@ -1,10 +1,10 @@
 -- Numbers and texts of refusals.
 use Rattle.std.specs.Prelude.{ℕ, List, ◌++◌, codes}
 use Rattle.std.specs.Fmt.{decimal}
-use Rattle.raysim_streams.specs.declared.refusal.Refusal.{Refusal}
-use Rattle.raysim_streams.specs.declared.refusal.Refusal.TheVariants.{At, NoMemory, Stopped, BadLine, WrongJob, Failed}
+use Rattle.raysim_streams.specs.declared.refusal.CommandRefusal.{CommandRefusal}
+use Rattle.raysim_streams.specs.declared.refusal.CommandRefusal.TheVariants.{At, NoMemory, Stopped, BadLine, WrongJob, Failed}
 
-abbrev pub refusal_number : Refusal → ℕ
+abbrev pub refusal_number : CommandRefusal → ℕ
 refusal_number (At code span) = code
 refusal_number NoMemory = 39
 refusal_number (Stopped code) = code
@@ -12,7 +12,7 @@ refusal_number (BadLine line) = 40
 refusal_number (WrongJob line) = 42
 refusal_number (Failed failure) = 50
 
-abbrev pub refusal_text : Refusal → List ℕ
+abbrev pub refusal_text : CommandRefusal → List ℕ
 refusal_text (At code span) = codes "refused " ++ (decimal code ++ (codes " at " ++ (decimal span.start ++ (codes ".." ++ decimal span.end))))
 refusal_text NoMemory = codes "refused 39"
 refusal_text (Stopped code) = codes "refused " ++ decimal code

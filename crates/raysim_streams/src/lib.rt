@@ -8,7 +8,7 @@ mod source;
 mod tracked;
 
 pub use failure::Failure;
-pub use refusal::Refusal;
+pub use refusal::CommandRefusal;
 pub use sink::{Sink, put_all};
 pub use source::{Source, read_at_most};
 pub use tracked::Tracked;

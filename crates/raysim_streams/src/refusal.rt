@@ -1,7 +1,7 @@
 // What a command refuses.
 
 ghost use Rattle.std.specs.Prelude.{◌≡◌};
-ghost use Rattle.raysim_streams.specs.declared.refusal.Refusal.TheVariants.{NoMemory, Failed};
+ghost use Rattle.raysim_streams.specs.declared.refusal.CommandRefusal.TheVariants.{NoMemory, Failed};
 ghost use Rattle.raysim_streams.specs.Refusals.{refusal_number};
 
 use crate::failure::Failure;
@@ -13,7 +13,7 @@ use thiserror::Error;
 /// Why a command gives no report. Its text is the line that goes to standard error. `Display` is written by hand, with the text as its clause,
 /// and so is `From`, since the causes that clauses tell apart have to pass through `?`.
 #[derive(Clone, Copy, Debug, PartialEq, Eq, Drop, Error)]
-pub enum Refusal {
+pub enum CommandRefusal {
     /// The script is refused with this number (1 to 4 and 10 to 17), at these bytes: `refused 3 at 28..29`.
     At { code: u16, span: Span },
     /// Want of memory: `refused 39`.
@@ -28,23 +28,23 @@ pub enum Refusal {
     Failed(Failure),
 }
 
-impl Refusal {
+impl CommandRefusal {
     /// The refusal's number, as its text tells it.
     pub fn number(self) -> u16
         ensures { result ≡ refusal_number self }
     {
         match self {
-            Refusal::At { code, span: _ } => code,
-            Refusal::NoMemory => 39,
-            Refusal::Stopped { code } => code,
-            Refusal::BadLine { line: _ } => 40,
-            Refusal::WrongJob { line: _ } => 42,
-            Refusal::Failed(_) => 50,
+            CommandRefusal::At { code, span: _ } => code,
+            CommandRefusal::NoMemory => 39,
+            CommandRefusal::Stopped { code } => code,
+            CommandRefusal::BadLine { line: _ } => 40,
+            CommandRefusal::WrongJob { line: _ } => 42,
+            CommandRefusal::Failed(_) => 50,
         }
     }
 }
 
-impl fmt::Display for Refusal {
+impl fmt::Display for CommandRefusal {
     ghost use Rattle.std.specs.Prelude.{Some};
     ghost use Rattle.raysim_streams.specs.Refusals.{refusal_text};
 
@@ -52,40 +52,40 @@ impl fmt::Display for Refusal {
 
     fn fmt<W: fmt::Write>(&self, f: &mut fmt::Formatter<W>) -> fmt::Result {
         match self {
-            Refusal::At { code, span } => {
+            CommandRefusal::At { code, span } => {
                 let start = span.start;
                 let end = span.end;
                 write!(f, "refused {code} at {start}..{end}")
             }
-            Refusal::NoMemory => write!(f, "refused 39"),
-            Refusal::Stopped { code } => write!(f, "refused {code}"),
-            Refusal::BadLine { line } => write!(f, "refused 40 line {line}"),
-            Refusal::WrongJob { line } => write!(f, "refused 42 line {line}"),
-            Refusal::Failed(_) => write!(f, "refused 50"),
+            CommandRefusal::NoMemory => write!(f, "refused 39"),
+            CommandRefusal::Stopped { code } => write!(f, "refused {code}"),
+            CommandRefusal::BadLine { line } => write!(f, "refused 40 line {line}"),
+            CommandRefusal::WrongJob { line } => write!(f, "refused 42 line {line}"),
+            CommandRefusal::Failed(_) => write!(f, "refused 50"),
         }
     }
 }
 
-impl From<AllocError> for Refusal {
+impl From<AllocError> for CommandRefusal {
     ghost from_gives = { λ _ e. e ≡ NoMemory };
 
-    fn from(_error: AllocError) -> Refusal {
-        Refusal::NoMemory
+    fn from(_error: AllocError) -> CommandRefusal {
+        CommandRefusal::NoMemory
     }
 }
 
-impl<T: Drop> From<AllocFailed<T>> for Refusal {
+impl<T: Drop> From<AllocFailed<T>> for CommandRefusal {
     ghost from_gives = { λ _ e. e ≡ NoMemory };
 
-    fn from(_error: AllocFailed<T>) -> Refusal {
-        Refusal::NoMemory
+    fn from(_error: AllocFailed<T>) -> CommandRefusal {
+        CommandRefusal::NoMemory
     }
 }
 
-impl From<Failure> for Refusal {
+impl From<Failure> for CommandRefusal {
     ghost from_gives = { λ failure e. e ≡ Failed failure };
 
-    fn from(failure: Failure) -> Refusal {
-        Refusal::Failed(failure)
+    fn from(failure: Failure) -> CommandRefusal {
+        CommandRefusal::Failed(failure)
     }
 }

@@ -4,10 +4,10 @@ ghost use Rattle.std.specs.Prelude.{◌≡◌, ◌≤◌, ◌⊎◌, ℕ, Bool, 
 ghost use Rattle.std.specs.Io.KnownBytes.{ReadConsumes};
 ghost use Rattle.std.specs.Io.{ReadsAtMost};
 ghost use Rattle.raysim_streams.specs.declared.failure.Failure.TheVariants as failures;
-ghost use Rattle.raysim_streams.specs.declared.refusal.Refusal.TheVariants as refusals;
+ghost use Rattle.raysim_streams.specs.declared.refusal.CommandRefusal.TheVariants as refusals;
 
 use crate::failure::Failure;
-use crate::refusal::Refusal;
+use crate::refusal::CommandRefusal;
 use std::alloc::Global;
 
 /// What bytes are read from.
@@ -30,7 +30,7 @@ pub fn read_at_most<R: Source>(
     alloc: Global,
     reader: &mut R,
     most: usize,
-) -> Result<Vec<u8>, Refusal>
+) -> Result<Vec<u8>, CommandRefusal>
     ensures ok { IfOk result (λ all. IfSome (R.left reader.old) (λ bytes. all.items ≡ take most bytes)) }
     ensures bound { IfOk result (λ all. vec_len all ≤ most) }
     ensures failed { IsErrOf result (refusals.Failed failures.Read) → R.has_failed reader.new ≡ true }

@@ -6,8 +6,8 @@ ghost use Rattle.protocol.specs.Refusals.{commit_refusal, is_of_job, is_out_by, 
 ghost use Rattle.protocol.specs.Whole.{worker_at};
 
 use crate::living::is_live_worker;
+use ids::WorkerId;
 use number_lists::item_at_number;
-use numbers::WorkerId;
 use protocol_data::{Handed, Phase, Run, Whole, Worker};
 
 /// The attempt's job that is out.

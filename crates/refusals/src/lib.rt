@@ -1,5 +1,5 @@
 //! Why an event is refused before it is tried: the first of its reasons, in their order.
-#![tactic(auto, unfolding(meaning::specs::Births::same_id, event_log::specs::Words::same_attempt))]
+#![tactic(auto, unfolding(meaning::specs::Births::same_id, ids::specs::Attempts::same_attempt))]
 
 mod jobs;
 mod living;

@@ -5,8 +5,8 @@ ghost use Rattle.protocol.specs.Events.{is_live_node, is_live_worker};
 ghost use Rattle.protocol.specs.Refusals.{has_slot, is_dead_node, is_dead_worker, is_ready, is_ready_run};
 ghost use Rattle.protocol.specs.Whole.{node_at, worker_at};
 
+use ids::{NodeId, WorkerId};
 use number_lists::{has_worker, item_at_number};
-use numbers::{NodeId, WorkerId};
 use protocol_data::{Phase, Run, Whole};
 
 /// Whether there is a live worker of that number.

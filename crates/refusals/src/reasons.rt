@@ -6,14 +6,14 @@ ghost use Rattle.protocol.specs.Events.{is_live_node};
 ghost use Rattle.protocol.specs.Numbered.{item_at};
 ghost use Rattle.protocol.specs.Stores.{evict_refusal, lose_refusal};
 ghost use Rattle.protocol.specs.Whole.{node_at, worker_at};
-ghost use Rattle.protocol_data.specs.Entries.{event_of};
 
 use crate::jobs::commit_refusal;
 use crate::living::{is_dead_node, is_dead_worker, is_live_node, is_live_worker, is_ready};
+use ids::{NodeId, ObjectId, WorkerId};
+use log_entries::Event;
 use number_lists::item_at_number;
-use numbers::{NodeId, ObjectId, WorkerId};
 use object_store::{may_evict, may_lose};
-use protocol_data::{Handed, Happening, Whole};
+use protocol_data::{Handed, Whole};
 
 /// There is no such live worker.
 fn no_worker(whole: &Whole, number: WorkerId) -> Option<u8>
@@ -113,20 +113,20 @@ fn kill_node_refusal(whole: &Whole, number: NodeId) -> Option<u8>
 /// The number of the first reason for which the event is refused before it is tried, with what is handed in: 20 the copy is pinned, 21 there is
 /// no copy, 30 no such live worker, 31 it isn't ready, 32 no such job, 33 the job's worker is dead, 34 no such message, 35 what the notice tells
 /// of isn't dead, 36 no such live node.
-pub fn refusal(whole: &Whole, event: &Happening, handed: &Handed) -> Option<u8>
-    ensures { result ≡ refusal whole.now (event_of event.now) handed.now }
+pub fn refusal(whole: &Whole, event: &Event, handed: &Handed) -> Option<u8>
+    ensures { result ≡ refusal whole.now event.now handed.now }
 {
     match event {
-        Happening::Claim(worker) => claim_refusal(whole, *worker),
-        Happening::Commit(job) => commit_refusal(whole, *job, handed),
-        Happening::Deliver(message) => deliver_refusal(whole, *message),
-        Happening::Tick(worker) => no_worker(whole, *worker),
-        Happening::Notice(worker, dead) => notice_refusal(whole, *worker, *dead),
-        Happening::NoticeNode(worker, dead) => notice_node_refusal(whole, *worker, *dead),
-        Happening::Evict(node, object) => evict_refusal(whole, *node, *object),
-        Happening::Lose(node, object) => lose_refusal(whole, *node, *object),
-        Happening::Kill(worker) => no_worker(whole, *worker),
-        Happening::KillNode(node) => kill_node_refusal(whole, *node),
-        Happening::Join => None,
+        Event::Claim(worker) => claim_refusal(whole, *worker),
+        Event::Commit(job) => commit_refusal(whole, *job, handed),
+        Event::Deliver(message) => deliver_refusal(whole, *message),
+        Event::Tick(worker) => no_worker(whole, *worker),
+        Event::Notice { worker, dead } => notice_refusal(whole, *worker, *dead),
+        Event::NoticeNode { worker, dead } => notice_node_refusal(whole, *worker, *dead),
+        Event::Evict { node, object } => evict_refusal(whole, *node, *object),
+        Event::Lose { node, object } => lose_refusal(whole, *node, *object),
+        Event::Kill(worker) => no_worker(whole, *worker),
+        Event::KillNode(node) => kill_node_refusal(whole, *node),
+        Event::Join => None,
     }
 }

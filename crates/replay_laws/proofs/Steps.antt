@@ -8,9 +8,9 @@ use Rattle.segment.specs.Jobs.{JobData}
 use Rattle.event_log.specs.Entries.{Claim, Commit, Entry, Event, In, Refused}
 use Rattle.event_log.specs.Events.{claim_in}
 use Rattle.event_log.specs.Rules.{Setting}
-use Rattle.event_log.specs.Views.{code_of}
-use Rattle.event_log.specs.declared.refusal.Refusal.{Refusal}
-use Rattle.event_log.specs.declared.refusal.Refusal.TheVariants as refusals
+use Rattle.log_entries.specs.Refusals.{code_of}
+use Rattle.log_entries.specs.declared.refusal.Refusal.{Refusal}
+use Rattle.log_entries.specs.declared.refusal.Refusal.TheVariants as refusals
 use Rattle.exchange.specs.Jobs.{job_in}
 use Rattle.numbered.proofs.Lists.{changed-length, item_within}
 use Rattle.protocol.specs.Answers.{Answer, Refuses, Step, Takes, answer, decided, given_out, logged, takes, whole_after}

@@ -1,7 +1,7 @@
 // Values, written.
 
 ghost use Rattle.std.specs.Prelude.{◌≡◌, ◌++◌, OnOk, string_bytes};
-ghost use Rattle.values.specs.Values.{id_of, value_of};
+ghost use Rattle.values.specs.Values.{value_of};
 ghost use Rattle.report.specs.Values.{id_text, separator, value_text};
 
 use ids::ObjectId;
@@ -10,7 +10,7 @@ use std::alloc::AllocError;
 use values::RunValue;
 
 fn write_object(text: &mut String, object: ObjectId) -> Result<(), AllocError>
-    ensures { OnOk result (string_bytes text.new ≡ string_bytes text.old ++ id_text (id_of object)) }
+    ensures { OnOk result (string_bytes text.new ≡ string_bytes text.old ++ id_text object) }
 {
     text.push('o')?;
     text.push_str(Buffer::new().format(object.owner.0))?;

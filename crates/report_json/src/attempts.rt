@@ -5,7 +5,7 @@ ghost use Rattle.serde_json.specs.Data.{array};
 ghost use Rattle.serde_json.specs.View.{view, items_of};
 ghost use Rattle.std.specs.List.{flat_map};
 ghost use Rattle.event_log.specs.Entries as logged;
-ghost use Rattle.event_log.specs.Views.{attempt_of, entry_of, log_of};
+ghost use Rattle.event_log.specs.Views.{entry_of, log_of};
 ghost use Rattle.history.specs.Attempts.{AreStatesOf};
 ghost use Rattle.history.specs.Texts.{attempt_text};
 ghost use Rattle.report_json.specs.Attempts.{attempt_data, attempt_in};
@@ -19,7 +19,7 @@ use serde_json::{Value, json};
 use std::alloc::{AllocError, Global};
 
 fn attempt_name(alloc: Global, attempt: AttemptId) -> Result<String, AllocError>
-    ensures { IfOk result (λ s. string_bytes s ≡ attempt_text (attempt_of attempt)) }
+    ensures { IfOk result (λ s. string_bytes s ≡ attempt_text attempt) }
 {
     format!(in alloc; "{attempt}")
 }
@@ -30,7 +30,7 @@ fn attempt_json(
     attempt: AttemptId,
     worker: WorkerId,
 ) -> Result<Value, AllocError>
-    ensures { (log : List logged.Entry) → AreStatesOf states.now log → IfOk result (λ v. view v ≡ attempt_data log (attempt_of attempt) worker.0) }
+    ensures { (log : List logged.Entry) → AreStatesOf states.now log → IfOk result (λ v. view v ≡ attempt_data log attempt worker) }
 {
     let text = attempt_name(alloc, attempt)?;
     let state = states.name(attempt);

@@ -4,8 +4,7 @@ ghost use Rattle.std.specs.Prelude.{◌≡◌, ◌++◌, IfOk, OnOk, map};
 ghost use Rattle.serde_json.specs.Data.{array};
 ghost use Rattle.serde_json.specs.View.{view, items_of};
 ghost use Rattle.std.specs.List.{flat_map};
-ghost use Rattle.values.specs.Values.{id_of};
-ghost use Rattle.event_log.specs.Views.{entry_of, fault_of, log_of};
+ghost use Rattle.event_log.specs.Views.{entry_of, log_of};
 ghost use Rattle.report_json.specs.Objects.{print_in, release_in, resolve_data, resolve_in};
 
 use crate::value::{array_of, id_json, value_json};
@@ -59,7 +58,7 @@ pub fn releases_json(alloc: Global, log: &[Entry]) -> Result<Value, AllocError>
 }
 
 fn resolve_json(alloc: Global, object: ObjectId, fault: Fault) -> Result<Value, AllocError>
-    ensures { IfOk result (λ v. view v ≡ resolve_data (id_of object) (fault_of fault)) }
+    ensures { IfOk result (λ v. view v ≡ resolve_data object fault) }
 {
     let kind = kind_name(fault.kind);
     let named = id_json(alloc, fault.object)?;

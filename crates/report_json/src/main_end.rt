@@ -2,9 +2,8 @@
 
 ghost use Rattle.std.specs.Prelude.{◌≡◌, IfOk};
 ghost use Rattle.serde_json.specs.View.{view};
-ghost use Rattle.std.specs.Option.{option_map};
 ghost use Rattle.values.specs.Values.{content_of};
-ghost use Rattle.event_log.specs.Views.{fault_of, log_of};
+ghost use Rattle.event_log.specs.Views.{log_of};
 ghost use Rattle.history.specs.Main.{main_end, main_fault};
 ghost use Rattle.report_json.specs.Main.{end_data, unended_data, main_data};
 
@@ -33,7 +32,7 @@ fn end_json(alloc: Global, end: &Content) -> Result<Value, AllocError>
 }
 
 fn unended_json(alloc: Global, fault: Option<Fault>) -> Result<Value, AllocError>
-    ensures { IfOk result (λ v. view v ≡ unended_data (option_map fault_of fault)) }
+    ensures { IfOk result (λ v. view v ≡ unended_data fault) }
 {
     let Some(fault) = fault else {
         return json!(in alloc; {"end": "open"});

@@ -3,25 +3,26 @@
 ghost use Rattle.std.specs.Prelude.{◌≡◌, ◌++◌, IfOk, OnOk, None, map, string_bytes};
 ghost use Rattle.serde_json.specs.Data.{array};
 ghost use Rattle.serde_json.specs.View.{view, items_of};
-ghost use Rattle.std.specs.Option.{option_map};
-ghost use Rattle.event_log.specs.Views.{code_of, entry_of, event_of, log_of};
+ghost use Rattle.log_entries.specs.Refusals.{code_of};
+ghost use Rattle.event_log.specs.Views.{entry_of, log_of};
 ghost use Rattle.history.specs.Texts.{event_text};
 ghost use Rattle.report_json.specs.Refusals.{refusal_data, refused_in, refused_data};
 
 use crate::value::array_of;
-use event_log::{Entry, Event, Refusal};
+use event_log::Entry;
 use history::last_event;
+use log_entries::{Event, Refusal};
 use serde_json::{Value, json};
 use std::alloc::{AllocError, Global};
 
-fn event_name(alloc: Global, event: Event) -> Result<String, AllocError>
-    ensures { IfOk result (λ s. string_bytes s ≡ event_text (event_of event)) }
+fn event_name(alloc: Global, event: &Event) -> Result<String, AllocError>
+    ensures { IfOk result (λ s. string_bytes s ≡ event_text event.now) }
 {
     format!(in alloc; "{event}")
 }
 
-fn refusal_json(alloc: Global, refusal: Refusal, last: Option<Event>) -> Result<Value, AllocError>
-    ensures { IfOk result (λ v. view v ≡ refusal_data (code_of refusal) (option_map event_of last)) }
+fn refusal_json(alloc: Global, refusal: Refusal, last: &Option<Event>) -> Result<Value, AllocError>
+    ensures { IfOk result (λ v. view v ≡ refusal_data (code_of refusal) last.now) }
 {
     let code = refusal.number();
     let Some(event) = last else {
@@ -35,10 +36,10 @@ fn refusal_json(alloc: Global, refusal: Refusal, last: Option<Event>) -> Result<
 fn add_refusal(
     alloc: Global,
     all: &mut Vec<Value>,
-    last: Option<Event>,
+    last: &Option<Event>,
     entry: &Entry,
 ) -> Result<(), AllocError>
-    ensures { OnOk result (map view all.new.items ≡ map view all.old.items ++ refused_in (option_map event_of last) (entry_of entry.now)) }
+    ensures { OnOk result (map view all.new.items ≡ map view all.old.items ++ refused_in last.now (entry_of entry.now)) }
 {
     let Entry::Refused(refusal) = entry else {
         return Ok(());
@@ -54,7 +55,7 @@ pub fn refusals_json(alloc: Global, log: &[Entry]) -> Result<Value, AllocError>
     let mut last = None;
     let mut all = Vec::new(alloc);
     for entry in log {
-        add_refusal(alloc, &mut all, last, entry)?;
+        add_refusal(alloc, &mut all, &last, entry)?;
         last = last_event(last, entry);
     }
     Ok(array_of(all))

@@ -3,7 +3,7 @@
 ghost use Rattle.std.specs.Prelude.{◌≡◌, IfOk};
 ghost use Rattle.serde_json.specs.Data.{array};
 ghost use Rattle.serde_json.specs.View.{view, items_view};
-ghost use Rattle.values.specs.Values.{id_of, value_of};
+ghost use Rattle.values.specs.Values.{value_of};
 ghost use Rattle.report_json.specs.Values.{id_data, value_data};
 
 use ids::ObjectId;
@@ -13,7 +13,7 @@ use values::RunValue;
 
 /// An object as a string, such as `"o1.2"`.
 pub fn id_json(alloc: Global, object: ObjectId) -> Result<Value, AllocError>
-    ensures { IfOk result (λ v. view v ≡ id_data (id_of object)) }
+    ensures { IfOk result (λ v. view v ≡ id_data object) }
 {
     let text = format!(in alloc; "{object}")?;
     Ok(Value::String(text))

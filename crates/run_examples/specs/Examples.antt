@@ -7,7 +7,7 @@ use Rattle.event_log.specs.Entries.{Entry, In, Refused, Tick}
 use Rattle.event_log.specs.Legal.{opening}
 use Rattle.protocol_core.specs.Clusters.{IsCluster, Size}
 use Rattle.protocol_core.specs.States.{RunState}
-use Rattle.protocol_board.specs.Meant.{IsSoundLog}
+use Rattle.protocol_board.specs.Cores.{IsSoundLog}
 use Rattle.seats.specs.Ends.{IsOverBeside, WasLimited}
 use Rattle.seats.specs.Seated.{AreFrom}
 

@@ -1,8 +1,8 @@
 // Files of events and plans.
 
 use event_files::{Line, parse_events, parse_plan, print_events};
-use event_log::Event;
 use ids::WorkerId;
+use log_entries::Event;
 use std::rt::HostRuntime;
 
 #[test]

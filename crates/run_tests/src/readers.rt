@@ -1,6 +1,6 @@
 // Readers that fail.
 
-use raysim_commands::{Cluster, Failure, Form, Refusal, Tracked, check, run, serial};
+use raysim_commands::{Cluster, CommandRefusal, Failure, Form, Tracked, check, run, serial};
 use std::io;
 use std::io::Read;
 use std::test::Fail;
@@ -21,15 +21,19 @@ fn a_failed_read_is_no_script(rt: HostRuntime) -> Result<(), Fail> {
     let mut out = Vec::new(alloc);
     let mut sink = Tracked::writer(&mut out);
     let mut input = Tracked::reader(Broken);
-    assert!(rt; check(alloc, &mut input, &mut sink) == Err(Refusal::Failed(Failure::Read)));
-    assert!(rt; serial(alloc, &mut input, &mut sink) == Err(Refusal::Failed(Failure::Read)));
+    assert!(rt; check(alloc, &mut input, &mut sink) == Err(CommandRefusal::Failed(Failure::Read)));
+    assert!(rt; serial(alloc, &mut input, &mut sink) == Err(CommandRefusal::Failed(Failure::Read)));
     let Some(cluster) = Cluster::new(1, 4) else {
         return Err("there is no such cluster".into());
     };
     let ran = run(alloc, &mut input, cluster, Form::Text, &mut sink);
-    assert!(rt; ran == Err(Refusal::Failed(Failure::Read)));
+    assert!(rt; ran == Err(CommandRefusal::Failed(Failure::Read)));
     assert!(rt; out.is_empty());
-    let texts = format!(in alloc; "{}, {}", Refusal::NoMemory, Refusal::Failed(Failure::Read))?;
+    let texts = format!(in alloc;
+        "{}, {}",
+        CommandRefusal::NoMemory,
+        CommandRefusal::Failed(Failure::Read)
+    )?;
     assert!(rt; texts.as_str() == "refused 39, refused 50");
     Ok(())
 }

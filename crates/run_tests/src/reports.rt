@@ -1,8 +1,9 @@
 // The report of a log in which a fault spreads, objects are released, and an event is refused.
 
-use event_log::{Entry, Event, Refusal};
+use event_log::Entry;
 use history::{report_text, status_of};
 use ids::{AttemptId, NodeId, ObjectId, WorkerId};
+use log_entries::{Event, Refusal};
 use std::alloc::{AllocError, Global};
 use std::rt::HostRuntime;
 use std::test::Fail;

@@ -9,8 +9,8 @@ ghost use Rattle.seats.specs.Counted.{IsFresh};
 
 use crate::scripts::script;
 use event_files::RunPlan;
-use event_log::Event;
 use ids::WorkerId;
+use log_entries::Event;
 use protocol_board::Board;
 use protocol_core::{Cluster, Core, Reply};
 use seat_books::{Blanks, Seat};

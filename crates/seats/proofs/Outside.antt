@@ -10,8 +10,8 @@ use Rattle.event_log.specs.Books.{totals_of}
 use Rattle.event_log.specs.Entries.{Entry, Event, Claim, Commit, Deliver, In, Refused}
 use Rattle.event_log.specs.Legal.{has_event, opening}
 use Rattle.event_log.specs.Words.{came_in, events}
-use Rattle.event_log.specs.declared.refusal.Refusal.{Refusal}
-use Rattle.event_log.specs.declared.refusal.Refusal.TheVariants as refusals
+use Rattle.log_entries.specs.declared.refusal.Refusal.{Refusal}
+use Rattle.log_entries.specs.declared.refusal.Refusal.TheVariants as refusals
 use Rattle.protocol.specs.Answers.{Answer, answer, decided, given_out, logged, takes}
 use Rattle.protocol.specs.Answers as answers
 use Rattle.protocol.specs.Events.{happens}

@@ -6,9 +6,9 @@ use Rattle.segment.specs.Jobs.{Done}
 use Rattle.event_files.specs.declared.plan.PlanLine.{PlanLine}
 use Rattle.event_log.specs.Books.{totals_of}
 use Rattle.event_log.specs.Entries.{Entry, Event, Claim, Commit, Deliver, In, Refused}
-use Rattle.event_log.specs.Views.{code_of, event_of}
-use Rattle.event_log.specs.declared.refusal.Refusal.{Refusal}
-use Rattle.event_log.specs.declared.refusal.Refusal.TheVariants as refusals
+use Rattle.log_entries.specs.Refusals.{code_of}
+use Rattle.log_entries.specs.declared.refusal.Refusal.{Refusal}
+use Rattle.log_entries.specs.declared.refusal.Refusal.TheVariants as refusals
 use Rattle.protocol.specs.Answers.{Answer, answer, logged}
 use Rattle.protocol.specs.Answers as answers
 use Rattle.protocol.specs.Jobs.{Job}
@@ -27,7 +27,7 @@ planned_event other (Plans e) = e
 planned_event other _ = other
 
 abbrev IsLine : Option PlanLine → Event → Type 0
-IsLine o e = (line : PlanLine) × (o ≡ Some line) × (event_of line.event ≡ e)
+IsLine o e = (line : PlanLine) × (o ≡ Some line) × (line.event ≡ e)
 
 line_or : (o : Option PlanLine) (other : Choice) (e : Event) → or_plan o other ≡ Plans e → IsLine o e ⊎ (other ≡ Plans e)
 line_or None other e h = inr h
@@ -91,10 +91,10 @@ some_line : (x line : PlanLine) → ◌≡◌ {A = Option PlanLine} (Some x) (So
 some_line x line h = cc
 
 one_more : (plan : List PlanLine) (k : ℕ) (line : PlanLine) → slice_get plan k ≡ Some line →
-    first_events (suc k) plan ≡ first_events k plan ++ event_of line.event ∷ []
+    first_events (suc k) plan ≡ first_events k plan ++ line.event ∷ []
 one_more [] k line h = absurd cc
-one_more (x ∷ plan) zero line h = ap (λ (l : PlanLine). event_of l.event ∷ []) (some_line x line h)
-one_more (x ∷ plan) (suc k) line h = ap (λ es. event_of x.event ∷ es) (one_more plan k line h)
+one_more (x ∷ plan) zero line h = ap (λ (l : PlanLine). l.event ∷ []) (some_line x line h)
+one_more (x ∷ plan) (suc k) line h = ap (λ es. x.event ∷ es) (one_more plan k line h)
 
 pub past_events : (plan : List PlanLine) (k : ℕ) (e : Event) → IsLine (slice_get plan k) e → first_events (past_line plan k) plan ≡ first_events k plan ++ e ∷ []
 past_events plan k e (line, found, same) =

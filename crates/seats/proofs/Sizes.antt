@@ -19,8 +19,8 @@ use Rattle.protocol.specs.Events.{committed_by, with_committed, delivered_by, de
 use Rattle.protocol.specs.Refusals.{is_within_limits, refusal}
 use Rattle.protocol.specs.Answers.{decided, given_out, whole_after, takes}
 use Rattle.protocol.specs.Answers as answers
-use Rattle.event_log.specs.declared.refusal.Refusal.{Refusal}
-use Rattle.event_log.specs.declared.refusal.Refusal.TheVariants as refusals
+use Rattle.log_entries.specs.declared.refusal.Refusal.{Refusal}
+use Rattle.log_entries.specs.declared.refusal.Refusal.TheVariants as refusals
 use Rattle.protocol_board.specs.Cores.{RunState, Reply, Refuses, Answers, Follows}
 use Rattle.seats.specs.Ends.{GoesOn}
 use Rattle.seats.specs.Turns.{KeepsOut, given_up_by, or_first}

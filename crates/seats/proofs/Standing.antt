@@ -3,9 +3,9 @@ use Rattle.std.proofs.Common.{◌≡◌, ℕ, suc, true, false, Bool, List, [], 
 use Rattle.std.proofs.lemmas.List.{append_assoc}
 use Rattle.segment.specs.Jobs.{Done}
 use Rattle.event_log.specs.Entries.{Entry, Event, In, Refused}
-use Rattle.event_log.specs.Views.{code_of}
-use Rattle.event_log.specs.declared.refusal.Refusal.{Refusal}
-use Rattle.event_log.specs.declared.refusal.Refusal.TheVariants as refusals
+use Rattle.log_entries.specs.Refusals.{code_of}
+use Rattle.log_entries.specs.declared.refusal.Refusal.{Refusal}
+use Rattle.log_entries.specs.declared.refusal.Refusal.TheVariants as refusals
 use Rattle.protocol.specs.Jobs.{Job}
 use Rattle.protocol.specs.Answers.{Answer, answer, logged}
 use Rattle.protocol.specs.Answers as answers

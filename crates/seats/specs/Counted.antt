@@ -3,7 +3,7 @@ use Rattle.std.specs.Prelude.{◌≡◌, ℕ, List, [], nat_lt, false, if◌then
 use Rattle.event_log.specs.Entries.{Commit, Entry, Event}
 use Rattle.event_log.specs.Events.{claims}
 use Rattle.event_log.specs.Legal.{opening}
-use Rattle.event_log.specs.Views.{code_of}
+use Rattle.log_entries.specs.Refusals.{code_of}
 use Rattle.event_log.specs.Books.{Totals}
 use Rattle.event_log.specs.Laws.{nothing, plus}
 use Rattle.books.specs.SeatTotals.{seat_totals}

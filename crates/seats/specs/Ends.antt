@@ -4,9 +4,9 @@ use Rattle.event_files.specs.declared.plan.PlanLine.{PlanLine}
 use Rattle.event_log.specs.Books.{totals_of}
 use Rattle.event_log.specs.Breaks.{Among}
 use Rattle.event_log.specs.Entries.{Entry, Event, In, Refused}
-use Rattle.event_log.specs.Views.{event_of, log_of}
-use Rattle.event_log.specs.declared.refusal.Refusal.{Refusal}
-use Rattle.event_log.specs.declared.refusal.Refusal.TheVariants as refusals
+use Rattle.event_log.specs.Views.{log_of}
+use Rattle.log_entries.specs.declared.refusal.Refusal.{Refusal}
+use Rattle.log_entries.specs.declared.refusal.Refusal.TheVariants as refusals
 use Rattle.protocol.specs.Settling.{next}
 use Rattle.meaning.specs.Syntax.{Script}
 use Rattle.protocol_board.specs.Cores.{RunState, Size, first_state, state_of}
@@ -33,7 +33,7 @@ AreIn (e ∷ es) log = (before : List Entry) × (seat : ℕ) × (after : List En
 
 -- the events of a plan's lines
 abbrev pub events_of : List PlanLine → List Event
-events_of lines = map (λ l. event_of l.event) lines
+events_of lines = map (λ l. l.event) lines
 
 -- the cluster on which a run began
 abbrev pub size_of : RunState → Size

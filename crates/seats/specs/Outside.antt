@@ -3,7 +3,7 @@ use Rattle.std.specs.Prelude.{◌≡◌, ◌⊎◌, ℕ, Bool, true, false, List
 use Rattle.std.specs.List.{filter}
 use Rattle.event_log.specs.Entries.{Entry, Event, Claim, Commit, Deliver}
 use Rattle.event_log.specs.Words.{events}
-use Rattle.event_log.specs.declared.refusal.Refusal.{Refusal}
+use Rattle.log_entries.specs.declared.refusal.Refusal.{Refusal}
 use Rattle.seats.specs.Turns.{Plans, TurnState, choice, past_line}
 
 -- claims, commits and deliveries are the run's own

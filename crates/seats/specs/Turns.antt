@@ -5,9 +5,9 @@ use Rattle.std.specs.List.{filter}
 use Rattle.event_log.specs.Entries.{Event, Claim, Commit, Deliver}
 use Rattle.event_log.specs.Books.{Totals, totals_of}
 use Rattle.event_log.specs.Laws.{nothing}
-use Rattle.event_log.specs.Views.{code_of, event_of}
-use Rattle.event_log.specs.declared.refusal.Refusal.{Refusal}
-use Rattle.event_log.specs.declared.refusal.Refusal.TheVariants as refusals
+use Rattle.log_entries.specs.Refusals.{code_of}
+use Rattle.log_entries.specs.declared.refusal.Refusal.{Refusal}
+use Rattle.log_entries.specs.declared.refusal.Refusal.TheVariants as refusals
 use Rattle.event_files.specs.declared.plan.PlanLine.{PlanLine}
 use Rattle.protocol.specs.Settling.{next}
 use Rattle.segment.specs.Jobs.{JobData}
@@ -42,7 +42,7 @@ or_message _ other = other
 
 abbrev pub or_plan : Option PlanLine → Choice → Choice
 or_plan None other = other
-or_plan (Some line) other = Plans (event_of line.event)
+or_plan (Some line) other = Plans line.event
 
 abbrev pub or_claim : Option Event → Choice → Choice
 or_claim (Some (Claim w)) other = Does (Claim w)

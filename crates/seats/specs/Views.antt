@@ -1,8 +1,7 @@
 -- What the code's turns stand for.
 use Rattle.std.specs.Prelude.{ℕ, List, Option}
 use Rattle.event_files.specs.declared.plan.PlanLine.{PlanLine}
-use Rattle.event_log.specs.Views.{event_of}
-use Rattle.event_log.specs.declared.refusal.Refusal.{Refusal}
+use Rattle.log_entries.specs.declared.refusal.Refusal.{Refusal}
 use Rattle.protocol_board.specs.Cores.{RunData, state_of}
 use Rattle.seats.specs.Turns.{Choice, Does, Plans, Waits, Ends, Told, GaveJob, Did, WasRefused, MustWait, IsOver, TurnState}
 use Rattle.seats.specs.declared.choice.Choice as coded
@@ -23,8 +22,8 @@ abbrev pub turn_of : TurnData → TurnState
 turn_of t = record { run = state_of t.run; plan = t.plan; taken = t.taken; out = t.out; given_up = t.given_up }
 
 abbrev pub choice_of : coded.Choice → Choice
-choice_of (choices.Does e) = Does (event_of e)
-choice_of (choices.Plans e) = Plans (event_of e)
+choice_of (choices.Does e) = Does e
+choice_of (choices.Plans e) = Plans e
 choice_of choices.Waits = Waits
 choice_of choices.Ends = Ends
 

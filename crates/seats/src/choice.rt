@@ -1,13 +1,11 @@
 // What a turn is to do.
 
 ghost use Rattle.std.specs.Prelude.{◌≡◌};
-ghost use Rattle.std.specs.Option.{option_map};
-ghost use Rattle.event_log.specs.Views.{event_of};
 ghost use Rattle.seats.specs.Turns.{Ends, due, or_claim, or_plan, or_wait};
 ghost use Rattle.seats.specs.Views.{choice_of};
 
 use event_files::PlanLine;
-use event_log::Event;
+use log_entries::Event;
 
 /// What a turn is to do.
 #[derive(Clone, Copy, PartialEq, Eq, Debug)]
@@ -47,7 +45,7 @@ fn last(line: Option<PlanLine>) -> Choice
 
 /// A wait for a job that is out, if that is what comes next; else what is left of the plan.
 fn behind_claims(first: Option<Event>, line: Option<PlanLine>) -> Choice
-    ensures { choice_of result ≡ or_wait (option_map event_of first) (or_plan line Ends) }
+    ensures { choice_of result ≡ or_wait first (or_plan line Ends) }
 {
     match first {
         Some(Event::Commit(_)) => Choice::Waits,
@@ -57,10 +55,10 @@ fn behind_claims(first: Option<Event>, line: Option<PlanLine>) -> Choice
 
 /// What is chosen behind messages and the lines that are due.
 pub fn behind_plan(claim: Option<Event>, first: Option<Event>, line: Option<PlanLine>) -> Choice
-    ensures { choice_of result ≡ or_claim (option_map event_of claim) (or_wait (option_map event_of first) (or_plan line Ends)) }
+    ensures { choice_of result ≡ or_claim claim (or_wait first (or_plan line Ends)) }
 {
-    match claim {
-        Some(Event::Claim(worker)) => Choice::Does(Event::Claim(worker)),
+    match &claim {
+        Some(Event::Claim(worker)) => Choice::Does(Event::Claim(*worker)),
         _ => behind_claims(first, line),
     }
 }

@@ -2,12 +2,11 @@
 
 ghost use Rattle.std.specs.Prelude.{◌≡◌, ◌==◌, not, IfOk, OnOk, OnErr};
 ghost use Rattle.std.specs.List.{filter};
-ghost use Rattle.event_log.specs.Views.{event_of};
 ghost use Rattle.protocol_board.specs.Cores.{reply_of};
 ghost use Rattle.seats.specs.Turns.{KeepsOut, busy, given_up_by, or_first, out_behind};
 
-use event_log::{Event, Refusal};
-use numbers::WorkerId;
+use ids::WorkerId;
+use log_entries::{Event, Refusal};
 use protocol_board::Reply;
 use segment::ScriptName;
 use sequence::Seq;
@@ -40,19 +39,19 @@ pub fn busy(alloc: Global, out: &Seq<JobOut>) -> Result<Seq<WorkerId>, AllocErro
 /// Keeps the jobs that are out, behind an event with its answer.
 fn keep<S: ScriptName>(
     out: &mut Seq<JobOut>,
-    event: Event,
+    event: &Event,
     told: &Reply<S>,
 ) -> Result<(), AllocError>
-    ensures ok { OnOk result (out.new ≡ out_behind (event_of event) (reply_of told.now) out.old) }
+    ensures ok { OnOk result (out.new ≡ out_behind event.now (reply_of told.now) out.old) }
     ensures err { OnErr result (out.new ≡ out.old) }
 {
     match (event, told) {
         (Event::Claim(worker), Reply::Job(job)) => out.push(JobOut {
             job: job.number(),
-            worker: WorkerId(worker.0),
+            worker: *worker,
         }),
         (Event::Commit(job), Reply::Ok) => {
-            take_out(out, job);
+            take_out(out, *job);
             Ok(())
         }
         _ => Ok(()),
@@ -87,10 +86,10 @@ fn given_up_by<S: ScriptName>(told: &Reply<S>, given_up: Option<Refusal>) -> Opt
 pub fn keep_or_give_up<S: ScriptName>(
     out: &mut Seq<JobOut>,
     given_up: &mut Option<Refusal>,
-    event: Event,
+    event: &Event,
     told: &Reply<S>,
 )
-    ensures { KeepsOut (event_of event) (reply_of told.now) out.old given_up.old out.new given_up.new }
+    ensures { KeepsOut event.now (reply_of told.now) out.old given_up.old out.new given_up.new }
 {
     *given_up = given_up_by(told, *given_up);
     if keep(out, event, told).is_err() {

@@ -5,7 +5,7 @@ ghost use Rattle.books.specs.SeatTotals.{seat_totals};
 ghost use Rattle.event_log.specs.Books.{totals_of};
 ghost use Rattle.event_log.specs.Entries.{Claim, Commit};
 ghost use Rattle.event_log.specs.Laws.{nothing};
-ghost use Rattle.event_log.specs.Views.{event_of, log_of};
+ghost use Rattle.event_log.specs.Views.{log_of};
 ghost use Rattle.protocol_board.specs.Cores.{reply_of, state_of};
 ghost use Rattle.seat_books.specs.Holdings.{SameParts};
 ghost use Rattle.seat_books.specs.Seats.{AreParts, book_of, new_seats, sums, with_more};
@@ -22,8 +22,8 @@ use crate::tally::{tally_of, turn_tally};
 use crate::turn::Turn;
 use crate::turning::Turning;
 use event_files::RunPlan;
-use event_log::Event;
 use ids::WorkerId;
+use log_entries::Event;
 use protocol_board::{Board, Reply};
 use seat_books::{Blanks, Ledgers, Seat};
 use segment::{Done, ScriptName};
@@ -112,12 +112,12 @@ impl<
         event: Event,
         done: Option<Done<S>>,
     ) -> Reply<S>
-        requires { MayApply P.is_open (event_of event) }
-        ensures { seat.new ≡ with_more (counted (event_of event) (reply_of result)) seat.old }
+        requires { MayApply P.is_open event }
+        ensures { seat.new ≡ with_more (counted event (reply_of result)) seat.old }
     {
         let Locked { turning, ledgers } = self;
         let told = turning.apply(alloc, event, seat.number(), done);
-        let more = tally_of(event, &told);
+        let more = tally_of(&event, &told);
         ledgers.count(seat, more);
         told
     }
@@ -286,8 +286,8 @@ impl<
         seat: &mut Seat<P, E, G, C, J, V, H, D, M>,
         event: Event,
     ) -> Reply<S>
-        requires { MayApply P.is_open (event_of event) }
-        ensures { seat.new ≡ with_more (counted (event_of event) (reply_of result)) seat.old }
+        requires { MayApply P.is_open event }
+        ensures { seat.new ≡ with_more (counted event (reply_of result)) seat.old }
     {
         self.locked.lock(rt).apply(alloc, seat, event, None)
     }
@@ -317,7 +317,7 @@ impl<
         seat: &mut Seat<P, E, G, C, J, V, H, D, M>,
         worker: WorkerId,
     ) -> Reply<S>
-        ensures { seat.new ≡ with_more (counted (Claim worker.0) (reply_of result)) seat.old }
+        ensures { seat.new ≡ with_more (counted (Claim worker) (reply_of result)) seat.old }
     {
         self.step(rt, alloc, seat, Event::Claim(worker))
     }

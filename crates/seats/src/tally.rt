@@ -1,7 +1,7 @@
 // What an event counts in a book.
 
 ghost use Rattle.std.specs.Prelude.{◌≡◌};
-ghost use Rattle.event_log.specs.Views.{code_of, event_of};
+ghost use Rattle.log_entries.specs.Refusals.{code_of};
 ghost use Rattle.protocol_board.specs.Cores.{reply_of};
 ghost use Rattle.seat_books.specs.Tallies.{totals_in};
 ghost use Rattle.seats.specs.Counted.{counted, refused_totals, taken_totals};
@@ -9,7 +9,7 @@ ghost use Rattle.seats.specs.Turns.{turn_counted};
 ghost use Rattle.seats.specs.Views.{told_of};
 
 use crate::turn::Turn;
-use event_log::{Event, Refusal};
+use log_entries::{Event, Refusal};
 use protocol_board::Reply;
 use seat_books::Tally;
 use segment::ScriptName;
@@ -47,23 +47,23 @@ fn of_refused(refusal: Refusal) -> Tally
     }
 }
 
-fn of_taken(event: Event) -> Tally
-    ensures { totals_in result ≡ taken_totals (event_of event) }
+fn of_taken(event: &Event) -> Tally
+    ensures { totals_in result ≡ taken_totals event.now }
 {
     match event {
         Event::Commit(job) => Tally {
             events: 1,
             given: 0,
             commits: 1,
-            committed: job,
+            committed: *job,
         },
         _ => one_event(0),
     }
 }
 
 /// What an event counts, by its answer.
-pub fn tally_of<S: ScriptName>(event: Event, told: &Reply<S>) -> Tally
-    ensures { totals_in result ≡ counted (event_of event) (reply_of told.now) }
+pub fn tally_of<S: ScriptName>(event: &Event, told: &Reply<S>) -> Tally
+    ensures { totals_in result ≡ counted event.now (reply_of told.now) }
 {
     match told {
         Reply::Job(job) => one_event(job.number()),

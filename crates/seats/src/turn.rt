@@ -1,6 +1,6 @@
 // What a turn comes to.
 
-use event_log::Refusal;
+use log_entries::Refusal;
 use segment::{Job, ScriptName};
 
 /// What a turn comes to.

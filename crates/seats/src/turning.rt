@@ -3,10 +3,10 @@
 ghost use Rattle.std.specs.Prelude.{◌≡◌, ◌+◌, ◌≤◌, ℕ, [], None, true, IfOk, IfSome, length, slice_get};
 ghost use Rattle.event_log.specs.Books.{totals_of};
 ghost use Rattle.event_log.specs.Laws.{nothing, plus};
-ghost use Rattle.event_log.specs.Views.{event_of, log_of};
-ghost use Rattle.event_log.specs.declared.refusal.Refusal.TheVariants.{NoMemory};
+ghost use Rattle.event_log.specs.Views.{log_of};
+ghost use Rattle.log_entries.specs.declared.refusal.Refusal.TheVariants.{NoMemory};
 ghost use Rattle.protocol_board.specs.Cores.{Answers, reply_of, state_of};
-ghost use Rattle.protocol_board.specs.Meant.{IsSoundLog};
+ghost use Rattle.protocol_board.specs.Cores.{IsSoundLog};
 ghost use Rattle.books.specs.SeatTotals.{seat_totals};
 ghost use Rattle.run_paths.specs.Paths.{IsTrueDone};
 ghost use Rattle.seats.specs.Counted.{AddsFrom, IsFresh, counted};
@@ -22,7 +22,8 @@ use crate::outs::{JobOut, busy, first_refusal, keep_or_give_up};
 use crate::run_name::RunName;
 use crate::turn::Turn;
 use event_files::{PlanLine, RunPlan};
-use event_log::{Entry, Event, Refusal};
+use event_log::Entry;
+use log_entries::{Event, Refusal};
 use protocol_board::{Board, Reply};
 use run_paths::law::{none_came, paths_go_on};
 use segment::{Done, ScriptName};
@@ -47,8 +48,10 @@ pub struct Turning<S: ScriptName, P: RunName> {
 impl<S: ScriptName, P: RunName> Model for Turning<S, P> {
     ghost use Rattle.std.specs.Prelude.{◌≡◌};
     ghost use Rattle.std.specs.Coded.{codes};
-    ghost use Rattle.held.specs.Codes.{value_code, outcome_code, birth_code, id_code};
-    ghost use Rattle.numbers.specs.Codes.{attempt_code, fault_code};
+    ghost use Rattle.ids.specs.Codes.{id_code};
+    ghost use Rattle.held.specs.Codes.{value_code, outcome_code, birth_code};
+    ghost use Rattle.ids.specs.Codes.{attempt_code};
+    ghost use Rattle.values.specs.FaultCodes.{fault_code};
     ghost use Rattle.values.specs.contracts.value.RunValue as run_values;
     ghost use Rattle.event_log.specs.Books.{totals_of};
     ghost use Rattle.event_log.specs.Views.{log_of};
@@ -73,9 +76,9 @@ impl<S: ScriptName, P: RunName> Model for Turning<S, P> {
 }
 
 /// How many commits were accepted, behind one event more; no more than the log has entries.
-fn commits_behind<S: ScriptName>(commits: u64, event: Event, told: &Reply<S>, most: usize) -> u64
-    requires { commits + (counted (event_of event) (reply_of told.now)).commits ≤ most }
-    ensures { result ≡ commits + (counted (event_of event) (reply_of told.now)).commits }
+fn commits_behind<S: ScriptName>(commits: u64, event: &Event, told: &Reply<S>, most: usize) -> u64
+    requires { commits + (counted event.now (reply_of told.now)).commits ≤ most }
+    ensures { result ≡ commits + (counted event.now (reply_of told.now)).commits }
 {
     match (event, told) {
         (Event::Commit(_), Reply::Ok) => commits + 1,
@@ -132,19 +135,19 @@ impl<S: ScriptName, P: RunName> Turning<S, P> {
         done: Option<Done<S>>,
         taken: usize,
     ) -> Reply<S>
-        requires { Passes P.is_open (turn_of self.old) (event_of event) taken }
-        ensures answers { Answers (state_of self.old.run) (event_of event) seat done (state_of self.new.run) (reply_of result) }
-        ensures counted { totals_of (log_of self.new.run.log) ≡ plus (totals_of (log_of self.old.run.log)) (counted (event_of event) (reply_of result)) }
-        ensures watched { AddsFrom P.watched seat (counted (event_of event) (reply_of result)) (log_of self.old.run.log) (log_of self.new.run.log) }
+        requires { Passes P.is_open (turn_of self.old) event taken }
+        ensures answers { Answers (state_of self.old.run) event seat done (state_of self.new.run) (reply_of result) }
+        ensures counted { totals_of (log_of self.new.run.log) ≡ plus (totals_of (log_of self.old.run.log)) (counted event (reply_of result)) }
+        ensures watched { AddsFrom P.watched seat (counted event (reply_of result)) (log_of self.old.run.log) (log_of self.new.run.log) }
         ensures seated { StaysFrom seat (log_of self.old.run.log) (log_of self.new.run.log) }
-        ensures follows { Follows (record (turn_of self.old) { taken = taken }) (event_of event) (reply_of result) (turn_of self.new) }
+        ensures follows { Follows (record (turn_of self.old) { taken = taken }) event (reply_of result) (turn_of self.new) }
     {
         paths_go_on();
         attest(&done);
         let told = self.board.apply(alloc, event, seat, done);
         let most = entries_of(&self.board);
-        self.commits = commits_behind(self.commits, event, &told, most);
-        keep_or_give_up(&mut self.out, &mut self.given_up, event, &told);
+        self.commits = commits_behind(self.commits, &event, &told, most);
+        keep_or_give_up(&mut self.out, &mut self.given_up, &event, &told);
         self.taken = taken;
         told
     }
@@ -158,12 +161,12 @@ impl<S: ScriptName, P: RunName> Turning<S, P> {
         seat: u8,
         done: Option<Done<S>>,
     ) -> Reply<S>
-        requires { MayApply P.is_open (event_of event) }
-        ensures answers { Answers (state_of self.old.run) (event_of event) seat done (state_of self.new.run) (reply_of result) }
-        ensures counted { totals_of (log_of self.new.run.log) ≡ plus (totals_of (log_of self.old.run.log)) (counted (event_of event) (reply_of result)) }
-        ensures watched { AddsFrom P.watched seat (counted (event_of event) (reply_of result)) (log_of self.old.run.log) (log_of self.new.run.log) }
+        requires { MayApply P.is_open event }
+        ensures answers { Answers (state_of self.old.run) event seat done (state_of self.new.run) (reply_of result) }
+        ensures counted { totals_of (log_of self.new.run.log) ≡ plus (totals_of (log_of self.old.run.log)) (counted event (reply_of result)) }
+        ensures watched { AddsFrom P.watched seat (counted event (reply_of result)) (log_of self.old.run.log) (log_of self.new.run.log) }
         ensures seated { StaysFrom seat (log_of self.old.run.log) (log_of self.new.run.log) }
-        ensures follows { Follows (turn_of self.old) (event_of event) (reply_of result) (turn_of self.new) }
+        ensures follows { Follows (turn_of self.old) event (reply_of result) (turn_of self.new) }
     {
         let taken = self.taken;
         self.apply_past(alloc, event, seat, done, taken)
@@ -215,8 +218,8 @@ impl<S: ScriptName, P: RunName> Turning<S, P> {
 
     /// The event of the run's own that was chosen.
     fn take(&mut self, alloc: Global, seat: u8, event: Event) -> Turn<S>
-        requires { MayApply P.is_open (event_of event) }
-        ensures takes { Takes (turn_of self.old) (event_of event) seat (turn_of self.new) (told_of result) }
+        requires { MayApply P.is_open event }
+        ensures takes { Takes (turn_of self.old) event seat (turn_of self.new) (told_of result) }
         ensures counted { totals_of (log_of self.new.run.log) ≡ plus (totals_of (log_of self.old.run.log)) (turn_counted (told_of result)) }
         ensures watched { AddsFrom P.watched seat (turn_counted (told_of result)) (log_of self.old.run.log) (log_of self.new.run.log) }
         ensures seated { StaysFrom seat (log_of self.old.run.log) (log_of self.new.run.log) }
@@ -230,9 +233,9 @@ impl<S: ScriptName, P: RunName> Turning<S, P> {
 
     /// The event of the plan's next line, which was chosen.
     fn take_line(&mut self, alloc: Global, seat: u8, event: Event) -> Turn<S>
-        requires chosen { choice (turn_of self.old) ≡ Plans (event_of event) }
+        requires chosen { choice (turn_of self.old) ≡ Plans event }
         requires goes_on { self.old.given_up ≡ None }
-        ensures takes { Takes (record (turn_of self.old) { taken = past_line self.old.plan self.old.taken }) (event_of event) seat
+        ensures takes { Takes (record (turn_of self.old) { taken = past_line self.old.plan self.old.taken }) event seat
             (turn_of self.new) (told_of result) }
         ensures counted { totals_of (log_of self.new.run.log) ≡ plus (totals_of (log_of self.old.run.log)) (turn_counted (told_of result)) }
         ensures watched { AddsFrom P.watched seat (turn_counted (told_of result)) (log_of self.old.run.log) (log_of self.new.run.log) }

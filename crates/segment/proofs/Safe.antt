@@ -5,7 +5,7 @@ use Rattle.meaning.specs.Syntax.{Script}
 use Rattle.meaning.specs.Runs.{Stop, Over}
 use Rattle.meaning.specs.Meaning.{run_birth, replay}
 use Rattle.meaning.specs.Kinds.{AreSafe, ScriptChecks, AnswersFit, StopIsSound}
-use Rattle.values.specs.Values.{content_of, id_of}
+use Rattle.values.specs.Values.{content_of}
 use Rattle.task_spec.specs.Births.{birth_of}
 use Rattle.segment.specs.Jobs.{JobData, IsTaskOf, IsBegun, replay_of}
 
@@ -19,4 +19,4 @@ task_never_broken safe script checks (meant.Task g args depth retries) base answ
     subst P e stop
 
 pub never_broken : AreSafe → (script : Script) → ScriptChecks script script → (j : JobData) → IsBegun script j → (replay_of script j).stop ≡ Over (meant.Trapped meant.Broken) → ⊥
-never_broken safe script checks j begun e = task_never_broken safe script checks (birth_of j.spec) (id_of j.base) (map content_of j.answers) begun.task begun.answers e
+never_broken safe script checks j begun e = task_never_broken safe script checks (birth_of j.spec) j.base (map content_of j.answers) begun.task begun.answers e

@@ -2,7 +2,7 @@
 use Rattle.std.specs.Prelude.{◌≡◌, List, ◌++◌, ◌∷◌, [], map}
 use Rattle.meaning.specs.Syntax.{Script}
 use Rattle.values.specs.declared.content.Content.{Content}
-use Rattle.values.specs.Values.{content_of, id_of}
+use Rattle.values.specs.Values.{content_of}
 use Rattle.task_spec.specs.Births.{birth_of}
 use Rattle.frames.specs.Frames.{IsWaiting}
 use Rattle.frames.specs.declared.frame.Frame.{Frame}
@@ -18,10 +18,10 @@ pub record Fits (script : Script) (j : JobData) (f : Frame) : Type 0 where
   pub earlier : List Content
   pub answer : Content
   pub answers : j.answers ≡ earlier ++ answer ∷ []
-  pub waits : IsWaiting script (birth_of j.spec) (id_of j.base) (past_of (before_of j earlier)) f
+  pub waits : IsWaiting script (birth_of j.spec) j.base (past_of (before_of j earlier)) f
 
 -- the task of the job that was run waits at the frame, behind all that was done and answered
 abbrev pub WaitsAfter : Script → Done → Frame → Type 0
 WaitsAfter script d f =
-    IsWaiting script (birth_of d.job.spec) (id_of d.job.base)
+    IsWaiting script (birth_of d.job.spec) d.job.base
     (record { answers = map content_of d.job.answers; births = (whole_of d).births; prints = (whole_of d).prints }) f

@@ -6,11 +6,11 @@ use Rattle.meaning.specs.Syntax.{Function, Script}
 use Rattle.meaning.specs.Runs.{Piece}
 use Rattle.meaning.specs.Meaning.{find, run_birth, replay}
 use Rattle.meaning.specs.Kinds.{MarkedOf, AnswersFit}
-use Rattle.ids.specs.declared.attempt.AttemptId.{AttemptId}
-use Rattle.ids.specs.declared.object.ObjectId.{ObjectId}
+use Rattle.ids.specs.Attempts.{Attempt}
+use Rattle.meaning.specs.Values.{Id}
 use Rattle.values.specs.declared.value.RunValue.{RunValue}
 use Rattle.values.specs.declared.content.Content.{Content}
-use Rattle.values.specs.Values.{value_of, content_of, id_of}
+use Rattle.values.specs.Values.{value_of, content_of}
 use Rattle.task_spec.specs.declared.birth.Birth.{Birth}
 use Rattle.task_spec.specs.Births.{birth_of}
 use Rattle.frame_laws.specs.Steps.{HasSteps}
@@ -20,9 +20,9 @@ use Rattle.evaluation.specs.Pieces.{stop_of}
 -- a job: its number, the attempt and its task, the id of its first birth, what it did so far, and its answers so far
 pub record JobData : Type 0 where
   pub number : ℕ
-  pub attempt : AttemptId
+  pub attempt : Attempt
   pub spec : Birth
-  pub base : ObjectId
+  pub base : Id
   pub births : List Birth
   pub printed : List RunValue
   pub answers : List Content
@@ -36,7 +36,7 @@ pub record Done : Type 0 where
 
 -- what the job's task does on the job's answers
 abbrev pub replay_of : Script → JobData → Piece
-replay_of script j = replay script (birth_of j.spec) (id_of j.base) (map content_of j.answers)
+replay_of script j = replay script (birth_of j.spec) j.base (map content_of j.answers)
 
 -- a piece without the births and prints that the job has already
 abbrev pub beyond : JobData → Piece → Piece
@@ -60,7 +60,7 @@ IsTaskOf script (meant.Task g args depth retries) = (f : Function) × (find scri
 pub record IsBegun (script : Script) (j : JobData) : Type 0 where
   pub task : IsTaskOf script (birth_of j.spec)
   -- the answers are of the kinds asked for
-  pub answers : AnswersFit (run_birth script (birth_of j.spec)) (id_of j.base) (map content_of j.answers)
+  pub answers : AnswersFit (run_birth script (birth_of j.spec)) j.base (map content_of j.answers)
   -- births and prints so far begin those that the task's replay has
   pub births : IsFirst (map birth_of j.births) (replay_of script j).births
   pub printed : IsFirst (map value_of j.printed) (replay_of script j).prints
@@ -71,4 +71,4 @@ IsTrueOf script d = replay_of script d.job ≡ whole_of d
 
 -- the job's task began so many steps from its last stop, which was at the get of the last of the job's answers, up to where it stops
 abbrev pub HasStepsOf : Script → JobData → ℕ → Type 0
-HasStepsOf script j steps = HasSteps script (birth_of j.spec) (id_of j.base) (map content_of j.answers) steps
+HasStepsOf script j steps = HasSteps script (birth_of j.spec) j.base (map content_of j.answers) steps

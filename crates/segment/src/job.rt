@@ -9,20 +9,14 @@ ghost use Rattle.segment.specs.Parts.{data_of};
 use crate::done::Done;
 use crate::parts::JobParts;
 use crate::script_name::ScriptName;
-use evaluation::{Compiled, Frame, PieceError};
+use evaluation::{Compiled, Frame, NoMemory, PieceError};
 use ids::{AttemptId, ObjectId};
 use script_laws::law::checked_scripts_are_safe;
 use std::alloc::Global;
 use std::marker::{Model, PhantomData};
 use task_spec::Birth;
-use thiserror::Error;
 use trail::Trail;
 use values::{Content, RunValue};
-
-/// Memory, or the numbers of objects, ran out.
-#[derive(Clone, Copy, PartialEq, Eq, Debug, Drop, Error)]
-#[error("refused 39: memory, or the numbers of objects, ran out")]
-pub struct NoMemory;
 
 /// An attempt of a task of the script `S`, to be run up to the next answer that it needs. Its births and prints so far
 /// begin what its task does on its answers so far, and arguments and answers are of the kinds that the script asks for. Its frame, if it

@@ -8,7 +8,7 @@ mod parts;
 mod script_name;
 
 pub use done::{Done, DoneParts};
-pub use evaluation::{Compiled, Frame, Stop};
-pub use job::{Job, NoMemory};
+pub use evaluation::{Compiled, Frame, NoMemory, Stop};
+pub use job::Job;
 pub use parts::JobParts;
 pub use script_name::ScriptName;

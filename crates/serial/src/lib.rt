@@ -3,4 +3,5 @@
 
 mod run;
 
-pub use run::{NoMemory, SerialRun, run_serial};
+pub use evaluation::{NoMemory, SerialRun};
+pub use run::run_serial;

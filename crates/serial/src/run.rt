@@ -7,23 +7,9 @@ ghost use Rattle.meaning.specs.Law.{prints_of};
 ghost use Rattle.script_check.specs.Trees.{script_of};
 ghost use Rattle.values.specs.Values.{content_of, value_of};
 
-use evaluation::{SerialError, run_serially};
+use evaluation::{NoMemory, SerialError, SerialRun, run_serially};
 use script_check::Checked;
 use std::alloc::Global;
-use thiserror::Error;
-use values::{Content, RunValue};
-
-/// Memory is not there.
-#[derive(Clone, Copy, PartialEq, Eq, Debug, Drop, Error)]
-#[error("refused 39: want of memory")]
-pub struct NoMemory;
-
-/// What main printed, and how it ended.
-#[derive(Drop)]
-pub struct SerialRun {
-    pub prints: Vec<RunValue>,
-    pub end: Content,
-}
 
 /// Runs main with every remote call made at once, as a plain call whose trap stays in the reference. Gives what main
 /// prints, in order, and its value or its trap.
@@ -34,10 +20,7 @@ pub fn run_serial(alloc: Global, script: &Checked) -> Result<SerialRun, NoMemory
     // Its clause says that the script is well typed.
     let _ = script.functions();
     match run_serially(alloc, script) {
-        Ok(run) => Ok(SerialRun {
-            prints: run.prints,
-            end: run.end,
-        }),
+        Ok(run) => Ok(run),
         Err(SerialError::NoMemory) => Err(NoMemory),
         // A checked script never meets an operand of the wrong kind, and prints and returns no reference.
         Err(SerialError::Broken) => unreachable!(),

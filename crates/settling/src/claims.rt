@@ -8,8 +8,8 @@ ghost use Rattle.protocol.specs.Whole.{node_at};
 ghost use Rattle.settling.specs.Turns.{is_next};
 
 use crate::commits::has_number;
+use ids::{NodeId, WorkerId};
 use number_lists::item_at_number;
-use numbers::{NodeId, WorkerId};
 use protocol_data::{Whole, Worker};
 use refusals::is_ready_run;
 use sequence::Seq;

@@ -5,7 +5,7 @@ ghost use Rattle.protocol.specs.Sets.{has};
 ghost use Rattle.protocol.specs.Refusals.{job_out};
 ghost use Rattle.protocol.specs.Settling.{first_job};
 
-use numbers::WorkerId;
+use ids::WorkerId;
 use protocol_data::Worker;
 use refusals::job_out;
 use sequence::Seq;

@@ -1,5 +1,5 @@
 //! Which event comes next where nothing else is asked for. It takes no memory and changes nothing.
-#![tactic(auto, unfolding(meaning::specs::Births::same_id, event_log::specs::Words::same_attempt))]
+#![tactic(auto, unfolding(meaning::specs::Births::same_id, ids::specs::Attempts::same_attempt))]
 
 mod claims;
 mod commits;

@@ -1,38 +1,37 @@
 // The next event.
 
 ghost use Rattle.std.specs.Prelude.{◌≡◌};
-ghost use Rattle.std.specs.Option.{option_map};
 ghost use Rattle.protocol.specs.Settling.{next};
-ghost use Rattle.protocol_data.specs.Entries.{event_of};
 ghost use Rattle.settling.specs.Turns.{next_from};
 
 use crate::claims::first_ready;
 use crate::commits::first_job;
 use crate::messages::first_undelivered;
-use numbers::WorkerId;
-use protocol_data::{Happening, Whole};
+use ids::WorkerId;
+use log_entries::Event;
+use protocol_data::Whole;
 use sequence::Seq;
 
 /// The next event: the least message from the place on that was never delivered is delivered; else the least live worker whose job is out
 /// commits it; else the least worker that is ready claims. The workers of the list are left out of the last two. No event: nothing is left to do.
-pub fn next_from(whole: &Whole, but: &Seq<WorkerId>, from: usize) -> Option<Happening>
-    ensures { option_map event_of result ≡ next_from from whole.now but.now }
+pub fn next_from(whole: &Whole, but: &Seq<WorkerId>, from: usize) -> Option<Event>
+    ensures { result ≡ next_from from whole.now but.now }
 {
     if let Some(message) = first_undelivered(&whole.delivered, from) {
-        return Some(Happening::Deliver(message));
+        return Some(Event::Deliver(message));
     }
     if let Some(job) = first_job(&whole.workers, but) {
-        return Some(Happening::Commit(job));
+        return Some(Event::Commit(job));
     }
     if let Some(worker) = first_ready(whole, but) {
-        return Some(Happening::Claim(worker));
+        return Some(Event::Claim(worker));
     }
     None
 }
 
 /// The next event, where the search for a message begins at the first.
-pub fn next(whole: &Whole, but: &Seq<WorkerId>) -> Option<Happening>
-    ensures { option_map event_of result ≡ next whole.now but.now }
+pub fn next(whole: &Whole, but: &Seq<WorkerId>) -> Option<Event>
+    ensures { result ≡ next whole.now but.now }
 {
     next_from(whole, but, 0)
 }

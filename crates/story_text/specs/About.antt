@@ -1,7 +1,6 @@
 -- What is said of an object.
 use Rattle.std.specs.Prelude.{ℕ, Bool, false, not, ◌&&◌, ◌||◌, ◌==◌, List, [], ◌∷◌}
 use Rattle.std.specs.List.{list_any}
-use Rattle.values.specs.Values.{id_of}
 use Rattle.meaning.specs.Values.{Id}
 use Rattle.meaning.specs.Births.{same_id}
 use Rattle.event_log.specs.Entries.{Event, Notice, NoticeNode, Evict, Lose, Kill, KillNode, Entry, In, Begun, Born, Got, Ended, Accepted, Faulted}
@@ -12,7 +11,7 @@ use Rattle.story_text.specs.Runners.{Subject}
 use Rattle.story_text.specs.declared.runners.Subject.{Subject as CodeSubject}
 
 abbrev pub seen_of : CodeSubject → Subject
-seen_of s = record { object = id_of s.object; workers = s.workers.items; nodes = s.nodes.items }
+seen_of s = record { object = s.object; workers = s.workers.items; nodes = s.nodes.items }
 
 -- the entry names the object, or an attempt of its task
 unfoldable pub is_about : Id → Entry → Bool

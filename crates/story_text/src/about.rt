@@ -1,32 +1,30 @@
 // What is said of an object.
 
 ghost use Rattle.std.specs.Prelude.{◌≡◌, IfOk};
-ghost use Rattle.values.specs.Values.{id_of};
-ghost use Rattle.event_log.specs.Views.{entry_of, event_of, log_of};
+ghost use Rattle.event_log.specs.Views.{entry_of, log_of};
 ghost use Rattle.story_text.specs.About.{befalls, is_about, is_ahead, is_event_shown, is_shown, seen_of};
 
-use crate::mentions::{is_in_birth, is_in_content, is_same};
+use crate::mentions::{is_in_birth, is_in_content};
 use crate::runners::{Subject, is_one};
-use event_log::{Entry, Event};
+use event_log::Entry;
 use ids::ObjectId;
+use log_entries::Event;
 use log_words::is_refusal_at;
 use std::alloc::{AllocError, Global};
 
 /// Whether the entry names the object, or an attempt of its task.
 #[tactic(auto, unfolding(crate::specs::About::is_about))]
 fn is_about(alloc: Global, object: ObjectId, entry: &Entry) -> Result<bool, AllocError>
-    ensures { IfOk result (λ b. b ≡ is_about (id_of object) (entry_of entry.now)) }
+    ensures { IfOk result (λ b. b ≡ is_about object (entry_of entry.now)) }
 {
     match entry {
-        Entry::Begun { attempt, .. } | Entry::Accepted(attempt) => {
-            Ok(is_same(attempt.object, object))
-        }
+        Entry::Begun { attempt, .. } | Entry::Accepted(attempt) => { Ok(attempt.object.is(object)) }
         Entry::Born {
             object: born,
             birth,
             ..
         } => {
-            if is_same(*born, object) {
+            if born.is(object) {
                 return Ok(true);
             }
             is_in_birth(alloc, object, birth)
@@ -36,16 +34,16 @@ fn is_about(alloc: Global, object: ObjectId, entry: &Entry) -> Result<bool, Allo
             object: got,
             content,
         } => {
-            if is_same(attempt.object, object) {
+            if attempt.object.is(object) {
                 return Ok(true);
             }
-            if is_same(*got, object) {
+            if got.is(object) {
                 return Ok(true);
             }
             is_in_content(alloc, object, content)
         }
         Entry::Ended { attempt, content } => {
-            if is_same(attempt.object, object) {
+            if attempt.object.is(object) {
                 return Ok(true);
             }
             is_in_content(alloc, object, content)
@@ -55,24 +53,24 @@ fn is_about(alloc: Global, object: ObjectId, entry: &Entry) -> Result<bool, Allo
             object: got,
             fault,
         } => {
-            if is_same(attempt.object, object) {
+            if attempt.object.is(object) {
                 return Ok(true);
             }
-            if is_same(*got, object) {
+            if got.is(object) {
                 return Ok(true);
             }
-            Ok(is_same(fault.object, object))
+            Ok(fault.object.is(object))
         }
         Entry::Resolved {
             object: resolved,
             fault,
         } => {
-            if is_same(*resolved, object) {
+            if resolved.is(object) {
                 return Ok(true);
             }
-            Ok(is_same(fault.object, object))
+            Ok(fault.object.is(object))
         }
-        Entry::Released(released) => Ok(is_same(*released, object)),
+        Entry::Released(released) => Ok(released.is(object)),
         _ => Ok(false),
     }
 }
@@ -80,23 +78,21 @@ fn is_about(alloc: Global, object: ObjectId, entry: &Entry) -> Result<bool, Allo
 /// Whether the event befalls the object, a worker that ran an attempt of its task, or the node of one.
 #[tactic(auto, unfolding(crate::specs::About::befalls))]
 fn befalls(subject: &Subject, event: &Event) -> bool
-    ensures { result ≡ befalls (seen_of subject.now) (event_of event.now) }
+    ensures { result ≡ befalls (seen_of subject.now) event.now }
 {
     match event {
         Event::Kill(worker) => is_one(&subject.workers, worker.0),
         Event::KillNode(node) => is_one(&subject.nodes, node.0),
         Event::Notice { dead, .. } => is_one(&subject.workers, dead.0),
         Event::NoticeNode { dead, .. } => is_one(&subject.nodes, dead.0),
-        Event::Evict { object, .. } | Event::Lose { object, .. } => {
-            is_same(*object, subject.object)
-        }
+        Event::Evict { object, .. } | Event::Lose { object, .. } => { object.is(subject.object) }
         _ => false,
     }
 }
 
 /// Whether something about the object came of the event to which these entries belong.
 fn is_ahead(alloc: Global, object: ObjectId, rest: &[Entry]) -> Result<bool, AllocError>
-    ensures { IfOk result (λ b. b ≡ is_ahead (id_of object) (log_of rest.now)) }
+    ensures { IfOk result (λ b. b ≡ is_ahead object (log_of rest.now)) }
 {
     for entry in rest {
         if let Entry::In { .. } = entry {
@@ -115,7 +111,7 @@ fn is_event_shown(
     event: &Event,
     rest: &[Entry],
 ) -> Result<bool, AllocError>
-    ensures { IfOk result (λ b. b ≡ is_event_shown (seen_of subject.now) (event_of event.now) (log_of rest.now)) }
+    ensures { IfOk result (λ b. b ≡ is_event_shown (seen_of subject.now) event.now (log_of rest.now)) }
 {
     if is_refusal_at(rest, 0) {
         return is_ahead(alloc, subject.object, rest);

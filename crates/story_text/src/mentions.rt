@@ -2,9 +2,8 @@
 
 ghost use Rattle.std.specs.Prelude.{◌≡◌, IfOk, map};
 ghost use Rattle.std.specs.List.{list_any};
-ghost use Rattle.values.specs.Values.{content_of, id_of};
+ghost use Rattle.values.specs.Values.{content_of};
 ghost use Rattle.task_spec.specs.Births.{argument_of, birth_of};
-ghost use Rattle.meaning.specs.Births.{same_id};
 ghost use Rattle.story_text.specs.Mentions.{is_among, is_in_argument, is_in_birth, is_in_content};
 
 use ids::ObjectId;
@@ -13,19 +12,11 @@ use std::alloc::{AllocError, Global};
 use task_spec::{Argument, Birth};
 use values::{Content, ids_in};
 
-/// Whether two names are of one object.
-#[tactic(auto, unfolding(meaning::specs::Births::same_id))]
-pub fn is_same(left: ObjectId, right: ObjectId) -> bool
-    ensures { result ≡ same_id (id_of left) (id_of right) }
-{
-    left.owner.0 == right.owner.0 && left.serial == right.serial
-}
-
 fn is_among(object: ObjectId, ids: &[ObjectId]) -> bool
-    ensures { result ≡ is_among (id_of object) (map id_of ids.now) }
+    ensures { result ≡ is_among object ids.now }
 {
     for id in ids {
-        if is_same(*id, object) {
+        if id.is(object) {
             return true;
         }
     }
@@ -33,7 +24,7 @@ fn is_among(object: ObjectId, ids: &[ObjectId]) -> bool
 }
 
 fn is_in_argument(alloc: Global, object: ObjectId, argument: &Argument) -> Result<bool, AllocError>
-    ensures { IfOk result (λ b. b ≡ is_in_argument (id_of object) (argument_of argument.now)) }
+    ensures { IfOk result (λ b. b ≡ is_in_argument object (argument_of argument.now)) }
 {
     let ids = ids_of(alloc, &argument.value)?;
     Ok(is_among(object, &ids))
@@ -44,7 +35,7 @@ fn is_in_arguments(
     object: ObjectId,
     arguments: &[Argument],
 ) -> Result<bool, AllocError>
-    ensures { IfOk result (λ b. b ≡ list_any (is_in_argument (id_of object)) (map argument_of arguments.now)) }
+    ensures { IfOk result (λ b. b ≡ list_any (is_in_argument object) (map argument_of arguments.now)) }
 {
     for argument in arguments {
         if is_in_argument(alloc, object, argument)? {
@@ -57,7 +48,7 @@ fn is_in_arguments(
 /// Whether the object stands in the put value, or in an argument of the call.
 #[tactic(auto, unfolding(crate::specs::Mentions::is_in_birth))]
 pub fn is_in_birth(alloc: Global, object: ObjectId, birth: &Birth) -> Result<bool, AllocError>
-    ensures { IfOk result (λ b. b ≡ is_in_birth (id_of object) (birth_of birth.now)) }
+    ensures { IfOk result (λ b. b ≡ is_in_birth object (birth_of birth.now)) }
 {
     match birth {
         Birth::Put(value) => {
@@ -71,7 +62,7 @@ pub fn is_in_birth(alloc: Global, object: ObjectId, birth: &Birth) -> Result<boo
 /// Whether the object stands in the content.
 #[tactic(auto, unfolding(crate::specs::Mentions::is_in_content))]
 pub fn is_in_content(alloc: Global, object: ObjectId, content: &Content) -> Result<bool, AllocError>
-    ensures { IfOk result (λ b. b ≡ is_in_content (id_of object) (content_of content.now)) }
+    ensures { IfOk result (λ b. b ≡ is_in_content object (content_of content.now)) }
 {
     let ids = ids_in(content, alloc)?;
     Ok(is_among(object, &ids))

@@ -2,14 +2,12 @@
 
 ghost use Rattle.std.specs.Prelude.{◌≡◌, ◌++◌, ◌==◌, IfOk, OnOk};
 ghost use Rattle.std.specs.List.{list_any};
-ghost use Rattle.values.specs.Values.{id_of};
 ghost use Rattle.event_log.specs.Events.{from_one};
 ghost use Rattle.event_log.specs.Words.{opened, opened_in, run_in, runs_of};
 ghost use Rattle.event_log.specs.Views.{entry_of, log_of};
 ghost use Rattle.story_text.specs.Runners.{nodes_in, one, subject_of};
 ghost use Rattle.story_text.specs.About.{seen_of};
 
-use crate::mentions::is_same;
 use event_log::Entry;
 use ids::ObjectId;
 use std::alloc::{AllocError, Global};
@@ -23,19 +21,19 @@ pub struct Subject {
 }
 
 fn add_run(workers: &mut Vec<u32>, object: ObjectId, entry: &Entry) -> Result<(), AllocError>
-    ensures { OnOk result (workers.new.items ≡ workers.old.items ++ run_in (id_of object) (entry_of entry.now)) }
+    ensures { OnOk result (workers.new.items ≡ workers.old.items ++ run_in object (entry_of entry.now)) }
 {
     let Entry::Begun { attempt, worker } = entry else {
         return Ok(());
     };
-    if is_same(attempt.object, object) {
+    if attempt.object.is(object) {
         return Ok(workers.push(worker.0)?);
     }
     Ok(())
 }
 
 fn workers_of(alloc: Global, object: ObjectId, log: &[Entry]) -> Result<Vec<u32>, AllocError>
-    ensures { IfOk result (λ workers. workers.items ≡ runs_of (id_of object) (log_of log.now)) }
+    ensures { IfOk result (λ workers. workers.items ≡ runs_of object (log_of log.now)) }
 {
     let mut workers = Vec::new(alloc);
     for entry in log {
@@ -53,8 +51,8 @@ fn add_opened(nodes: &mut Vec<u32>, entry: &Entry) -> Result<(), AllocError>
     }
 }
 
-/// The nodes of all workers, by their numbers.
-fn opened(alloc: Global, log: &[Entry]) -> Result<Vec<u32>, AllocError>
+/// The numbers of the nodes of all workers, by the workers' numbers.
+pub fn opened(alloc: Global, log: &[Entry]) -> Result<Vec<u32>, AllocError>
     ensures { IfOk result (λ nodes. nodes.items ≡ opened (log_of log.now)) }
 {
     let mut nodes = Vec::new(alloc);
@@ -64,7 +62,8 @@ fn opened(alloc: Global, log: &[Entry]) -> Result<Vec<u32>, AllocError>
     Ok(nodes)
 }
 
-fn node_of(nodes: &[u32], worker: u32) -> Option<u32>
+/// The node of the worker, where `nodes` are those of all workers.
+pub fn node_of(nodes: &[u32], worker: u32) -> Option<u32>
     ensures { result ≡ from_one nodes.now worker }
 {
     if worker == 0 {
@@ -99,7 +98,7 @@ fn nodes_in(alloc: Global, nodes: &[u32], workers: &[u32]) -> Result<Vec<u32>, A
 impl Subject {
     /// The object with what the log says of its attempts.
     pub fn of(alloc: Global, object: ObjectId, log: &[Entry]) -> Result<Subject, AllocError>
-        ensures { IfOk result (λ subject. seen_of subject ≡ subject_of (id_of object) (log_of log.now)) }
+        ensures { IfOk result (λ subject. seen_of subject ≡ subject_of object (log_of log.now)) }
     {
         let workers = workers_of(alloc, object, log)?;
         let opened = opened(alloc, log)?;

@@ -1,7 +1,6 @@
 // What a log says of one object.
 
 ghost use Rattle.std.specs.Prelude.{◌≡◌, ◌+◌, ◌++◌, ◌<◌, ◌^◌, IfOk, OnOk, string_bytes};
-ghost use Rattle.values.specs.Values.{id_of};
 ghost use Rattle.event_log.specs.Words.{births};
 ghost use Rattle.event_log.specs.Views.{entry_of, log_of};
 ghost use Rattle.log_words.specs.Index.{IsIndexOf};
@@ -42,7 +41,7 @@ fn write_line_if(
 ///
 /// It is made of any log, a legal one or not; an object that the log does not name has no lines.
 pub fn story_text(alloc: Global, log: &[Entry], object: ObjectId) -> Result<String, AllocError>
-    ensures { IfOk result (λ text. string_bytes text ≡ story_text (id_of object) (log_of log.now)) }
+    ensures { IfOk result (λ text. string_bytes text ≡ story_text object (log_of log.now)) }
 {
     let mut text = String::new(alloc);
     let index = BirthIndex::of(alloc, log)?;

@@ -1,7 +1,6 @@
 // Births.
 
 ghost use Rattle.std.specs.Prelude.{◌≡◌, ◌++◌, IfOk, OnOk, map};
-ghost use Rattle.values.specs.Values.{id_of};
 ghost use Rattle.task_spec.specs.Births.{argument_of, birth_of};
 ghost use Rattle.task_spec.specs.Dereferenced.{id_read, ids_read, dereferenced_in};
 
@@ -83,7 +82,7 @@ impl Birth {
 
 /// Adds the id that the task's worker dereferences for an argument, where there is one.
 fn add_dereferenced(argument: &Argument, found: &mut Vec<ObjectId>) -> Result<(), AllocError>
-    ensures { OnOk result (map id_of found.new.items ≡ map id_of found.old.items ++ id_read (argument_of argument.now)) }
+    ensures { OnOk result (found.new.items ≡ found.old.items ++ id_read (argument_of argument.now)) }
 {
     if !argument.is_dereferenced {
         return Ok(());
@@ -96,7 +95,7 @@ fn add_dereferenced(argument: &Argument, found: &mut Vec<ObjectId>) -> Result<()
 
 /// The ids of the arguments that are dereferenced.
 fn ids_of_marked(arguments: &[Argument], alloc: Global) -> Result<Vec<ObjectId>, AllocError>
-    ensures { IfOk result (λ found. map id_of found.items ≡ ids_read (map argument_of arguments.now)) }
+    ensures { IfOk result (λ found. found.items ≡ ids_read (map argument_of arguments.now)) }
 {
     let mut found = Vec::new(alloc);
     for argument in arguments {
@@ -108,7 +107,7 @@ fn ids_of_marked(arguments: &[Argument], alloc: Global) -> Result<Vec<ObjectId>,
 /// The ids that a task's worker dereferences before the body, in the order of the arguments; an id that stands in two
 /// of them comes twice. A put value has none.
 pub fn dereferenced(birth: &Birth, alloc: Global) -> Result<Vec<ObjectId>, AllocError>
-    ensures { IfOk result (λ found. map id_of found.items ≡ dereferenced_in (birth_of birth.now)) }
+    ensures { IfOk result (λ found. found.items ≡ dereferenced_in (birth_of birth.now)) }
 {
     match birth {
         Birth::Put(_) => Ok(Vec::new(alloc)),

@@ -6,14 +6,14 @@ use Rattle.serde_json.specs.Data.{Data}
 use Rattle.serde_json.specs.View.{items_of}
 use Rattle.serde_json.specs.Written.{has_float, items_have_float}
 use Rattle.meaning.specs.Births.{Bearing}
-use Rattle.values.specs.Values.{id_of, content_of}
+use Rattle.values.specs.Values.{content_of}
 use Rattle.event_log.specs.Entries as logged
 use Rattle.event_log.specs.Events.{refused_next}
 use Rattle.event_log.specs.Words.{births}
-use Rattle.event_log.specs.Texts.{event_text}
-use Rattle.event_log.specs.Views.{attempt_of, fault_of, log_of}
-use Rattle.event_log.specs.declared.event.Event.{Event}
-use Rattle.event_log.specs.declared.event.Event.TheVariants as events
+use Rattle.log_entries.specs.Texts.{event_text}
+use Rattle.event_log.specs.Views.{log_of}
+use Rattle.log_entries.specs.declared.event.Event.{Event}
+use Rattle.log_entries.specs.declared.event.Event.TheVariants as events
 use Rattle.event_log.specs.declared.entry.Entry.{Entry}
 use Rattle.event_log.specs.declared.entry.Entry.TheVariants as entries
 use Rattle.history.specs.Texts.{fault_text}
@@ -67,7 +67,7 @@ waiting_plain clock name ending r a (Some since) = chosen (since == clock) _ _ r
 
 waits_plain : (clock : ℕ) (name ending : List ℕ) (r : Row) (x : Option Running) → ArePlain (waits_spans clock name ending r x)
 waits_plain clock name ending r None = refl
-waits_plain clock name ending r (Some x) = waiting_plain clock name ending r (attempt_of x.attempt) x.waits
+waits_plain clock name ending r (Some x) = waiting_plain clock name ending r x.attempt x.waits
 
 attempt_plain : (births : List Bearing) (clock : ℕ) (ending : List ℕ) (r : Row) → ArePlain (attempt_spans births clock ending r)
 attempt_plain births clock ending r = running_plain births clock ending r r.running
@@ -81,20 +81,20 @@ both_plain births clock name ending r =
 
 death_plain : (births : List Bearing) (clock : ℕ) (r : Row) → ArePlain (death_data births clock r)
 death_plain births clock r =
-    appended (both_spans births clock (codes "get") (codes "killed") r) (mark_data (codes "dies") (codes "t") r.node.0 r.worker.0 clock ∷ [])
+    appended (both_spans births clock (codes "get") (codes "killed") r) (mark_data (codes "dies") (codes "t") r.node r.worker clock ∷ [])
     (both_plain births clock (codes "get") (codes "killed") r) refl
 
 event_plain : (births : List Bearing) (clock : ℕ) (e : Event) (r : Row) → ArePlain (event_data births clock e r)
-event_plain births clock (events.Kill w) r = chosen (w.0 == r.worker.0) _ _ (death_plain births clock r) refl
-event_plain births clock (events.KillNode n) r = chosen (n.0 == r.node.0) _ _ (death_plain births clock r) refl
+event_plain births clock (events.Kill w) r = chosen (w == r.worker) _ _ (death_plain births clock r) refl
+event_plain births clock (events.KillNode n) r = chosen (n == r.node) _ _ (death_plain births clock r) refl
 event_plain births clock _ r = refl
 
 row_plain : (births : List Bearing) (clock : ℕ) (x : Entry) (refused : Bool) (r : Row) → ArePlain (row_data births clock x refused r)
 row_plain births clock (entries.Got a y c) refused r =
-    chosen (runs (attempt_of a) r) _ _ (wait_plain clock (get_name (id_of y)) (content_text (content_of c)) r) refl
-row_plain births clock (entries.Ended a c) refused r = chosen (runs (attempt_of a) r) _ _ (attempt_plain births clock (content_text (content_of c)) r) refl
+    chosen (runs a r) _ _ (wait_plain clock (get_name y) (content_text (content_of c)) r) refl
+row_plain births clock (entries.Ended a c) refused r = chosen (runs a r) _ _ (attempt_plain births clock (content_text (content_of c)) r) refl
 row_plain births clock (entries.Faulted a y f) refused r =
-    chosen (runs (attempt_of a) r) _ _ (both_plain births clock (get_name (id_of y)) (fault_text (fault_of f)) r) refl
+    chosen (runs a r) _ _ (both_plain births clock (get_name y) (fault_text f) r) refl
 row_plain births clock (entries.In e seat) refused r = chosen refused [] (event_data births clock e r) refl (event_plain births clock e r)
 row_plain births clock _ refused r = refl
 

@@ -1,13 +1,12 @@
 -- The spans that end with an entry.
 use Rattle.std.specs.Prelude.{ℕ, Bool, if◌then◌else◌, List, [], ◌∷◌, ◌++◌, ◌==◌, codes}
 use Rattle.serde_json.specs.Data.{Data}
-use Rattle.values.specs.Values.{id_of, content_of}
+use Rattle.values.specs.Values.{content_of}
 use Rattle.meaning.specs.Values.{Id}
 use Rattle.meaning.specs.Births.{Bearing}
 use Rattle.report.specs.Values.{id_text}
-use Rattle.event_log.specs.Views.{attempt_of, fault_of}
-use Rattle.event_log.specs.declared.event.Event.{Event}
-use Rattle.event_log.specs.declared.event.Event.TheVariants.{Kill, KillNode}
+use Rattle.log_entries.specs.declared.event.Event.{Event}
+use Rattle.log_entries.specs.declared.event.Event.TheVariants.{Kill, KillNode}
 use Rattle.event_log.specs.declared.entry.Entry.{Entry}
 use Rattle.event_log.specs.declared.entry.Entry.TheVariants.{In, Got, Ended, Faulted}
 use Rattle.history.specs.Texts.{fault_text}
@@ -27,19 +26,19 @@ both_spans births clock name ending r = wait_spans clock name ending r ++ attemp
 -- the worker dies
 abbrev pub death_data : List Bearing → ℕ → Row → List Data
 death_data births clock r =
-    both_spans births clock (codes "get") (codes "killed") r ++ mark_data (codes "dies") (codes "t") r.node.0 r.worker.0 clock ∷ []
+    both_spans births clock (codes "get") (codes "killed") r ++ mark_data (codes "dies") (codes "t") r.node r.worker clock ∷ []
 
 abbrev pub event_data : List Bearing → ℕ → Event → Row → List Data
-event_data births clock (Kill w) r = if w.0 == r.worker.0 then death_data births clock r else []
-event_data births clock (KillNode n) r = if n.0 == r.node.0 then death_data births clock r else []
+event_data births clock (Kill w) r = if w == r.worker then death_data births clock r else []
+event_data births clock (KillNode n) r = if n == r.node then death_data births clock r else []
 event_data births clock _ r = []
 
 -- what an entry adds in a row; `refused` says of an event that it is refused
 abbrev pub row_data : List Bearing → ℕ → Entry → Bool → Row → List Data
-row_data births clock (Got a y c) refused r = if runs (attempt_of a) r then wait_spans clock (get_name (id_of y)) (content_text (content_of c)) r else []
-row_data births clock (Ended a c) refused r = if runs (attempt_of a) r then attempt_spans births clock (content_text (content_of c)) r else []
+row_data births clock (Got a y c) refused r = if runs a r then wait_spans clock (get_name y) (content_text (content_of c)) r else []
+row_data births clock (Ended a c) refused r = if runs a r then attempt_spans births clock (content_text (content_of c)) r else []
 row_data births clock (Faulted a y f) refused r =
-    if runs (attempt_of a) r then both_spans births clock (get_name (id_of y)) (fault_text (fault_of f)) r else []
+    if runs a r then both_spans births clock (get_name y) (fault_text f) r else []
 row_data births clock (In e seat) refused r = if refused then [] else event_data births clock e r
 row_data births clock _ refused r = []
 

@@ -1,11 +1,10 @@
 -- The names of rows, and what happens in a moment.
 use Rattle.std.specs.Prelude.{ℕ, Bool, if◌then◌else◌, List, [], ◌∷◌, ◌++◌, codes}
 use Rattle.serde_json.specs.Data.{Data, number, unsigned, string, object, member, no_members}
-use Rattle.values.specs.Values.{id_of}
 use Rattle.report.specs.Values.{id_text}
 use Rattle.ids.specs.Texts.{worker_text}
-use Rattle.event_log.specs.declared.event.Event.{Event}
-use Rattle.event_log.specs.declared.event.Event.TheVariants.{Lose, KillNode}
+use Rattle.log_entries.specs.declared.event.Event.{Event}
+use Rattle.log_entries.specs.declared.event.Event.TheVariants.{Lose, KillNode}
 use Rattle.event_log.specs.declared.entry.Entry.{Entry}
 use Rattle.event_log.specs.declared.entry.Entry.TheVariants.{In, Opened}
 
@@ -23,12 +22,12 @@ mark_data name scope node worker clock =
     (member (codes "ts") (number (unsigned clock)) no_members)))))))
 
 abbrev pub event_marks : ℕ → Event → List Data
-event_marks clock (Lose n o) = mark_data (codes "loses " ++ id_text (id_of o)) (codes "p") n.0 0 clock ∷ []
-event_marks clock (KillNode n) = mark_data (codes "dies") (codes "p") n.0 0 clock ∷ []
+event_marks clock (Lose n o) = mark_data (codes "loses " ++ id_text o) (codes "p") n 0 clock ∷ []
+event_marks clock (KillNode n) = mark_data (codes "dies") (codes "p") n 0 clock ∷ []
 event_marks clock _ = []
 
 -- what an entry adds in no worker's row
 abbrev pub entry_marks : ℕ → Entry → Bool → List Data
-entry_marks clock (Opened w n) refused = name_data (worker_text w) (codes "thread_name") n.0 w.0 ∷ []
+entry_marks clock (Opened w n) refused = name_data (worker_text w) (codes "thread_name") n w ∷ []
 entry_marks clock (In e seat) refused = if refused then [] else event_marks clock e
 entry_marks clock _ refused = []

@@ -4,8 +4,8 @@ use Rattle.std.specs.Fmt.{decimal}
 use Rattle.serde_json.specs.Data.{Data}
 use Rattle.event_log.specs.Events.{refused_next}
 use Rattle.event_log.specs.Views.{log_of}
-use Rattle.event_log.specs.declared.event.Event.{Event}
-use Rattle.event_log.specs.declared.event.Event.TheVariants.{Lose, KillNode}
+use Rattle.log_entries.specs.declared.event.Event.{Event}
+use Rattle.log_entries.specs.declared.event.Event.TheVariants.{Lose, KillNode}
 use Rattle.event_log.specs.declared.entry.Entry.{Entry}
 use Rattle.event_log.specs.declared.entry.Entry.TheVariants.{In, Opened}
 use Rattle.protocol_data.specs.declared.message.Letter.{Letter}
@@ -23,13 +23,13 @@ node_in_party (TheWorker w) = 0
 node_in_party (TheNode n) = n
 
 abbrev pub node_in_event : Event → ℕ
-node_in_event (Lose n o) = n.0
-node_in_event (KillNode n) = n.0
+node_in_event (Lose n o) = n
+node_in_event (KillNode n) = n
 node_in_event _ = 0
 
 -- `refused` says of an event that it is refused
 abbrev pub node_in_entry : Entry → Bool → ℕ
-node_in_entry (Opened w n) refused = n.0
+node_in_entry (Opened w n) refused = n
 node_in_entry (In e seat) refused = if refused then 0 else node_in_event e
 node_in_entry _ refused = 0
 

@@ -1,8 +1,8 @@
 -- Who has a message in an event.
 use Rattle.std.specs.Prelude.{ℕ, Bool, false, ◌==◌, ◌-◌, if◌then◌else◌, List, [], ◌∷◌, ◌++◌, Option, Some, None, slice_get}
 use Rattle.std.specs.List.{list_any}
-use Rattle.event_log.specs.declared.event.Event.{Event}
-use Rattle.event_log.specs.declared.event.Event.TheVariants.{Deliver}
+use Rattle.log_entries.specs.declared.event.Event.{Event}
+use Rattle.log_entries.specs.declared.event.Event.TheVariants.{Deliver}
 use Rattle.protocol_data.specs.declared.message.Letter.{Letter}
 use Rattle.protocol_data.specs.declared.message.Party.{Party}
 use Rattle.protocol_data.specs.declared.message.Party.TheVariants.{TheWorker, TheNode}

@@ -7,7 +7,7 @@ use Rattle.timeline.specs.declared.rows.Row.{Row}
 -- the worker's node; 0 where it was never opened
 abbrev pub home : List Row → ℕ → ℕ
 home [] w = 0
-home (r ∷ rows) w = if r.worker.0 == w then r.node.0 else home rows w
+home (r ∷ rows) w = if r.worker == w then r.node else home rows w
 
 abbrev pub process : List Row → Party → ℕ
 process rows (TheWorker w) = home rows w

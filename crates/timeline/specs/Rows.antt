@@ -1,13 +1,12 @@
 -- What each worker runs, entry by entry.
 use Rattle.std.specs.Prelude.{ℕ, Bool, false, if◌then◌else◌, ◌==◌, List, [], ◌∷◌, Option, Some, None}
 use Rattle.std.specs.Option.{option_map}
-use Rattle.ids.specs.declared.attempt.AttemptId.{AttemptId}
+use Rattle.ids.specs.Attempts.{Attempt}
 use Rattle.event_log.specs.Entries as logged
 use Rattle.event_log.specs.Words.{same_attempt}
 use Rattle.event_log.specs.Events.{from_one}
-use Rattle.event_log.specs.Views.{attempt_of}
-use Rattle.event_log.specs.declared.event.Event.{Event}
-use Rattle.event_log.specs.declared.event.Event.TheVariants.{Commit, Kill, KillNode}
+use Rattle.log_entries.specs.declared.event.Event.{Event}
+use Rattle.log_entries.specs.declared.event.Event.TheVariants.{Commit, Kill, KillNode}
 use Rattle.event_log.specs.declared.entry.Entry.{Entry}
 use Rattle.event_log.specs.declared.entry.Entry.TheVariants.{In, Opened, Begun, Got, Ended, Faulted}
 use Rattle.log_words.specs.Told.{Told}
@@ -16,7 +15,7 @@ use Rattle.timeline.specs.declared.rows.Running.{Running}
 
 abbrev pub is_attempt : logged.Attempt → Option Running → Bool
 is_attempt a None = false
-is_attempt a (Some x) = same_attempt (attempt_of x.attempt) a
+is_attempt a (Some x) = same_attempt x.attempt a
 
 -- the row's worker runs the attempt
 abbrev pub runs : logged.Attempt → Row → Bool
@@ -30,26 +29,26 @@ with_waits r waits =
 abbrev pub stopped : Row → Row
 stopped r = record { worker = r.worker; node = r.node; running = None }
 
-abbrev pub begins : Row → AttemptId → ℕ → Row
+abbrev pub begins : Row → Attempt → ℕ → Row
 begins r a clock = record { worker = r.worker; node = r.node; running = Some (record { attempt = a; since = clock; waits = None }) }
 
 abbrev pub is_worker : Option ℕ → Row → Bool
 is_worker None r = false
-is_worker (Some w) r = w == r.worker.0
+is_worker (Some w) r = w == r.worker
 
 -- the commit of a worker's job begins a wait, unless the attempt ends or goes on in the same event
 abbrev pub after_event : Told → Event → Row → Row
 after_event told (Commit j) r = if is_worker (from_one told.jobs j) r then with_waits r (Some told.events) else r
-after_event told (Kill w) r = if w.0 == r.worker.0 then stopped r else r
-after_event told (KillNode n) r = if n.0 == r.node.0 then stopped r else r
+after_event told (Kill w) r = if w == r.worker then stopped r else r
+after_event told (KillNode n) r = if n == r.node then stopped r else r
 after_event told _ r = r
 
 -- `told` has the entry already, and `refused` says of an event that it is refused
 abbrev pub row_after : Told → Entry → Bool → Row → Row
-row_after told (Begun a w) refused r = if w.0 == r.worker.0 then begins r a told.events else r
-row_after told (Got a y c) refused r = if runs (attempt_of a) r then with_waits r None else r
-row_after told (Ended a c) refused r = if runs (attempt_of a) r then stopped r else r
-row_after told (Faulted a y f) refused r = if runs (attempt_of a) r then stopped r else r
+row_after told (Begun a w) refused r = if w == r.worker then begins r a told.events else r
+row_after told (Got a y c) refused r = if runs a r then with_waits r None else r
+row_after told (Ended a c) refused r = if runs a r then stopped r else r
+row_after told (Faulted a y f) refused r = if runs a r then stopped r else r
 row_after told (In e seat) refused r = if refused then r else after_event told e r
 row_after told _ refused r = r
 

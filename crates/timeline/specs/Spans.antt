@@ -4,7 +4,6 @@ use Rattle.serde_json.specs.Data.{Data, number, unsigned, string, object, member
 use Rattle.meaning.specs.Values.{Birth, Put, Task}
 use Rattle.meaning.specs.Births.{Bearing, birth_at}
 use Rattle.event_log.specs.Entries.{Attempt}
-use Rattle.event_log.specs.Views.{attempt_of}
 use Rattle.history.specs.Texts.{attempt_text}
 use Rattle.log_words.specs.Calls.{call_text}
 use Rattle.timeline.specs.declared.rows.Row.{Row}
@@ -18,8 +17,8 @@ args_data a ending = object (member (codes "attempt") (string (attempt_text a)) 
 abbrev pub span_data : List ℕ → List ℕ → Data → ℕ → Row → ℕ → Data
 span_data name category args since r clock =
     object (member (codes "args") args (member (codes "cat") (string category) (member (codes "dur") (number (unsigned (clock - since)))
-    (member (codes "name") (string name) (member (codes "ph") (string (codes "X")) (member (codes "pid") (number (unsigned r.node.0))
-    (member (codes "tid") (number (unsigned r.worker.0)) (member (codes "ts") (number (unsigned since)) no_members))))))))
+    (member (codes "name") (string name) (member (codes "ph") (string (codes "X")) (member (codes "pid") (number (unsigned r.node))
+    (member (codes "tid") (number (unsigned r.worker)) (member (codes "ts") (number (unsigned since)) no_members))))))))
 
 -- the call that an attempt runs; one of an object that was never born, which no legal log has, is named by itself
 abbrev pub called : Attempt → Option Birth → List ℕ
@@ -30,7 +29,7 @@ called a None = attempt_text a
 abbrev pub running_spans : List Bearing → ℕ → List ℕ → Row → Option Running → List Data
 running_spans births clock ending r None = []
 running_spans births clock ending r (Some x) =
-    span_data (called (attempt_of x.attempt) (birth_at births (attempt_of x.attempt).object)) (codes "attempt") (args_data (attempt_of x.attempt) ending)
+    span_data (called x.attempt (birth_at births x.attempt.object)) (codes "attempt") (args_data x.attempt ending)
     x.since r clock ∷ []
 
 -- the attempt that the row's worker runs, up to this event
@@ -44,7 +43,7 @@ waiting_spans clock name ending r a (Some since) = if since == clock then [] els
 
 abbrev pub waits_spans : ℕ → List ℕ → List ℕ → Row → Option Running → List Data
 waits_spans clock name ending r None = []
-waits_spans clock name ending r (Some x) = waiting_spans clock name ending r (attempt_of x.attempt) x.waits
+waits_spans clock name ending r (Some x) = waiting_spans clock name ending r x.attempt x.waits
 
 -- the get for which the attempt waits, up to this event
 abbrev pub wait_spans : ℕ → List ℕ → List ℕ → Row → List Data

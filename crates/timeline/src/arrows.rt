@@ -2,14 +2,15 @@
 
 ghost use Rattle.std.specs.Prelude.{◌≡◌, ◌+◌, ◌++◌, ◌∷◌, ◌<◌, ◌^◌, [], IfOk, OnOk, drop, if◌then◌else◌, ◌==◌, length, map, string_bytes, take};
 ghost use Rattle.serde_json.specs.View.{view};
-ghost use Rattle.event_log.specs.Texts.{event_text};
+ghost use Rattle.log_entries.specs.Texts.{event_text};
 ghost use Rattle.timeline.specs.Arrows.{arrival, arrow_begins, arrow_ends, arrows, begin_data, end_data, entry_arrows, event_arrows};
 ghost use Rattle.timeline.specs.Arrows.{own_letters, short_data, short_spans};
 
 use crate::parties::{letter_at, parties};
 use crate::places::{process, thread};
 use crate::rows::Row;
-use event_log::{Entry, Event};
+use event_log::Entry;
+use log_entries::Event;
 use message_text::{letters_between, message_kind, sent_behind};
 use protocol_data::{Letter, Party};
 use serde_json::{Value, json};

@@ -2,9 +2,9 @@
 
 ghost use Rattle.std.specs.Prelude.{◌≡◌, ◌++◌, ◌==◌, [], IfOk, OnOk, if◌then◌else◌, map, string_bytes};
 ghost use Rattle.serde_json.specs.View.{view};
-ghost use Rattle.values.specs.Values.{content_of, id_of};
+ghost use Rattle.values.specs.Values.{content_of};
 ghost use Rattle.event_log.specs.Words.{births};
-ghost use Rattle.event_log.specs.Views.{fault_of, log_of};
+ghost use Rattle.event_log.specs.Views.{log_of};
 ghost use Rattle.history.specs.Texts.{fault_text};
 ghost use Rattle.log_words.specs.Index.{IsIndexOf};
 ghost use Rattle.log_words.specs.Contents.{content_text};
@@ -13,16 +13,17 @@ ghost use Rattle.timeline.specs.Endings.{both_spans, death_data, event_data, get
 use crate::marks::mark_json;
 use crate::rows::{Row, runs};
 use crate::spans::{add_attempt, add_wait};
-use event_log::{Entry, Event};
+use event_log::Entry;
 use history::kind_name;
 use ids::ObjectId;
+use log_entries::Event;
 use log_words::{BirthIndex, write_content};
 use serde_json::Value;
 use std::alloc::{AllocError, Global};
 use values::{Content, Fault};
 
 fn get_name(alloc: Global, object: ObjectId) -> Result<String, AllocError>
-    ensures { IfOk result (λ s. string_bytes s ≡ get_name (id_of object)) }
+    ensures { IfOk result (λ s. string_bytes s ≡ get_name object) }
 {
     format!(in alloc; "get {object}")
 }
@@ -36,7 +37,7 @@ fn content_name(alloc: Global, content: &Content) -> Result<String, AllocError>
 }
 
 fn fault_name(alloc: Global, fault: Fault) -> Result<String, AllocError>
-    ensures { IfOk result (λ s. string_bytes s ≡ fault_text (fault_of fault)) }
+    ensures { IfOk result (λ s. string_bytes s ≡ fault_text fault) }
 {
     let kind = kind_name(fault.kind);
     let object = fault.object;

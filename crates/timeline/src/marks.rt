@@ -3,12 +3,12 @@
 ghost use Rattle.std.specs.Prelude.{◌≡◌, ◌++◌, ◌∷◌, [], IfOk, OnOk, codes, map, string_bytes};
 ghost use Rattle.serde_json.specs.View.{view};
 ghost use Rattle.ids.specs.Texts.{worker_text};
-ghost use Rattle.values.specs.Values.{id_of};
 ghost use Rattle.report.specs.Values.{id_text};
 ghost use Rattle.timeline.specs.Marks.{entry_marks, event_marks, mark_data, name_data};
 
-use event_log::{Entry, Event};
+use event_log::Entry;
 use ids::{NodeId, ObjectId, WorkerId};
+use log_entries::Event;
 use serde_json::{Value, json};
 use std::alloc::{AllocError, Global};
 
@@ -40,7 +40,7 @@ pub fn mark_json(
     worker: u32,
     clock: usize,
 ) -> Result<Value, AllocError>
-    ensures { IfOk result (λ v. view v ≡ mark_data name.now scope.now node.0 worker clock) }
+    ensures { IfOk result (λ v. view v ≡ mark_data name.now scope.now node worker clock) }
 {
     let time = clock as u64;
     json!(in alloc; {
@@ -61,7 +61,7 @@ fn worker_name(alloc: Global, worker: WorkerId) -> Result<String, AllocError>
 }
 
 fn loss_name(alloc: Global, object: ObjectId) -> Result<String, AllocError>
-    ensures { IfOk result (λ s. string_bytes s ≡ codes "loses " ++ id_text (id_of object)) }
+    ensures { IfOk result (λ s. string_bytes s ≡ codes "loses " ++ id_text object) }
 {
     format!(in alloc; "loses {object}")
 }
@@ -91,7 +91,7 @@ fn add_name(
     node: NodeId,
 ) -> Result<(), AllocError>
     ensures { OnOk result (map view all.new.items ≡ map view all.old.items
-        ++ (name_data (worker_text worker) (codes "thread_name") node.0 worker.0 ∷ [])) }
+        ++ (name_data (worker_text worker) (codes "thread_name") node worker ∷ [])) }
 {
     let name = worker_name(alloc, worker)?;
     let name = name_json(alloc, name.as_str(), "thread_name", node.0, worker.0)?;

@@ -5,7 +5,7 @@ ghost use Rattle.std.specs.List.{list_any};
 ghost use Rattle.protocol_data.specs.declared.message.Party.TheVariants.{TheNode, TheWorker};
 ghost use Rattle.timeline.specs.Parties.{letter_at, receivers, same_party, with_party, with_senders};
 
-use event_log::Event;
+use log_entries::Event;
 use protocol_data::{Letter, Party};
 use std::alloc::{AllocError, Global};
 

@@ -1,14 +1,13 @@
 // What each worker runs.
 
 ghost use Rattle.std.specs.Prelude.{◌≡◌, IfOk};
-ghost use Rattle.std.specs.Option.{option_map};
-ghost use Rattle.event_log.specs.Views.{attempt_of};
 ghost use Rattle.log_words.specs.Told.{told_of};
 ghost use Rattle.timeline.specs.Rows.{after_event, begins, is_worker, row_after, runs, stopped, with_waits};
 ghost use Rattle.timeline.specs.Entries.{rows_after};
 
-use event_log::{Entry, Event};
+use event_log::Entry;
 use ids::{AttemptId, NodeId, WorkerId};
+use log_entries::Event;
 use log_words::{Told, worker_of_job};
 use std::alloc::{AllocError, Global};
 
@@ -29,9 +28,9 @@ pub struct Row {
 }
 
 /// Whether the row's worker runs the attempt.
-#[tactic(auto, unfolding(event_log::specs::Words::same_attempt, meaning::specs::Births::same_id))]
+#[tactic(auto, unfolding(ids::specs::Attempts::same_attempt, meaning::specs::Births::same_id))]
 pub fn runs(attempt: AttemptId, row: &Row) -> bool
-    ensures { result ≡ runs (attempt_of attempt) row.now }
+    ensures { result ≡ runs attempt row.now }
 {
     let Some(running) = &row.running else {
         return false;
@@ -85,7 +84,7 @@ fn begins(row: &Row, attempt: AttemptId, clock: usize) -> Row
 }
 
 fn is_worker(worker: Option<WorkerId>, row: &Row) -> bool
-    ensures { result ≡ is_worker (option_map (λ w. w.0) worker) row.now }
+    ensures { result ≡ is_worker worker row.now }
 {
     match worker {
         Some(worker) => worker.0 == row.worker.0,

@@ -5,7 +5,7 @@ ghost use Rattle.std.specs.Option.{option_map};
 ghost use Rattle.serde_json.specs.View.{view};
 ghost use Rattle.task_spec.specs.Births.{birth_of};
 ghost use Rattle.event_log.specs.Words.{births};
-ghost use Rattle.event_log.specs.Views.{attempt_of, log_of};
+ghost use Rattle.event_log.specs.Views.{log_of};
 ghost use Rattle.history.specs.Texts.{attempt_text};
 ghost use Rattle.log_words.specs.Index.{IsIndexOf};
 ghost use Rattle.timeline.specs.Spans.{args_data, attempt_spans, called, span_data, wait_spans};
@@ -19,13 +19,13 @@ use std::alloc::{AllocError, Global};
 use task_spec::Birth;
 
 fn attempt_name(alloc: Global, attempt: AttemptId) -> Result<String, AllocError>
-    ensures { IfOk result (λ s. string_bytes s ≡ attempt_text (attempt_of attempt)) }
+    ensures { IfOk result (λ s. string_bytes s ≡ attempt_text attempt) }
 {
     format!(in alloc; "{attempt}")
 }
 
 fn args_json(alloc: Global, attempt: AttemptId, ending: &str) -> Result<Value, AllocError>
-    ensures { IfOk result (λ v. view v ≡ args_data (attempt_of attempt) ending.now) }
+    ensures { IfOk result (λ v. view v ≡ args_data attempt ending.now) }
 {
     let attempt = attempt_name(alloc, attempt)?;
     json!(in alloc; {"attempt": attempt, "end": ending})
@@ -59,7 +59,7 @@ fn span_json(
 
 /// The call that an attempt runs.
 fn called(alloc: Global, attempt: AttemptId, birth: Option<&Birth>) -> Result<String, AllocError>
-    ensures { IfOk result (λ s. string_bytes s ≡ called (attempt_of attempt) (option_map birth_of (option_copied birth.entry))) }
+    ensures { IfOk result (λ s. string_bytes s ≡ called attempt (option_map birth_of (option_copied birth.entry))) }
 {
     let Some(
         Birth::Task {

@@ -104,11 +104,13 @@ impl<T: Drop> Trail<T> {
         ensures { IfOk result (λ more. more ≡ self ++ item ∷ []) }
     {
         let Trail { full, last, count } = self;
-        let Some(count) = count.checked_add(1) else {
-            return Err(AllocError);
-        };
         let mut full = full;
         let mut last = last;
+        let Some(count) = count.checked_add(1) else {
+            // No memory has room for one item more than these: the growth is refused.
+            last.reserve(usize::MAX)?;
+            unreachable!();
+        };
         close(alloc, &mut full, &mut last)?;
         last.push(Arc::new(alloc, item)?)?;
         Ok(Trail { full, last, count })

@@ -9,31 +9,26 @@ use Rattle.meaning.specs.Values.{values_of, Id}
 use Rattle.meaning.specs.Births.{same_id}
 use Rattle.meaning.proofs.BirthLaws.{same_id-true, at_test}
 use Rattle.std.proofs.lemmas.Bool.Decides.{nat_tests}
-use Rattle.ids.specs.declared.object.ObjectId.{ObjectId}
 use Rattle.values.specs.declared.value.RunValue.{RunValue, List as AList}
-use Rattle.values.specs.Values.{id_of, value_of}
+use Rattle.values.specs.Values.{value_of}
 use Rattle.values.specs.Listed.{ids_listed, ids_among, without, each_once, adding}
 use Rattle.values.proofs.Rows.{value_of-list}
 
 -- ---- one more
 
-abbrev pub is_there : List ObjectId → ObjectId → Bool
-is_there xs o = list_any (λ (x : ObjectId). (x.owner.0 == o.owner.0) && (x.serial == o.serial)) xs
+abbrev pub is_there : List Id → Id → Bool
+is_there xs o = list_any (λ (x : Id). (x.owner == o.owner) && (x.serial == o.serial)) xs
 
-is_there-ids : (xs : List ObjectId) (o : ObjectId) → list_any (λ p. same_id p (id_of o)) (map id_of xs) ≡ is_there xs o
+is_there-ids : (xs : List Id) (o : Id) → list_any (λ p. same_id p o) xs ≡ is_there xs o
 unfolding same_id
 is_there-ids [] o = refl
-is_there-ids (x ∷ xs) o = ap (λ b. ((x.owner.0 == o.owner.0) && (x.serial == o.serial)) || b) (is_there-ids xs o)
+is_there-ids (x ∷ xs) o = ap (λ b. ((x.owner == o.owner) && (x.serial == o.serial)) || b) (is_there-ids xs o)
 
-map-push : (xs : List ObjectId) (o : ObjectId) → map id_of (xs ++ o ∷ []) ≡ map id_of xs ++ id_of o ∷ []
-map-push [] o = refl
-map-push (x ∷ xs) o = ap (λ ps. id_of x ∷ ps) (map-push xs o)
+pub there_already : (xs : List Id) (o : Id) → is_there xs o ≡ true → xs ≡ adding xs (o ∷ [])
+there_already xs o e = sym (ap (λ b. if b then xs else xs ++ o ∷ []) (is_there-ids xs o ∙ e))
 
-pub there_already : (xs : List ObjectId) (o : ObjectId) → is_there xs o ≡ true → map id_of xs ≡ adding (map id_of xs) (id_of o ∷ [])
-there_already xs o e = sym (ap (λ b. if b then map id_of xs else map id_of xs ++ id_of o ∷ []) (is_there-ids xs o ∙ e))
-
-pub new_there : (xs ys : List ObjectId) (o : ObjectId) → is_there xs o ≡ false → ys ≡ xs ++ o ∷ [] → map id_of ys ≡ adding (map id_of xs) (id_of o ∷ [])
-new_there xs ys o e f = ap (map id_of) f ∙ map-push xs o ∙ sym (ap (λ b. if b then map id_of xs else map id_of xs ++ id_of o ∷ []) (is_there-ids xs o ∙ e))
+pub new_there : (xs ys : List Id) (o : Id) → is_there xs o ≡ false → ys ≡ xs ++ o ∷ [] → ys ≡ adding xs (o ∷ [])
+new_there xs ys o e f = f ∙ sym (ap (λ b. if b then xs else xs ++ o ∷ []) (is_there-ids xs o ∙ e))
 
 -- ---- the items of a list
 

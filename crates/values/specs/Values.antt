@@ -17,23 +17,18 @@ use Rattle.meaning.specs.Values.{
   TooLong,
   Loop,
   TooDeep,
-  Id as AnId,
 }
-use Rattle.ids.specs.declared.object.ObjectId.{ObjectId}
 use Rattle.values.specs.declared.value.RunValue.{RunValue, Int, List', Id, Row_of-RunValue, end_of-RunValue, more_of-RunValue}
 use Rattle.values.specs.declared.content.Trap.{Trap}
 use Rattle.values.specs.declared.content.Trap.TheVariants as traps
 use Rattle.values.specs.declared.content.Content.{Content}
 use Rattle.values.specs.declared.content.Content.TheVariants as contents
 
-abbrev pub id_of : ObjectId → AnId
-id_of o = record { owner = o.owner.0; serial = o.serial }
-
 abbrev mutual
   pub value_of : RunValue → Value
   value_of (Int n) = AnInt n
   value_of (List' shape all) = Items (values_in all)
-  value_of (Id o) = Named (id_of o)
+  value_of (Id o) = Named o
 
   pub values_in : {m : _} → Row_of-RunValue m → Values
   values_in end_of-RunValue = none

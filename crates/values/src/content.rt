@@ -1,7 +1,7 @@
 // Contents of objects.
 
-ghost use Rattle.std.specs.Prelude.{◌≡◌, IfOk, map};
-ghost use Rattle.values.specs.Values.{content_of, id_of};
+ghost use Rattle.std.specs.Prelude.{◌≡◌, IfOk};
+ghost use Rattle.values.specs.Values.{content_of};
 ghost use Rattle.values.specs.Listed.{ids_in_outcome, each_once};
 
 use crate::value::{RunValue, add_ids};
@@ -46,7 +46,7 @@ impl Content {
 
 /// The ids in a content, in order of first place, each once.
 pub fn ids_in(content: &Content, alloc: Global) -> Result<Vec<ObjectId>, AllocError>
-    ensures { IfOk result (λ ids. map id_of ids.items ≡ each_once (ids_in_outcome (content_of content.now))) }
+    ensures { IfOk result (λ ids. ids.items ≡ each_once (ids_in_outcome (content_of content.now))) }
 {
     let mut found = Vec::new(alloc);
     match content {

@@ -1,6 +1,7 @@
 // Faults.
 
 use ids::ObjectId;
+use std::marker::Model;
 
 /// Why an object has no content and will have none.
 #[derive(Clone, Copy, PartialEq, Eq, Debug)]
@@ -18,4 +19,17 @@ pub enum FaultKind {
 pub struct Fault {
     pub kind: FaultKind,
     pub object: ObjectId,
+}
+
+impl Model for Fault {
+    ghost use Rattle.values.specs.Faults.{Fault as AFault};
+    ghost use Rattle.values.specs.FaultCodes.{fault_code};
+
+    ghost Value = { AFault };
+
+    ghost coded = { fault_code };
+
+    ghost view = { λ f. record { kind = f.kind; object = f.object } };
+
+    ghost inverse = { λ f. record { kind = f.kind; object = f.object } };
 }

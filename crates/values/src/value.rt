@@ -1,8 +1,8 @@
 // Values.
 
-ghost use Rattle.std.specs.Prelude.{◌≡◌, IfOk, OnOk, map, ◌&&◌, ◌==◌, [], ◌∷◌};
+ghost use Rattle.std.specs.Prelude.{◌≡◌, IfOk, OnOk, ◌&&◌, ◌==◌, [], ◌∷◌};
 ghost use Rattle.std.specs.List.{list_any};
-ghost use Rattle.values.specs.Values.{value_of, id_of};
+ghost use Rattle.values.specs.Values.{value_of};
 ghost use Rattle.values.specs.Listed.{ids_listed, adding};
 
 use ids::ObjectId;
@@ -37,14 +37,14 @@ impl RunValue {
 
 /// Whether the object is one of these.
 fn is_among(objects: &[ObjectId], object: ObjectId) -> bool
-    ensures { result ≡ list_any (λ o. (o.owner.0 == object.owner.0) && (o.serial == object.serial)) objects.now }
+    ensures { result ≡ list_any (λ o. (o.owner == object.owner) && (o.serial == object.serial)) objects.now }
 {
     objects.iter().any(|o| o.owner.0 == object.owner.0 && o.serial == object.serial)
 }
 
 /// Adds the object at the end, unless it is there already.
 fn add(found: &mut Vec<ObjectId>, object: ObjectId) -> Result<(), AllocError>
-    ensures { OnOk result (map id_of found.new.items ≡ adding (map id_of found.old.items) (id_of object ∷ [])) }
+    ensures { OnOk result (found.new.items ≡ adding found.old.items (object ∷ [])) }
 {
     if is_among(found.as_slice(), object) {
         return Ok(());
@@ -55,7 +55,7 @@ fn add(found: &mut Vec<ObjectId>, object: ObjectId) -> Result<(), AllocError>
 
 /// Adds the ids that stand in a value, in order of first place, but for those that are there already.
 pub fn add_ids(value: &RunValue, found: &mut Vec<ObjectId>) -> Result<(), AllocError>
-    ensures { OnOk result (map id_of found.new.items ≡ adding (map id_of found.old.items) (ids_listed (value_of value.now))) }
+    ensures { OnOk result (found.new.items ≡ adding found.old.items (ids_listed (value_of value.now))) }
 {
     match value {
         RunValue::Int(_) => Ok(()),

@@ -8,11 +8,10 @@ ghost use Rattle.worker_acts.specs.Acts.{act_step};
 ghost use Rattle.whole_events.specs.Kept.{IsKept, IsLeft, put_into};
 
 use crate::counting::{fits, nothing};
-use numbers::{NodeId, WorkerId};
+use ids::{NodeId, WorkerId};
 use protocol_data::{Here, LogEntry, Node, Whole, Worker};
 use sequence::Seq;
 use std::alloc::{AllocError, Global};
-use table_copies::{copy_node, copy_worker};
 use whole_steps::{node_place, put_worker, take_worker, worker_place};
 use worker_acts::{Act, take_part};
 
@@ -51,8 +50,8 @@ fn keep(alloc: Global, whole: &Whole, place: usize, node_place: usize) -> Result
     requires node { node_place < length whole.now.nodes }
     ensures { IfOk result (λ kept. IsKept kept whole.now place node_place) }
 {
-    let worker = copy_worker(alloc, whole.workers.get(place))?;
-    let node = copy_node(alloc, whole.nodes.get(node_place))?;
+    let worker = whole.workers.get(place).copy(alloc)?;
+    let node = whole.nodes.get(node_place).copy(alloc)?;
     Ok(Kept { worker, node })
 }
 

@@ -6,9 +6,9 @@ ghost use Rattle.protocol.specs.Whole.{moved, node_at};
 ghost use Rattle.limit_laws.specs.Limits.{entries_within};
 ghost use Rattle.limit_laws.specs.Opens.{asked_opens, death_opens, fits, opened_at, opened_by_death, reached_opens};
 
+use ids::{NodeId, WorkerId};
 use lease::{has_free_slot, reply_to};
 use number_lists::{has_worker, item_at_number, remove_worker};
-use numbers::{NodeId, WorkerId};
 use protocol_data::{AskKey, LogEntry, Message, Party, Scheduler, Whole};
 use sequence::Seq;
 use std::alloc::{AllocError, Global};

@@ -6,7 +6,7 @@ ghost use Rattle.protocol.specs.Events.{dead, dead_node, dies_with, joined, kill
 ghost use Rattle.protocol.specs.Numbered.{changed_at};
 
 use crate::counting::{fits, nothing, opened_by_death};
-use numbers::{NodeId, WorkerId};
+use ids::{NodeId, WorkerId};
 use protocol_data::{LogEntry, Whole, Worker};
 use sequence::Seq;
 use std::alloc::{AllocError, Global};

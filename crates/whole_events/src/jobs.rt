@@ -9,8 +9,8 @@ ghost use Rattle.protocol.specs.Whole.{moved};
 
 use crate::counting::nothing;
 use crate::within_limits::let_act;
+use ids::WorkerId;
 use number_lists::place_of;
-use numbers::WorkerId;
 use protocol_data::{Given, Handed, LogEntry, Outcomes, Whole};
 use sequence::Seq;
 use std::alloc::{AllocError, Global};

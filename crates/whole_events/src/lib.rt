@@ -1,5 +1,5 @@
 //! The events of the whole run, each taken, or refused where it would pass a limit.
-#![tactic(auto, unfolding(meaning::specs::Births::same_id, event_log::specs::Words::same_attempt))]
+#![tactic(auto, unfolding(meaning::specs::Births::same_id, ids::specs::Attempts::same_attempt))]
 
 mod acting;
 mod counting;

@@ -6,7 +6,7 @@ ghost use Rattle.protocol.specs.Slots.{node_reached};
 ghost use Rattle.protocol.specs.Whole.{node_does};
 
 use crate::counting::{fits, opened_at};
-use numbers::NodeId;
+use ids::NodeId;
 use protocol_data::{LogEntry, Message, Party, Whole};
 use sequence::Seq;
 use std::alloc::{AllocError, Global};

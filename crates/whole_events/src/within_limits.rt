@@ -7,7 +7,7 @@ ghost use Rattle.worker_acts.specs.Acts.{act_step};
 
 use crate::acting::{act, act_or_restore};
 use crate::counting::fits;
-use numbers::WorkerId;
+use ids::WorkerId;
 use protocol_data::{LogEntry, Whole};
 use sequence::Seq;
 use std::alloc::{AllocError, Global};

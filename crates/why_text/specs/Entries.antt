@@ -13,7 +13,7 @@ use Rattle.story_text.specs.Mentions.{is_in_birth}
 use Rattle.why_text.specs.Moments.{Moment, when_text}
 use Rattle.why_text.specs.Runs.{Subject}
 use Rattle.why_text.specs.Events.{event_sentence}
-use Rattle.why_text.specs.Notes.{fault_note, kept_note, release_note}
+use Rattle.why_text.specs.Notes.{fault_note, kept_note, owner_text, release_note}
 
 -- a1.0#0 (main) made o1.1 in event 2 (commit 1): remote(1) sq(7).
 abbrev pub made_text : List Bearing → Moment → Id → Attempt → Birth → List ℕ
@@ -63,7 +63,7 @@ given_up_text m o f =
     codes "w" ++ (decimal o.owner ++ (codes " gave up " ++ (id_text o ++ (when_text m ++ (codes ": " ++ (fault_words f ++ codes ".\n"))))))
 
 unfoldable pub released_head : Moment → Id → List ℕ
-released_head m o = codes "w" ++ (decimal o.owner ++ (codes " released " ++ (id_text o ++ (when_text m ++ codes ": nothing needed it any more"))))
+released_head m o = owner_text o ++ (codes " released " ++ (id_text o ++ (when_text m ++ codes ": nothing needed it any more")))
 
 -- w1 released o1.1 in event 18 (commit 3): nothing needed it any more.
 abbrev pub released_text : List ℕ → List Entry → Moment → Id → List ℕ

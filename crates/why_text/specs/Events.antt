@@ -8,6 +8,7 @@ use Rattle.meaning.specs.Births.{same_id}
 use Rattle.event_log.specs.Entries.{Attempt, Event, Notice, NoticeNode, Evict, Lose, Kill, KillNode}
 use Rattle.history.specs.Texts.{attempt_text}
 use Rattle.why_text.specs.Moments.{Moment, when_text}
+use Rattle.why_text.specs.Notes.{owner_text}
 use Rattle.why_text.specs.Runs.{Run, Subject, is_node}
 
 -- what became of an attempt where its worker or its node died
@@ -45,8 +46,11 @@ dead_text o w =
     codes "w" ++ (decimal w ++ (if o.owner == w then codes ", the owner of " ++ (id_text o ++ codes ", died") else codes " died"))
 
 -- with the node dies the owner
+unfoldable pub owner_too : Id → List ℕ
+owner_too o = codes ", and with it " ++ (owner_text o ++ (codes ", the owner of " ++ id_text o))
+
 unfoldable pub owner_note : Id → Bool → List ℕ
-owner_note o dies = if dies then codes ", and with it w" ++ (decimal o.owner ++ (codes ", the owner of " ++ id_text o)) else []
+owner_note o dies = if dies then owner_too o else []
 
 -- w2 died in event 6 (kill 2), and a1.1#0 broke.
 abbrev pub kill_text : Subject → Moment → ℕ → List ℕ

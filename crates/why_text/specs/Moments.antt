@@ -1,9 +1,7 @@
 -- The event at which something happened.
 use Rattle.std.specs.Prelude.{ℕ, ◌+◌, List, [], ◌++◌, codes, Option, Some, None, slice_get}
-use Rattle.std.specs.Option.{option_map}
 use Rattle.std.specs.Fmt.{decimal}
 use Rattle.event_log.specs.Entries.{Event, Entry, In}
-use Rattle.event_log.specs.Views.{event_of}
 use Rattle.history.specs.Texts.{event_text}
 use Rattle.why_text.specs.declared.moments.Moment.{Moment as CodeMoment}
 
@@ -14,7 +12,7 @@ pub record Moment : Type 0 where
   pub line : Option ℕ
 
 abbrev pub moment_of : CodeMoment → Moment
-moment_of m = record { number = m.number; event = option_map event_of m.event; line = m.line }
+moment_of m = record { number = m.number; event = m.event; line = m.line }
 
 abbrev pub first_moment : Moment
 first_moment = record { number = 0; event = None; line = None }

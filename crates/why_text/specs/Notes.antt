@@ -7,6 +7,10 @@ use Rattle.event_log.specs.Entries.{Attempt, Fault, Entry}
 use Rattle.why_text.specs.Moments.{Moment, when_text}
 use Rattle.why_text.specs.Holders.{death_of, gone_holder, is_from_above, is_kept}
 
+-- the worker that owns the object
+unfoldable pub owner_text : Id → List ℕ
+owner_text o = codes "w" ++ decimal o.owner
+
 unfoldable pub death_head : Id → List ℕ
 death_head e = codes ", since w" ++ (decimal e.owner ++ (codes ", the owner of " ++ (id_text e ++ codes ", which had it, died")))
 

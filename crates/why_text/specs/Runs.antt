@@ -1,13 +1,11 @@
 -- An object, and what a log says of the attempts of its task.
 use Rattle.std.specs.Prelude.{ℕ, Bool, false, not, ◌&&◌, ◌||◌, ◌==◌, if◌then◌else◌, List, [], ◌∷◌, Option, Some, None, map}
 use Rattle.std.specs.List.{flat_map, list_any}
-use Rattle.values.specs.Values.{id_of}
 use Rattle.meaning.specs.Values.{Id}
 use Rattle.meaning.specs.Births.{same_id}
 use Rattle.event_log.specs.Entries.{Attempt, Kill, Entry, In, Begun, Ended, Faulted}
 use Rattle.event_log.specs.Words.{opened, same_attempt}
 use Rattle.event_log.specs.Events.{from_one, refused_next}
-use Rattle.event_log.specs.Views.{attempt_of}
 use Rattle.why_text.specs.declared.runs.Run.{Run as CodeRun}
 use Rattle.why_text.specs.declared.runs.Subject.{Subject as CodeSubject}
 
@@ -67,7 +65,7 @@ is_node n (Some m) = m == n
 -- ---- of the code
 
 abbrev pub run_seen : CodeRun → Run
-run_seen r = record { attempt = attempt_of r.attempt; worker = r.worker; node = r.node; is_open = r.is_open; was_killed = r.was_killed }
+run_seen r = record { attempt = r.attempt; worker = r.worker; node = r.node; is_open = r.is_open; was_killed = r.was_killed }
 
 abbrev pub seen_of : CodeSubject → Subject
-seen_of s = record { object = id_of s.object; home = s.home; runs = map run_seen s.runs.items }
+seen_of s = record { object = s.object; home = s.home; runs = map run_seen s.runs.items }

@@ -7,8 +7,6 @@ use Rattle.meaning.specs.Births.{Bearing, birth_at, same_id}
 use Rattle.event_log.specs.Entries.{Entry, Faulted, Resolved, main_attempt}
 use Rattle.event_log.specs.Events.{refused_next}
 use Rattle.event_log.specs.Words.{Lack, births, faults_of}
-use Rattle.event_log.specs.Views.{fault_of}
-use Rattle.values.specs.Values.{id_of}
 use Rattle.why_text.specs.declared.causes.Lack.{Lack as CodeLack}
 use Rattle.history.specs.Main.{first}
 use Rattle.log_words.specs.Faults.{fault_words}
@@ -51,7 +49,7 @@ unfoldable pub why_text : List Entry → List ℕ → Id → List ℕ
 why_text log lines o = account log lines o ++ cause_text log lines o (cause log o)
 
 abbrev pub lack_of : CodeLack → Lack
-lack_of x = record { object = id_of x.object; fault = fault_of x.fault }
+lack_of x = record { object = x.object; fault = x.fault }
 
 unfoldable pub main_lack_text : List Entry → List ℕ → Lack → List ℕ
 main_lack_text log lines x = codes "Main ended with a fault: " ++ (fault_words x.fault ++ (codes ".\n\n" ++ why_text log lines x.object))

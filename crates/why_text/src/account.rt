@@ -2,7 +2,6 @@
 
 ghost use Rattle.std.specs.Prelude.{◌≡◌, ◌++◌, OnOk, option_copied, string_bytes};
 ghost use Rattle.std.specs.Option.{option_map};
-ghost use Rattle.values.specs.Values.{id_of};
 ghost use Rattle.task_spec.specs.Births.{birth_of};
 ghost use Rattle.event_log.specs.Words.{births};
 ghost use Rattle.event_log.specs.Views.{log_of};
@@ -27,7 +26,7 @@ fn write_unborn(
     birth: Option<&Birth>,
 ) -> Result<(), AllocError>
     ensures { OnOk result
-        (string_bytes text.new ≡ string_bytes text.old ++ unborn_note (id_of object) (option_map birth_of (option_copied birth.entry))) }
+        (string_bytes text.new ≡ string_bytes text.old ++ unborn_note object (option_map birth_of (option_copied birth.entry))) }
 {
     if birth.is_some() {
         return Ok(());
@@ -69,7 +68,7 @@ pub fn write_account(
     lines: &[usize],
     object: ObjectId,
 ) -> Result<(), AllocError>
-    ensures { OnOk result (string_bytes text.new ≡ string_bytes text.old ++ account (log_of log.now) lines.now (id_of object)) }
+    ensures { OnOk result (string_bytes text.new ≡ string_bytes text.old ++ account (log_of log.now) lines.now object) }
 {
     let index = BirthIndex::of(alloc, log)?;
     let subject = Subject::of(alloc, log, object)?;

@@ -1,17 +1,17 @@
 // What was made, begun, got, ended, given up and released, in sentences.
 
 ghost use Rattle.std.specs.Prelude.{◌≡◌, ◌++◌, OnOk, string_bytes};
-ghost use Rattle.values.specs.Values.{content_of, id_of};
+ghost use Rattle.values.specs.Values.{content_of};
 ghost use Rattle.task_spec.specs.Births.{birth_of};
 ghost use Rattle.event_log.specs.Words.{births};
-ghost use Rattle.event_log.specs.Views.{attempt_of, fault_of, log_of};
+ghost use Rattle.event_log.specs.Views.{log_of};
 ghost use Rattle.log_words.specs.Index.{IsIndexOf};
 ghost use Rattle.why_text.specs.Moments.{moment_of};
 ghost use Rattle.why_text.specs.Entries.{accepted_head, accepted_text, again_note, began_text, ended_text, faulted_head, faulted_text, get_note};
 ghost use Rattle.why_text.specs.Entries.{given_up_text, got_text, made_text, released_head, released_text};
 
 use crate::moments::{Moment, write_when};
-use crate::notes::{write_fault_note, write_kept_note, write_release_note};
+use crate::notes::{write_fault_note, write_kept_note, write_owner_of, write_release_note};
 use event_log::Entry;
 use ids::{AttemptId, ObjectId, WorkerId};
 use log_text::write_named;
@@ -30,7 +30,7 @@ pub fn write_made(
     birth: &Birth,
 ) -> Result<(), AllocError>
     ensures { IsIndexOf index.now log.now → OnOk result (string_bytes text.new ≡ string_bytes text.old
-        ++ made_text (births (log_of log.now)) (moment_of moment.now) (id_of object) (attempt_of attempt) (birth_of birth.now)) }
+        ++ made_text (births (log_of log.now)) (moment_of moment.now) object attempt (birth_of birth.now)) }
 {
     write_named(text, index, log, attempt)?;
     write!(text, " made {object}")?;
@@ -40,10 +40,10 @@ pub fn write_made(
     text.push_str(".\n")
 }
 
-fn write_again(text: &mut String, number: u32) -> Result<(), AllocError>
-    ensures { OnOk result (string_bytes text.new ≡ string_bytes text.old ++ again_note number) }
+fn write_again(text: &mut String, attempt: AttemptId) -> Result<(), AllocError>
+    ensures { OnOk result (string_bytes text.new ≡ string_bytes text.old ++ again_note attempt.number) }
 {
-    if number == 0 {
+    if attempt.number == 0 {
         return Ok(());
     }
     text.push_str(", since the one before it broke or its result was lost")
@@ -58,12 +58,12 @@ pub fn write_began(
     worker: WorkerId,
 ) -> Result<(), AllocError>
     ensures { IsIndexOf index.now log.now → OnOk result (string_bytes text.new ≡ string_bytes text.old
-        ++ began_text (births (log_of log.now)) (moment_of moment.now) (attempt_of attempt) worker.0) }
+        ++ began_text (births (log_of log.now)) (moment_of moment.now) attempt worker) }
 {
     write_named(text, index, log, attempt)?;
     write!(text, " began on {worker}")?;
     write_when(text, moment)?;
-    write_again(text, attempt.number)?;
+    write_again(text, attempt)?;
     text.push_str(".\n")
 }
 
@@ -77,7 +77,7 @@ pub fn write_got(
     content: &Content,
 ) -> Result<(), AllocError>
     ensures { IsIndexOf index.now log.now → OnOk result (string_bytes text.new ≡ string_bytes text.old
-        ++ got_text (births (log_of log.now)) (moment_of moment.now) (attempt_of attempt) (id_of object) (content_of content.now)) }
+        ++ got_text (births (log_of log.now)) (moment_of moment.now) attempt object (content_of content.now)) }
 {
     write_named(text, index, log, attempt)?;
     write!(text, " got {object}")?;
@@ -96,7 +96,7 @@ pub fn write_ended(
     content: &Content,
 ) -> Result<(), AllocError>
     ensures { IsIndexOf index.now log.now → OnOk result (string_bytes text.new ≡ string_bytes text.old
-        ++ ended_text (births (log_of log.now)) (moment_of moment.now) (attempt_of attempt) (content_of content.now)) }
+        ++ ended_text (births (log_of log.now)) (moment_of moment.now) attempt (content_of content.now)) }
 {
     write_named(text, index, log, attempt)?;
     text.push_str(" ended")?;
@@ -107,9 +107,10 @@ pub fn write_ended(
 }
 
 #[tactic(auto, unfolding(crate::specs::Entries::accepted_head))]
-fn write_accepted_head(text: &mut String, owner: WorkerId) -> Result<(), AllocError>
-    ensures { OnOk result (string_bytes text.new ≡ string_bytes text.old ++ accepted_head owner.0) }
+fn write_accepted_head(text: &mut String, attempt: AttemptId) -> Result<(), AllocError>
+    ensures { OnOk result (string_bytes text.new ≡ string_bytes text.old ++ accepted_head attempt.object.owner) }
 {
+    let owner = attempt.owner();
     write!(text, "{owner} accepted ")
 }
 
@@ -122,9 +123,9 @@ pub fn write_accepted(
     attempt: AttemptId,
 ) -> Result<(), AllocError>
     ensures { IsIndexOf index.now log.now → OnOk result (string_bytes text.new ≡ string_bytes text.old
-        ++ accepted_text (births (log_of log.now)) (log_of before.now) (moment_of moment.now) (attempt_of attempt)) }
+        ++ accepted_text (births (log_of log.now)) (log_of before.now) (moment_of moment.now) attempt) }
 {
-    write_accepted_head(text, attempt.object.owner)?;
+    write_accepted_head(text, attempt)?;
     write_named(text, index, log, attempt)?;
     write_when(text, moment)?;
     write_kept_note(text, before, attempt)?;
@@ -133,7 +134,7 @@ pub fn write_accepted(
 
 #[tactic(auto, unfolding(crate::specs::Entries::get_note))]
 fn write_get(text: &mut String, object: ObjectId) -> Result<(), AllocError>
-    ensures { OnOk result (string_bytes text.new ≡ string_bytes text.old ++ get_note (id_of object)) }
+    ensures { OnOk result (string_bytes text.new ≡ string_bytes text.old ++ get_note object) }
 {
     write!(text, ", at its get of {object}: ")
 }
@@ -147,7 +148,7 @@ fn write_faulted_head(
     attempt: AttemptId,
 ) -> Result<(), AllocError>
     ensures { IsIndexOf index.now log.now → OnOk result (string_bytes text.new ≡ string_bytes text.old
-        ++ faulted_head (births (log_of log.now)) (moment_of moment.now) (attempt_of attempt)) }
+        ++ faulted_head (births (log_of log.now)) (moment_of moment.now) attempt) }
 {
     write_named(text, index, log, attempt)?;
     text.push_str(" ended with a fault")?;
@@ -167,7 +168,7 @@ pub fn write_faulted(
     fault: Fault,
 ) -> Result<(), AllocError>
     ensures { IsIndexOf index.now log.now → OnOk result (string_bytes text.new ≡ string_bytes text.old ++ faulted_text
-        (births (log_of log.now)) (log_of before.now) (moment_of moment.now) (attempt_of attempt) (id_of object) (fault_of fault)) }
+        (births (log_of log.now)) (log_of before.now) (moment_of moment.now) attempt object fault) }
 {
     write_faulted_head(text, index, log, moment, attempt)?;
     write_get(text, object)?;
@@ -183,7 +184,7 @@ pub fn write_given_up(
     fault: Fault,
 ) -> Result<(), AllocError>
     ensures { OnOk result
-        (string_bytes text.new ≡ string_bytes text.old ++ given_up_text (moment_of moment.now) (id_of object) (fault_of fault)) }
+        (string_bytes text.new ≡ string_bytes text.old ++ given_up_text (moment_of moment.now) object fault) }
 {
     let owner = object.owner;
     write!(text, "{owner} gave up {object}")?;
@@ -199,10 +200,10 @@ fn write_released_head(
     moment: &Moment,
     object: ObjectId,
 ) -> Result<(), AllocError>
-    ensures { OnOk result (string_bytes text.new ≡ string_bytes text.old ++ released_head (moment_of moment.now) (id_of object)) }
+    ensures { OnOk result (string_bytes text.new ≡ string_bytes text.old ++ released_head (moment_of moment.now) object) }
 {
-    let owner = object.owner;
-    write!(text, "{owner} released {object}")?;
+    write_owner_of(text, object)?;
+    write!(text, " released {object}")?;
     write_when(text, moment)?;
     text.push_str(": nothing needed it any more")
 }
@@ -216,7 +217,7 @@ pub fn write_released(
     object: ObjectId,
 ) -> Result<(), AllocError>
     ensures { OnOk result (string_bytes text.new
-        ≡ string_bytes text.old ++ released_text lines.now (log_of before.now) (moment_of moment.now) (id_of object)) }
+        ≡ string_bytes text.old ++ released_text lines.now (log_of before.now) (moment_of moment.now) object) }
 {
     write_released_head(text, moment, object)?;
     write_release_note(alloc, text, before, lines, object)?;

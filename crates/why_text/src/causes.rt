@@ -2,10 +2,9 @@
 
 ghost use Rattle.std.specs.Prelude.{◌≡◌, ◌++◌, IfOk, OnOk, string_bytes};
 ghost use Rattle.std.specs.Option.{option_map};
-ghost use Rattle.values.specs.Values.{id_of};
 ghost use Rattle.event_log.specs.Entries.{main_attempt};
 ghost use Rattle.event_log.specs.Words.{faulted_in, faults_of};
-ghost use Rattle.event_log.specs.Views.{entry_of, fault_of, log_of};
+ghost use Rattle.event_log.specs.Views.{entry_of, log_of};
 ghost use Rattle.history.specs.Main.{first};
 ghost use Rattle.why_text.specs.Text.{cause, cause_in, cause_text, lack_of, lack_text, main_lack_text, why_main_text, why_text};
 
@@ -15,20 +14,19 @@ use history::main_end::is_main;
 use ids::ObjectId;
 use log_words::write_fault;
 use std::alloc::{AllocError, Global};
-use story_text::is_same;
 use values::Fault;
 
 /// The object in which the fault of another began, where the entry says that the other has one.
 #[tactic(auto, unfolding(crate::specs::Text::cause_in))]
 fn cause_in(object: ObjectId, entry: &Entry) -> Option<ObjectId>
-    ensures { option_map id_of result ≡ first (cause_in (id_of object) (entry_of entry.now)) }
+    ensures { result ≡ first (cause_in object (entry_of entry.now)) }
 {
     match entry {
         Entry::Resolved {
             object: resolved,
             fault,
         } => {
-            if is_same(*resolved, object) {
+            if resolved.is(object) {
                 return Some(fault.object);
             }
             None
@@ -38,10 +36,10 @@ fn cause_in(object: ObjectId, entry: &Entry) -> Option<ObjectId>
             object: got,
             fault,
         } => {
-            if is_same(attempt.object, object) {
+            if attempt.object.is(object) {
                 return Some(fault.object);
             }
-            if is_same(*got, object) {
+            if got.is(object) {
                 return Some(fault.object);
             }
             None
@@ -52,7 +50,7 @@ fn cause_in(object: ObjectId, entry: &Entry) -> Option<ObjectId>
 
 /// The object in which its fault began, if it has one.
 fn cause(log: &[Entry], object: ObjectId) -> Option<ObjectId>
-    ensures { option_map id_of result ≡ cause (log_of log.now) (id_of object) }
+    ensures { result ≡ cause (log_of log.now) object }
 {
     for entry in log {
         if let Some(found) = cause_in(object, entry) {
@@ -71,12 +69,12 @@ fn write_cause(
     cause: Option<ObjectId>,
 ) -> Result<(), AllocError>
     ensures { OnOk result (string_bytes text.new
-        ≡ string_bytes text.old ++ cause_text (log_of log.now) lines.now (id_of object) (option_map id_of cause)) }
+        ≡ string_bytes text.old ++ cause_text (log_of log.now) lines.now object cause) }
 {
     let Some(cause) = cause else {
         return Ok(());
     };
-    if is_same(cause, object) {
+    if cause.is(object) {
         return Ok(());
     }
     text.push_str("\n")?;
@@ -91,7 +89,7 @@ fn write_why(
     lines: &[usize],
     object: ObjectId,
 ) -> Result<(), AllocError>
-    ensures { OnOk result (string_bytes text.new ≡ string_bytes text.old ++ why_text (log_of log.now) lines.now (id_of object)) }
+    ensures { OnOk result (string_bytes text.new ≡ string_bytes text.old ++ why_text (log_of log.now) lines.now object) }
 {
     write_account(alloc, text, log, lines, object)?;
     write_cause(alloc, text, log, lines, object, cause(log, object))
@@ -110,7 +108,7 @@ pub fn why_text(
     lines: &[usize],
     object: ObjectId,
 ) -> Result<String, AllocError>
-    ensures { IfOk result (λ text. string_bytes text ≡ why_text (log_of log.now) lines.now (id_of object)) }
+    ensures { IfOk result (λ text. string_bytes text ≡ why_text (log_of log.now) lines.now object) }
 {
     let mut text = String::new(alloc);
     write_why(alloc, &mut text, log, lines, object)?;

@@ -1,10 +1,10 @@
 // What each entry says of an object.
 
 ghost use Rattle.std.specs.Prelude.{◌≡◌, ◌++◌, OnOk, [], if◌then◌else◌, string_bytes};
-ghost use Rattle.values.specs.Values.{content_of, id_of};
+ghost use Rattle.values.specs.Values.{content_of};
 ghost use Rattle.task_spec.specs.Births.{birth_of};
 ghost use Rattle.event_log.specs.Words.{births};
-ghost use Rattle.event_log.specs.Views.{attempt_of, entry_of, event_of, fault_of, log_of};
+ghost use Rattle.event_log.specs.Views.{entry_of, log_of};
 ghost use Rattle.log_words.specs.Index.{IsIndexOf};
 ghost use Rattle.why_text.specs.Moments.{moment_of};
 ghost use Rattle.why_text.specs.Runs.{seen_of};
@@ -18,11 +18,12 @@ use crate::acts::{
 use crate::events::write_event_sentence;
 use crate::moments::Moment;
 use crate::runs::Subject;
-use event_log::{Entry, Event};
+use event_log::Entry;
 use ids::{AttemptId, ObjectId};
+use log_entries::Event;
 use log_words::BirthIndex;
 use std::alloc::{AllocError, Global};
-use story_text::{is_in_birth, is_same};
+use story_text::is_in_birth;
 use task_spec::Birth;
 use values::{Content, Fault};
 
@@ -37,10 +38,10 @@ fn write_birth_sentence(
     attempt: AttemptId,
     birth: &Birth,
 ) -> Result<(), AllocError>
-    ensures { IsIndexOf index.now log.now → OnOk result (string_bytes text.new ≡ string_bytes text.old ++ birth_sentence (id_of subject)
-        (births (log_of log.now)) (moment_of moment.now) (id_of object) (attempt_of attempt) (birth_of birth.now)) }
+    ensures { IsIndexOf index.now log.now → OnOk result (string_bytes text.new ≡ string_bytes text.old ++ birth_sentence subject
+        (births (log_of log.now)) (moment_of moment.now) object attempt (birth_of birth.now)) }
 {
-    if is_same(object, subject) {
+    if object.is(subject) {
         return write_made(text, index, log, moment, object, attempt, birth);
     }
     if is_in_birth(alloc, subject, birth)? {
@@ -59,13 +60,13 @@ fn write_got_sentence(
     object: ObjectId,
     content: &Content,
 ) -> Result<(), AllocError>
-    ensures { IsIndexOf index.now log.now → OnOk result (string_bytes text.new ≡ string_bytes text.old ++ got_sentence (id_of subject)
-        (births (log_of log.now)) (moment_of moment.now) (attempt_of attempt) (id_of object) (content_of content.now)) }
+    ensures { IsIndexOf index.now log.now → OnOk result (string_bytes text.new ≡ string_bytes text.old ++ got_sentence subject
+        (births (log_of log.now)) (moment_of moment.now) attempt object (content_of content.now)) }
 {
-    if is_same(attempt.object, subject) {
+    if attempt.object.is(subject) {
         return write_got(text, index, log, moment, attempt, object, content);
     }
-    if is_same(object, subject) {
+    if object.is(subject) {
         return write_got(text, index, log, moment, attempt, object, content);
     }
     Ok(())
@@ -84,15 +85,15 @@ fn write_faulted_sentence(
     fault: Fault,
 ) -> Result<(), AllocError>
     ensures { IsIndexOf index.now log.now → OnOk result
-        (string_bytes text.new ≡ string_bytes text.old ++ faulted_sentence (id_of subject) (births (log_of log.now))
-        (log_of before.now) (moment_of moment.now) (attempt_of attempt) (id_of object) (fault_of fault)) }
+        (string_bytes text.new ≡ string_bytes text.old ++ faulted_sentence subject (births (log_of log.now))
+        (log_of before.now) (moment_of moment.now) attempt object fault) }
 {
-    if is_same(attempt.object, subject) {
+    if attempt.object.is(subject) {
         return write_faulted(
             alloc, text, index, log, before, moment, attempt, object, fault,
         );
     }
-    if is_same(object, subject) {
+    if object.is(subject) {
         return write_faulted(
             alloc, text, index, log, before, moment, attempt, object, fault,
         );
@@ -113,7 +114,7 @@ fn write_entry_sentence(
     entry: &Entry,
 ) -> Result<(), AllocError>
     ensures { IsIndexOf index.now log.now → OnOk result (string_bytes text.new ≡ string_bytes text.old ++ entry_sentence
-        (id_of subject) (births (log_of log.now)) lines.now (log_of before.now) (moment_of moment.now) (entry_of entry.now)) }
+        subject (births (log_of log.now)) lines.now (log_of before.now) (moment_of moment.now) (entry_of entry.now)) }
 {
     match entry {
         Entry::Born {
@@ -124,7 +125,7 @@ fn write_entry_sentence(
             alloc, text, subject, index, log, moment, *object, *attempt, birth,
         ),
         Entry::Begun { attempt, worker } => {
-            if is_same(attempt.object, subject) {
+            if attempt.object.is(subject) {
                 return write_began(text, index, log, moment, *attempt, *worker);
             }
             Ok(())
@@ -137,13 +138,13 @@ fn write_entry_sentence(
             text, subject, index, log, moment, *attempt, *object, content,
         ),
         Entry::Ended { attempt, content } => {
-            if is_same(attempt.object, subject) {
+            if attempt.object.is(subject) {
                 return write_ended(text, index, log, moment, *attempt, content);
             }
             Ok(())
         }
         Entry::Accepted(attempt) => {
-            if is_same(attempt.object, subject) {
+            if attempt.object.is(subject) {
                 return write_accepted(text, index, log, before, moment, *attempt);
             }
             Ok(())
@@ -156,13 +157,13 @@ fn write_entry_sentence(
             alloc, text, subject, index, log, before, moment, *attempt, *object, *fault,
         ),
         Entry::Resolved { object, fault } => {
-            if is_same(*object, subject) {
+            if object.is(subject) {
                 return write_given_up(text, moment, *object, *fault);
             }
             Ok(())
         }
         Entry::Released(object) => {
-            if is_same(*object, subject) {
+            if object.is(subject) {
                 return write_released(alloc, text, before, lines, moment, *object);
             }
             Ok(())
@@ -179,7 +180,7 @@ fn write_event_unless(
     is_refused: bool,
 ) -> Result<(), AllocError>
     ensures { OnOk result (string_bytes text.new ≡ string_bytes text.old
-        ++ (if is_refused then [] else event_sentence (seen_of subject.now) (moment_of moment.now) (event_of event.now))) }
+        ++ (if is_refused then [] else event_sentence (seen_of subject.now) (moment_of moment.now) event.now)) }
 {
     if is_refused {
         return Ok(());

@@ -2,25 +2,23 @@
 
 ghost use Rattle.std.specs.Prelude.{◌≡◌, ◌++◌, OnOk, map, string_bytes};
 ghost use Rattle.std.specs.List.{flat_map, list_any};
-ghost use Rattle.values.specs.Values.{id_of};
-ghost use Rattle.event_log.specs.Views.{attempt_of, event_of};
 ghost use Rattle.why_text.specs.Moments.{moment_of};
 ghost use Rattle.why_text.specs.Runs.{run_seen, seen_of};
 ghost use Rattle.why_text.specs.Events.{concerns, concerns_node, copies_head, copies_text, dead_node_text, dead_text};
 ghost use Rattle.why_text.specs.Events.{event_sentence, fate_at, fate_on, fate_text, fate_unless, is_at, is_on};
 ghost use Rattle.why_text.specs.Events.{kill_text, learned_text, node_kill_text, node_note, node_notice_text};
-ghost use Rattle.why_text.specs.Events.{notice_text, owner_note, worker_note};
+ghost use Rattle.why_text.specs.Events.{notice_text, owner_note, owner_too, worker_note};
 
 use crate::moments::{Moment, write_when};
+use crate::notes::write_owner_of;
 use crate::runs::{Run, Subject, is_node};
-use event_log::Event;
 use ids::{AttemptId, NodeId, ObjectId, WorkerId};
+use log_entries::Event;
 use std::alloc::AllocError;
-use story_text::is_same;
 
 #[tactic(auto, unfolding(crate::specs::Events::fate_text))]
 fn write_fate(text: &mut String, attempt: AttemptId, is_open: bool) -> Result<(), AllocError>
-    ensures { OnOk result (string_bytes text.new ≡ string_bytes text.old ++ fate_text (attempt_of attempt) is_open) }
+    ensures { OnOk result (string_bytes text.new ≡ string_bytes text.old ++ fate_text attempt is_open) }
 {
     if is_open {
         return write!(text, ", and {attempt} broke");
@@ -53,7 +51,7 @@ fn write_fate_unless(
     is_open: bool,
     told: bool,
 ) -> Result<(), AllocError>
-    ensures { OnOk result (string_bytes text.new ≡ string_bytes text.old ++ fate_unless (attempt_of attempt) is_open told) }
+    ensures { OnOk result (string_bytes text.new ≡ string_bytes text.old ++ fate_unless attempt is_open told) }
 {
     if told {
         return Ok(());
@@ -127,7 +125,7 @@ fn concerns_node(subject: &Subject, node: u32) -> bool
 
 #[tactic(auto, unfolding(crate::specs::Events::dead_text))]
 fn write_dead(text: &mut String, object: ObjectId, worker: WorkerId) -> Result<(), AllocError>
-    ensures { OnOk result (string_bytes text.new ≡ string_bytes text.old ++ dead_text (id_of object) worker.0) }
+    ensures { OnOk result (string_bytes text.new ≡ string_bytes text.old ++ dead_text object worker) }
 {
     if object.owner.0 == worker.0 {
         return write!(text, "{worker}, the owner of {object}, died");
@@ -141,7 +139,7 @@ fn write_kill(
     moment: &Moment,
     worker: WorkerId,
 ) -> Result<(), AllocError>
-    ensures { OnOk result (string_bytes text.new ≡ string_bytes text.old ++ kill_text (seen_of subject.now) (moment_of moment.now) worker.0) }
+    ensures { OnOk result (string_bytes text.new ≡ string_bytes text.old ++ kill_text (seen_of subject.now) (moment_of moment.now) worker) }
 {
     write_dead(text, subject.object, worker)?;
     write_when(text, moment)?;
@@ -149,20 +147,28 @@ fn write_kill(
     text.push_str(".\n")
 }
 
+#[tactic(auto, unfolding(crate::specs::Events::owner_too))]
+fn write_owner_too(text: &mut String, object: ObjectId) -> Result<(), AllocError>
+    ensures { OnOk result (string_bytes text.new ≡ string_bytes text.old ++ owner_too object) }
+{
+    text.push_str(", and with it ")?;
+    write_owner_of(text, object)?;
+    write!(text, ", the owner of {object}")
+}
+
 #[tactic(auto, unfolding(crate::specs::Events::owner_note))]
 fn write_owner(text: &mut String, object: ObjectId, dies: bool) -> Result<(), AllocError>
-    ensures { OnOk result (string_bytes text.new ≡ string_bytes text.old ++ owner_note (id_of object) dies) }
+    ensures { OnOk result (string_bytes text.new ≡ string_bytes text.old ++ owner_note object dies) }
 {
     if dies {
-        let owner = object.owner;
-        return write!(text, ", and with it {owner}, the owner of {object}");
+        return write_owner_too(text, object);
     }
     Ok(())
 }
 
 #[tactic(auto, unfolding(crate::specs::Events::dead_node_text))]
 fn write_dead_node(text: &mut String, node: NodeId) -> Result<(), AllocError>
-    ensures { OnOk result (string_bytes text.new ≡ string_bytes text.old ++ dead_node_text node.0) }
+    ensures { OnOk result (string_bytes text.new ≡ string_bytes text.old ++ dead_node_text node) }
 {
     write!(text, "{node} died")
 }
@@ -173,7 +179,7 @@ fn write_node_kill(
     moment: &Moment,
     node: NodeId,
 ) -> Result<(), AllocError>
-    ensures { OnOk result (string_bytes text.new ≡ string_bytes text.old ++ node_kill_text (seen_of subject.now) (moment_of moment.now) node.0) }
+    ensures { OnOk result (string_bytes text.new ≡ string_bytes text.old ++ node_kill_text (seen_of subject.now) (moment_of moment.now) node) }
 {
     write_dead_node(text, node)?;
     write_when(text, moment)?;
@@ -184,14 +190,14 @@ fn write_node_kill(
 
 #[tactic(auto, unfolding(crate::specs::Events::learned_text))]
 fn write_learned(text: &mut String, worker: WorkerId) -> Result<(), AllocError>
-    ensures { OnOk result (string_bytes text.new ≡ string_bytes text.old ++ learned_text worker.0) }
+    ensures { OnOk result (string_bytes text.new ≡ string_bytes text.old ++ learned_text worker) }
 {
     write!(text, "{worker} learned")
 }
 
 #[tactic(auto, unfolding(crate::specs::Events::worker_note))]
 fn write_dead_worker_note(text: &mut String, dead: WorkerId) -> Result<(), AllocError>
-    ensures { OnOk result (string_bytes text.new ≡ string_bytes text.old ++ worker_note dead.0) }
+    ensures { OnOk result (string_bytes text.new ≡ string_bytes text.old ++ worker_note dead) }
 {
     write!(text, " that {dead} was dead.\n")
 }
@@ -202,7 +208,7 @@ fn write_notice(
     worker: WorkerId,
     dead: WorkerId,
 ) -> Result<(), AllocError>
-    ensures { OnOk result (string_bytes text.new ≡ string_bytes text.old ++ notice_text (moment_of moment.now) worker.0 dead.0) }
+    ensures { OnOk result (string_bytes text.new ≡ string_bytes text.old ++ notice_text (moment_of moment.now) worker dead) }
 {
     write_learned(text, worker)?;
     write_when(text, moment)?;
@@ -211,7 +217,7 @@ fn write_notice(
 
 #[tactic(auto, unfolding(crate::specs::Events::node_note))]
 fn write_dead_node_note(text: &mut String, dead: NodeId) -> Result<(), AllocError>
-    ensures { OnOk result (string_bytes text.new ≡ string_bytes text.old ++ node_note dead.0) }
+    ensures { OnOk result (string_bytes text.new ≡ string_bytes text.old ++ node_note dead) }
 {
     write!(text, " that {dead} was dead.\n")
 }
@@ -222,7 +228,7 @@ fn write_node_notice(
     worker: WorkerId,
     dead: NodeId,
 ) -> Result<(), AllocError>
-    ensures { OnOk result (string_bytes text.new ≡ string_bytes text.old ++ node_notice_text (moment_of moment.now) worker.0 dead.0) }
+    ensures { OnOk result (string_bytes text.new ≡ string_bytes text.old ++ node_notice_text (moment_of moment.now) worker dead) }
 {
     write_learned(text, worker)?;
     write_when(text, moment)?;
@@ -236,7 +242,7 @@ fn write_copies_head(
     did: &str,
     object: ObjectId,
 ) -> Result<(), AllocError>
-    ensures { OnOk result (string_bytes text.new ≡ string_bytes text.old ++ copies_head node.0 did.now (id_of object)) }
+    ensures { OnOk result (string_bytes text.new ≡ string_bytes text.old ++ copies_head node did.now object) }
 {
     write!(text, "{node}{did}{object}")
 }
@@ -248,7 +254,7 @@ fn write_copies(
     did: &str,
     object: ObjectId,
 ) -> Result<(), AllocError>
-    ensures { OnOk result (string_bytes text.new ≡ string_bytes text.old ++ copies_text (moment_of moment.now) node.0 did.now (id_of object)) }
+    ensures { OnOk result (string_bytes text.new ≡ string_bytes text.old ++ copies_text (moment_of moment.now) node did.now object) }
 {
     write_copies_head(text, node, did, object)?;
     write_when(text, moment)?;
@@ -263,7 +269,7 @@ pub fn write_event_sentence(
     event: &Event,
 ) -> Result<(), AllocError>
     ensures { OnOk result
-        (string_bytes text.new ≡ string_bytes text.old ++ event_sentence (seen_of subject.now) (moment_of moment.now) (event_of event.now)) }
+        (string_bytes text.new ≡ string_bytes text.old ++ event_sentence (seen_of subject.now) (moment_of moment.now) event.now) }
 {
     let owner = subject.object.owner.0;
     match event {
@@ -294,13 +300,13 @@ pub fn write_event_sentence(
             Ok(())
         }
         Event::Lose { node, object } => {
-            if is_same(*object, subject.object) {
+            if object.is(subject.object) {
                 return write_copies(text, moment, *node, " lost its copies of ", *object);
             }
             Ok(())
         }
         Event::Evict { node, object } => {
-            if is_same(*object, subject.object) {
+            if object.is(subject.object) {
                 let did = " dropped its secondary copies of ";
                 return write_copies(text, moment, *node, did, *object);
             }

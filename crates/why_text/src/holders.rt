@@ -2,20 +2,20 @@
 
 ghost use Rattle.std.specs.Prelude.{◌≡◌, IfOk};
 ghost use Rattle.std.specs.Option.{option_map};
-ghost use Rattle.values.specs.Values.{id_of};
-ghost use Rattle.event_log.specs.Views.{attempt_of, entry_of, fault_of, kind_of, log_of};
+ghost use Rattle.event_log.specs.Views.{entry_of, log_of};
 ghost use Rattle.history.specs.Main.{first};
 ghost use Rattle.why_text.specs.Moments.{first_moment, moment_of};
 ghost use Rattle.why_text.specs.Holders.{death_from, death_of, gone_holder, gone_in, has, holder_in, if_gone, is_death, is_found, is_from_above};
 ghost use Rattle.why_text.specs.Holders.{is_gone, is_had_in, is_kept, is_owner_died, is_release_of, is_released_in, is_small_end, is_that};
 
 use crate::moments::Moment;
-use crate::runs::{is_node, is_same_attempt, node_of, opened};
-use event_log::{Entry, Event};
+use crate::runs::is_node;
+use event_log::Entry;
 use ids::{AttemptId, ObjectId};
+use log_entries::Event;
 use log_words::is_refusal_at;
 use std::alloc::{AllocError, Global};
-use story_text::{is_in_birth, is_in_content, is_same};
+use story_text::{is_in_birth, is_in_content, node_of, opened};
 use values::{Fault, FaultKind};
 
 /// Whether the event kills the worker, or its node.
@@ -67,7 +67,7 @@ pub fn death_of(
 /// The object that has the other by the entry, if one does.
 #[tactic(auto, unfolding(crate::specs::Holders::holder_in))]
 fn holder_in(alloc: Global, object: ObjectId, entry: &Entry) -> Result<Option<ObjectId>, AllocError>
-    ensures { IfOk result (λ holder. option_map id_of holder ≡ holder_in (id_of object) (entry_of entry.now)) }
+    ensures { IfOk result (λ holder. holder ≡ holder_in object (entry_of entry.now)) }
 {
     match entry {
         Entry::Born {
@@ -92,16 +92,16 @@ fn holder_in(alloc: Global, object: ObjectId, entry: &Entry) -> Result<Option<Ob
 
 #[tactic(auto, unfolding(crate::specs::Holders::is_release_of))]
 fn is_release_of(object: ObjectId, entry: &Entry) -> bool
-    ensures { result ≡ is_release_of (id_of object) (entry_of entry.now) }
+    ensures { result ≡ is_release_of object (entry_of entry.now) }
 {
     match entry {
-        Entry::Released(released) => is_same(*released, object),
+        Entry::Released(released) => released.is(object),
         _ => false,
     }
 }
 
 fn is_released_in(log: &[Entry], object: ObjectId) -> bool
-    ensures { result ≡ is_released_in (id_of object) (log_of log.now) }
+    ensures { result ≡ is_released_in object (log_of log.now) }
 {
     for entry in log {
         if is_release_of(object, entry) {
@@ -128,7 +128,7 @@ fn is_gone(
     lines: &[usize],
     object: ObjectId,
 ) -> Result<bool, AllocError>
-    ensures { IfOk result (λ b. b ≡ is_gone lines.now (log_of log.now) (id_of object)) }
+    ensures { IfOk result (λ b. b ≡ is_gone lines.now (log_of log.now) object) }
 {
     if is_released_in(log, object) {
         return Ok(false);
@@ -144,7 +144,7 @@ fn if_gone(
     holder: Option<ObjectId>,
 ) -> Result<Option<ObjectId>, AllocError>
     ensures { IfOk result
-        (λ gone. option_map id_of gone ≡ first (if_gone lines.now (log_of log.now) (option_map id_of holder))) }
+        (λ gone. gone ≡ first (if_gone lines.now (log_of log.now) holder)) }
 {
     let Some(holder) = holder else {
         return Ok(None);
@@ -163,7 +163,7 @@ fn gone_in(
     entry: &Entry,
 ) -> Result<Option<ObjectId>, AllocError>
     ensures { IfOk result
-        (λ gone. option_map id_of gone ≡ first (gone_in lines.now (log_of log.now) (id_of object) (entry_of entry.now))) }
+        (λ gone. gone ≡ first (gone_in lines.now (log_of log.now) object (entry_of entry.now))) }
 {
     let holder = holder_in(alloc, object, entry)?;
     if_gone(alloc, log, lines, holder)
@@ -177,7 +177,7 @@ pub fn gone_holder(
     lines: &[usize],
     object: ObjectId,
 ) -> Result<Option<ObjectId>, AllocError>
-    ensures { IfOk result (λ gone. option_map id_of gone ≡ gone_holder lines.now (log_of log.now) (id_of object)) }
+    ensures { IfOk result (λ gone. gone ≡ gone_holder lines.now (log_of log.now) object) }
 {
     for entry in log {
         if let Some(found) = gone_in(alloc, log, lines, object, entry)? {
@@ -188,11 +188,11 @@ pub fn gone_holder(
 }
 
 fn is_that(object: ObjectId, holder: Option<ObjectId>) -> bool
-    ensures { result ≡ is_that (id_of object) (option_map id_of holder) }
+    ensures { result ≡ is_that object holder }
 {
     match holder {
         None => false,
-        Some(holder) => is_same(holder, object),
+        Some(holder) => holder.is(object),
     }
 }
 
@@ -202,7 +202,7 @@ fn is_had_in(
     object: ObjectId,
     entry: &Entry,
 ) -> Result<bool, AllocError>
-    ensures { IfOk result (λ b. b ≡ is_had_in (id_of holder) (id_of object) (entry_of entry.now)) }
+    ensures { IfOk result (λ b. b ≡ is_had_in holder object (entry_of entry.now)) }
 {
     let found = holder_in(alloc, object, entry)?;
     Ok(is_that(holder, found))
@@ -210,7 +210,7 @@ fn is_had_in(
 
 /// Whether the first object had the second.
 fn has(alloc: Global, log: &[Entry], holder: ObjectId, object: ObjectId) -> Result<bool, AllocError>
-    ensures { IfOk result (λ b. b ≡ has (log_of log.now) (id_of holder) (id_of object)) }
+    ensures { IfOk result (λ b. b ≡ has (log_of log.now) holder object) }
 {
     for entry in log {
         if is_had_in(alloc, holder, object, entry)? {
@@ -221,7 +221,7 @@ fn has(alloc: Global, log: &[Entry], holder: ObjectId, object: ObjectId) -> Resu
 }
 
 fn is_owner_died(kind: FaultKind) -> bool
-    ensures { result ≡ is_owner_died (kind_of kind) }
+    ensures { result ≡ is_owner_died kind }
 {
     match kind {
         FaultKind::OwnerDied => true,
@@ -237,7 +237,7 @@ pub fn is_from_above(
     object: ObjectId,
     fault: Fault,
 ) -> Result<bool, AllocError>
-    ensures { IfOk result (λ b. b ≡ is_from_above (log_of log.now) (id_of object) (fault_of fault)) }
+    ensures { IfOk result (λ b. b ≡ is_from_above (log_of log.now) object fault) }
 {
     if !is_owner_died(fault.kind) {
         return Ok(false);
@@ -251,7 +251,7 @@ pub fn is_from_above(
 /// Whether the attempt ended so with a small content.
 #[tactic(auto, unfolding(crate::specs::Holders::is_small_end))]
 fn is_small_end(attempt: AttemptId, entry: &Entry) -> bool
-    ensures { result ≡ is_small_end (attempt_of attempt) (entry_of entry.now) }
+    ensures { result ≡ is_small_end attempt (entry_of entry.now) }
 {
     let Entry::Ended {
         attempt: ended,
@@ -260,7 +260,7 @@ fn is_small_end(attempt: AttemptId, entry: &Entry) -> bool
     else {
         return false;
     };
-    if !is_same_attempt(*ended, attempt) {
+    if !ended.is(attempt) {
         return false;
     }
     content.is_small()
@@ -268,7 +268,7 @@ fn is_small_end(attempt: AttemptId, entry: &Entry) -> bool
 
 /// Whether the attempt ended with a small content, which its owner keeps once it accepts it.
 pub fn is_kept(log: &[Entry], attempt: AttemptId) -> bool
-    ensures { result ≡ is_kept (log_of log.now) (attempt_of attempt) }
+    ensures { result ≡ is_kept (log_of log.now) attempt }
 {
     for entry in log {
         if is_small_end(attempt, entry) {

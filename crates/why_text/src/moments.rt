@@ -1,11 +1,11 @@
 // The event at which something happened.
 
 ghost use Rattle.std.specs.Prelude.{◌≡◌, ◌+◌, ◌++◌, ◌<◌, ◌≤◌, ◌^◌, OnOk, string_bytes};
-ghost use Rattle.std.specs.Option.{option_map};
-ghost use Rattle.event_log.specs.Views.{entry_of, event_of};
+ghost use Rattle.event_log.specs.Views.{entry_of};
 ghost use Rattle.why_text.specs.Moments.{event_note, first_moment, line_note, moment_after, moment_of, when_event, when_text};
 
-use event_log::{Entry, Event};
+use event_log::Entry;
+use log_entries::Event;
 use std::alloc::AllocError;
 
 /// How many events came, the last of them, and the line of the event file from which it came, if there is one.
@@ -57,7 +57,7 @@ fn write_line(text: &mut String, line: Option<usize>) -> Result<(), AllocError>
 
 #[tactic(auto, unfolding(crate::specs::Moments::event_note))]
 fn write_event_note(text: &mut String, number: usize, event: Event) -> Result<(), AllocError>
-    ensures { OnOk result (string_bytes text.new ≡ string_bytes text.old ++ event_note number (event_of event)) }
+    ensures { OnOk result (string_bytes text.new ≡ string_bytes text.old ++ event_note number event) }
 {
     write!(text, " in event {number} ({event}")
 }
@@ -69,7 +69,7 @@ fn write_event(
     line: Option<usize>,
     event: Option<Event>,
 ) -> Result<(), AllocError>
-    ensures { OnOk result (string_bytes text.new ≡ string_bytes text.old ++ when_event number line (option_map event_of event)) }
+    ensures { OnOk result (string_bytes text.new ≡ string_bytes text.old ++ when_event number line event) }
 {
     let Some(event) = event else {
         return text.push_str(" at the start");

@@ -2,21 +2,20 @@
 
 ghost use Rattle.std.specs.Prelude.{◌≡◌, ◌++◌, OnOk, string_bytes};
 ghost use Rattle.std.specs.Option.{option_map};
-ghost use Rattle.values.specs.Values.{id_of};
-ghost use Rattle.event_log.specs.Views.{attempt_of, fault_of, log_of};
+ghost use Rattle.event_log.specs.Views.{log_of};
 ghost use Rattle.why_text.specs.Moments.{moment_of};
-ghost use Rattle.why_text.specs.Notes.{above_note, death_head, death_note, death_text, fault_note, holder_note, kept_note, release_note};
+ghost use Rattle.why_text.specs.Notes.{above_note, death_head, death_note, death_text, fault_note, holder_note, kept_note, release_note, owner_text};
 
 use crate::holders::{death_of, gone_holder, is_from_above, is_kept};
 use crate::moments::{Moment, write_when};
 use event_log::Entry;
-use ids::{AttemptId, ObjectId};
+use ids::{AttemptId, ObjectId, WorkerId};
 use std::alloc::{AllocError, Global};
 use values::Fault;
 
 #[tactic(auto, unfolding(crate::specs::Notes::death_head))]
 fn write_death_head(text: &mut String, holder: ObjectId) -> Result<(), AllocError>
-    ensures { OnOk result (string_bytes text.new ≡ string_bytes text.old ++ death_head (id_of holder)) }
+    ensures { OnOk result (string_bytes text.new ≡ string_bytes text.old ++ death_head holder) }
 {
     let owner = holder.owner;
     write!(
@@ -26,7 +25,7 @@ fn write_death_head(text: &mut String, holder: ObjectId) -> Result<(), AllocErro
 }
 
 fn write_death(text: &mut String, holder: ObjectId, death: Option<Moment>) -> Result<(), AllocError>
-    ensures { OnOk result (string_bytes text.new ≡ string_bytes text.old ++ death_text (id_of holder) (option_map moment_of death)) }
+    ensures { OnOk result (string_bytes text.new ≡ string_bytes text.old ++ death_text holder (option_map moment_of death)) }
 {
     let Some(moment) = death else {
         return Ok(());
@@ -44,7 +43,7 @@ fn write_death_note(
     lines: &[usize],
     holder: ObjectId,
 ) -> Result<(), AllocError>
-    ensures { OnOk result (string_bytes text.new ≡ string_bytes text.old ++ death_note lines.now (log_of log.now) (id_of holder)) }
+    ensures { OnOk result (string_bytes text.new ≡ string_bytes text.old ++ death_note lines.now (log_of log.now) holder) }
 {
     let death = death_of(alloc, log, lines, holder.owner.0)?;
     write_death(text, holder, death)
@@ -58,7 +57,7 @@ fn write_holder_note(
     holder: Option<ObjectId>,
 ) -> Result<(), AllocError>
     ensures { OnOk result
-        (string_bytes text.new ≡ string_bytes text.old ++ holder_note lines.now (log_of log.now) (option_map id_of holder)) }
+        (string_bytes text.new ≡ string_bytes text.old ++ holder_note lines.now (log_of log.now) holder) }
 {
     let Some(holder) = holder else {
         return Ok(());
@@ -75,15 +74,31 @@ pub fn write_release_note(
     lines: &[usize],
     object: ObjectId,
 ) -> Result<(), AllocError>
-    ensures { OnOk result (string_bytes text.new ≡ string_bytes text.old ++ release_note lines.now (log_of log.now) (id_of object)) }
+    ensures { OnOk result (string_bytes text.new ≡ string_bytes text.old ++ release_note lines.now (log_of log.now) object) }
 {
     let holder = gone_holder(alloc, log, lines, object)?;
     write_holder_note(alloc, text, log, lines, holder)
 }
 
+/// The worker that owns the object.
+fn owner_of(object: ObjectId) -> WorkerId
+    ensures { result ≡ object.owner }
+{
+    object.owner
+}
+
+/// Writes the worker that owns the object.
+#[tactic(auto, unfolding(crate::specs::Notes::owner_text))]
+pub fn write_owner_of(text: &mut String, object: ObjectId) -> Result<(), AllocError>
+    ensures { OnOk result (string_bytes text.new ≡ string_bytes text.old ++ owner_text object) }
+{
+    let owner = owner_of(object);
+    write!(text, "{owner}")
+}
+
 #[tactic(auto, unfolding(crate::specs::Notes::above_note))]
 fn write_above_note(text: &mut String, object: ObjectId, holder: ObjectId) -> Result<(), AllocError>
-    ensures { OnOk result (string_bytes text.new ≡ string_bytes text.old ++ above_note (id_of object) (id_of holder)) }
+    ensures { OnOk result (string_bytes text.new ≡ string_bytes text.old ++ above_note object holder) }
 {
     write!(text, "; {object}, which {holder} had, was released")
 }
@@ -97,7 +112,7 @@ pub fn write_fault_note(
     object: ObjectId,
     fault: Fault,
 ) -> Result<(), AllocError>
-    ensures { OnOk result (string_bytes text.new ≡ string_bytes text.old ++ fault_note (log_of log.now) (id_of object) (fault_of fault)) }
+    ensures { OnOk result (string_bytes text.new ≡ string_bytes text.old ++ fault_note (log_of log.now) object fault) }
 {
     if is_from_above(alloc, log, object, fault)? {
         return write_above_note(text, object, fault.object);
@@ -112,7 +127,7 @@ pub fn write_kept_note(
     log: &[Entry],
     attempt: AttemptId,
 ) -> Result<(), AllocError>
-    ensures { OnOk result (string_bytes text.new ≡ string_bytes text.old ++ kept_note (log_of log.now) (attempt_of attempt)) }
+    ensures { OnOk result (string_bytes text.new ≡ string_bytes text.old ++ kept_note (log_of log.now) attempt) }
 {
     if is_kept(log, attempt) {
         return text.push_str(", and keeps the result itself: no node can lose it");

@@ -2,17 +2,16 @@
 
 ghost use Rattle.std.specs.Prelude.{◌≡◌, ◌++◌, IfOk, OnOk, map};
 ghost use Rattle.std.specs.List.{list_any};
-ghost use Rattle.values.specs.Values.{id_of};
-ghost use Rattle.event_log.specs.Events.{from_one};
-ghost use Rattle.event_log.specs.Words.{opened, opened_in, same_attempt};
-ghost use Rattle.event_log.specs.Views.{attempt_of, entry_of, log_of};
+ghost use Rattle.event_log.specs.Words.{opened};
+ghost use Rattle.event_log.specs.Views.{entry_of, log_of};
 ghost use Rattle.why_text.specs.Runs.{is_end_of, is_kill, is_killed_in, is_node, run_in, run_of, run_seen, runs_of, seen_of, subject_of};
 
-use event_log::{Entry, Event};
+use event_log::Entry;
 use ids::{AttemptId, ObjectId};
+use log_entries::Event;
 use log_words::is_refusal_at;
 use std::alloc::{AllocError, Global};
-use story_text::is_same;
+use story_text::{node_of, opened};
 
 /// An attempt, the numbers of its worker and of the node of that, whether the log never says that it ended, and whether its worker was
 /// killed for itself, not with its node.
@@ -33,28 +32,20 @@ pub struct Subject {
     pub runs: Vec<Run>,
 }
 
-/// Whether two names are of one attempt.
-#[tactic(auto, unfolding(event_log::specs::Words::same_attempt, meaning::specs::Births::same_id))]
-pub fn is_same_attempt(left: AttemptId, right: AttemptId) -> bool
-    ensures { result ≡ same_attempt (attempt_of left) (attempt_of right) }
-{
-    is_same(left.object, right.object) && left.number == right.number
-}
-
 #[tactic(auto, unfolding(crate::specs::Runs::is_end_of))]
 fn is_end_of(attempt: AttemptId, entry: &Entry) -> bool
-    ensures { result ≡ is_end_of (attempt_of attempt) (entry_of entry.now) }
+    ensures { result ≡ is_end_of attempt (entry_of entry.now) }
 {
     match entry {
         Entry::Ended { attempt: ended, .. } | Entry::Faulted { attempt: ended, .. } => {
-            is_same_attempt(*ended, attempt)
+            ended.is(attempt)
         }
         _ => false,
     }
 }
 
 fn has_ended(log: &[Entry], attempt: AttemptId) -> bool
-    ensures { result ≡ list_any (is_end_of (attempt_of attempt)) (log_of log.now) }
+    ensures { result ≡ list_any (is_end_of attempt) (log_of log.now) }
 {
     for entry in log {
         if is_end_of(attempt, entry) {
@@ -62,40 +53,6 @@ fn has_ended(log: &[Entry], attempt: AttemptId) -> bool
         }
     }
     false
-}
-
-fn add_opened(nodes: &mut Vec<u32>, entry: &Entry) -> Result<(), AllocError>
-    ensures { OnOk result (nodes.new.items ≡ nodes.old.items ++ opened_in (entry_of entry.now)) }
-{
-    match entry {
-        Entry::Opened { node, .. } => Ok(nodes.push(node.0)?),
-        _ => Ok(()),
-    }
-}
-
-/// The nodes of all workers, by their numbers.
-pub fn opened(alloc: Global, log: &[Entry]) -> Result<Vec<u32>, AllocError>
-    ensures { IfOk result (λ nodes. nodes.items ≡ opened (log_of log.now)) }
-{
-    let mut nodes = Vec::new(alloc);
-    for entry in log {
-        add_opened(&mut nodes, entry)?;
-    }
-    Ok(nodes)
-}
-
-/// The node of the worker, where `nodes` are those of all workers.
-pub fn node_of(nodes: &[u32], worker: u32) -> Option<u32>
-    ensures { result ≡ from_one nodes.now worker }
-{
-    if worker == 0 {
-        return None;
-    }
-    let place = (worker - 1) as usize;
-    if place < nodes.len() {
-        return Some(nodes[place]);
-    }
-    None
 }
 
 #[tactic(auto, unfolding(crate::specs::Runs::is_kill))]
@@ -124,7 +81,7 @@ fn is_killed_in(log: &[Entry], worker: u32) -> bool
 }
 
 fn run_of(log: &[Entry], nodes: &[u32], attempt: AttemptId, worker: u32) -> Run
-    ensures { nodes.now ≡ opened (log_of log.now) → run_seen result ≡ run_of (log_of log.now) (attempt_of attempt) worker }
+    ensures { nodes.now ≡ opened (log_of log.now) → run_seen result ≡ run_of (log_of log.now) attempt worker }
 {
     Run {
         attempt,
@@ -143,12 +100,12 @@ fn add_run(
     entry: &Entry,
 ) -> Result<(), AllocError>
     ensures { nodes.now ≡ opened (log_of log.now) → OnOk result
-        (map run_seen runs.new.items ≡ map run_seen runs.old.items ++ run_in (log_of log.now) (id_of object) (entry_of entry.now)) }
+        (map run_seen runs.new.items ≡ map run_seen runs.old.items ++ run_in (log_of log.now) object (entry_of entry.now)) }
 {
     let Entry::Begun { attempt, worker } = entry else {
         return Ok(());
     };
-    if is_same(attempt.object, object) {
+    if attempt.object.is(object) {
         let run = run_of(log, nodes, *attempt, worker.0);
         return Ok(runs.push(run)?);
     }
@@ -161,7 +118,7 @@ fn runs_of(
     nodes: &[u32],
     object: ObjectId,
 ) -> Result<Vec<Run>, AllocError>
-    ensures { nodes.now ≡ opened (log_of log.now) → IfOk result (λ runs. map run_seen runs.items ≡ runs_of (log_of log.now) (id_of object)) }
+    ensures { nodes.now ≡ opened (log_of log.now) → IfOk result (λ runs. map run_seen runs.items ≡ runs_of (log_of log.now) object) }
 {
     let mut runs = Vec::new(alloc);
     for entry in log {
@@ -173,7 +130,7 @@ fn runs_of(
 impl Subject {
     /// The object with what the log says of its attempts.
     pub fn of(alloc: Global, log: &[Entry], object: ObjectId) -> Result<Subject, AllocError>
-        ensures { IfOk result (λ subject. seen_of subject ≡ subject_of (log_of log.now) (id_of object)) }
+        ensures { IfOk result (λ subject. seen_of subject ≡ subject_of (log_of log.now) object) }
     {
         let nodes = opened(alloc, log)?;
         let home = node_of(&nodes, object.owner.0);

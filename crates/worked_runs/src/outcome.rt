@@ -3,7 +3,7 @@
 use crate::case::{Case, Outcome};
 use crate::threaded::{ran_on_threads, threads_asked};
 use ids::ObjectId;
-use raysim_commands::{Cluster, Form, Refusal, Tracked, check, migrate, run, serial, sim};
+use raysim_commands::{Cluster, CommandRefusal, Form, Tracked, check, migrate, run, serial, sim};
 use script_syntax::{parse, print_program};
 use std::alloc::{AllocError, Global};
 use std::rt::Clock;
@@ -16,7 +16,7 @@ fn replayed(
     case: &Case,
     form: Form,
     written: &mut Vec<u8>,
-) -> Option<Result<u8, Refusal>> {
+) -> Option<Result<u8, CommandRefusal>> {
     let cluster = Cluster::new(case.nodes, case.slots)?;
     let mut reader = Tracked::reader(case.script.as_bytes());
     let mut events = Tracked::reader(case.events.as_bytes());
@@ -25,7 +25,11 @@ fn replayed(
 }
 
 /// Writes the case's events as a file of format 2.
-fn migrated(alloc: Global, case: &Case, written: &mut Vec<u8>) -> Option<Result<u8, Refusal>> {
+fn migrated(
+    alloc: Global,
+    case: &Case,
+    written: &mut Vec<u8>,
+) -> Option<Result<u8, CommandRefusal>> {
     let cluster = Cluster::new(case.nodes, case.slots)?;
     let mut reader = Tracked::reader(case.script.as_bytes());
     let mut events = Tracked::reader(case.events.as_bytes());
@@ -39,7 +43,7 @@ fn ran(
     case: &Case,
     form: Form,
     written: &mut Vec<u8>,
-) -> Option<Result<u8, Refusal>> {
+) -> Option<Result<u8, CommandRefusal>> {
     let cluster = Cluster::new(case.nodes, case.slots)?;
     let mut reader = Tracked::reader(case.script.as_bytes());
     let mut writer = Tracked::writer(written);
@@ -52,7 +56,7 @@ fn done_with_script(
     command: &str,
     script: &[u8],
     written: &mut Vec<u8>,
-) -> Option<Result<u8, Refusal>> {
+) -> Option<Result<u8, CommandRefusal>> {
     let mut reader = Tracked::reader(script);
     let mut writer = Tracked::writer(written);
     if command == "check" {
@@ -100,7 +104,7 @@ fn done<R: Threads + Wait + Clock + AllocGlobal + Sync>(
     rt: &R,
     case: &Case,
     written: &mut Vec<u8>,
-) -> Option<Result<u8, Refusal>> {
+) -> Option<Result<u8, CommandRefusal>> {
     let alloc = rt.alloc();
     let command = case.command.as_str();
     if let Some(form) = form_of(command) {

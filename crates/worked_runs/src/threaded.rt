@@ -3,7 +3,7 @@
 ghost use Rattle.std.specs.Prelude.{◌≤◌, IfSome};
 
 use crate::case::Case;
-use raysim_commands::{Cluster, Form, OpenGate, Refusal, Tracked, run_threaded, sim};
+use raysim_commands::{Cluster, CommandRefusal, Form, OpenGate, Tracked, run_threaded, sim};
 use std::alloc::{AllocError, Global};
 use std::rt::Clock;
 use std::sync::Wait;
@@ -62,7 +62,7 @@ fn run_case<R: Threads + Wait + Clock + AllocGlobal + Sync>(
     case: &Case,
     cluster: Cluster,
     threads: u8,
-) -> Result<Ran, Refusal>
+) -> Result<Ran, CommandRefusal>
     requires { (1 ≤ threads) × (threads ≤ 8) }
 {
     let mut history = Vec::new(rt.alloc());
@@ -156,7 +156,7 @@ pub fn ran_on_threads<R: Threads + Wait + Clock + AllocGlobal + Sync>(
     case: &Case,
     asked: Threaded,
     written: &mut Vec<u8>,
-) -> Option<Result<u8, Refusal>>
+) -> Option<Result<u8, CommandRefusal>>
     requires { (1 ≤ asked.threads) × (asked.threads ≤ 8) }
 {
     let cluster = Cluster::new(case.nodes, case.slots)?;
@@ -167,6 +167,6 @@ pub fn ran_on_threads<R: Threads + Wait + Clock + AllocGlobal + Sync>(
     let same = replays(rt.alloc(), case, cluster, &ran);
     match add_written(written, asked, same, &ran) {
         Ok(()) => Some(Ok(ran.status)),
-        Err(_) => Some(Err(Refusal::NoMemory)),
+        Err(_) => Some(Err(CommandRefusal::NoMemory)),
     }
 }

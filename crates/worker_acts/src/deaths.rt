@@ -6,8 +6,8 @@ ghost use Rattle.protocol.specs.Notices.{hears_of_node, hears_of_worker, notice_
 use crate::node_deaths::{add_dead_node, lose_fetch, lose_places, move_asks};
 use crate::runs_on::break_where;
 use crate::worker_deaths::{add_dead_worker, drop_holds, drop_stop, lose_owner};
+use ids::{NodeId, WorkerId};
 use number_lists::has_node;
-use numbers::{NodeId, WorkerId};
 use protocol_data::{Here, Party};
 use std::alloc::{AllocError, Global};
 use worker_steps::{collect, knows_dead};

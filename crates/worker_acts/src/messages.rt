@@ -3,7 +3,7 @@
 ghost use Rattle.std.specs.Prelude.{◌≡◌, OnOk, Some, None};
 ghost use Rattle.protocol.specs.Deliveries.{reached, reached_from_node, reached_from_worker};
 
-use numbers::{NodeId, WorkerId};
+use ids::{NodeId, WorkerId};
 use owner_steps::{
     elsewhere_reached, failed_reached, finished_reached, given_reached, missing_reached,
     where_reached,
@@ -49,13 +49,7 @@ fn reached_from_worker(
         Message::Hold(holder, object) => hold_reached(here, worker, *holder, *object),
         Message::HoldAck(holder, object) => hold_ack_reached(alloc, here, *holder, *object),
         Message::Unhold(holder, object, why) => unhold_reached(here, *holder, *object, *why),
-        Message::Ask(..)
-        | Message::Give(..)
-        | Message::Elsewhere(..)
-        | Message::Wait(..)
-        | Message::Back(..)
-        | Message::Fetch(..)
-        | Message::CopyOf(..) => Ok(()),
+        _ => Ok(()),
     }
 }
 
@@ -79,20 +73,7 @@ fn reached_from_node(
         Message::Missing(object, number, place) => {
             missing_reached(alloc, here, &Party::TheNode(node), *object, *number, *place)
         }
-        Message::Ask(..)
-        | Message::Wait(..)
-        | Message::Back(..)
-        | Message::Push(..)
-        | Message::Finished(..)
-        | Message::FinishedAck(..)
-        | Message::Failed(..)
-        | Message::Where(..)
-        | Message::At(..)
-        | Message::Gone(..)
-        | Message::Fetch(..)
-        | Message::Hold(..)
-        | Message::HoldAck(..)
-        | Message::Unhold(..) => Ok(()),
+        _ => Ok(()),
     }
 }
 

@@ -5,8 +5,8 @@ ghost use Rattle.protocol.specs.Tables.{task_of, without_place};
 ghost use Rattle.protocol.specs.Steps.{own_object};
 ghost use Rattle.protocol.specs.Notices.{loses_fetch, loses_places, moves_ask, moves_asks, with_dead_node};
 
+use ids::{NodeId, ObjectId};
 use number_lists::{object_at_number, remove_node};
-use numbers::{NodeId, ObjectId};
 use owner_steps::{ask_next, missing_reached};
 use protocol_data::{Here, Maker, Objects, Party, Phase, Progress};
 use std::alloc::{AllocError, Global};

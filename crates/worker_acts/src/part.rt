@@ -7,7 +7,7 @@ ghost use Rattle.worker_acts.specs.Acts.{act_step};
 use crate::deaths::{notice_node_step, notice_step};
 use crate::messages::reached;
 use crate::ticks::tick_step;
-use numbers::{NodeId, WorkerId};
+use ids::{NodeId, WorkerId};
 use owner_steps::{claim_step, commit_step};
 use protocol_data::{Here, Message, Outcomes, Party};
 use std::alloc::{AllocError, Global};

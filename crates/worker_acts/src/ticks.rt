@@ -7,8 +7,8 @@ ghost use Rattle.protocol.specs.Ticks.{asks_again, sends_holds, sends_run, sends
 ghost use Rattle.protocol_data.specs.declared.tables.Run.{Run};
 
 use crate::worker_deaths::is_unheard;
+use ids::{AttemptId, ObjectId};
 use number_lists::object_at_number;
-use numbers::{AttemptId, ObjectId};
 use protocol_data::{Here, Holding, Maker, Message, Phase, Progress};
 use sequence::Seq;
 use std::alloc::{AllocError, Global};

@@ -6,10 +6,11 @@ ghost use Rattle.protocol.specs.Steps.{with_run};
 ghost use Rattle.protocol.specs.Notices.{drops_holds, drops_holds_by, drops_stop, is_unheard, loses_owner, with_dead_worker};
 ghost use Rattle.protocol_data.specs.declared.tables.Run.{Run};
 
-use numbers::{Cause, Fault, WorkerId};
+use ids::WorkerId;
 use protocol_data::{Here, Holding, Phase, Run};
 use sequence::Seq;
 use std::alloc::{AllocError, Global};
+use values::{Fault, FaultKind};
 use worker_steps::{fault, leave_if_free, note_heard};
 
 /// The worker knows that the other is dead.
@@ -34,7 +35,7 @@ pub fn lose_owner(alloc: Global, here: &mut Here, worker: WorkerId) -> Result<()
     if !object.owned_by(worker) {
         return Ok(());
     }
-    let kind = Cause::OwnerDied;
+    let kind = FaultKind::OwnerDied;
     fault(alloc, here, Fault { kind, object })
 }
 

@@ -8,8 +8,8 @@ ghost use Rattle.protocol.specs.Holders.{collects, drops_dead, drops_dead_by, dr
 
 use crate::basics::say;
 use crate::own::drop_dead_holder;
+use ids::{ObjectId, WorkerId};
 use number_lists::{has_object, object_at_number};
-use numbers::{ObjectId, WorkerId};
 use protocol_data::{Here, Holding, Message, Object, Reason};
 use sequence::Seq;
 use std::alloc::{AllocError, Global};

@@ -3,7 +3,7 @@ use Rattle.meaning.specs.Values as meant
 use Rattle.meaning.specs.Values.{Name, Task}
 use Rattle.meaning.specs.Meaning.{replay}
 use Rattle.script_check.specs.Trees.{script_of}
-use Rattle.values.specs.Values.{content_of, id_of}
+use Rattle.values.specs.Values.{content_of}
 use Rattle.task_spec.specs.Births.{argument_of as task_argument, birth_of}
 use Rattle.frame_laws.specs.Steps.{HasSteps}
 use Rattle.frames.specs.Values.{outcome_of}
@@ -25,7 +25,7 @@ returns-in_ok-attempt-in-Task-clause-replayed c =
     ∙ ap (λ xs. task c.as_str.result.now (map task_argument xs)) (sym c.deref.ensures.value)
     ∙ ap (task c.as_str.result.now) (sym c.in_ok-arguments-in-Task.ensures ∙ ap (map argument_of) (sym c.deref-in-Task.ensures.value)) in
     let stands =
-    stands_so script c.args.spec.now c.as_str.result.now (map argument_of c.deref-in-Task.result.now) c.in-Task.depth c.in-Task.retries (id_of c.args.base)
+    stands_so script c.args.spec.now c.as_str.result.now (map argument_of c.deref-in-Task.result.now) c.in-Task.depth c.in-Task.retries c.args.base
     (map outcome_of c.in_ok-answers-in-Task.answers.items) answers c.in_ok-attempt-in-Task.attempt (c.in_ok-attempt-in-Task.ensures.halts c.in-Task.retries) is
     c.in_ok-answers-in-Task.ensures in
     if_ok _ _ c.finish.result
@@ -42,12 +42,12 @@ returns-in_ok-attempt-in-Task-clause-broken c =
     ∙ ap (λ xs. task c.as_str.result.now (map task_argument xs)) (sym c.deref.ensures.value)
     ∙ ap (task c.as_str.result.now) (sym c.in_ok-arguments-in-Task.ensures ∙ ap (map argument_of) (sym c.deref-in-Task.ensures.value)) in
     let stands =
-    stands_so script c.args.spec.now c.as_str.result.now (map argument_of c.deref-in-Task.result.now) c.in-Task.depth c.in-Task.retries (id_of c.args.base)
+    stands_so script c.args.spec.now c.as_str.result.now (map argument_of c.deref-in-Task.result.now) c.in-Task.depth c.in-Task.retries c.args.base
     (map outcome_of c.in_ok-answers-in-Task.answers.items) answers c.in_ok-attempt-in-Task.attempt (c.in_ok-attempt-in-Task.ensures.halts c.in-Task.retries) is
     c.in_ok-answers-in-Task.ensures in
     on_err _ _ c.finish.result
-    (λ e broken is_broken. broken is_broken no_past (replay script (birth_of c.args.spec.now) (id_of c.args.base) answers) stands
-    (plain_replay script (birth_of c.args.spec.now) (id_of c.args.base) answers (plain_birth c.args.spec.now) (plain_contents c.args.answers.now)))
+    (λ e broken is_broken. broken is_broken no_past (replay script (birth_of c.args.spec.now) c.args.base answers) stands
+    (plain_replay script (birth_of c.args.spec.now) c.args.base answers (plain_birth c.args.spec.now) (plain_contents c.args.answers.now)))
     c.finish.ensures.broken
 
 pub returns-in_ok-attempt-in-Task-clause-keeps : goal.returns-in_ok-attempt-in-Task-clause-keeps
@@ -61,7 +61,7 @@ returns-in_ok-attempt-in-Task-clause-keeps c =
     ∙ ap (task c.as_str.result.now) (sym c.in_ok-arguments-in-Task.ensures ∙ ap (map argument_of) (sym c.deref-in-Task.ensures.value)) in
     both_ok _ _ _ c.finish.result
     (λ p of frame. kept_so p c.in_ok-attempt-in-Task.attempt of script (task c.as_str.result.now (map argument_of c.deref-in-Task.result.now))
-    (birth_of c.args.spec.now) (id_of c.args.base) no_past (map outcome_of c.in_ok-answers-in-Task.answers.items) answers is c.in_ok-answers-in-Task.ensures
+    (birth_of c.args.spec.now) c.args.base no_past (map outcome_of c.in_ok-answers-in-Task.answers.items) answers is c.in_ok-answers-in-Task.ensures
     frame (c.in_ok-attempt-in-Task.ensures.keeps c.in-Task.retries))
     c.finish.ensures.value c.finish.ensures.frame
 
@@ -69,7 +69,7 @@ pub returns-in_ok-attempt-in-Task-clause-counts : goal.returns-in_ok-attempt-in-
 returns-in_ok-attempt-in-Task-clause-counts c =
     let task = λ (g : Name) (args : List meant.Argument). Task g args c.in-Task.depth c.in-Task.retries in
     let script = script_of c.args.script.now in
-    let base = id_of c.args.base in
+    let base = c.args.base in
     let a = c.in_ok-attempt-in-Task.attempt in
     let is : birth_of c.args.spec.now ≡ task c.as_str.result.now (map argument_of c.deref-in-Task.result.now) =
     ap birth_of c.in-Task.is ∙ ap (λ g. task g (map task_argument c.in-Task.arguments.items)) (sym c.as_str.ensures.value)

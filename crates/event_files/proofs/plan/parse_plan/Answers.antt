@@ -1,4 +1,4 @@
-use Rattle.std.proofs.Common.{◌≡◌, ◌≢◌, ◌+◌, length, true, false, None, Some, sym, subst, arith}
+use Rattle.std.proofs.Common.{◌≡◌, ◌≢◌, ◌+◌, length, true, false, None, sym, ◌∙◌, subst, arith}
 use Rattle.std.proofs.lemmas.Bool.Decides.{nat_tests}
 use Rattle.event_files.specs.Plans.{IsPlanLine, plan_line_text, plan_line_in}
 use Rattle.event_files.specs.Files.{is_passed}
@@ -20,10 +20,10 @@ loop-line-smaller-in_ok-push c = shorter 10 c.loop-line.rest.now c.in-Some.line.
 pub loop-line-preserved-in_ok-push : goal.loop-line-preserved-in_ok-push
 loop-line-preserved-in_ok-push c =
     let p = cut 10 c.loop-line.rest.now c.in-Some.line.now c.in-Some.after.now c.in-Some.ensures in
-    let e : plan_line_in c.in-Some.line.now ≡ Some c.in-Some-read_plan_line.said = cc in
+    let e = sym c.read_plan_line.ensures ∙ c.in-Some-read_plan_line.is in
     subst (λ z. IsReadTo IsPlanLine plan_line_text c.args.text.now c.in-Some.after.now z (c.loop-line.number + 1)) (sym c.in_ok-push.ensures.ok)
     (goes_with IsPlanLine plan_line_text plan_line_in reads_plans c.args.text.now c.loop-line.rest.now c.in-Some.line.now c.in-Some.after.now c.loop-line.lines
-    c.loop-line.number c.in-Some-read_plan_line.said c.loop-line.invariant p e)
+    c.loop-line.number _ c.loop-line.invariant p e)
 
 pub loop-line-smaller : goal.loop-line-smaller
 loop-line-smaller c = shorter 10 c.loop-line.rest.now c.in-Some.line.now c.in-Some.after.now c.in-Some.ensures

@@ -2,7 +2,6 @@ use Rattle.std.proofs.Common.{◌≡◌, Some, map, sym, ap, ◌∙◌, subst, a
 use Rattle.meaning.specs.Values.{Task}
 use Rattle.meaning.specs.Meaning.{find, replay}
 use Rattle.script_check.specs.Trees.{script_of}
-use Rattle.values.specs.Values.{id_of}
 use Rattle.frame_laws.specs.Compile.{number_of}
 use Rattle.std.proofs.Common.{length}
 use Rattle.frames.specs.Values.{outcome_of}
@@ -25,8 +24,8 @@ returns-then-number-functions-clause-halts c retries s e =
     let answers = map outcome_of c.args.answers.items in
     let none = has_none fs g c.args.arguments.now c.number_of-number.result c.number_of-number.ensures c.if-number-functions.true in
     let done = c.nothing_done-then-number-functions in
-    ap (λ gs. replay (script_of gs) (Task g args c.args.depth retries) (id_of c.args.base) answers) (sym (c.functions-functions.ensures.value ∙ c.script.ensures))
-    ∙ mismatch_piece (script_of fs) g args c.args.depth retries (id_of c.args.base) answers (omega (arith, c.if-depth-gt-DEEPEST.false)) none
+    ap (λ gs. replay (script_of gs) (Task g args c.args.depth retries) c.args.base answers) (sym (c.functions-functions.ensures.value ∙ c.script.ensures))
+    ∙ mismatch_piece (script_of fs) g args c.args.depth retries c.args.base answers (omega (arith, c.if-depth-gt-DEEPEST.false)) none
     ∙ nothing_at done.result (mismatch_stop (matched (script_of fs) g args) answers) s done.ensures.births done.ensures.prints
     (ap (λ os. mismatch_stop (matched (script_of fs) g args) (map outcome_of os)) (sym c.deref.ensures.value)
     ∙ c.stop_mismatch-halt.ensures.stops s (subst (λ h. stopped_by h ≡ Some s) done.ensures.halt e))
@@ -37,7 +36,7 @@ returns-clause-halts c =
     let g = c.args.function.now in
     let xs = c.args.arguments.now in
     let script = script_of c.args.script.now in
-    let base = id_of c.args.base in
+    let base = c.args.base in
     let one = has_one fs g xs c.number_of-number.result c.number_of-number.ensures (omega (arith, c.if-number-functions.false)) in
     let same = c.functions-functions.ensures.value ∙ c.script.ensures in
     let answers = c.run-halt.ensures.answers ∙ c.in_ok-course.ensures.answers in
@@ -58,7 +57,7 @@ returns-clause-keeps c =
     let g = c.args.function.now in
     let xs = c.args.arguments.now in
     let script = script_of c.args.script.now in
-    let base = id_of c.args.base in
+    let base = c.args.base in
     let one = has_one fs g xs c.number_of-number.result c.number_of-number.ensures (omega (arith, c.if-number-functions.false)) in
     let same = c.functions-functions.ensures.value ∙ c.script.ensures in
     let answers = c.run-halt.ensures.answers ∙ c.in_ok-course.ensures.answers in
@@ -77,7 +76,7 @@ pub returns-then-depth-gt-DEEPEST-clause-counts : goal.returns-then-depth-gt-DEE
 returns-then-depth-gt-DEEPEST-clause-counts c retries s e =
     let args = map argument_of c.args.arguments.now in
     let answers = map outcome_of c.args.answers.items in
-    deep_counts (script_of c.args.script.now) c.args.function.now args c.args.depth retries (id_of c.args.base) answers _ c.nothing_done.ensures.steps
+    deep_counts (script_of c.args.script.now) c.args.function.now args c.args.depth retries c.args.base answers _ c.nothing_done.ensures.steps
     (omega (arith, c.if-depth-gt-DEEPEST.true))
 
 pub returns-then-number-functions-clause-counts : goal.returns-then-number-functions-clause-counts
@@ -88,9 +87,9 @@ returns-then-number-functions-clause-counts c retries s e =
     let answers = map outcome_of c.args.answers.items in
     let none = has_none fs g c.args.arguments.now c.number_of-number.result c.number_of-number.ensures c.if-number-functions.true in
     let done = c.nothing_done-then-number-functions in
-    subst (λ gs. HasSteps (script_of gs) (Task g args c.args.depth retries) (id_of c.args.base) answers done.result.steps)
+    subst (λ gs. HasSteps (script_of gs) (Task g args c.args.depth retries) c.args.base answers done.result.steps)
     (c.functions-functions.ensures.value ∙ c.script.ensures)
-    (mismatch_counts (script_of fs) g args c.args.depth retries (id_of c.args.base) answers done.result.steps done.ensures.steps
+    (mismatch_counts (script_of fs) g args c.args.depth retries c.args.base answers done.result.steps done.ensures.steps
     (omega (arith, c.if-depth-gt-DEEPEST.false)) none)
 
 pub returns-clause-counts : goal.returns-clause-counts
@@ -99,7 +98,7 @@ returns-clause-counts c =
     let g = c.args.function.now in
     let xs = c.args.arguments.now in
     let script = script_of c.args.script.now in
-    let base = id_of c.args.base in
+    let base = c.args.base in
     let one = has_one fs g xs c.number_of-number.result c.number_of-number.ensures (omega (arith, c.if-number-functions.false)) in
     let same = c.functions-functions.ensures.value ∙ c.script.ensures in
     let answers = c.run-halt.ensures.answers ∙ c.in_ok-course.ensures.answers in

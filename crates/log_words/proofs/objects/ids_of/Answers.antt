@@ -1,5 +1,5 @@
-use Rattle.std.proofs.Common.{map, ap, ◌∙◌}
-use Rattle.values.specs.Values.{id_of, value_of}
+use Rattle.std.proofs.Common.{ap, ◌∙◌}
+use Rattle.values.specs.Values.{value_of}
 use Rattle.values.specs.Listed.{ids_listed, adding}
 use Rattle.values.proofs.ListedLaws.{adding-each_once}
 use Rattle.log_words.proofs.objects.ids_of.Goals as goal
@@ -7,5 +7,5 @@ use Rattle.log_words.proofs.objects.ids_of.Goals as goal
 pub returns : goal.returns
 returns c =
     c.in_ok-add_ids.ensures
-    ∙ ap (λ seen. adding (map id_of seen) (ids_listed (value_of c.args.value.now))) c.new-found.ensures.items
+    ∙ ap (λ seen. adding seen (ids_listed (value_of c.args.value.now))) c.new-found.ensures.items
     ∙ adding-each_once (ids_listed (value_of c.args.value.now))

@@ -1,5 +1,5 @@
 use Rattle.std.proofs.Common.{◌+◌, ap, drop, map, sym, ◌∙◌}
-use Rattle.values.specs.Values.{id_of, value_of}
+use Rattle.values.specs.Values.{value_of}
 use Rattle.values.specs.Listed.{adding, ids_listed}
 use Rattle.task_spec.specs.Births.{argument_of}
 use Rattle.event_log.specs.Holding.{ids_of_arguments}
@@ -11,7 +11,7 @@ loop-argument-preserved c =
     let args = c.args.arguments.now in
     let i = c.loop-argument.argument-index in
     let a = c.argument-item.result in
-    let seen = map id_of c.loop-argument.found.items in
+    let seen = c.loop-argument.found.items in
     let rest = ids_of_arguments (map argument_of (drop (i + 1) args)) in
     ap (λ s. adding s rest) c.in_ok-add_ids.ensures
     ∙ sym (adding_append seen (ids_listed (value_of a.value)) rest)

@@ -1,5 +1,5 @@
 use Rattle.std.proofs.Common.{rules, subst, sym}
-use Rattle.event_log.specs.Views.{event_of, log_of}
+use Rattle.event_log.specs.Views.{log_of}
 use Rattle.protocol_board.specs.Views.{course_of}
 use Rattle.protocol_board.specs.Drives.{Turns}
 use Rattle.protocol_board.specs.Own.{FramesAreOwn}
@@ -21,7 +21,7 @@ take_turn-requires-clause-frames g c = c.loop-turn.invariant.frames
 pub loop-turn-preserved : goal.loop-turn-preserved
 loop-turn-preserved g c =
     let between = course_of c.loop-turn.board c.loop-turn.sent in
-    let e = event_of c.in-Some.event in
+    let e = c.in-Some.event in
     let named = is_next between c.new-nobody.result e c.new-nobody.ensures c.in-Some.ensures in
     let after = course_of c.take_turn.new.board c.take_turn.new.sent in
     let taken = c.in_ok-take_turn.ensures.taken in
@@ -33,7 +33,7 @@ loop-turn-preserved g c =
 pub returns-in-Some-next-clause-stops : goal.returns-in-Some-next-clause-stops
 returns-in-Some-next-clause-stops g c =
     let now = course_of c.loop-turn.board c.loop-turn.sent in
-    let e = event_of c.in-Some-next.field-0 in
+    let e = c.in-Some-next.field-0 in
     let named = is_next now c.new-nobody.result e c.new-nobody.ensures c.in-Some-next.ensures in
     let taken : Turns g.S.ScriptName.script 100000 (course_of c.args.board.now c.args.sent.now) now = search (rules, c.loop-turn.invariant.turns) in
     (taken, e, named)

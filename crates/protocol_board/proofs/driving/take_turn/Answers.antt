@@ -1,5 +1,4 @@
 use Rattle.std.proofs.Common.{None, inr, subst}
-use Rattle.event_log.specs.Views.{event_of}
 use Rattle.protocol_core.specs.Steps.{reply_of}
 use Rattle.protocol_core.specs.Views.{state_of}
 use Rattle.protocol_board.specs.Drives.{Goes}
@@ -19,12 +18,12 @@ pub returns-in-Ok-clause-taken : goal.returns-in-Ok-clause-taken
 returns-in-Ok-clause-taken g c =
     let before = course_of c.args.board.now c.args.sent.now in
     let claimed = course_of c.go.new.board c.go.new.sent in
-    let given = subst (λ t. Goes before (event_of c.args.event) None claimed (reply_of t)) c.in-Ok-Job.field-0-is c.in-Ok-Job.ensures.goes in
+    let given = subst (λ t. Goes before c.args.event None claimed (reply_of t)) c.in-Ok-Job.field-0-is c.in-Ok-Job.ensures.goes in
     inr (claimed, c.in-Ok-Job.job, given, c.in-Ok.ensures.committed)
 
 pub returns-in-Err-commit-clause-broken : goal.returns-in-Err-commit-clause-broken
 returns-in-Err-commit-clause-broken g c =
     let before = course_of c.args.board.now c.args.sent.now in
     let claimed = course_of c.go.new.board c.go.new.sent in
-    let given = subst (λ t. Goes before (event_of c.args.event) None claimed (reply_of t)) c.in-Ok-Job.field-0-is c.in-Ok-Job.ensures.goes in
+    let given = subst (λ t. Goes before c.args.event None claimed (reply_of t)) c.in-Ok-Job.field-0-is c.in-Ok-Job.ensures.goes in
     inr (inr (claimed, c.in-Ok-Job.job, given, c.in-Err-commit.ensures.broken))

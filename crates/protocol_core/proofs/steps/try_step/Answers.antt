@@ -1,9 +1,8 @@
-use Rattle.std.proofs.Common.{◌≡◌, Some, sym, ap, ◌∙◌, subst, IfSome, IfNone, map}
-use Rattle.event_log.specs.Views.{entry_of, event_of}
+use Rattle.std.proofs.Common.{◌≡◌, Some, sym, ap, ◌∙◌, refl, subst, IfSome, IfNone, map}
+use Rattle.event_log.specs.Views.{entry_of}
 use Rattle.segment.specs.Parts as parts
 use Rattle.protocol.specs.Answers.{answer}
-use Rattle.protocol_data.specs.Entries as entries
-use Rattle.answers.specs.declared.reply.Outcome.TheVariants.{Taken}
+use Rattle.answers.specs.declared.reply.Verdict.TheVariants.{Taken}
 use Rattle.protocol_core.specs.Own.{GivesOwn}
 use Rattle.protocol_core.specs.Steps.{Accepts, GivesJob}
 use Rattle.protocol_core.specs.Steps as told
@@ -26,10 +25,10 @@ returns-in-Refused-clause-applied g c =
     let script = g.S.ScriptName.script in
     let before = state_of (data_of c.args.state.now) in
     let after = state_of (data_of c.add.new.self) in
-    let e = event_of c.args.event in
+    let e = c.args.event in
     let known = subst (λ o. IfSome o (λ es. map entry_of es.items ≡ c.in_ok-reply.reply.entries)) c.in-Some.is c.in_ok-logged.ensures.known in
-    let h = came script before after e (entries.event_of c.happening_of-happening.result) c.args.seat c.args.done c.in_ok-handed.handed c.in_ok-reply.reply (map entry_of c.in-Some.logged.items)
-    c.happening_of-happening.ensures c.in_ok-handed.ensures.handed c.handed_with.ensures.is_true c.in_ok-reply.ensures.reply known
+    let h = came script before after e e c.args.seat c.args.done c.in_ok-handed.handed c.in_ok-reply.reply (map entry_of c.in-Some.logged.items)
+    refl c.in_ok-handed.ensures.handed c.handed_with.ensures.is_true c.in_ok-reply.ensures.reply known
     c.in_ok-add-in-Refused.ensures.ok (c.add.ensures.whole ∙ c.in_ok-reply.ensures.whole) c.add.ensures.nodes (c.add.ensures.halted ∙ c.requires.goes_on) in
     applies script before after e c.args.seat c.args.done c.in_ok-reply.reply.outcome (told.Refuses c.in-Some-refusal_of.refusal) h
     (tells_refused _ c.in-Refused.code c.in-Some-refusal_of.refusal (sym h.outcome_is ∙ c.in-Refused.is) c.in-Some-refusal_of.ensures.known)
@@ -39,10 +38,10 @@ returns-in-Refused-clause-kept g c =
     let script = g.S.ScriptName.script in
     let before = state_of (data_of c.args.state.now) in
     let after = state_of (data_of c.add.new.self) in
-    let e = event_of c.args.event in
+    let e = c.args.event in
     let known = subst (λ o. IfSome o (λ es. map entry_of es.items ≡ c.in_ok-reply.reply.entries)) c.in-Some.is c.in_ok-logged.ensures.known in
-    let h = came script before after e (entries.event_of c.happening_of-happening.result) c.args.seat c.args.done c.in_ok-handed.handed c.in_ok-reply.reply (map entry_of c.in-Some.logged.items)
-    c.happening_of-happening.ensures c.in_ok-handed.ensures.handed c.handed_with.ensures.is_true c.in_ok-reply.ensures.reply known
+    let h = came script before after e e c.args.seat c.args.done c.in_ok-handed.handed c.in_ok-reply.reply (map entry_of c.in-Some.logged.items)
+    refl c.in_ok-handed.ensures.handed c.handed_with.ensures.is_true c.in_ok-reply.ensures.reply known
     c.in_ok-add-in-Refused.ensures.ok (c.add.ensures.whole ∙ c.in_ok-reply.ensures.whole) c.add.ensures.nodes (c.add.ensures.halted ∙ c.requires.goes_on) in
     kept_behind script before after e c.args.seat c.args.done c.in_ok-reply.reply.outcome c.requires.kept c.requires.goes_on c.event_keeps_sound.ensures c.sound_is_legal.ensures h
 
@@ -51,10 +50,10 @@ returns-in-Taken-None-clause-kept g c =
     let script = g.S.ScriptName.script in
     let before = state_of (data_of c.args.state.now) in
     let after = state_of (data_of c.add-in-Taken-None.new.self) in
-    let e = event_of c.args.event in
+    let e = c.args.event in
     let known = subst (λ o. IfSome o (λ es. map entry_of es.items ≡ c.in_ok-reply.reply.entries)) c.in-Some.is c.in_ok-logged.ensures.known in
-    let h = came script before after e (entries.event_of c.happening_of-happening.result) c.args.seat c.args.done c.in_ok-handed.handed c.in_ok-reply.reply (map entry_of c.in-Some.logged.items)
-    c.happening_of-happening.ensures c.in_ok-handed.ensures.handed c.handed_with.ensures.is_true c.in_ok-reply.ensures.reply known
+    let h = came script before after e e c.args.seat c.args.done c.in_ok-handed.handed c.in_ok-reply.reply (map entry_of c.in-Some.logged.items)
+    refl c.in_ok-handed.ensures.handed c.handed_with.ensures.is_true c.in_ok-reply.ensures.reply known
     c.in_ok-add-in-Taken-None.ensures.ok (c.add-in-Taken-None.ensures.whole ∙ c.in_ok-reply.ensures.whole) c.add-in-Taken-None.ensures.nodes (c.add-in-Taken-None.ensures.halted ∙ c.requires.goes_on) in
     kept_behind script before after e c.args.seat c.args.done c.in_ok-reply.reply.outcome c.requires.kept c.requires.goes_on c.event_keeps_sound.ensures c.sound_is_legal.ensures h
 
@@ -63,10 +62,10 @@ new-requires g c =
     let script = g.S.ScriptName.script in
     let before = state_of (data_of c.args.state.now) in
     let after = state_of (data_of c.add-in-Taken-Some.new.self) in
-    let e = event_of c.args.event in
+    let e = c.args.event in
     let known = subst (λ o. IfSome o (λ es. map entry_of es.items ≡ c.in_ok-reply.reply.entries)) c.in-Some.is c.in_ok-logged.ensures.known in
-    let h = came script before after e (entries.event_of c.happening_of-happening.result) c.args.seat c.args.done c.in_ok-handed.handed c.in_ok-reply.reply (map entry_of c.in-Some.logged.items)
-    c.happening_of-happening.ensures c.in_ok-handed.ensures.handed c.handed_with.ensures.is_true c.in_ok-reply.ensures.reply known
+    let h = came script before after e e c.args.seat c.args.done c.in_ok-handed.handed c.in_ok-reply.reply (map entry_of c.in-Some.logged.items)
+    refl c.in_ok-handed.ensures.handed c.handed_with.ensures.is_true c.in_ok-reply.ensures.reply known
     c.in_ok-add-in-Taken-Some.ensures.ok (c.add-in-Taken-Some.ensures.whole ∙ c.in_ok-reply.ensures.whole) c.add-in-Taken-Some.ensures.nodes (c.add-in-Taken-Some.ensures.halted ∙ c.requires.goes_on) in
     let job = parts.data_of c.job_parts-parts.result in
     let gives = c.in-Taken-Some.is ∙ ap (λ x. Taken x) (c.in-Taken-Some.field-0-is ∙ ap (λ x. Some x) (sym c.job_parts-parts.ensures)) in
@@ -77,10 +76,10 @@ returns-clause-applied g c =
     let script = g.S.ScriptName.script in
     let before = state_of (data_of c.args.state.now) in
     let after = state_of (data_of c.add-in-Taken-Some.new.self) in
-    let e = event_of c.args.event in
+    let e = c.args.event in
     let known = subst (λ o. IfSome o (λ es. map entry_of es.items ≡ c.in_ok-reply.reply.entries)) c.in-Some.is c.in_ok-logged.ensures.known in
-    let h = came script before after e (entries.event_of c.happening_of-happening.result) c.args.seat c.args.done c.in_ok-handed.handed c.in_ok-reply.reply (map entry_of c.in-Some.logged.items)
-    c.happening_of-happening.ensures c.in_ok-handed.ensures.handed c.handed_with.ensures.is_true c.in_ok-reply.ensures.reply known
+    let h = came script before after e e c.args.seat c.args.done c.in_ok-handed.handed c.in_ok-reply.reply (map entry_of c.in-Some.logged.items)
+    refl c.in_ok-handed.ensures.handed c.handed_with.ensures.is_true c.in_ok-reply.ensures.reply known
     c.in_ok-add-in-Taken-Some.ensures.ok (c.add-in-Taken-Some.ensures.whole ∙ c.in_ok-reply.ensures.whole) c.add-in-Taken-Some.ensures.nodes (c.add-in-Taken-Some.ensures.halted ∙ c.requires.goes_on) in
     let job = parts.data_of c.job_parts-parts.result in
     let gives = c.in-Taken-Some.is ∙ ap (λ x. Taken x) (c.in-Taken-Some.field-0-is ∙ ap (λ x. Some x) (sym c.job_parts-parts.ensures)) in
@@ -92,10 +91,10 @@ returns-clause-own g c =
     let script = g.S.ScriptName.script in
     let before = state_of (data_of c.args.state.now) in
     let after = state_of (data_of c.add-in-Taken-Some.new.self) in
-    let e = event_of c.args.event in
+    let e = c.args.event in
     let known = subst (λ o. IfSome o (λ es. map entry_of es.items ≡ c.in_ok-reply.reply.entries)) c.in-Some.is c.in_ok-logged.ensures.known in
-    let h = came script before after e (entries.event_of c.happening_of-happening.result) c.args.seat c.args.done c.in_ok-handed.handed c.in_ok-reply.reply (map entry_of c.in-Some.logged.items)
-    c.happening_of-happening.ensures c.in_ok-handed.ensures.handed c.handed_with.ensures.is_true c.in_ok-reply.ensures.reply known
+    let h = came script before after e e c.args.seat c.args.done c.in_ok-handed.handed c.in_ok-reply.reply (map entry_of c.in-Some.logged.items)
+    refl c.in_ok-handed.ensures.handed c.handed_with.ensures.is_true c.in_ok-reply.ensures.reply known
     c.in_ok-add-in-Taken-Some.ensures.ok (c.add-in-Taken-Some.ensures.whole ∙ c.in_ok-reply.ensures.whole) c.add-in-Taken-Some.ensures.nodes (c.add-in-Taken-Some.ensures.halted ∙ c.requires.goes_on) in
     let job = parts.data_of c.job_parts-parts.result in
     let gives = c.in-Taken-Some.is ∙ ap (λ x. Taken x) (c.in-Taken-Some.field-0-is ∙ ap (λ x. Some x) (sym c.job_parts-parts.ensures)) in
@@ -108,23 +107,23 @@ returns-clause-kept g c =
     let script = g.S.ScriptName.script in
     let before = state_of (data_of c.args.state.now) in
     let after = state_of (data_of c.add-in-Taken-Some.new.self) in
-    let e = event_of c.args.event in
+    let e = c.args.event in
     let known = subst (λ o. IfSome o (λ es. map entry_of es.items ≡ c.in_ok-reply.reply.entries)) c.in-Some.is c.in_ok-logged.ensures.known in
-    let h = came script before after e (entries.event_of c.happening_of-happening.result) c.args.seat c.args.done c.in_ok-handed.handed c.in_ok-reply.reply (map entry_of c.in-Some.logged.items)
-    c.happening_of-happening.ensures c.in_ok-handed.ensures.handed c.handed_with.ensures.is_true c.in_ok-reply.ensures.reply known
+    let h = came script before after e e c.args.seat c.args.done c.in_ok-handed.handed c.in_ok-reply.reply (map entry_of c.in-Some.logged.items)
+    refl c.in_ok-handed.ensures.handed c.handed_with.ensures.is_true c.in_ok-reply.ensures.reply known
     c.in_ok-add-in-Taken-Some.ensures.ok (c.add-in-Taken-Some.ensures.whole ∙ c.in_ok-reply.ensures.whole) c.add-in-Taken-Some.ensures.nodes (c.add-in-Taken-Some.ensures.halted ∙ c.requires.goes_on) in
     kept_behind script before after e c.args.seat c.args.done c.in_ok-reply.reply.outcome c.requires.kept c.requires.goes_on c.event_keeps_sound.ensures c.sound_is_legal.ensures h
 
 pub unreachable-requires : goal.unreachable-requires
 unreachable-requires g c =
     let unknown = subst (λ o. IfNone o (HasUnknown c.in_ok-reply.reply.entries)) c.in_default.is c.in_ok-logged.ensures.unknown in
-    known_entries g.S.ScriptName.script (state_of (data_of c.args.state.now)) (event_of c.args.event) (entries.event_of c.happening_of-happening.result)
-    c.args.seat c.args.done c.in_ok-handed.handed c.in_ok-reply.reply c.requires.kept c.requires.goes_on c.happening_of-happening.ensures
+    known_entries g.S.ScriptName.script (state_of (data_of c.args.state.now)) c.args.event c.args.event
+    c.args.seat c.args.done c.in_ok-handed.handed c.in_ok-reply.reply c.requires.kept c.requires.goes_on refl
     c.in_ok-handed.ensures.handed c.handed_with.ensures.is_true c.in_ok-reply.ensures.reply c.event_keeps_sound.ensures c.sound_is_legal.ensures unknown
 
 pub unreachable-requires-in_default-refusal_of : goal.unreachable-requires-in_default-refusal_of
 unreachable-requires-in_default-refusal_of g c =
-    known_code g.S.ScriptName.script (state_of (data_of c.args.state.now)) (event_of c.args.event) (entries.event_of c.happening_of-happening.result)
-    c.args.seat c.in-Refused.code c.args.done c.in_ok-handed.handed c.in_ok-reply.reply c.requires.kept c.requires.goes_on c.happening_of-happening.ensures
+    known_code g.S.ScriptName.script (state_of (data_of c.args.state.now)) c.args.event c.args.event
+    c.args.seat c.in-Refused.code c.args.done c.in_ok-handed.handed c.in_ok-reply.reply c.requires.kept c.requires.goes_on refl
     c.in_ok-handed.ensures.handed c.handed_with.ensures.is_true c.in_ok-reply.ensures.reply c.event_keeps_sound.ensures c.sound_is_legal.ensures
     c.in-Refused.is c.in_default-refusal_of.ensures.unknown

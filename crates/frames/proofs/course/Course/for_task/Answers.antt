@@ -1,5 +1,4 @@
 use Rattle.std.proofs.Common.{List, [], map, sym, ap, ◌∙◌}
-use Rattle.values.specs.Values.{id_of}
 use Rattle.frame_laws.specs.Resuming.{Deeds}
 use Rattle.meaning.specs.Values as meant
 use Rattle.frames.specs.Values.{value_of}
@@ -14,7 +13,7 @@ pub returns-clause-stands : goal.returns-clause-stands
 returns-clause-stands c script g f depth retries same numbered found count shallow =
     let births = c.new.result.items in
     let prints = c.new-2.result.items in
-    let id = id_of c.args.base in
+    let id = c.args.base in
     frame_starts script g f c.args.arguments.now depth (state_of c.in_ok-state.state) found count shallow
     (c.in_ok-state.ensures script g f same numbered count) retries id (deeds (map made_of births) (map value_of prints) id)
     (sym (ap (λ ms. deeds (map made_of ms) (map value_of prints) id) c.new.ensures.items ∙ ap (λ vs. deeds [] (map value_of vs) id) c.new-2.ensures.items))

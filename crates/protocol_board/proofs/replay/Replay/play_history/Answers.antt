@@ -1,6 +1,4 @@
-use Rattle.std.proofs.Common.{◌+◌, [], None, ap, get_or, rules, subst, sym, ◌∙◌}
-use Rattle.event_files.specs.declared.recorded.RecordedEvent.{RecordedEvent}
-use Rattle.event_log.specs.declared.event.Event.TheVariants as events
+use Rattle.std.proofs.Common.{◌+◌, [], Some, ap, rules, subst, sym, ◌∙◌}
 use Rattle.protocol_board.specs.Replays.{EventPlays, HistoryStops, PlaysHistory, from_first}
 use Rattle.protocol_board.specs.Views.{play_of}
 use Rattle.protocol_board.proofs.Playing.{item_copied, no_item, one_more_item}
@@ -14,16 +12,12 @@ loop-said-init g c =
       counted = c.restart.ensures.begun;
     }
 
--- what the code takes for an item where there is none
-abbrev none_said : RecordedEvent
-none_said = record { seat = 0; event = events.Claim (record { 0 = 0 }); given = None }
-
 pub returns-in_err-play_event-clause-stops : goal.returns-in_err-play_event-clause-stops
 returns-in_err-play_event-clause-stops g c =
     let lines = c.deref-said-items.result.now in
     let same = c.deref-said-items.ensures.value ∙ c.events.view_is in
-    let said : RecordedEvent = get_or lines c.loop-said.said-index none_said in
-    let at = item_copied lines c.args.events.now c.loop-said.said-index none_said same c.loop-said-test.true in
+    let said = c.said-item.result in
+    let at = item_copied lines c.args.events.now c.loop-said.said-index said same c.loop-said-test.true ∙ ap (λ x. Some x) (sym c.said-item.is) in
     let why : HistoryStops g.S.ScriptName.script c.args.events.now (from_first (play_of c.args.self.now)) (play_of c.play_event.new.self) c.in_err-play_event.field-0.0 =
     (c.loop-said.said-index, said, play_of c.loop-said.self, at, c.loop-said.invariant.plays, c.in_err-play_event.ensures.stops) in
     search (rules, why)
@@ -32,8 +26,8 @@ pub loop-said-preserved : goal.loop-said-preserved
 loop-said-preserved g c =
     let lines = c.deref-said-items.result.now in
     let same = c.deref-said-items.ensures.value ∙ c.events.view_is in
-    let said : RecordedEvent = get_or lines c.loop-said.said-index none_said in
-    let at = item_copied lines c.args.events.now c.loop-said.said-index none_said same c.loop-said-test.true in
+    let said = c.said-item.result in
+    let at = item_copied lines c.args.events.now c.loop-said.said-index said same c.loop-said-test.true ∙ ap (λ x. Some x) (sym c.said-item.is) in
     let before = from_first (play_of c.args.self.now) in
     let between = play_of c.loop-said.self in
     let after = play_of c.play_event.new.self in

@@ -1,5 +1,4 @@
 use Rattle.std.proofs.Common.{suc, refl, sym, ◌∙◌}
-use Rattle.event_log.specs.Views.{event_of}
 use Rattle.protocol_board.specs.Views.{play_of}
 use Rattle.protocol_board.proofs.Playing.{no_event, one_more}
 use Rattle.protocol_board.proofs.replay.Replay.settle.Goals as goal
@@ -16,6 +15,6 @@ loop-event-preserved g c =
     let named = sym c.in-Some.ensures in
     let step = c.in_ok-take.ensures.step in
     record {
-      settles = (suc h.0, one_more g.S.ScriptName.script c.args.but.now h.0 before between after (event_of c.in-Some.event) h.1 named step);
+      settles = (suc h.0, one_more g.S.ScriptName.script c.args.but.now h.0 before between after c.in-Some.event h.1 named step);
       same = c.in_ok-take.ensures.same ∙ c.loop-event.invariant.same;
     }

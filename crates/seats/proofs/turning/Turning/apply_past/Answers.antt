@@ -1,7 +1,7 @@
 use Rattle.std.proofs.Common.{◌≡◌, ◌+◌, ◌≤◌, ◌∙◌, sym, subst}
 use Rattle.event_log.specs.Books.{totals_of}
 use Rattle.event_log.specs.Laws.{plus}
-use Rattle.event_log.specs.Views.{event_of, log_of}
+use Rattle.event_log.specs.Views.{log_of}
 use Rattle.protocol_board.specs.Cores.{first_state, reply_of, state_of}
 use Rattle.seats.specs.Counted.{AddsFrom, counted}
 use Rattle.seats.specs.Ends.{first_events}
@@ -21,7 +21,7 @@ pub commits_behind-self-inside-requires : goal.commits_behind-self-inside-requir
 commits_behind-self-inside-requires g c =
     let before = c.self.inside.board in
     let after = c.apply-told.new.self in
-    let e = event_of c.args.event in
+    let e = c.args.event in
     let told = reply_of c.apply-told.result in
     let h = answers_counted (state_of before) (state_of after) e c.args.seat c.args.done told c.self.invariant.0 c.apply-told.ensures.answers in
     subst (λ n. c.self.inside.commits + (counted e told).commits ≤ n) (sym c.entries_of-most.ensures)
@@ -31,7 +31,7 @@ pub invariant_of-self : goal.invariant_of-self
 invariant_of-self g c =
     let before = c.self.inside.board in
     let after = c.apply-told.new.self in
-    let e = event_of c.args.event in
+    let e = c.args.event in
     let told = reply_of c.apply-told.result in
     let is_open = g.P.RunName.is_open in
     let t : TurnData = record { run = before; plan = c.self.inside.plan; taken = c.self.inside.taken; out = c.self.inside.out; given_up = c.self.inside.given_up } in
@@ -62,7 +62,7 @@ pub returns-clause-counted : goal.returns-clause-counted
 returns-clause-counted g c =
     let before = c.self.inside.board in
     let after = c.apply-told.new.self in
-    let e = event_of c.args.event in
+    let e = c.args.event in
     let told = reply_of c.apply-told.result in
     let h = answers_counted (state_of before) (state_of after) e c.args.seat c.args.done told c.self.invariant.0 c.apply-told.ensures.answers in
     let P : TurnData → Type 0 = λ r. totals_of (log_of after.log) ≡ plus (totals_of (log_of r.run.log)) (counted e told) in
@@ -72,7 +72,7 @@ pub returns-clause-watched : goal.returns-clause-watched
 returns-clause-watched g c =
     let before = c.self.inside.board in
     let after = c.apply-told.new.self in
-    let e = event_of c.args.event in
+    let e = c.args.event in
     let told = reply_of c.apply-told.result in
     let h = answers_counted (state_of before) (state_of after) e c.args.seat c.args.done told c.self.invariant.0 c.apply-told.ensures.answers in
     let w = g.P.Watching.watched in
@@ -83,7 +83,7 @@ pub returns-clause-seated : goal.returns-clause-seated
 returns-clause-seated g c =
     let before = c.self.inside.board in
     let after = c.apply-told.new.self in
-    let e = event_of c.args.event in
+    let e = c.args.event in
     let told = reply_of c.apply-told.result in
     let P : TurnData → Type 0 = λ r. StaysFrom c.args.seat (log_of r.run.log) (log_of after.log) in
     subst P c.self.view_is (stays_from (state_of before) (state_of after) e c.args.seat c.args.done told c.apply-told.ensures.answers)

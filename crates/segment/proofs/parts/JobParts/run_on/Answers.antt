@@ -1,7 +1,7 @@
 use Rattle.std.proofs.Common.{◌≡◌, IfSome, [], ◌∷◌, ◌++◌, map, sym, ap, ◌∙◌, subst}
 use Rattle.meaning.specs.Meaning.{replay}
 use Rattle.script_check.specs.Trees.{script_of}
-use Rattle.values.specs.Values.{content_of, id_of}
+use Rattle.values.specs.Values.{content_of}
 use Rattle.task_spec.specs.Births.{birth_of}
 use Rattle.frame_laws.specs.Steps.{HasSteps}
 use Rattle.frames.specs.Frames.{IsWaiting}
@@ -37,12 +37,12 @@ returns-clause-whole c =
     let answer = c.in-Some-split_last.answer.now in
     let last : j.answers ≡ rest ++ answer ∷ [] = sym (c.deref-2.ensures.value ∙ ap (λ v. v.items) c.deref.ensures) ∙ c.in-Some-split_last.ensures.cases.0 in
     let fits : Fits script j c.in-Some.frame = subst (λ f. IfSome f (Fits script j)) c.in-Some.is c.requires.fits in
-    let waits : IsWaiting script (birth_of j.spec) (id_of j.base) (past_of (before_of j rest)) c.in-Some.frame =
-    subst (λ cs. IsWaiting script (birth_of j.spec) (id_of j.base) (past_of (before_of j cs)) c.in-Some.frame)
+    let waits : IsWaiting script (birth_of j.spec) j.base (past_of (before_of j rest)) c.in-Some.frame =
+    subst (λ cs. IsWaiting script (birth_of j.spec) j.base (past_of (before_of j cs)) c.in-Some.frame)
     (rest_same fits.earlier rest fits.answer answer (sym fits.answers ∙ last)) fits.waits in
     let answers : map content_of j.answers ≡ answered_so (before_of j rest) answer = ap (map content_of) last ∙ map_last content_of rest answer in
     if_ok _ _ c.go_on.result
-    (λ p replayed. ap (replay script (birth_of j.spec) (id_of j.base)) answers ∙ sym (replayed j.spec (id_of j.base) (before_of j rest) waits))
+    (λ p replayed. ap (replay script (birth_of j.spec) j.base) answers ∙ sym (replayed j.spec j.base (before_of j rest) waits))
     c.go_on.ensures.replayed
 
 pub returns-clause-broken : goal.returns-clause-broken
@@ -53,12 +53,12 @@ returns-clause-broken c =
     let answer = c.in-Some-split_last.answer.now in
     let last : j.answers ≡ rest ++ answer ∷ [] = sym (c.deref-2.ensures.value ∙ ap (λ v. v.items) c.deref.ensures) ∙ c.in-Some-split_last.ensures.cases.0 in
     let fits : Fits script j c.in-Some.frame = subst (λ f. IfSome f (Fits script j)) c.in-Some.is c.requires.fits in
-    let waits : IsWaiting script (birth_of j.spec) (id_of j.base) (past_of (before_of j rest)) c.in-Some.frame =
-    subst (λ cs. IsWaiting script (birth_of j.spec) (id_of j.base) (past_of (before_of j cs)) c.in-Some.frame)
+    let waits : IsWaiting script (birth_of j.spec) j.base (past_of (before_of j rest)) c.in-Some.frame =
+    subst (λ cs. IsWaiting script (birth_of j.spec) j.base (past_of (before_of j cs)) c.in-Some.frame)
     (rest_same fits.earlier rest fits.answer answer (sym fits.answers ∙ last)) fits.waits in
     let answers : map content_of j.answers ≡ answered_so (before_of j rest) answer = ap (map content_of) last ∙ map_last content_of rest answer in
     on_err _ _ c.go_on.result
-    (λ e broken is. ap (λ cs. (replay script (birth_of j.spec) (id_of j.base) cs).stop) answers ∙ broken is j.spec (id_of j.base) (before_of j rest) waits)
+    (λ e broken is. ap (λ cs. (replay script (birth_of j.spec) j.base cs).stop) answers ∙ broken is j.spec j.base (before_of j rest) waits)
     c.go_on.ensures.broken
 
 pub returns-clause-waits : goal.returns-clause-waits
@@ -69,14 +69,14 @@ returns-clause-waits c =
     let answer = c.in-Some-split_last.answer.now in
     let last : j.answers ≡ rest ++ answer ∷ [] = sym (c.deref-2.ensures.value ∙ ap (λ v. v.items) c.deref.ensures) ∙ c.in-Some-split_last.ensures.cases.0 in
     let fits : Fits script j c.in-Some.frame = subst (λ f. IfSome f (Fits script j)) c.in-Some.is c.requires.fits in
-    let waits : IsWaiting script (birth_of j.spec) (id_of j.base) (past_of (before_of j rest)) c.in-Some.frame =
-    subst (λ cs. IsWaiting script (birth_of j.spec) (id_of j.base) (past_of (before_of j cs)) c.in-Some.frame)
+    let waits : IsWaiting script (birth_of j.spec) j.base (past_of (before_of j rest)) c.in-Some.frame =
+    subst (λ cs. IsWaiting script (birth_of j.spec) j.base (past_of (before_of j cs)) c.in-Some.frame)
     (rest_same fits.earlier rest fits.answer answer (sym fits.answers ∙ last)) fits.waits in
     let answers : map content_of j.answers ≡ answered_so (before_of j rest) answer = ap (map content_of) last ∙ map_last content_of rest answer in
     if_ok _ _ c.go_on.result
-    (λ p keeps. subst (λ cs. IfSome p.frame (IsWaiting script (birth_of j.spec) (id_of j.base)
+    (λ p keeps. subst (λ cs. IfSome p.frame (IsWaiting script (birth_of j.spec) j.base
     (record { answers = cs; births = (whole_of (done_of j p)).births; prints = (whole_of (done_of j p)).prints })))
-    (sym answers) (keeps j.spec (id_of j.base) (before_of j rest) waits))
+    (sym answers) (keeps j.spec j.base (before_of j rest) waits))
     c.go_on.ensures.keeps
 
 pub returns-clause-counts : goal.returns-clause-counts
@@ -87,11 +87,11 @@ returns-clause-counts c =
     let answer = c.in-Some-split_last.answer.now in
     let last : j.answers ≡ rest ++ answer ∷ [] = sym (c.deref-2.ensures.value ∙ ap (λ v. v.items) c.deref.ensures) ∙ c.in-Some-split_last.ensures.cases.0 in
     let fits : Fits script j c.in-Some.frame = subst (λ f. IfSome f (Fits script j)) c.in-Some.is c.requires.fits in
-    let waits : IsWaiting script (birth_of j.spec) (id_of j.base) (past_of (before_of j rest)) c.in-Some.frame =
-    subst (λ cs. IsWaiting script (birth_of j.spec) (id_of j.base) (past_of (before_of j cs)) c.in-Some.frame)
+    let waits : IsWaiting script (birth_of j.spec) j.base (past_of (before_of j rest)) c.in-Some.frame =
+    subst (λ cs. IsWaiting script (birth_of j.spec) j.base (past_of (before_of j cs)) c.in-Some.frame)
     (rest_same fits.earlier rest fits.answer answer (sym fits.answers ∙ last)) fits.waits in
     let answers : map content_of j.answers ≡ answered_so (before_of j rest) answer = ap (map content_of) last ∙ map_last content_of rest answer in
     if_ok _ _ c.go_on.result
-    (λ p counts. subst (λ cs. HasSteps script (birth_of j.spec) (id_of j.base) cs p.steps) (sym answers)
-    (counts j.spec (id_of j.base) (before_of j rest) waits))
+    (λ p counts. subst (λ cs. HasSteps script (birth_of j.spec) j.base cs p.steps) (sym answers)
+    (counts j.spec j.base (before_of j rest) waits))
     c.go_on.ensures.counts

@@ -1,0 +1,8 @@
+-- Faults, as the definitions have them.
+use Rattle.meaning.specs.Values.{Id}
+use Rattle.values.specs.declared.fault.FaultKind.{FaultKind}
+
+-- why an object has no content, and the object in which the fault began
+pub record Fault : Type 0 where
+  pub kind : FaultKind
+  pub object : Id

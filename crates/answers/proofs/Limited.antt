@@ -2,6 +2,7 @@
 use Rattle.std.proofs.Common.{◌≡◌, ℕ, Bool, true, false, List, Option, Some, None, refl, ap, ◌∙◌}
 use Rattle.std.specs.Prelude.{if◌then◌else◌}
 use Rattle.event_log.specs.Entries.{Entry, Event}
+use Rattle.event_log.specs.Entries.{Refusal, Limit}
 use Rattle.limit_laws.specs.Limits.{entries_limited, whole_limited}
 use Rattle.protocol.specs.Answers.{Refuses, answer, decided, given_out, takes, whole_after}
 use Rattle.protocol.specs.Events.{happens}
@@ -10,7 +11,7 @@ use Rattle.protocol.specs.Refusals.{is_within_limits, refusal}
 use Rattle.protocol.specs.Whole.{Moved, Whole}
 use Rattle.answers.specs.Replies.{reply_of, taken_reply}
 
-whole_by : (c : Whole) (m : Moved) (given : Option Job) (b : Bool) → whole_after c (if b then takes m given else Refuses 37) ≡ (if b then m.whole else c)
+whole_by : (c : Whole) (m : Moved) (given : Option Job) (b : Bool) → whole_after c (if b then takes m given else Refuses Limit) ≡ (if b then m.whole else c)
 whole_by c m given true = refl
 whole_by c m given false = refl
 
@@ -24,12 +25,12 @@ some_is : {X : Type 0} (x y : X) → Some x ≡ Some y → x ≡ y
 some_is x y e = cc
 
 taken_by : (e : Event) (seat : ℕ) (m : Moved) (given : Option Job) (es : List Entry) (b : Bool) → (if b then Some m.out.entries else None) ≡ Some es
-    → reply_of e seat (if b then takes m given else Refuses 37) ≡ taken_reply e seat es given
+    → reply_of e seat (if b then takes m given else Refuses Limit) ≡ taken_reply e seat es given
 taken_by e seat m given es true h = ap (λ xs. taken_reply e seat xs given) (some_is m.out.entries es h)
 taken_by e seat m given es false h = absurd cc
 
 refused_by : (e : Event) (seat : ℕ) (m : Moved) (given : Option Job) (b : Bool) → (if b then Some m.out.entries else None) ≡ None
-    → reply_of e seat (if b then takes m given else Refuses 37) ≡ reply_of e seat (Refuses 37)
+    → reply_of e seat (if b then takes m given else Refuses Limit) ≡ reply_of e seat (Refuses Limit)
 refused_by e seat m given true h = absurd cc
 refused_by e seat m given false h = refl
 
@@ -42,14 +43,14 @@ tried_taken c e seat handed es r h =
 
 -- it would pass a limit
 pub tried_refused : (c : Whole) (e : Event) (seat : ℕ) (handed : Handed) → refusal c e handed ≡ None → entries_limited (happens c e handed) ≡ None
-    → reply_of e seat (answer c e handed) ≡ reply_of e seat (Refuses 37)
+    → reply_of e seat (answer c e handed) ≡ reply_of e seat (Refuses Limit)
 tried_refused c e seat handed r h =
     ap (λ o. reply_of e seat (decided c e handed o)) r ∙ refused_by e seat (happens c e handed) (given_out c e) (is_within_limits (happens c e handed).whole) h
 
 -- it is refused beforehand
-pub refused_first : (c : Whole) (e : Event) (seat code : ℕ) (handed : Handed) → refusal c e handed ≡ Some code
+pub refused_first : (c : Whole) (e : Event) (seat : ℕ) (code : Refusal) (handed : Handed) → refusal c e handed ≡ Some code
     → reply_of e seat (answer c e handed) ≡ reply_of e seat (Refuses code)
 refused_first c e seat code handed r = ap (λ o. reply_of e seat (decided c e handed o)) r
 
-pub refused_whole : (c : Whole) (e : Event) (code : ℕ) (handed : Handed) → refusal c e handed ≡ Some code → whole_after c (answer c e handed) ≡ c
+pub refused_whole : (c : Whole) (e : Event) (code : Refusal) (handed : Handed) → refusal c e handed ≡ Some code → whole_after c (answer c e handed) ≡ c
 refused_whole c e code handed r = ap (λ o. whole_after c (decided c e handed o)) r

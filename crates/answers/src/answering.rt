@@ -6,7 +6,7 @@ ghost use Rattle.protocol.specs.Answers.{answer, whole_after};
 
 use crate::given::given_out;
 use crate::reply::{Answered, refused, taken};
-use log_entries::Event;
+use log_entries::{Event, Refusal};
 use protocol_data::{Handed, Whole};
 use refusals::refusal;
 use std::alloc::{AllocError, Global};
@@ -30,7 +30,7 @@ pub fn answer(
     }
     let given = given_out(alloc, whole, event)?;
     let Some(entries) = happen(alloc, whole, event, handed)? else {
-        let reply = refused(alloc, event, seat, 37)?;
+        let reply = refused(alloc, event, seat, Refusal::Limit)?;
         return Ok(reply);
     };
     let reply = taken(alloc, event, seat, entries, given)?;

@@ -4,22 +4,23 @@ ghost use Rattle.std.specs.Prelude.{◌≡◌, IfOk};
 ghost use Rattle.protocol.specs.Answers.{given_out, job_at, job_of};
 ghost use Rattle.protocol.specs.Whole.{worker_at};
 
+use held::JobParts;
 use ids::WorkerId;
 use log_entries::Event;
 use number_lists::item_at_number;
-use protocol_data::{Job, Run, Whole};
+use protocol_data::{Run, Whole};
 use std::alloc::{AllocError, Global};
 use whole_events::next_job;
 
 /// The job of that number, of the attempt.
-fn job_of(alloc: Global, number: u64, run: &Run) -> Result<Job, AllocError>
+fn job_of(alloc: Global, number: u64, run: &Run) -> Result<JobParts, AllocError>
     ensures { IfOk result (λ job. job ≡ job_of number run.now) }
 {
     let spec = run.spec.copy(alloc)?;
     let births = run.births.copy(alloc)?;
     let prints = run.prints.copy(alloc)?;
     let answers = run.answers.copy(alloc)?;
-    Ok(Job {
+    Ok(JobParts {
         number,
         attempt: run.attempt,
         spec,
@@ -36,7 +37,7 @@ fn job_at(
     whole: &Whole,
     number: u64,
     worker: WorkerId,
-) -> Result<Option<Job>, AllocError>
+) -> Result<Option<JobParts>, AllocError>
     ensures { IfOk result (λ job. job ≡ job_at number (worker_at whole.now worker)) }
 {
     let Some(found) = item_at_number(&whole.workers, u64::from(worker.0)) else {
@@ -49,7 +50,11 @@ fn job_at(
 }
 
 /// The job that the event gives out, if it is a claim.
-pub fn given_out(alloc: Global, whole: &Whole, event: &Event) -> Result<Option<Job>, AllocError>
+pub fn given_out(
+    alloc: Global,
+    whole: &Whole,
+    event: &Event,
+) -> Result<Option<JobParts>, AllocError>
     ensures { IfOk result (λ job. job ≡ given_out whole.now event.now) }
 {
     match event {

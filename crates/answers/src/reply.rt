@@ -5,8 +5,8 @@ ghost use Rattle.event_log.specs.Entries.{In};
 ghost use Rattle.answers.specs.Replies.{reply_of, taken_reply};
 ghost use Rattle.protocol.specs.Answers.{Refuses};
 
-use log_entries::Event;
-use protocol_data::{Job, LogEntry, Said};
+use held::JobParts;
+use log_entries::{Entry, Event, Refusal};
 use sequence::Seq;
 use std::alloc::{AllocError, Global};
 
@@ -14,16 +14,16 @@ use std::alloc::{AllocError, Global};
 #[derive(Drop)]
 pub enum Verdict {
     /// It was taken; a claim gives out a job.
-    Taken(Option<Job>),
-    /// It was refused for the reason of that number, and nothing changed.
-    Refused(u8),
+    Taken(Option<JobParts>),
+    /// It was refused, and nothing changed.
+    Refused(Refusal),
 }
 
 /// What is answered to an event.
 #[derive(Drop)]
 pub struct Answered {
     /// What it adds to the log: itself, and its entries or its refusal.
-    pub entries: Seq<LogEntry>,
+    pub entries: Seq<Entry>,
     pub outcome: Verdict,
 }
 
@@ -32,26 +32,32 @@ fn with_event(
     alloc: Global,
     event: &Event,
     seat: u8,
-    more: Seq<LogEntry>,
-) -> Result<Seq<LogEntry>, AllocError>
+    more: Seq<Entry>,
+) -> Result<Seq<Entry>, AllocError>
     ensures { IfOk result (λ entries. entries ≡ In event.now seat ∷ more) }
 {
     let mut entries = Seq::new(alloc);
-    let said = Said::In(*event, seat);
-    entries.push(LogEntry { said })?;
+    entries.push(Entry::In {
+        event: *event,
+        seat,
+    })?;
     entries.append(more)?;
     Ok(entries)
 }
 
 /// The event was refused.
-pub fn refused(alloc: Global, event: &Event, seat: u8, code: u8) -> Result<Answered, AllocError>
-    ensures { IfOk result (λ reply. reply ≡ reply_of event.now seat (Refuses code)) }
+pub fn refused(
+    alloc: Global,
+    event: &Event,
+    seat: u8,
+    refusal: Refusal,
+) -> Result<Answered, AllocError>
+    ensures { IfOk result (λ reply. reply ≡ reply_of event.now seat (Refuses refusal)) }
 {
     let mut more = Seq::new(alloc);
-    let said = Said::Refused(code);
-    more.push(LogEntry { said })?;
+    more.push(Entry::Refused(refusal))?;
     let entries = with_event(alloc, event, seat, more)?;
-    let outcome = Verdict::Refused(code);
+    let outcome = Verdict::Refused(refusal);
     Ok(Answered { entries, outcome })
 }
 
@@ -60,8 +66,8 @@ pub fn taken(
     alloc: Global,
     event: &Event,
     seat: u8,
-    more: Seq<LogEntry>,
-    given: Option<Job>,
+    more: Seq<Entry>,
+    given: Option<JobParts>,
 ) -> Result<Answered, AllocError>
     ensures { IfOk result (λ reply. reply ≡ taken_reply event.now seat more given) }
 {

@@ -1,9 +1,7 @@
 -- What is summed up of a seat's commits, entry by entry.
 use Rattle.std.specs.Prelude.{ℕ, ◌+◌, ◌==◌, Bool, true, false, if◌then◌else◌, List, [], ◌∷◌}
-use Rattle.event_log.specs.declared.entry.Entry.{Entry}
-use Rattle.event_log.specs.declared.entry.Entry.TheVariants.{In, Refused}
-use Rattle.log_entries.specs.declared.event.Event.{Event}
-use Rattle.log_entries.specs.declared.event.Event.TheVariants.{Commit}
+use Rattle.event_log.specs.Entries.{Event, Commit, Entry, In}
+use Rattle.event_log.specs.Events.{refused_next}
 use Rattle.books.specs.declared.lines.Committed.{Committed}
 
 -- how many commits of a seat were accepted, and the sum of the numbers of their jobs
@@ -19,14 +17,6 @@ plus s t = record { count = s.count + t.count; sum = s.sum + t.sum }
 
 abbrev pub sums_in : Committed → Sums
 sums_in c = record { count = c.count; sum = c.sum }
-
-abbrev pub is_refusal : Entry → Bool
-is_refusal (Refused refusal) = true
-is_refusal _ = false
-
-abbrev pub refused_next : List Entry → Bool
-refused_next [] = false
-refused_next (x ∷ rest) = is_refusal x
 
 -- what an event from that seat adds
 abbrev pub added_by : Event → Bool → Sums

@@ -1,13 +1,12 @@
 // The books of a log, written.
 
 ghost use Rattle.std.specs.Prelude.{◌≡◌, ◌+◌, ◌*◌, ◌<◌, ◌≤◌, ◌^◌, ◌++◌, ◌∷◌, [], OnOk, IfOk, drop, length, string_bytes};
-ghost use Rattle.event_log.specs.Views.{log_of};
+ghost use Rattle.event_log.specs.Events.{refused_next};
 ghost use Rattle.books.specs.Lines.{book_line, book_lines};
 ghost use Rattle.books.specs.SeatTotals.{seat_totals};
-ghost use Rattle.books.specs.Summing.{added_by, counts_for, plus, refused_next, sums_in, sums_of};
+ghost use Rattle.books.specs.Summing.{added_by, counts_for, plus, sums_in, sums_of};
 
-use event_log::Entry;
-use log_entries::Event;
+use log_entries::{Entry, Event};
 use std::alloc::{AllocError, Global};
 
 /// How many commits were accepted, and the sum of the numbers of their jobs.
@@ -72,7 +71,7 @@ fn sums_of(log: &[Entry], seat: u8) -> Committed
 /// Writes the line of a seat.
 #[tactic(auto, using(crate::proofs::Committed::same_line))]
 fn write_line(text: &mut String, log: &[Entry], seat: u8) -> Result<(), AllocError>
-    ensures { OnOk result (string_bytes text.new ≡ string_bytes text.old ++ book_line seat (seat_totals seat (log_of log.now))) }
+    ensures { OnOk result (string_bytes text.new ≡ string_bytes text.old ++ book_line seat (seat_totals seat log.now)) }
 {
     let sums = sums_of(log, seat);
     if sums.count == 0 {
@@ -85,7 +84,7 @@ fn write_line(text: &mut String, log: &[Entry], seat: u8) -> Result<(), AllocErr
 /// their jobs.
 #[tactic(auto, using(crate::proofs::Committed::no_lines, crate::proofs::Committed::one_line_more))]
 pub fn book_lines(alloc: Global, log: &[Entry]) -> Result<String, AllocError>
-    ensures { IfOk result (λ text. string_bytes text ≡ book_lines (log_of log.now)) }
+    ensures { IfOk result (λ text. string_bytes text ≡ book_lines log.now) }
 {
     let mut text = String::new(alloc);
     for seat in 0..9 {

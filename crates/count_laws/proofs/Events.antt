@@ -5,6 +5,7 @@ use Rattle.std.specs.List.{flat_map}
 use Rattle.sequence.proofs.Places.{and_right}
 use Rattle.meaning.specs.Values.{Id, Outcome}
 use Rattle.event_log.specs.Entries.{Claim, Commit, Deliver, Entry, Event, Evict, Join, Kill, KillNode, Lose, Notice, NoticeNode, Tick}
+use Rattle.event_log.specs.Entries.{Refusal, NoJob, Stale}
 use Rattle.event_log.specs.Rules.{Setting}
 use Rattle.event_log.specs.Words.{born_in, opened}
 use Rattle.limit_laws.specs.Opens.{one_if}
@@ -23,7 +24,7 @@ use Rattle.protocol.specs.Messages.{Party, Push, TheNode, TheWorker, Unhold, Wai
 use Rattle.protocol.specs.Nodes.{Node, There}
 use Rattle.protocol.specs.Notices.{notice_node_step, notice_step}
 use Rattle.protocol.specs.Numbered.{changed_at, item_at}
-use Rattle.protocol.specs.Refusals.{commit_refusal, is_of_job, is_out_by, or_code, refusal, unless}
+use Rattle.protocol.specs.Refusals.{commit_refusal, is_of_job, is_out_by, or_refusal, refusal, unless}
 use Rattle.protocol.specs.Releases.{release_step}
 use Rattle.protocol.specs.Sets.{repeated}
 use Rattle.protocol.specs.Slots.{ask_key, fetched, forgets, node_reached, node_reached_from, reply_to}
@@ -186,20 +187,20 @@ module _ (c : Whole) where
 -- ---- a commit, of a live worker
 
 module _ (s : Setting) (log : List Entry) (c : Whole) (sound : IsSound s log c) where
-  unhanded : (j : ℕ) (k : ℕ) (b d : Bool) (o : Option ℕ) → or_code (unless (d && false && b) 32) o ≡ None → Grows c k (moved c)
+  unhanded : (j : ℕ) (k : ℕ) (b d : Bool) (o : Option Refusal) → or_refusal (unless (d && false && b) NoJob) o ≡ None → Grows c k (moved c)
   unhanded j k b true o f = absurd (cc)
   unhanded j k b false o f = absurd (cc)
 
   commit_grows : (j : ℕ) (handed : Handed) (g : Option Given) → commit_refusal c j handed g ≡ None → Grows c (borne (Commit j) handed) (committed_by c j handed g)
   commit_grows j handed None e = absurd (cc)
-  commit_grows j Nothing (Some g) e = unhanded j 0 (is_out_by (worker_at c g.worker) j) (not g.is_committed) (unless (is_live_worker (worker_at c g.worker)) 33) e
-  commit_grows j OfAnother (Some g) e = unhanded j 0 (is_out_by (worker_at c g.worker) j) (not g.is_committed) (unless (is_live_worker (worker_at c g.worker)) 33) e
+  commit_grows j Nothing (Some g) e = unhanded j 0 (is_out_by (worker_at c g.worker) j) (not g.is_committed) (unless (is_live_worker (worker_at c g.worker)) Stale) e
+  commit_grows j OfAnother (Some g) e = unhanded j 0 (is_out_by (worker_at c g.worker) j) (not g.is_committed) (unless (is_live_worker (worker_at c g.worker)) Stale) e
   commit_grows j (OfJob o) (Some g) e =
       let open_job : Bool = not g.is_committed && is_of_job (OfJob o) in
-      let both = both_passed (unless (open_job && is_out_by (worker_at c g.worker) j) 32) (unless (is_live_worker (worker_at c g.worker)) 33) e in
+      let both = both_passed (unless (open_job && is_out_by (worker_at c g.worker) j) NoJob) (unless (is_live_worker (worker_at c g.worker)) Stale) e in
       let out : is_out_by (worker_at c g.worker) j ≡ true =
-      and_right open_job (is_out_by (worker_at c g.worker) j) (passed (open_job && is_out_by (worker_at c g.worker) j) 32 both.0) in
-      let x : LiveOne (worker_at c g.worker) = live_one (worker_at c g.worker) (passed (is_live_worker (worker_at c g.worker)) 33 both.1) in
+      and_right open_job (is_out_by (worker_at c g.worker) j) (passed (open_job && is_out_by (worker_at c g.worker) j) NoJob both.0) in
+      let x : LiveOne (worker_at c g.worker) = live_one (worker_at c g.worker) (passed (is_live_worker (worker_at c g.worker)) Stale both.1) in
       let n = sound.between.knows.housed g.worker x.worker x.at x.lives in
       let run : OutOf x.worker.run j = out_of x.worker.run j (ap (λ y. is_out_by y j) (sym x.at) ∙ out) in
       let d : Whole = with_committed c j (length o.births) in

@@ -9,6 +9,7 @@ use Rattle.meaning.specs.Mains.{KeepsMainApart}
 use Rattle.event_log.specs.Breaks.{Among}
 use Rattle.event_log.specs.Causes.{shown}
 use Rattle.event_log.specs.Entries.{Claim, Commit, Deliver, Entry, Event, Evict, In, Join, Kill, KillNode, Lose, Notice, NoticeNode, Refused, Tick}
+use Rattle.event_log.specs.Entries.{Refusal, Limit}
 use Rattle.event_log.specs.Events.{accepted_events, join_in, joins}
 use Rattle.event_log.specs.Legal.{opening}
 use Rattle.event_log.specs.Rules.{Setting}
@@ -20,7 +21,7 @@ use Rattle.protocol.specs.Jobs.{Handed, Nothing}
 use Rattle.protocol.specs.Refusals.{is_of_job, is_within_limits, refusal}
 use Rattle.protocol.specs.Tables.{Worker}
 use Rattle.protocol.specs.Whole.{Moved, Whole}
-use Rattle.protocol_laws.specs.Shown.{IsAsShown, hidden, number_of}
+use Rattle.protocol_laws.specs.Shown.{IsAsShown, hidden, refusal_of}
 use Rattle.protocol_laws.specs.Sound.{IsSound}
 use Rattle.protocol_laws.proofs.Shown.{refusals_are_as_shown}
 use Rattle.protocol_legal.specs.Whole.{setting_of}
@@ -61,7 +62,7 @@ joins_then log e seat es q =
     ap (λ xs. length (flat_map join_in xs)) f ∙ ap length (flat_map-append join_in (accepted_events log) (e ∷ []))
     ∙ length-append (joins log) (join_in e ++ []) ∙ ap (λ k. length (joins log) + k) (long_nil (join_in e))
 
-refused_counts : (s : Setting) (log : List Entry) (e : Event) (seat code : ℕ) → counted s (log ++ In e seat ∷ Refused code ∷ []) ≡ counted s log
+refused_counts : (s : Setting) (log : List Entry) (e : Event) (seat : ℕ) (code : Refusal) → counted s (log ++ In e seat ∷ Refused code ∷ []) ≡ counted s log
 refused_counts s log e seat code =
     let es : List Entry = In e seat ∷ Refused code ∷ [] in
     same_counts (ap (λ xs. s.nodes + length (flat_map join_in xs)) (accepted-refused log e seat code))
@@ -111,12 +112,12 @@ module _ (s : Setting) (log : List Entry) (c : Whole) (sound : IsSound s log c) 
     -- what comes of an answer
     pub record Comes (a : Answer) : Type 0 where
       pub accepted : (step : Step) → a ≡ Takes step → counted s (log ++ logged e seat a) ≡ next
-      pub otherwise : (code : ℕ) → a ≡ Refuses code → counted s (log ++ logged e seat a) ≡ counted s log
+      pub otherwise : (code : Refusal) → a ≡ Refuses code → counted s (log ++ logged e seat a) ≡ counted s log
       pub within : is_within (counted s log) ≡ true → is_within (counted s (log ++ logged e seat a)) ≡ true
       pub objects : (whole_after c a).made ≡ length (births (log ++ logged e seat a))
       pub few : (step : Step) → a ≡ Takes step → would_open c e handed ≤ 1
 
-    refused_comes : (code : ℕ) → Comes (Refuses code)
+    refused_comes : (code : Refusal) → Comes (Refuses code)
     refused_comes code =
         let f = refused_counts s log e seat code in
         record {
@@ -130,8 +131,8 @@ module _ (s : Setting) (log : List Entry) (c : Whole) (sound : IsSound s log c) 
         apart : (step : Step) → Refuses code ≡ Takes step → ⊥
         apart step i = cc
 
-    limited_comes : (t : Bool) → is_within_limits m.whole ≡ t → refusal c e handed ≡ None → Comes (if t then takes m (given_out c e) else Refuses 37)
-    limited_comes false w r = refused_comes 37
+    limited_comes : (t : Bool) → is_within_limits m.whole ≡ t → refusal c e handed ≡ None → Comes (if t then takes m (given_out c e) else Refuses Limit)
+    limited_comes false w r = refused_comes Limit
     limited_comes true w r =
         let f = taken_counts r in
         record {
@@ -142,10 +143,10 @@ module _ (s : Setting) (log : List Entry) (c : Whole) (sound : IsSound s log c) 
           few = λ step i. (event_grows s log c sound e handed r).few;
         }
       where
-        apart : (code : ℕ) → takes m (given_out c e) ≡ Refuses code → ⊥
+        apart : (code : Refusal) → takes m (given_out c e) ≡ Refuses code → ⊥
         apart code i = cc
 
-    decided_comes : (o : Option ℕ) → refusal c e handed ≡ o → Comes (decided c e handed o)
+    decided_comes : (o : Option Refusal) → refusal c e handed ≡ o → Comes (decided c e handed o)
     decided_comes (Some code) r = refused_comes code
     decided_comes None r = limited_comes (is_within_limits m.whole) refl r
 
@@ -157,44 +158,44 @@ module _ (s : Setting) (log : List Entry) (c : Whole) (sound : IsSound s log c) 
     abbrev pub Passes : Type 0
     Passes = PassesLimit s (record { whole = c; log = log }) (record { event = e; seat = seat; handed = handed })
 
-    same_code : (code k : ℕ) → Refuses code ≡ Refuses k → code ≡ k
+    same_code : (code k : Refusal) → Refuses code ≡ Refuses k → code ≡ k
     same_code code k i = cc
 
     differ : {X : Type 0} (t : Bool) → t ≡ true → t ≡ false → X
     differ t i j = absurd (cc)
 
     -- the log shows no cause where the number is 37
-    shows_no_cause : number_of (answer c e handed) ≡ Some 37 → shown (setting_of s c) log (is_of_job handed) e ≡ None
+    shows_no_cause : refusal_of (answer c e handed) ≡ Some Limit → shown (setting_of s c) log (is_of_job handed) e ≡ None
     shows_no_cause i = go (shown (setting_of s c) log (is_of_job handed) e) refl (refusals_are_as_shown s log c sound e handed)
       where
-        go : (o : Option ℕ) → shown (setting_of s c) log (is_of_job handed) e ≡ o → IsAsShown e o (number_of (answer c e handed)) → o ≡ None
+        go : (o : Option Refusal) → shown (setting_of s c) log (is_of_job handed) e ≡ o → IsAsShown e o (refusal_of (answer c e handed)) → o ≡ None
         go None f h = refl
         go (Some code) f h = absurd (shown_is_no_limit (setting_of s c) log (is_of_job handed) e (f ∙ sym h ∙ i))
 
     -- no other number refuses it then
-    untold : answer c e handed ≡ Refuses 37 → refusal c e handed ≡ None
+    untold : answer c e handed ≡ Refuses Limit → refusal c e handed ≡ None
     untold i = go (refusal c e handed) refl i
       where
-        go : (o : Option ℕ) → refusal c e handed ≡ o → decided c e handed o ≡ Refuses 37 → refusal c e handed ≡ None
-        go (Some code) r j = absurd (refusal_is_no_limit c e handed (r ∙ ap (λ k. Some k) (same_code code 37 j)))
+        go : (o : Option Refusal) → refusal c e handed ≡ o → decided c e handed o ≡ Refuses Limit → refusal c e handed ≡ None
+        go (Some code) r j = absurd (refusal_is_no_limit c e handed (r ∙ ap (λ k. Some k) (same_code code Limit j)))
         go None r j = r
 
-    pub opens_few : answer c e handed ≡ Refuses 37 → would_open c e handed ≤ 1
+    pub opens_few : answer c e handed ≡ Refuses Limit → would_open c e handed ≤ 1
     opens_few i = (event_grows s log c sound e handed (untold i)).few
 
-    beyond : answer c e handed ≡ Refuses 37 → is_within next ≡ false
+    beyond : answer c e handed ≡ Refuses Limit → is_within next ≡ false
     beyond i = go (refusal c e handed) refl i
       where
-        by_test : (t : Bool) → is_within_limits m.whole ≡ t → refusal c e handed ≡ None → (if t then takes m (given_out c e) else Refuses 37) ≡ Refuses 37 → is_within next ≡ false
+        by_test : (t : Bool) → is_within_limits m.whole ≡ t → refusal c e handed ≡ None → (if t then takes m (given_out c e) else Refuses Limit) ≡ Refuses Limit → is_within next ≡ false
         by_test true w r j = absurd (cc)
         by_test false w r j = sym (limits_as r) ∙ w
 
-        go : (o : Option ℕ) → refusal c e handed ≡ o → decided c e handed o ≡ Refuses 37 → is_within next ≡ false
-        go (Some code) r j = absurd (refusal_is_no_limit c e handed (r ∙ ap (λ k. Some k) (same_code code 37 j)))
+        go : (o : Option Refusal) → refusal c e handed ≡ o → decided c e handed o ≡ Refuses Limit → is_within next ≡ false
+        go (Some code) r j = absurd (refusal_is_no_limit c e handed (r ∙ ap (λ k. Some k) (same_code code Limit j)))
         go None r j = by_test (is_within_limits m.whole) refl r j
 
-    pub refused_passes : answer c e handed ≡ Refuses 37 → Passes
-    refused_passes i = record { unshown = shows_no_cause (ap number_of i); beyond = beyond i }
+    pub refused_passes : answer c e handed ≡ Refuses Limit → Passes
+    refused_passes i = record { unshown = shows_no_cause (ap refusal_of i); beyond = beyond i }
 
     -- where nothing is added, no limit is passed
     adds_nothing : is_within (counted s log) ≡ true → length (join_in e) ≡ 0 → would_open c e handed ≡ 0 → borne e handed ≡ 0 → is_within next ≡ true
@@ -205,12 +206,12 @@ module _ (s : Setting) (log : List Entry) (c : Whole) (sound : IsSound s log c) 
         none n l f = omega (arith, f)
 
 -- of an event that isn't refused for what the tables alone show, the only number that the log doesn't show is 37; the others add nothing
-only_limit : (code : ℕ) → Among code (37 ∷ []) → code ≡ 37
+only_limit : (code : Refusal) → Among code (Limit ∷ []) → code ≡ Limit
 only_limit code (zero, e) = cc
 only_limit code (suc k, e) = absurd (cc)
 
 module _ (s : Setting) (log : List Entry) (c : Whole) (sound : IsSound s log c) (made : c.made ≡ length (births log)) (w : is_within (counted s log) ≡ true) where
-  hidden_limit : (e : Event) (seat : ℕ) (handed : Handed) → is_within (behind (counted s log) c e handed) ≡ false → (code : ℕ) → Among code (hidden e) → code ≡ 37
+  hidden_limit : (e : Event) (seat : ℕ) (handed : Handed) → is_within (behind (counted s log) c e handed) ≡ false → (code : Refusal) → Among code (hidden e) → code ≡ Limit
   hidden_limit (Claim v) seat handed b code h = differ s log c sound made (Claim v) seat handed _ (adds_nothing s log c sound made (Claim v) seat handed w refl (claim_grows_none c v handed) refl) b
   hidden_limit (Evict n o) seat handed b code h = differ s log c sound made (Evict n o) seat handed _ (adds_nothing s log c sound made (Evict n o) seat handed w refl refl refl) b
   hidden_limit (Lose n o) seat handed b code h = differ s log c sound made (Lose n o) seat handed _ (adds_nothing s log c sound made (Lose n o) seat handed w refl refl refl) b
@@ -223,16 +224,16 @@ module _ (s : Setting) (log : List Entry) (c : Whole) (sound : IsSound s log c) 
   hidden_limit (KillNode n) seat handed b code h = only_limit code h
   hidden_limit Join seat handed b code h = only_limit code h
 
-  passes_refused : (e : Event) (seat : ℕ) (handed : Handed) → Passes s log c sound made e seat handed → answer c e handed ≡ Refuses 37
+  passes_refused : (e : Event) (seat : ℕ) (handed : Handed) → Passes s log c sound made e seat handed → answer c e handed ≡ Refuses Limit
   passes_refused e seat handed p =
       go (refusal c e handed) refl
-      (subst (λ o. IsAsShown e o (number_of (answer c e handed))) p.unshown (refusals_are_as_shown s log c sound e handed))
+      (subst (λ o. IsAsShown e o (refusal_of (answer c e handed))) p.unshown (refusals_are_as_shown s log c sound e handed))
     where
-      by_test : (t : Bool) → is_within_limits (happens c e handed).whole ≡ t → refusal c e handed ≡ None → (if t then takes (happens c e handed) (given_out c e) else Refuses 37) ≡ Refuses 37
+      by_test : (t : Bool) → is_within_limits (happens c e handed).whole ≡ t → refusal c e handed ≡ None → (if t then takes (happens c e handed) (given_out c e) else Refuses Limit) ≡ Refuses Limit
       by_test false i r = refl
       by_test true i r = differ s log c sound made e seat handed _ (sym (limits_as s log c sound made e seat handed r) ∙ i) p.beyond
 
-      go : (o : Option ℕ) → refusal c e handed ≡ o → IsAsShown e None (number_of (decided c e handed o)) → decided c e handed o ≡ Refuses 37
+      go : (o : Option Refusal) → refusal c e handed ≡ o → IsAsShown e None (refusal_of (decided c e handed o)) → decided c e handed o ≡ Refuses Limit
       go (Some code) r h = ap (λ k. Refuses k) (hidden_limit e seat handed p.beyond code h)
       go None r h = by_test (is_within_limits (happens c e handed).whole) refl r
 
@@ -276,7 +277,7 @@ module _ (s : Setting) (log : List Entry) (c : Whole) (sound : IsSound s log c) 
   by_join (Kill v) f = unjoined (counted s log).nodes within_nodes f
   by_join (KillNode n) f = unjoined (counted s log).nodes within_nodes f
 
-  full : (g : Handing) → answer c g.event g.handed ≡ Refuses 37 → IsFull (counted s log) g
+  full : (g : Handing) → answer c g.event g.handed ≡ Refuses Limit → IsFull (counted s log) g
   full g i =
       elim (which (nat_lt ((counted s log).nodes + length (join_in g.event)) 65) (nat_lt ((counted s log).workers + would_open c g.event g.handed) 1025)
       (nat_lt ((counted s log).objects + borne g.event g.handed) 1000001) (refused_passes s log c sound made g.event g.seat g.handed i).beyond) [

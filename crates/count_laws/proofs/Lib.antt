@@ -1,4 +1,5 @@
 pub mod Added
 pub mod Events
-pub mod Numbers
 pub mod Laws
+pub mod Numbers
+pub mod Reached

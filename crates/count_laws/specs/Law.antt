@@ -2,9 +2,10 @@
 use Rattle.std.specs.Prelude.{◌≡◌, ◌<◌, ◌≤◌, ◌⊎◌, ℕ, ◌+◌, true, false, length, None}
 use Rattle.event_log.specs.Causes.{shown}
 use Rattle.event_log.specs.Entries.{Join}
+use Rattle.event_log.specs.Entries.{Refusal, Limit}
 use Rattle.event_log.specs.Rules.{Setting}
 use Rattle.meaning.specs.Mains.{KeepsMainApart}
-use Rattle.owed_laws.specs.Law.{IsReached}
+pub use Rattle.owed_laws.specs.Law.{AnswerPays, IsReached}
 use Rattle.protocol.specs.Answers.{Refuses, Step, Takes}
 use Rattle.protocol.specs.Refusals.{is_of_job}
 use Rattle.protocol_legal.specs.Whole.{setting_of}
@@ -29,18 +30,18 @@ IsFull n g = ((g.event ≡ Join) × (n.nodes ≡ 64)) ⊎ (n.workers ≡ 1024) �
 -- one event
 pub record IsLimited (s : Setting) (r : Running) (g : Handing) : Type 0 where
   -- it is refused 37 exactly where it would pass a limit
-  pub refused : answer_to r g ≡ Refuses 37 → PassesLimit s r g
-  pub passes : PassesLimit s r g → answer_to r g ≡ Refuses 37
+  pub refused : answer_to r g ≡ Refuses Limit → PassesLimit s r g
+  pub passes : PassesLimit s r g → answer_to r g ≡ Refuses Limit
   -- by the log alone: only where that is full; a join exactly where there are 64 nodes; and always what bears too many objects, unless for another cause
-  pub full : answer_to r g ≡ Refuses 37 → IsFull (counted s r.log) g
-  pub joins : g.event ≡ Join → answer_to r g ≡ Refuses 37 → (counted s r.log).nodes ≡ 64
-  pub no_join : g.event ≡ Join → (counted s r.log).nodes ≡ 64 → answer_to r g ≡ Refuses 37
+  pub full : answer_to r g ≡ Refuses Limit → IsFull (counted s r.log) g
+  pub joins : g.event ≡ Join → answer_to r g ≡ Refuses Limit → (counted s r.log).nodes ≡ 64
+  pub no_join : g.event ≡ Join → (counted s r.log).nodes ≡ 64 → answer_to r g ≡ Refuses Limit
   pub no_births : shown (setting_of s r.whole) r.log (is_of_job g.handed) g.event ≡ None → 1000000 < (counted s r.log).objects + borne g.event g.handed →
-      answer_to r g ≡ Refuses 37
+      answer_to r g ≡ Refuses Limit
   -- behind it there are as many as there would be, if it is accepted, with one worker more at most; else as many as before
   pub accepted : (step : Step) → answer_to r g ≡ Takes step → counted s (after_event r g).log ≡ behind (counted s r.log) r.whole g.event g.handed
   pub one_opens : (step : Step) → answer_to r g ≡ Takes step → would_open r.whole g.event g.handed ≤ 1
-  pub otherwise : (code : ℕ) → answer_to r g ≡ Refuses code → counted s (after_event r g).log ≡ counted s r.log
+  pub otherwise : (code : Refusal) → answer_to r g ≡ Refuses code → counted s (after_event r g).log ≡ counted s r.log
   -- which is within the limits
   pub within : is_within (counted s (after_event r g).log) ≡ true
 

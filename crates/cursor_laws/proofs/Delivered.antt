@@ -2,6 +2,7 @@
 use Rattle.std.proofs.Common.{◌≡◌, ℕ, zero, suc, ◌+◌, ◌≤◌, Bool, true, false, List, [], ◌∷◌, ◌++◌, length, drop, Option, Some, None, refl, ap, ◌∙◌, arith}
 use Rattle.std.specs.Prelude.{if◌then◌else◌, slice_get, slice_set}
 use Rattle.event_log.specs.Entries.{Claim, Commit, Deliver, Event, Evict, Join, Kill, KillNode, Lose, Notice, NoticeNode, Tick}
+use Rattle.event_log.specs.Entries.{Refusal, Limit}
 use Rattle.protocol.specs.Answers.{Refuses, answer, decided, given_out, takes, whole_after}
 use Rattle.protocol.specs.Commits.{claim_step, commit_step}
 use Rattle.protocol.specs.Deliveries.{reached}
@@ -99,11 +100,11 @@ happens_keeps c i (Kill w) handed p = killed_keeps c w i (worker_at c w) p
 happens_keeps c i (KillNode n) handed p = p
 happens_keeps c i Join handed p = p
 
-limited_keeps : (c : Whole) (i : ℕ) (m : Moved) (given : Option Job) (b : Bool) → Was c i → Was m.whole i → Was (whole_after c (if b then takes m given else Refuses 37)) i
+limited_keeps : (c : Whole) (i : ℕ) (m : Moved) (given : Option Job) (b : Bool) → Was c i → Was m.whole i → Was (whole_after c (if b then takes m given else Refuses Limit)) i
 limited_keeps c i m given true p q = q
 limited_keeps c i m given false p q = p
 
-decided_keeps : (c : Whole) (i : ℕ) (e : Event) (handed : Handed) (o : Option ℕ) → Was c i → Was (whole_after c (decided c e handed o)) i
+decided_keeps : (c : Whole) (i : ℕ) (e : Event) (handed : Handed) (o : Option Refusal) → Was c i → Was (whole_after c (decided c e handed o)) i
 decided_keeps c i e handed None p = limited_keeps c i (happens c e handed) (given_out c e) (is_within_limits (happens c e handed).whole) p (happens_keeps c i e handed p)
 decided_keeps c i e handed (Some code) p = p
 

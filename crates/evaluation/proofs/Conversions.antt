@@ -14,7 +14,7 @@ use Rattle.frames.specs.Machines.{argument_of, made_of}
 use Rattle.evaluation.specs.TaskValues.{IsTaskValue, AreTaskValues, EachTaskValue, AreTaskArguments, IsTaskBirth, AreTaskBirths}
 use Rattle.frames.specs.declared.value.Value.{Value, List as AList}
 use Rattle.frames.specs.declared.value.Items.{Items}
-use Rattle.frames.specs.declared.halt.Argument.{Argument}
+use Rattle.frames.specs.declared.halt.MarkedArgument.{MarkedArgument}
 use Rattle.frames.specs.declared.halt.Made.{Made}
 use Rattle.frames.proofs.Rows.{list_is}
 
@@ -42,10 +42,10 @@ value_within xs i d h is p = subst (λ x. IsTaskValue (value_of x)) (sym is) (at
 pub item_within : (v : Value) (p : Rc Items Global) (xs : List Value) (i : ℕ) (d : Value) → v ≡ AList p → xs ≡ p.value.values.items → i < length xs → d ≡ get_or xs i d → IsTaskValue (value_of v) → IsTaskValue (value_of d)
 item_within v p xs i d value row h is plain = value_within xs i d h is (each_plain (map value_of xs) (subst IsTaskValue (list_is v p xs value row) plain))
 
-pub argument_within : (xs : List Argument) (i : ℕ) (d : Argument) → i < length xs → d ≡ get_or xs i d → AreTaskArguments (map argument_of xs) → IsTaskValue (value_of d.value)
-argument_within xs i d h is p = subst (λ (x : Argument). IsTaskValue (value_of x.value)) (sym is) (at xs i d h p)
+pub argument_within : (xs : List MarkedArgument) (i : ℕ) (d : MarkedArgument) → i < length xs → d ≡ get_or xs i d → AreTaskArguments (map argument_of xs) → IsTaskValue (value_of d.value)
+argument_within xs i d h is p = subst (λ (x : MarkedArgument). IsTaskValue (value_of x.value)) (sym is) (at xs i d h p)
   where
-    at : (xs : List Argument) (i : ℕ) (d : Argument) → i < length xs → AreTaskArguments (map argument_of xs) → IsTaskValue (value_of (get_or xs i d).value)
+    at : (xs : List MarkedArgument) (i : ℕ) (d : MarkedArgument) → i < length xs → AreTaskArguments (map argument_of xs) → IsTaskValue (value_of (get_or xs i d).value)
     at [] i d h p = absurd (omega arith)
     at (x ∷ xs) zero d h p = p.0
     at (x ∷ xs) (suc i) d h p = at xs i d (omega arith) p.1

@@ -4,11 +4,9 @@ use Rattle.meaning.specs.Syntax.{Script}
 use Rattle.meaning.specs.Values as meant
 use Rattle.meaning.specs.Values.{Id, Named, Outcome}
 use Rattle.meaning.specs.Runs as runs
-use Rattle.values.specs.declared.value.RunValue.{RunValue}
 use Rattle.values.specs.declared.content.Content.{Content}
 use Rattle.values.specs.Values.{value_of, content_of}
 use Rattle.task_spec.specs.Births.{birth_of}
-use Rattle.task_spec.specs.declared.birth.Birth.{Birth}
 use Rattle.frame_laws.specs.Resuming.{after}
 use Rattle.frames.specs.Values.{value_of as run_value_of}
 use Rattle.frames.specs.Machines.{made_of}
@@ -17,11 +15,11 @@ use Rattle.frames.specs.Frames.{IsWaiting}
 use Rattle.frames.specs.Tasks.{stopped_by, piece_at}
 use Rattle.frames.specs.declared.attempt.Attempt.{Attempt}
 use Rattle.evaluation.specs.TaskValues.{IsTaskStop}
-use Rattle.evaluation.specs.declared.piece.Stop.{Stop}
-use Rattle.evaluation.specs.declared.piece.Stop.TheVariants as stops
+use Rattle.evaluation.specs.declared.piece.PieceStop.{PieceStop}
+use Rattle.evaluation.specs.declared.piece.PieceStop.TheVariants as stops
 use Rattle.evaluation.specs.declared.piece.Piece.{Piece}
 
-abbrev pub stop_of : Stop → runs.Stop
+abbrev pub stop_of : PieceStop → runs.Stop
 stop_of (stops.Needs o) = runs.Needs (Named o)
 stop_of (stops.Ends c) = runs.Over (content_of c)
 
@@ -43,19 +41,9 @@ pub record IsPieceOf (p : Piece) (a : Attempt) : Type 0 where
   pub prints : map value_of p.prints.items ≡ map run_value_of a.prints.items
   pub stop : stopped_by a.halt ≡ Some (stop_of p.stop)
 
--- what a task was answered, bore and printed before it goes on
-pub record Before : Type 0 where
-  pub answers : List Content
-  pub births : List Birth
-  pub prints : List RunValue
-
-abbrev pub past_of : Before → Past
-past_of before =
-    record { answers = map content_of before.answers; births = map birth_of before.births; prints = map value_of before.prints }
-
 -- all answers of one that goes on with this one
-abbrev pub answered_so : Before → Content → List Outcome
-answered_so before c = map content_of before.answers ++ content_of c ∷ []
+abbrev pub answered_so : Past → Content → List Outcome
+answered_so past c = past.answers ++ content_of c ∷ []
 
 -- the past of a task that went on from another past with these answers, and then did this
 abbrev pub past_with : Past → List Outcome → Piece → Past

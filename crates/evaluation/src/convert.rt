@@ -8,7 +8,7 @@ ghost use Rattle.frames.specs.Values.{value_of, outcome_of};
 ghost use Rattle.frames.specs.Machines.{argument_of, made_of};
 ghost use Rattle.evaluation.specs.TaskValues.{IsNamed, IsTaskValue, EachTaskValue, IsTaskOutcome, AreTaskArguments, IsTaskBirth, AreTaskBirths};
 
-use frames::{Argument, Made, Outcome, Value, list};
+use frames::{Made, MarkedArgument, Outcome, Value, list};
 use ids::ObjectId;
 use std::alloc::{AllocError, AllocFailed, Global};
 use std::rc::Rc;
@@ -91,13 +91,13 @@ pub(crate) fn from_contents(alloc: Global, contents: &[Content]) -> Result<Vec<O
 pub(crate) fn from_arguments(
     alloc: Global,
     arguments: &[task_spec::Argument],
-) -> Result<Vec<Argument>, AllocError>
+) -> Result<Vec<MarkedArgument>, AllocError>
     ensures { IfOk result (λ args. map argument_of args.items ≡ map task_argument arguments.now) }
 {
     let mut copies = Vec::new(alloc);
     for argument in arguments {
         let value = from_value(alloc, &argument.value)?;
-        copies.push(Argument {
+        copies.push(MarkedArgument {
             value,
             is_dereferenced: argument.is_dereferenced,
         })?;
@@ -171,7 +171,7 @@ pub(crate) fn to_values(alloc: Global, values: &[Value]) -> Result<Vec<RunValue>
 /// The arguments of a remote call, as its task has them.
 fn to_arguments(
     alloc: Global,
-    arguments: &[Argument],
+    arguments: &[MarkedArgument],
 ) -> Result<Vec<task_spec::Argument>, ConversionError>
     ensures value { IfOk result (λ args. map task_argument args.items ≡ map argument_of arguments.now) }
     ensures kind { IfErr result (λ e. e ≡ ConversionError.Broken → ⊥) }

@@ -8,5 +8,5 @@ mod serial;
 
 pub use frames::{Compiled, Frame};
 pub use no_memory::NoMemory;
-pub use piece::{Piece, PieceError, Stop, go_on, run_piece};
+pub use piece::{Piece, PieceError, PieceStop, go_on, run_piece};
 pub use serial::{SerialError, SerialRun, run_serially};

@@ -1,6 +1,7 @@
 // A piece of a task's run.
 
 ghost use Rattle.std.specs.Prelude.{◌≡◌, ◌∷◌, [], IfOk, IfErr, None, Some, map, true};
+ghost use Rattle.meaning.specs.Values as meant;
 ghost use Rattle.meaning.specs.Values.{Id, Val, Trapped, Broken};
 ghost use Rattle.meaning.specs.Runs.{Over, stopped};
 ghost use Rattle.meaning.specs.Runs as runs;
@@ -14,8 +15,8 @@ ghost use Rattle.frames.specs.Machines.{is_stop};
 ghost use Rattle.frames.specs.Courses.{Past, no_past};
 ghost use Rattle.frames.specs.Frames.{IsWaiting};
 ghost use Rattle.frames.specs.Tasks.{stopped_by};
-ghost use Rattle.evaluation.specs.TaskValues.{IsTaskPiece};
-ghost use Rattle.evaluation.specs.Pieces.{Before, IsNoTaskStop, IsPieceOf, Keeps, Stands, answered_so, past_of, piece_of, stop_of};
+ghost use Rattle.evaluation.specs.TaskValues.{AreTaskOutcomes, IsTaskBirth, IsTaskPiece};
+ghost use Rattle.evaluation.specs.Pieces.{IsNoTaskStop, IsPieceOf, Keeps, Stands, answered_so, piece_of, stop_of};
 
 use crate::convert::{
     ConversionError, from_arguments, from_content, from_contents, named, to_births, to_value,
@@ -30,7 +31,7 @@ use values::{Content, RunValue};
 
 /// Where a piece stops.
 #[derive(Drop)]
-pub enum Stop {
+pub enum PieceStop {
     /// At a get of this object, for which there is no answer left.
     Needs(ObjectId),
     /// At the end of the task, which has this content.
@@ -43,7 +44,7 @@ pub enum Stop {
 pub struct Piece {
     pub births: Vec<Birth>,
     pub prints: Vec<RunValue>,
-    pub stop: Stop,
+    pub stop: PieceStop,
     /// Where it stops at a get, the frame from which it goes on with an answer.
     pub frame: Option<Frame>,
     /// How many steps it began since the last of its answers, or since its start where it had none: statements, and expressions but for
@@ -58,8 +59,7 @@ pub enum PieceError {
     /// kinds asked for.
     #[error("an operand of the wrong kind")]
     Broken,
-    /// Memory, or the numbers of objects, ran out.
-    #[error("refused 39: memory, or the numbers of objects, ran out")]
+    #[error("refused 39: want of memory")]
     NoMemory,
 }
 
@@ -84,7 +84,7 @@ impl<T: Drop> From<AllocFailed<T>> for PieceError {
 }
 
 /// Where a run stopped, as tasks have it.
-fn to_stop(alloc: Global, halt: &Halt) -> Result<Stop, ConversionError>
+fn to_stop(alloc: Global, halt: &Halt) -> Result<PieceStop, ConversionError>
     requires { is_stop halt.now ≡ true }
     ensures value { IfOk result (λ s. stopped_by halt.now ≡ Some (stop_of s)) }
     ensures broken { IfErr result (λ e. e ≡ ConversionError.Broken → stopped_by halt.now ≡ Some (Over (Trapped Broken))) }
@@ -92,14 +92,14 @@ fn to_stop(alloc: Global, halt: &Halt) -> Result<Stop, ConversionError>
 {
     match halt {
         Halt::Over(value) => match to_value(alloc, value) {
-            Ok(value) => Ok(Stop::Ends(Content::Value(value))),
+            Ok(value) => Ok(PieceStop::Ends(Content::Value(value))),
             Err(error) => Err(error),
         },
         Halt::Asks(reference, _) => match named(reference) {
-            Ok(object) => Ok(Stop::Needs(object)),
+            Ok(object) => Ok(PieceStop::Needs(object)),
             Err(error) => Err(error),
         },
-        Halt::Trap(trap) => Ok(Stop::Ends(Content::Trap(*trap))),
+        Halt::Trap(trap) => Ok(PieceStop::Ends(Content::Trap(*trap))),
         Halt::Broken => Err(ConversionError::Broken),
         Halt::NoMemory => Err(ConversionError::NoMemory),
         Halt::Bears(_, _) => unreachable!(),
@@ -186,7 +186,7 @@ fn put_piece(alloc: Global, value: &RunValue) -> Result<Piece, AllocError>
     Ok(Piece {
         births: Vec::new(alloc),
         prints: Vec::new(alloc),
-        stop: Stop::Ends(Content::Value(value)),
+        stop: PieceStop::Ends(Content::Value(value)),
         frame: None,
         steps: 0,
     })
@@ -242,22 +242,18 @@ pub fn go_on(
     answer: &Content,
 ) -> Result<Piece, PieceError>
     // Behind what was done before, what is given is the task's replay.
-    ensures replayed { IfOk result (λ p. (spec : Birth) (base : Id) (before : Before) →
-        IsWaiting (script_of script.now) (birth_of spec) base (past_of before) frame →
-        after (map birth_of before.births) (map value_of before.prints) (piece_of p) ≡
-        replay (script_of script.now) (birth_of spec) base (answered_so before answer.now)) }
-    // It is broken only where the replay is.
-    ensures broken { IfErr result (λ e. e ≡ PieceError.Broken → (spec : Birth) (base : Id) (before : Before) →
-        IsWaiting (script_of script.now) (birth_of spec) base (past_of before) frame →
-        (replay (script_of script.now) (birth_of spec) base (answered_so before answer.now)).stop ≡ Over (Trapped Broken)) }
+    ensures replayed { IfOk result (λ p. (spec : meant.Birth) (base : Id) (past : Past) → IsWaiting (script_of script.now) spec base past frame →
+        after past.births past.prints (piece_of p) ≡ replay (script_of script.now) spec base (answered_so past answer.now)) }
+    // It is broken only where the replay is, if no value of the task's has an outcome in it.
+    ensures broken { IfErr result (λ e. e ≡ PieceError.Broken → (spec : meant.Birth) (base : Id) (past : Past) → IsTaskBirth spec →
+        AreTaskOutcomes past.answers → IsWaiting (script_of script.now) spec base past frame →
+        (replay (script_of script.now) spec base (answered_so past answer.now)).stop ≡ Over (Trapped Broken)) }
     // Its frame, if it has one, is where the task waits that was so answered.
-    ensures keeps { IfOk result (λ p. (spec : Birth) (base : Id) (before : Before) →
-        IsWaiting (script_of script.now) (birth_of spec) base (past_of before) frame →
-        Keeps (script_of script.now) (birth_of spec) base (past_of before) (content_of answer.now ∷ []) p) }
+    ensures keeps { IfOk result (λ p. (spec : meant.Birth) (base : Id) (past : Past) → IsWaiting (script_of script.now) spec base past frame →
+        Keeps (script_of script.now) spec base past (content_of answer.now ∷ []) p) }
     // Its steps are those that the task began since this answer.
-    ensures counts { IfOk result (λ p. (spec : Birth) (base : Id) (before : Before) →
-        IsWaiting (script_of script.now) (birth_of spec) base (past_of before) frame →
-        HasSteps (script_of script.now) (birth_of spec) base (answered_so before answer.now) p.steps) }
+    ensures counts { IfOk result (λ p. (spec : meant.Birth) (base : Id) (past : Past) → IsWaiting (script_of script.now) spec base past frame →
+        HasSteps (script_of script.now) spec base (answered_so past answer.now) p.steps) }
 {
     let answer = from_content(alloc, answer)?;
     let attempt = frame.go_on(alloc, script, answer)?;

@@ -6,17 +6,18 @@ use Rattle.meaning.specs.Births.{same_id}
 use Rattle.meaning.proofs.BirthLaws.{at_test, same_id-true}
 use Rattle.event_log.specs.Breaks.{Among}
 use Rattle.event_log.specs.Entries.{Event, Claim, Commit, Deliver, Tick, Notice, NoticeNode, Evict, Lose, Kill, KillNode, Join, Entry, main_object}
+use Rattle.event_log.specs.Entries.{Refusal, NoWorker, NotReady, NoJob, Stale, NoMessage, NotDead, NoNode}
 use Rattle.event_log.specs.Events.{worker_of_job, is_committed, has_job_out, is_live}
 use Rattle.event_log.specs.Rules.{Setting}
 use Rattle.event_log.specs.Legal.{Happens}
-use Rattle.event_log.specs.Causes.{unless, is_there, worker_lives, shown, unseen, IsNumberOf, IsRefusal}
+use Rattle.event_log.specs.Causes.{unless, is_there, worker_lives, shown, unseen, IsCauseOf, IsRefusal}
 use Rattle.event_log.specs.Laws.{is_commit, LawOfCauses}
 
-none_shown : (b : Bool) (code : ℕ) (o : Option ℕ) → unless b code o ≡ None → (b ≡ true) × (o ≡ None)
+none_shown : (b : Bool) (code : Refusal) (o : Option Refusal) → unless b code o ≡ None → (b ≡ true) × (o ≡ None)
 none_shown true code o h = (refl, h)
 none_shown false code o h = absurd (cc)
 
-shows_none : (b : Bool) (code : ℕ) (o : Option ℕ) → b ≡ true → o ≡ None → unless b code o ≡ None
+shows_none : (b : Bool) (code : Refusal) (o : Option Refusal) → b ≡ true → o ≡ None → unless b code o ≡ None
 shows_none true code o e h = h
 shows_none false code o e h = absurd (cc)
 
@@ -33,61 +34,61 @@ not_true true h = absurd (cc)
 not_true false h = refl
 
 accepted : (s : Setting) (log : List Entry) (e : Event) (es : List Entry) (handed : Bool) → is_commit e ≡ false → shown s log handed e ≡ None → Happens s log e es
-accepted s log (Claim w) es handed c h = let k = none_shown _ 30 _ h in (k.0, not_true (has_job_out w log) (none_shown _ 31 None k.1).0)
+accepted s log (Claim w) es handed c h = let k = none_shown _ NoWorker _ h in (k.0, not_true (has_job_out w log) (none_shown _ NotReady None k.1).0)
 accepted s log (Commit j) es handed c h = absurd (cc)
-accepted s log (Deliver m) es handed c h = there (s.receiver m) (none_shown _ 34 None h).0
-accepted s log (Tick w) es handed c h = (none_shown _ 30 None h).0
-accepted s log (Notice w v) es handed c h = let k = none_shown _ 30 _ h in (k.0, (none_shown _ 35 None k.1).0)
-accepted s log (NoticeNode w n) es handed c h = let k = none_shown _ 30 _ h in (k.0, (none_shown _ 35 None k.1).0)
-accepted s log (Evict n o) es handed c h = (none_shown _ 36 None h).0
-accepted s log (Lose n o) es handed c h = (none_shown _ 36 None h).0
-accepted s log (Kill w) es handed c h = (none_shown _ 30 None h).0
-accepted s log (KillNode n) es handed c h = (none_shown _ 36 None h).0
+accepted s log (Deliver m) es handed c h = there (s.receiver m) (none_shown _ NoMessage None h).0
+accepted s log (Tick w) es handed c h = (none_shown _ NoWorker None h).0
+accepted s log (Notice w v) es handed c h = let k = none_shown _ NoWorker _ h in (k.0, (none_shown _ NotDead None k.1).0)
+accepted s log (NoticeNode w n) es handed c h = let k = none_shown _ NoWorker _ h in (k.0, (none_shown _ NotDead None k.1).0)
+accepted s log (Evict n o) es handed c h = (none_shown _ NoNode None h).0
+accepted s log (Lose n o) es handed c h = (none_shown _ NoNode None h).0
+accepted s log (Kill w) es handed c h = (none_shown _ NoWorker None h).0
+accepted s log (KillNode n) es handed c h = (none_shown _ NoNode None h).0
 accepted s log Join es handed c h = tt
 
 unrefused : (s : Setting) (log : List Entry) (e : Event) (es : List Entry) → Happens s log e es → shown s log true e ≡ None
-unrefused s log (Claim w) es h = shows_none _ 30 _ h.0 (shows_none _ 31 None (not_false (has_job_out w log) h.1) refl)
+unrefused s log (Claim w) es h = shows_none _ NoWorker _ h.0 (shows_none _ NotReady None (not_false (has_job_out w log) h.1) refl)
 unrefused s log (Commit j) es h =
     let k = h.1 in
-    shows_none _ 32 _ (ap is_there k.claimed) (shows_none _ 32 _ (not_false (is_committed j log) k.once)
-    (shows_none _ 33 None (ap (λ o. worker_lives o log) k.claimed ∙ k.lives) refl))
-unrefused s log (Deliver m) es h = shows_none _ 34 None (ap is_there h.1) refl
-unrefused s log (Tick w) es h = shows_none _ 30 None h refl
-unrefused s log (Notice w v) es h = shows_none _ 30 _ h.0 (shows_none _ 35 None h.1 refl)
-unrefused s log (NoticeNode w n) es h = shows_none _ 30 _ h.0 (shows_none _ 35 None h.1 refl)
-unrefused s log (Evict n o) es h = shows_none _ 36 None h refl
-unrefused s log (Lose n o) es h = shows_none _ 36 None h refl
-unrefused s log (Kill w) es h = shows_none _ 30 None h refl
-unrefused s log (KillNode n) es h = shows_none _ 36 None h refl
+    shows_none _ NoJob _ (ap is_there k.claimed) (shows_none _ NoJob _ (not_false (is_committed j log) k.once)
+    (shows_none _ Stale None (ap (λ o. worker_lives o log) k.claimed ∙ k.lives) refl))
+unrefused s log (Deliver m) es h = shows_none _ NoMessage None (ap is_there h.1) refl
+unrefused s log (Tick w) es h = shows_none _ NoWorker None h refl
+unrefused s log (Notice w v) es h = shows_none _ NoWorker _ h.0 (shows_none _ NotDead None h.1 refl)
+unrefused s log (NoticeNode w n) es h = shows_none _ NoWorker _ h.0 (shows_none _ NotDead None h.1 refl)
+unrefused s log (Evict n o) es h = shows_none _ NoNode None h refl
+unrefused s log (Lose n o) es h = shows_none _ NoNode None h refl
+unrefused s log (Kill w) es h = shows_none _ NoWorker None h refl
+unrefused s log (KillNode n) es h = shows_none _ NoNode None h refl
 unrefused s log Join es h = refl
 
 pub law_of_causes : LawOfCauses
 law_of_causes s log e es = record { accepted = accepted s log e es; unrefused = unrefused s log e es }
 
--- ---- numbers of refusals
+-- ---- refusals
 
 -- the cause that an event shows, or one that it doesn't
-pub as_shown : (s : Setting) (log : List Entry) (e : Event) (code : ℕ) (handed : Bool) → shown s log handed e ≡ Some code → IsRefusal s log e code
-as_shown s log e code handed h = (handed, subst (λ o. IsNumberOf o e code) (sym h) refl)
+pub as_shown : (s : Setting) (log : List Entry) (e : Event) (code : Refusal) (handed : Bool) → shown s log handed e ≡ Some code → IsRefusal s log e code
+as_shown s log e code handed h = (handed, subst (λ o. IsCauseOf o e code) (sym h) refl)
 
-pub as_unseen : (s : Setting) (log : List Entry) (e : Event) (code : ℕ) (handed : Bool) → shown s log handed e ≡ None → Among code (unseen e) → IsRefusal s log e code
-as_unseen s log e code handed h k = (handed, subst (λ o. IsNumberOf o e code) (sym h) k)
+pub as_unseen : (s : Setting) (log : List Entry) (e : Event) (code : Refusal) (handed : Bool) → shown s log handed e ≡ None → Among code (unseen e) → IsRefusal s log e code
+as_unseen s log e code handed h k = (handed, subst (λ o. IsCauseOf o e code) (sym h) k)
 
-pub no_worker : (s : Setting) (log : List Entry) (w : ℕ) → is_live w log ≡ false → IsRefusal s log (Claim w) 30
-no_worker s log w h = as_shown s log (Claim w) 30 false (ap (λ b. unless b 30 (unless (not (has_job_out w log)) 31 None)) h)
+pub no_worker : (s : Setting) (log : List Entry) (w : ℕ) → is_live w log ≡ false → IsRefusal s log (Claim w) NoWorker
+no_worker s log w h = as_shown s log (Claim w) NoWorker false (ap (λ b. unless b NoWorker (unless (not (has_job_out w log)) NotReady None)) h)
 
-pub not_ready : (s : Setting) (log : List Entry) (w : ℕ) → is_live w log ≡ true → IsRefusal s log (Claim w) 31
-not_ready s log w h = (false, subst (λ b. IsNumberOf (unless b 30 (unless (not (has_job_out w log)) 31 None)) (Claim w) 31) (sym h) (by_job (has_job_out w log)))
+pub not_ready : (s : Setting) (log : List Entry) (w : ℕ) → is_live w log ≡ true → IsRefusal s log (Claim w) NotReady
+not_ready s log w h = (false, subst (λ b. IsCauseOf (unless b NoWorker (unless (not (has_job_out w log)) NotReady None)) (Claim w) NotReady) (sym h) (by_job (has_job_out w log)))
   where
-    by_job : (b : Bool) → IsNumberOf (unless (not b) 31 None) (Claim w) 31
+    by_job : (b : Bool) → IsCauseOf (unless (not b) NotReady None) (Claim w) NotReady
     by_job true = refl
     by_job false = (0, refl)
 
 -- the log doesn't show what was handed in
-pub no_job : (s : Setting) (log : List Entry) (j : ℕ) → IsRefusal s log (Commit j) 32
-no_job s log j = as_shown s log (Commit j) 32 false (first (is_there (worker_of_job j log)) (not (is_committed j log)) (worker_lives (worker_of_job j log) log))
+pub no_job : (s : Setting) (log : List Entry) (j : ℕ) → IsRefusal s log (Commit j) NoJob
+no_job s log j = as_shown s log (Commit j) NoJob false (first (is_there (worker_of_job j log)) (not (is_committed j log)) (worker_lives (worker_of_job j log) log))
   where
-    first : (b c d : Bool) → unless b 32 (unless c 32 (unless false 32 (unless d 33 None))) ≡ Some 32
+    first : (b c d : Bool) → unless b NoJob (unless c NoJob (unless false NoJob (unless d Stale None))) ≡ Some NoJob
     first true true d = refl
     first true false d = refl
     first false c d = refl

@@ -5,6 +5,7 @@ use Rattle.std.specs.List.{flat_map, list_any}
 use Rattle.std.proofs.lemmas.List.Concat.{flat_map-append}
 use Rattle.sequence.proofs.Places.{slice_get-append}
 use Rattle.event_log.specs.Entries.{Event, Entry, In, Refused}
+use Rattle.event_log.specs.Entries.{Refusal}
 use Rattle.event_log.specs.Events.{refused_next, accepted_events, from_one, claim_in, claims, commit_in, commits}
 use Rattle.event_log.specs.Legal.{has_event}
 
@@ -83,5 +84,5 @@ pub commits-event : (log : List Entry) (e : Event) (seat : ℕ) (es : List Entry
 commits-event log e seat es h r = word_of_event commit_in log e seat es h r
 
 -- a refused event adds none
-pub accepted-refused : (log : List Entry) (e : Event) (seat code : ℕ) → accepted_events (log ++ In e seat ∷ Refused code ∷ []) ≡ accepted_events log
+pub accepted-refused : (log : List Entry) (e : Event) (seat : ℕ) (code : Refusal) → accepted_events (log ++ In e seat ∷ Refused code ∷ []) ≡ accepted_events log
 accepted-refused log e seat code = accepted-event log e seat (Refused code ∷ []) refl ∙ append-nil (accepted_events log)

@@ -1,6 +1,7 @@
 -- A legal log, its beginnings, and one more event.
 use Rattle.std.proofs.Common.{◌≡◌, ℕ, true, false, List, [], ◌∷◌, ◌++◌, refl, sym, ap, ◌∙◌, subst, append-nil, append_assoc}
 use Rattle.event_log.specs.Entries.{Event, Entry, In, Refused}
+use Rattle.event_log.specs.Entries.{Refusal}
 use Rattle.event_log.specs.Events.{refused_next, ends_with_in}
 use Rattle.event_log.specs.Rules.{Setting}
 use Rattle.event_log.specs.Causes.{MayRefuse}
@@ -88,7 +89,7 @@ in_last [] e seat = refl
 in_last (x ∷ []) e seat = refl
 in_last (x ∷ y ∷ log) e seat = in_last (y ∷ log) e seat
 
-pub refusal_ends : (s : Setting) (before : List Entry) (code : ℕ) → MayRefuse s before code → ends_with_in before ≡ true
+pub refusal_ends : (s : Setting) (before : List Entry) (code : Refusal) → MayRefuse s before code → ends_with_in before ≡ true
 refusal_ends s before code h = ap ends_with_in h.parts ∙ in_last h.log h.event h.seat
 
 pub legal_logs_grow : LegalLogsGrow

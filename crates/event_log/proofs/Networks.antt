@@ -3,9 +3,10 @@ use Rattle.std.proofs.Common.{◌≡◌, ℕ, Bool, true, false, List, [], ◌�
 use Rattle.meaning.specs.Values.{Id}
 use Rattle.meaning.specs.Runs.{Stop, Piece}
 use Rattle.event_log.specs.Entries.{Attempt, Event, Commit, Deliver, Entry, In, Refused, Opened, Begun, Born, Got, Printed, Ended, Accepted, Faulted, Resolved, Released}
+use Rattle.event_log.specs.Entries.{Refusal, NoMessage}
 use Rattle.event_log.specs.Events.{refused_next}
 use Rattle.event_log.specs.Rules.{Receiver, ToWorker, ToNode, worker_to, IsHeard, Setting, actor, IsOwn, Replays, Stops, Allowed}
-use Rattle.event_log.specs.Causes.{unless, is_there, IsNumberOf, IsRefusal}
+use Rattle.event_log.specs.Causes.{unless, is_there, IsCauseOf, IsRefusal}
 use Rattle.event_log.specs.Legal.{Happens, of_event, Unless, Answered, LegalFrom, opening}
 use Rattle.event_log.specs.Laws.{with_receiver, LegalInLargerNetworks}
 
@@ -37,15 +38,15 @@ module _ (s : Setting) (receiver : ℕ → Option Receiver) (larger : (m : ℕ) 
   stops before a stop h = record { base = h.base; p = h.p; replays = replays before a h.base h.p h.replays; own = h.own; prints = h.prints; stopped = h.stopped }
 
   -- the number of a refusal, where the network knows of more
-  delivers : (m code : ℕ) (handed : Bool) (o : Option Receiver) → s.receiver m ≡ o → IsNumberOf (unless (is_there o) 34 None) (Deliver m) code → IsNumberOf (unless (is_there (receiver m)) 34 None) (Deliver m) code
-  delivers m code handed (Some r) e h = subst (λ o. IsNumberOf (unless (is_there o) 34 None) (Deliver m) code) (sym (larger m r e)) h
+  delivers : (m : ℕ) (code : Refusal) (handed : Bool) (o : Option Receiver) → s.receiver m ≡ o → IsCauseOf (unless (is_there o) NoMessage None) (Deliver m) code → IsCauseOf (unless (is_there (receiver m)) NoMessage None) (Deliver m) code
+  delivers m code handed (Some r) e h = subst (λ o. IsCauseOf (unless (is_there o) NoMessage None) (Deliver m) code) (sym (larger m r e)) h
   delivers m code handed None e h = go (receiver m)
     where
-      go : (o : Option Receiver) → IsNumberOf (unless (is_there o) 34 None) (Deliver m) code
+      go : (o : Option Receiver) → IsCauseOf (unless (is_there o) NoMessage None) (Deliver m) code
       go None = h
       go (Some r) = (0, ap Some (sym h))
 
-  refusal : (log : List Entry) (e : Event) (code : ℕ) → IsRefusal s log e code → IsRefusal t log e code
+  refusal : (log : List Entry) (e : Event) (code : Refusal) → IsRefusal s log e code → IsRefusal t log e code
   refusal log (Deliver m) code h = (h.0, delivers m code h.0 (s.receiver m) refl h.1)
   refusal log e code h = h
 

@@ -2,6 +2,7 @@
 use Rattle.std.specs.Prelude.{◌≡◌, ℕ, ◌+◌, Bool, true, false, List, [], ◌∷◌, ◌++◌, length, Option, Some, None}
 use Rattle.meaning.specs.Values.{Id}
 use Rattle.event_log.specs.Entries.{Attempt, Fault, Event, Claim, Commit, Entry, In, Refused, Faulted, Resolved}
+use Rattle.event_log.specs.Entries.{Refusal}
 use Rattle.event_log.specs.Events.{refused_next, claims}
 use Rattle.event_log.specs.Breaks.{Cause}
 use Rattle.event_log.specs.Rules.{Receiver, Setting, Allowed}
@@ -25,7 +26,7 @@ pub record MayAdd (s : Setting) (log : List Entry) (e : Event) (seat : ℕ) (es 
 
 -- a legal log stays legal with one more event: refused for its cause, or with what it may add
 pub record StaysLegal (s : Setting) (log : List Entry) (e : Event) (seat : ℕ) : Type 0 where
-  pub refused : (code : ℕ) → IsRefusal s log e code → Legal s (log ++ In e seat ∷ Refused code ∷ [])
+  pub refused : (code : Refusal) → IsRefusal s log e code → Legal s (log ++ In e seat ∷ Refused code ∷ [])
   pub added : (es : List Entry) → MayAdd s log e seat es → Legal s (log ++ In e seat ∷ es)
 
 abbrev pub LegalLogsGrow : Type 0

@@ -36,12 +36,13 @@ fn emit_marked(
     ensures { OnOk result (codes code.new.items
         ≡ codes code.old.items ++ marked_code 0 (length parameters.now) (map parameter_of parameters.now)) }
 {
-    let count = slot(parameters.len())?;
+    let alloc = *code.allocator();
+    let count = slot(alloc, parameters.len())?;
     let mut mark = count;
     for argument in 0..count {
         put(code, Instruction::SkipZero(Operand::Slot(mark), 1))?;
         put(code, Instruction::Get(argument, Operand::Slot(argument)))?;
-        mark = following(mark)?;
+        mark = following(alloc, mark)?;
     }
     Ok(())
 }

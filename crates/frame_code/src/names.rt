@@ -1,12 +1,12 @@
 // Which register a name has, and which number a function.
 
-ghost use Rattle.std.specs.Prelude.{◌≡◌, ◌+◌, IfOk, OnOk};
+ghost use Rattle.std.specs.Prelude.{◌≡◌, ◌+◌, ◌≤◌, ◌^◌, IfOk, OnOk, OnErr};
 ghost use Rattle.frame_laws.specs.Compile.{place_in, place_or, number_of, is_name};
 ghost use Rattle.script_check.specs.Trees.{script_of};
 ghost use Rattle.frame_code.specs.Views.{name_of, names_of};
 
 use script_check::CheckedFunction;
-use std::alloc::AllocError;
+use std::alloc::{AllocError, Global};
 
 /// What a register of a call holds.
 #[derive(Clone, Copy)]
@@ -40,32 +40,49 @@ pub(crate) fn place_in(names: &[Register<'_>], name: &str) -> Option<usize>
     None
 }
 
-/// A register in an instruction. One past 2^32 - 1 would want more memory than there is.
-pub(crate) fn slot(place: usize) -> Result<u32, AllocError>
-    ensures { IfOk result (λ i. i ≡ place) }
+/// The error of a growth that is refused, as no memory has room for so many bytes. It is answered where a register or a weight would be past
+/// 2^32 - 1, since code with as many of them is told as want of memory, and that is to come of a growth alone.
+fn refused_growth(alloc: Global) -> AllocError {
+    let mut bytes: Vec<u8> = Vec::new(alloc);
+    match bytes.reserve(usize::MAX) {
+        Ok(()) => unreachable!(),
+        Err(error) => error,
+    }
+}
+
+/// A register in an instruction. One past 2^32 - 1 has no number there.
+pub(crate) fn slot(alloc: Global, place: usize) -> Result<u32, AllocError>
+    ensures value { IfOk result (λ i. i ≡ place) }
+    ensures refused { OnErr result (2 ^ 32 ≤ place) }
 {
     if place > u32::MAX as usize {
-        return Err(AllocError);
+        return Err(refused_growth(alloc));
     }
     Ok(place as u32)
 }
 
 /// The register after it.
-pub(crate) fn following(register: u32) -> Result<u32, AllocError>
-    ensures { IfOk result (λ i. i ≡ register + 1) }
+pub(crate) fn following(alloc: Global, register: u32) -> Result<u32, AllocError>
+    ensures value { IfOk result (λ i. i ≡ register + 1) }
+    ensures refused { OnErr result (2 ^ 32 ≤ register + 1) }
 {
     match register.checked_add(1) {
         Some(next) => Ok(next),
-        None => Err(AllocError),
+        None => Err(refused_growth(alloc)),
     }
 }
 
 /// The register of a variable, or another where there is none.
-pub(crate) fn place_or(names: &[Register<'_>], name: &str, other: u32) -> Result<u32, AllocError>
+pub(crate) fn place_or(
+    alloc: Global,
+    names: &[Register<'_>],
+    name: &str,
+    other: u32,
+) -> Result<u32, AllocError>
     ensures { IfOk result (λ i. i ≡ place_or (place_in (names_of names.now) name.now) other) }
 {
     match place_in(names, name) {
-        Some(place) => slot(place),
+        Some(place) => slot(alloc, place),
         None => Ok(other),
     }
 }

@@ -43,7 +43,7 @@ fn emit_statement<'a>(
         ≡ codes code.old.items ++ stmt_code (script_of script.now) (names_of names.old.items) (statement_of statement.now)) }
     ensures names { OnOk result (names_of names.new.items ≡ names_after (names_of names.old.items) (statement_of statement.now)) }
 {
-    let free = slot(names.len())?;
+    let free = slot(*code.allocator(), names.len())?;
     match statement {
         CheckedStatement::Let(name, expr) => {
             emit_expr(code, script, names, expr, free, free)?;
@@ -51,7 +51,7 @@ fn emit_statement<'a>(
             Ok(())
         }
         CheckedStatement::Set(name, expr) => {
-            let to = place_or(names, name.as_str(), free)?;
+            let to = place_or(*code.allocator(), names, name.as_str(), free)?;
             emit_expr(code, script, names, expr, to, free)
         }
         CheckedStatement::Print(expr) => {
@@ -75,7 +75,7 @@ fn emit_statement<'a>(
         }
         CheckedStatement::For(name, from, to, body) => {
             emit_expr(code, script, names, from, free, free)?;
-            let second = following(free)?;
+            let second = following(*code.allocator(), free)?;
             emit_expr(code, script, names, to, second, second)?;
             emit_loop(code, script, names, name.as_str(), free, &body.statements)
         }

@@ -10,7 +10,7 @@ ghost use Rattle.frame_code.specs.Views.{given_of, spawn_of};
 ghost use Rattle.frames.specs.Values.{value_of};
 ghost use Rattle.frames.specs.Machines.{argument_of, made_of, Met};
 
-use crate::halt::{Argument, Halt, Made};
+use crate::halt::{Halt, Made, MarkedArgument};
 use crate::registers::State;
 use crate::value::Value;
 use crate::working::share_from;
@@ -28,14 +28,14 @@ fn mark_at(marks: &[bool], place: usize) -> bool
 }
 
 /// The arguments of a remote call, each with its mark.
-fn mark(alloc: Global, values: &[Value], marks: &[bool]) -> Result<Vec<Argument>, AllocError>
+fn mark(alloc: Global, values: &[Value], marks: &[bool]) -> Result<Vec<MarkedArgument>, AllocError>
     ensures { IfOk result (λ args. map argument_of args.items ≡ mark (map value_of values.now) marks.now) }
 {
     let mut arguments = Vec::new(alloc);
     for value in values {
         let is_dereferenced = mark_at(marks, arguments.len());
         let value = value.share()?;
-        arguments.push(Argument {
+        arguments.push(MarkedArgument {
             value,
             is_dereferenced,
         })?;
@@ -76,7 +76,7 @@ impl State {
     {
         match self.task(limit, spawn) {
             Ok(task) => Halt::Bears(task, self.place(spawn.to)),
-            Err(_) => Halt::NoMemory,
+            Err(error) => Halt::from(error),
         }
     }
 

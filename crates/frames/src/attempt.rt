@@ -13,7 +13,7 @@ ghost use Rattle.frames.specs.Frames.{HaltsBehind, KeepsFrame, CountsSteps};
 use crate::compiled::Compiled;
 use crate::course::Course;
 use crate::frame::Frame;
-use crate::halt::{Argument, Halt, Made};
+use crate::halt::{Halt, Made, MarkedArgument};
 use crate::mismatch::stop_mismatch;
 use crate::serially::DEEPEST;
 use crate::value::{Outcome, Value};
@@ -100,7 +100,7 @@ pub fn run_task(
     alloc: Global,
     script: &Compiled,
     function: &str,
-    arguments: &[Argument],
+    arguments: &[MarkedArgument],
     depth: u32,
     base: ObjectId,
     answers: Vec<Outcome>,

@@ -2,12 +2,12 @@
 ghost use Rattle.std.specs.Prelude.{◌≡◌};
 
 use crate::value::Value;
-use std::alloc::{AllocError, AllocFailed};
+use std::alloc::{AllocError, AllocFailed, Global};
 use values::Trap;
 
 /// An argument of a remote call, and whether it is dereferenced before the body.
 #[derive(Drop)]
-pub struct Argument {
+pub struct MarkedArgument {
     pub value: Value,
     pub is_dereferenced: bool,
 }
@@ -18,7 +18,7 @@ pub enum Made {
     Put(Value),
     Task {
         function: String,
-        arguments: Vec<Argument>,
+        arguments: Vec<MarkedArgument>,
         depth: u32,
         retries: u8,
     },
@@ -55,5 +55,17 @@ impl<T: Drop> From<AllocFailed<T>> for Halt {
 
     fn from(_: AllocFailed<T>) -> Halt {
         Halt::NoMemory
+    }
+}
+
+/// The want of memory of a growth that is refused, as no memory has room for so many bytes. The machine stops by it where a place or an id has no
+/// number any more, since what comes so far is told as want of memory, and that is to come of a growth alone.
+pub(crate) fn refused_growth(alloc: Global) -> Halt
+    ensures { result ≡ Halt.NoMemory }
+{
+    let mut bytes: Vec<u8> = Vec::new(alloc);
+    match bytes.reserve(usize::MAX) {
+        Ok(()) => unreachable!(),
+        Err(error) => Halt::from(error),
     }
 }

@@ -22,7 +22,7 @@ mod working;
 pub use attempt::{Attempt, run_task};
 pub use compiled::Compiled;
 pub use frame::Frame;
-pub use halt::{Argument, Halt, Made};
+pub use halt::{Halt, Made, MarkedArgument};
 pub use operators::list;
 pub use serially::{SerialEnd, run_main};
 pub use value::{Items, Outcome, Value};

@@ -9,7 +9,7 @@ ghost use Rattle.frames.specs.Values.{outcome_of};
 ghost use Rattle.frames.specs.Machines.{argument_of, goes_on, is_stop, GivesHalt};
 ghost use Rattle.frames.specs.Tasks.{matched, mismatch_end, mismatch_stop, ended_by, stopped_by};
 
-use crate::halt::{Argument, Halt};
+use crate::halt::{Halt, MarkedArgument};
 use crate::value::Outcome;
 use script_check::CheckedFunction;
 use std::alloc::AllocError;
@@ -27,7 +27,11 @@ fn parameter_count(script: &[CheckedFunction], name: &str) -> usize
 }
 
 /// The arguments that have a parameter.
-fn matched<'a>(script: &[CheckedFunction], name: &str, arguments: &'a [Argument]) -> &'a [Argument]
+fn matched<'a>(
+    script: &[CheckedFunction],
+    name: &str,
+    arguments: &'a [MarkedArgument],
+) -> &'a [MarkedArgument]
     ensures { map argument_of result.now ≡ matched (script_of script.now) name.now (map argument_of arguments.now) }
 {
     let count = parameter_count(script, name).min(arguments.len());
@@ -35,7 +39,7 @@ fn matched<'a>(script: &[CheckedFunction], name: &str, arguments: &'a [Argument]
 }
 
 /// Gets an argument of a serial run, where it has a mark.
-fn pass_known(argument: &Argument) -> Result<(), Halt>
+fn pass_known(argument: &MarkedArgument) -> Result<(), Halt>
     ensures goes { OnOk result ((args : List meant.Argument) → mismatch_end (argument_of argument.now ∷ args) ≡ mismatch_end args) }
     ensures halt { IfErr result (λ h. (args : List meant.Argument) → GivesHalt (mismatch_end (argument_of argument.now ∷ args)) h) }
 {
@@ -52,7 +56,7 @@ fn pass_known(argument: &Argument) -> Result<(), Halt>
 }
 
 /// Gets an argument of a run in pieces, where it has a mark. Gives how many answers are used then.
-fn pass_answered(argument: &Argument, answers: &[Outcome], used: usize) -> Result<usize, Halt>
+fn pass_answered(argument: &MarkedArgument, answers: &[Outcome], used: usize) -> Result<usize, Halt>
     ensures goes { IfOk result (λ n. (args : List meant.Argument) →
         mismatch_stop (argument_of argument.now ∷ args) (map outcome_of (drop used answers.now)) ≡ mismatch_stop args (map outcome_of (drop n answers.now))) }
     ensures halt { IfErr result (λ h. (args : List meant.Argument) (s : Stop) → stopped_by h ≡ Some s →
@@ -95,7 +99,7 @@ pub(crate) fn outcome(halt: Halt) -> Result<Outcome, AllocError>
 pub(crate) fn end_mismatch(
     script: &[CheckedFunction],
     name: &str,
-    arguments: &[Argument],
+    arguments: &[MarkedArgument],
 ) -> Result<Outcome, AllocError>
     ensures { IfOk result (λ c. mismatch_end (matched (script_of script.now) name.now (map argument_of arguments.now)) ≡ outcome_of c) }
 {
@@ -111,7 +115,7 @@ pub(crate) fn end_mismatch(
 pub(crate) fn stop_mismatch(
     script: &[CheckedFunction],
     name: &str,
-    arguments: &[Argument],
+    arguments: &[MarkedArgument],
     answers: &[Outcome],
 ) -> Halt
     ensures stops { (s : Stop) → stopped_by result ≡ Some s →

@@ -14,7 +14,7 @@ ghost use Rattle.frames.specs.Courses.{Standing, answers_of, no_past};
 ghost use Rattle.frames.specs.Values.{outcome_of};
 
 use crate::course::Course;
-use crate::halt::Argument;
+use crate::halt::MarkedArgument;
 use crate::registers::State;
 use crate::value::{Outcome, Value};
 use frame_code::Code;
@@ -22,7 +22,7 @@ use ids::ObjectId;
 use std::alloc::{AllocError, Global};
 
 /// A task's first registers: its arguments, and then their marks.
-fn first_registers(alloc: Global, arguments: &[Argument]) -> Result<Vec<Value>, AllocError>
+fn first_registers(alloc: Global, arguments: &[MarkedArgument]) -> Result<Vec<Value>, AllocError>
     ensures { IfOk result (λ rs. map value_of rs.items ≡ values_in (map argument_of arguments.now) ++ marks_in (map argument_of arguments.now)) }
 {
     let mut registers = Vec::new(alloc);
@@ -51,7 +51,7 @@ pub(crate) fn first_state(
     alloc: Global,
     code: &Code,
     function: usize,
-    arguments: &[Argument],
+    arguments: &[MarkedArgument],
 ) -> Result<State, AllocError>
     ensures { IfOk result (λ s. (script : Script) (g : Name) (f : Function) → code_of code.now ≡ laws.code_of script →
         function ≡ number_of script g (length arguments.now) → length arguments.now ≡ length f.parameters →
@@ -73,7 +73,7 @@ impl Course {
         alloc: Global,
         code: &Code,
         function: usize,
-        arguments: &[Argument],
+        arguments: &[MarkedArgument],
         base: ObjectId,
         answers: Vec<Outcome>,
     ) -> Result<Course, AllocError>

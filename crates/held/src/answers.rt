@@ -3,7 +3,7 @@
 ghost use Rattle.std.specs.Prelude.{◌≡◌, ◌∷◌, ◌++◌, [], IfOk, OnOk, map};
 ghost use Rattle.values.specs.Values.{content_of};
 
-use crate::content::Content;
+use crate::content::SharedContent;
 use std::alloc::{AllocError, Global};
 use std::marker::Model;
 use std::sync::Arc;
@@ -54,7 +54,7 @@ impl Answers {
 
     /// Adds a copy of a content at the end; those before it are copied too where a copy shares them. After an error, which is want of
     /// memory, they are as they were.
-    pub fn push(&mut self, alloc: Global, content: &Content) -> Result<(), AllocError>
+    pub fn push(&mut self, alloc: Global, content: &SharedContent) -> Result<(), AllocError>
         ensures { OnOk result (self.new ≡ self.old ++ content.now ∷ []) }
     {
         let content = content.inner.copy(alloc)?;

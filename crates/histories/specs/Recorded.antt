@@ -1,19 +1,8 @@
 -- The recorded history of a run.
-use Rattle.std.specs.Prelude.{ℕ, ◌+◌, Bool, true, false, if◌then◌else◌, List, [], ◌∷◌, Option, Some, None}
-use Rattle.event_log.specs.declared.entry.Entry.{Entry}
-use Rattle.event_log.specs.declared.entry.Entry.TheVariants.{In, Refused}
-use Rattle.log_entries.specs.declared.event.Event.{Event}
-use Rattle.log_entries.specs.declared.event.Event.TheVariants.{Claim}
+use Rattle.std.specs.Prelude.{ℕ, ◌+◌, Bool, if◌then◌else◌, List, [], ◌∷◌, Option, Some, None}
+use Rattle.event_log.specs.Entries.{Event, Claim, Entry, In}
+use Rattle.event_log.specs.Events.{refused_next}
 use Rattle.event_files.specs.declared.recorded.RecordedEvent.{RecordedEvent}
-
-abbrev pub is_refusal : Entry → Bool
-is_refusal (Refused refusal) = true
-is_refusal _ = false
-
--- a refusal comes next
-abbrev pub refused_next : List Entry → Bool
-refused_next [] = false
-refused_next (x ∷ rest) = is_refusal x
 
 -- the number of the job that a claim gives behind so many others that were accepted, 0 where it is refused; and none of another event
 abbrev pub given_by : Event → Bool → ℕ → Option ℕ

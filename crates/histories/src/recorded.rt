@@ -1,12 +1,12 @@
 // Recorded histories.
 
 ghost use Rattle.std.specs.Prelude.{◌≡◌, ◌+◌, ◌<◌, ◌^◌, IfOk, drop, string_bytes};
+ghost use Rattle.event_log.specs.Events.{refused_next};
 ghost use Rattle.event_files.specs.Recorded.{recorded_file};
-ghost use Rattle.histories.specs.Recorded.{claims_behind, given_by, recorded_in, refused_next};
+ghost use Rattle.histories.specs.Recorded.{claims_behind, given_by, recorded_in};
 
 use event_files::{RecordedEvent, print_recorded};
-use event_log::Entry;
-use log_entries::Event;
+use log_entries::{Entry, Event};
 use std::alloc::{AllocError, Global};
 
 /// Whether a refusal stands at that place.

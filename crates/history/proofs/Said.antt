@@ -3,14 +3,11 @@ use Rattle.std.proofs.Common.{◌≡◌, ℕ, Bool, true, false, if◌then◌els
 use Rattle.std.specs.Prelude.{Result, Ok, Err, OnOk}
 use Rattle.std.specs.List.{flat_map}
 use Rattle.std.proofs.Math.Seq.{take-suc}
-use Rattle.std.proofs.lemmas.List.{map-append}
 use Rattle.std.proofs.lemmas.Grind.{flat_map-append}
 use Rattle.std.proofs.lemmas.Bool.Decides.{nat_tests}
 use Rattle.meaning.specs.Births.{same_id}
 use Rattle.event_log.specs.Entries.{Attempt, Entry}
 use Rattle.event_log.specs.Words.{same_attempt}
-use Rattle.event_log.specs.declared.entry.Entry.{Entry as CodeEntry}
-use Rattle.event_log.specs.Views.{entry_of, log_of}
 use Rattle.history.specs.Attempts.{any}
 
 any-append : {A : Type 0} (xs ys : List A) → any (xs ++ ys) ≡ any xs || any ys
@@ -18,12 +15,12 @@ any-append [] ys = refl
 any-append (x ∷ xs) ys = refl
 
 -- whether something is said, with one more entry
-pub any_more : {A : Type 0} (f : Entry → List A) (log : List CodeEntry) (k : ℕ) (x d : CodeEntry) → k < length log → get_or log k d ≡ x → any (flat_map f (log_of (take (k + 1) log))) ≡ any (flat_map f (log_of (take k log))) || any (f (entry_of x))
+pub any_more : {A : Type 0} (f : Entry → List A) (log : List Entry) (k : ℕ) (x d : Entry) → k < length log → get_or log k d ≡ x → any (flat_map f (take (k + 1) log)) ≡ any (flat_map f (take k log)) || any (f x)
 any_more f log k x d h g =
-    let before : List Entry = log_of (take k log) in
-    let taken : log_of (take (k + 1) log) ≡ before ++ entry_of x ∷ [] = ap log_of (ap (λ j. take j log) (add-one k) ∙ take-suc log k d h ∙ ap (λ y. take k log ++ y ∷ []) g) ∙ map-append entry_of (take k log) (x ∷ []) in
-    let joined : flat_map f (log_of (take (k + 1) log)) ≡ flat_map f before ++ f (entry_of x) = ap (flat_map f) taken ∙ flat_map-append f before (entry_of x ∷ []) ∙ ap (λ t. flat_map f before ++ t) (append-nil (f (entry_of x))) in
-    ap any joined ∙ any-append (flat_map f before) (f (entry_of x))
+    let before : List Entry = take k log in
+    let taken : take (k + 1) log ≡ before ++ x ∷ [] = ap (λ j. take j log) (add-one k) ∙ take-suc log k d h ∙ ap (λ y. before ++ y ∷ []) g in
+    let joined : flat_map f (take (k + 1) log) ≡ flat_map f before ++ f x = ap (flat_map f) taken ∙ flat_map-append f before (x ∷ []) ∙ ap (λ t. flat_map f before ++ t) (append-nil (f x)) in
+    ap any joined ∙ any-append (flat_map f before) (f x)
 
 eqb-sym : (m n : ℕ) → (m == n) ≡ (n == m)
 eqb-sym m n = grind (arith, nat_tests)

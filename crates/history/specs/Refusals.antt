@@ -1,6 +1,7 @@
 -- What a report says of refused events.
 use Rattle.std.specs.Prelude.{ℕ, List, [], ◌∷◌, Option, Some, None, ◌++◌, codes}
 use Rattle.std.specs.Fmt.{decimal}
+use Rattle.log_entries.specs.Refusals.{code_of}
 use Rattle.event_log.specs.Entries.{Event, Entry, In, Refused}
 use Rattle.history.specs.Texts.{event_text}
 
@@ -15,7 +16,7 @@ refused_line code (Some e) = codes "refused " ++ (decimal code ++ (codes " " ++ 
 refused_line code None = codes "refused " ++ (decimal code ++ codes "\n")
 
 abbrev pub refused_in : Option Event → Entry → List ℕ
-refused_in last (Refused code) = refused_line code last
+refused_in last (Refused r) = refused_line (code_of r) last
 refused_in last _ = []
 
 -- the refusals of a log, each with the last event before it; `last` is the last event before the log

@@ -5,13 +5,12 @@ ghost use Rattle.std.specs.List.{flat_map};
 ghost use Rattle.ids.specs.Attempts.{Attempt};
 ghost use Rattle.event_log.specs.Entries as logged;
 ghost use Rattle.event_log.specs.Words.{same_attempt, accepted_in, ended_in, faulted_in};
-ghost use Rattle.event_log.specs.Views.{entry_of, log_of};
 ghost use Rattle.history.specs.Attempts.{any, attempt_in, has, state_of, AreStatesOf};
 
 use crate::main_end::is_main;
-use event_log::Entry;
 use ids::AttemptId;
 use indexmap::IndexSet;
+use log_entries::Entry;
 use std::alloc::{AllocError, Global};
 
 /// Which attempts were accepted, which ended, and which met a fault.
@@ -52,11 +51,11 @@ impl AttemptStates {
     /// Notes what the entry says of an attempt.
     fn note(&mut self, entry: &Entry) -> Result<(), AllocError>
         ensures accepted { OnOk result ((a : Attempt) →
-            has self.new.accepted a ≡ (has self.old.accepted a || any (accepted_in a (entry_of entry.now)))) }
+            has self.new.accepted a ≡ (has self.old.accepted a || any (accepted_in a entry.now))) }
         ensures ended { OnOk result ((a : Attempt) →
-            has self.new.ended a ≡ (has self.old.ended a || any (ended_in a (entry_of entry.now)))) }
+            has self.new.ended a ≡ (has self.old.ended a || any (ended_in a entry.now))) }
         ensures faulted { OnOk result ((a : Attempt) →
-            has self.new.faulted a ≡ (has self.old.faulted a || any (faulted_in a (entry_of entry.now)))) }
+            has self.new.faulted a ≡ (has self.old.faulted a || any (faulted_in a entry.now))) }
     {
         match entry {
             Entry::Accepted(attempt) => add(&mut self.accepted, *attempt),
@@ -68,7 +67,7 @@ impl AttemptStates {
 
     /// The states of a log's attempts.
     pub fn of(alloc: Global, log: &[Entry]) -> Result<AttemptStates, AllocError>
-        ensures { IfOk result (λ states. AreStatesOf states (log_of log.now)) }
+        ensures { IfOk result (λ states. AreStatesOf states log.now) }
     {
         let mut states = AttemptStates::new(alloc);
         for entry in log {
@@ -97,7 +96,7 @@ impl AttemptStates {
 /// Writes `attempt a1.1#0 w2 accepted` where the entry begins another attempt than main's.
 fn write_attempt(text: &mut String, states: &AttemptStates, entry: &Entry) -> Result<(), AllocError>
     ensures { (log : List logged.Entry) → AreStatesOf states.now log → OnOk result
-        (string_bytes text.new ≡ string_bytes text.old ++ attempt_in log (entry_of entry.now)) }
+        (string_bytes text.new ≡ string_bytes text.old ++ attempt_in log entry.now) }
 {
     let Entry::Begun { attempt, worker } = entry else {
         return Ok(());
@@ -111,7 +110,7 @@ fn write_attempt(text: &mut String, states: &AttemptStates, entry: &Entry) -> Re
 
 /// Writes a line for each attempt but main's, in the order of their beginnings.
 pub fn write_attempts(alloc: Global, text: &mut String, log: &[Entry]) -> Result<(), AllocError>
-    ensures { OnOk result (string_bytes text.new ≡ string_bytes text.old ++ flat_map (attempt_in (log_of log.now)) (log_of log.now)) }
+    ensures { OnOk result (string_bytes text.new ≡ string_bytes text.old ++ flat_map (attempt_in log.now) log.now) }
 {
     let states = AttemptStates::of(alloc, log)?;
     for entry in log {

@@ -2,18 +2,17 @@
 
 ghost use Rattle.std.specs.Prelude.{◌≡◌, ◌++◌, OnOk, option_copied, string_bytes};
 ghost use Rattle.std.specs.Option.{option_map};
-ghost use Rattle.values.specs.Values.{content_of};
 ghost use Rattle.event_log.specs.Entries.{main_attempt};
 ghost use Rattle.event_log.specs.Words.{same_attempt, ended_in, faulted_in};
-ghost use Rattle.event_log.specs.Views.{entry_of, log_of};
 ghost use Rattle.history.specs.Main.{first, main_end, main_fault, main_line, unended_line, status_of};
 
 use crate::faults::write_fault;
-use event_log::Entry;
+use held::SharedContent;
 use ids::AttemptId;
+use log_entries::Entry;
 use report::write_main_lines;
 use std::alloc::AllocError;
-use values::{Content, Fault};
+use values::Fault;
 
 /// Whether the attempt is main's.
 #[tactic(auto, unfolding(ids::specs::Attempts::same_attempt, meaning::specs::Births::same_id))]
@@ -24,8 +23,8 @@ pub fn is_main(attempt: AttemptId) -> bool
 }
 
 /// The content with which main ends at an entry.
-fn end_in(entry: &Entry) -> Option<&Content>
-    ensures { option_map content_of (option_copied result) ≡ first (ended_in main_attempt (entry_of entry.now)) }
+fn end_in(entry: &Entry) -> Option<&SharedContent>
+    ensures { option_copied result ≡ first (ended_in main_attempt entry.now) }
 {
     let Entry::Ended { attempt, content } = entry else {
         return None;
@@ -37,8 +36,8 @@ fn end_in(entry: &Entry) -> Option<&Content>
 }
 
 /// The content with which main ended first.
-pub fn main_end(log: &[Entry]) -> Option<&Content>
-    ensures { option_map content_of (option_copied result) ≡ main_end (log_of log.now) }
+pub fn main_end(log: &[Entry]) -> Option<&SharedContent>
+    ensures { option_copied result ≡ main_end log.now }
 {
     for entry in log {
         if let Some(content) = end_in(entry) {
@@ -50,7 +49,7 @@ pub fn main_end(log: &[Entry]) -> Option<&Content>
 
 /// The fault that a get of main is answered with at an entry.
 fn fault_in(entry: &Entry) -> Option<Fault>
-    ensures { result ≡ option_map (λ x. x.fault) (first (faulted_in main_attempt (entry_of entry.now))) }
+    ensures { result ≡ option_map (λ x. x.fault) (first (faulted_in main_attempt entry.now)) }
 {
     let Entry::Faulted { attempt, fault, .. } = entry else {
         return None;
@@ -63,7 +62,7 @@ fn fault_in(entry: &Entry) -> Option<Fault>
 
 /// The fault that a get of main was answered with first.
 pub fn main_fault(log: &[Entry]) -> Option<Fault>
-    ensures { result ≡ main_fault (log_of log.now) }
+    ensures { result ≡ main_fault log.now }
 {
     for entry in log {
         if let Some(fault) = fault_in(entry) {
@@ -88,11 +87,11 @@ fn write_unended(text: &mut String, fault: Option<Fault>) -> Result<(), AllocErr
 /// Writes the line of main's end: `main value 0`, `main trap DivZero`, or that it has a fault or is open.
 pub fn write_main(text: &mut String, log: &[Entry]) -> Result<(), AllocError>
     ensures { OnOk result
-        (string_bytes text.new ≡ string_bytes text.old ++ main_line (main_end (log_of log.now)) (main_fault (log_of log.now))) }
+        (string_bytes text.new ≡ string_bytes text.old ++ main_line (main_end log.now) (main_fault log.now)) }
 {
     match main_end(log) {
         // The prints are written before.
-        Some(content) => write_main_lines(text, &[], content),
+        Some(content) => write_main_lines(text, &[], &content.inner),
         None => write_unended(text, main_fault(log)),
     }
 }
@@ -100,11 +99,13 @@ pub fn write_main(text: &mut String, log: &[Entry]) -> Result<(), AllocError>
 /// The status of a run by its log: 0 where main ended with a value, 1 where it ended with a trap, and 2 where it has a
 /// fault or is open. Of several ends of main, which no legal log has, the first counts. Takes no memory.
 pub fn status_of(log: &[Entry]) -> u8
-    ensures { result ≡ status_of (log_of log.now) }
+    ensures { result ≡ status_of log.now }
 {
-    match main_end(log) {
-        Some(Content::Value(_)) => 0,
-        Some(Content::Trap(_)) => 1,
-        None => 2,
+    let Some(content) = main_end(log) else {
+        return 2;
+    };
+    match &*content.inner {
+        values::Content::Value(_) => 0,
+        values::Content::Trap(_) => 1,
     }
 }

@@ -1,16 +1,14 @@
 // The refused events.
 
 ghost use Rattle.std.specs.Prelude.{◌≡◌, ◌++◌, OnOk, None, string_bytes};
-ghost use Rattle.event_log.specs.Views.{entry_of, log_of};
 ghost use Rattle.history.specs.Refusals.{last_in, refused_in, refused_lines};
 
-use event_log::Entry;
-use log_entries::Event;
+use log_entries::{Entry, Event};
 use std::alloc::AllocError;
 
 /// The last event of a log, after one more entry.
 pub fn last_event(last: Option<Event>, entry: &Entry) -> Option<Event>
-    ensures { result ≡ last_in last (entry_of entry.now) }
+    ensures { result ≡ last_in last entry.now }
 {
     match entry {
         Entry::In { event, .. } => Some(*event),
@@ -20,7 +18,7 @@ pub fn last_event(last: Option<Event>, entry: &Entry) -> Option<Event>
 
 /// Writes `refused 30 kill 2` where the entry is a refusal, of the last event before it.
 fn write_refusal(text: &mut String, last: &Option<Event>, entry: &Entry) -> Result<(), AllocError>
-    ensures { OnOk result (string_bytes text.new ≡ string_bytes text.old ++ refused_in last.now (entry_of entry.now)) }
+    ensures { OnOk result (string_bytes text.new ≡ string_bytes text.old ++ refused_in last.now entry.now) }
 {
     let Entry::Refused(refusal) = entry else {
         return Ok(());
@@ -34,7 +32,7 @@ fn write_refusal(text: &mut String, last: &Option<Event>, entry: &Entry) -> Resu
 
 /// Writes a line for each refusal of the log.
 pub fn write_refusals(text: &mut String, log: &[Entry]) -> Result<(), AllocError>
-    ensures { OnOk result (string_bytes text.new ≡ string_bytes text.old ++ refused_lines None (log_of log.now)) }
+    ensures { OnOk result (string_bytes text.new ≡ string_bytes text.old ++ refused_lines None log.now) }
 {
     let mut last = None;
     for entry in log {

@@ -1,7 +1,6 @@
 // The report.
 
 ghost use Rattle.std.specs.Prelude.{◌≡◌, IfOk, string_bytes};
-ghost use Rattle.event_log.specs.Views.{log_of};
 ghost use Rattle.history.specs.Report.{report_text};
 
 use crate::attempts::write_attempts;
@@ -9,7 +8,7 @@ use crate::main_end::write_main;
 use crate::objects::{write_releases, write_resolves};
 use crate::prints::write_prints;
 use crate::refusals::write_refusals;
-use event_log::Entry;
+use log_entries::Entry;
 use std::alloc::{AllocError, Global};
 
 /// The report of a log, in lines that each end with a line feed, each section in the order of the log: the prints
@@ -21,7 +20,7 @@ use std::alloc::{AllocError, Global};
 /// It is made of any log, a legal one or not: of several ends or faults of main the first counts, an end counts before a
 /// fault, and a refusal with no event before it is written without one. Goes over the log a fixed number of times.
 pub fn report_text(alloc: Global, log: &[Entry]) -> Result<String, AllocError>
-    ensures { IfOk result (λ text. string_bytes text ≡ report_text (log_of log.now)) }
+    ensures { IfOk result (λ text. string_bytes text ≡ report_text log.now) }
 {
     let mut text = String::new(alloc);
     write_prints(&mut text, log)?;

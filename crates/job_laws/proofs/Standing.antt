@@ -4,6 +4,7 @@ use Rattle.std.specs.Prelude.{◌&&◌, ◌==◌, if◌then◌else◌, not}
 use Rattle.std.proofs.lemmas.Bool.{and_parts}
 use Rattle.meaning.proofs.BirthLaws.{at_test}
 use Rattle.event_log.specs.Entries.{Claim, Commit, Deliver, Entry, Event, Evict, Join, Kill, KillNode, Lose, Notice, NoticeNode, Tick}
+use Rattle.event_log.specs.Entries.{Refusal, NoWorker, NotReady, NoJob, Stale, Limit}
 use Rattle.event_log.specs.Rules.{Setting}
 use Rattle.protocol.specs.Answers.{Answer, Refuses, Step, Takes, answer, decided, given_out, job_by, job_of, limited, takes, whole_after}
 use Rattle.protocol.specs.Answers as answers
@@ -154,9 +155,9 @@ module _ (j : ℕ) (job : Job) where
   module _ (s : Setting) (log : List Entry) (c : Whole) (sound : IsSound s log c) (out : StandsIn c j job) where
     claim_stands : (w : ℕ) (handed : Handed) → refusal c (Claim w) handed ≡ None → StandsIn (happens c (Claim w) handed).whole j job
     claim_stands w handed r =
-        let parts = or_none (no_worker c w) (unless (is_ready_on c w (worker_at c w)) 31) r in
-        let l = live_worker c w (unless_none (is_live_worker (worker_at c w)) 30 parts.0) in
-        let ready : is_ready_on c w (Some l.worker) ≡ true = ap (is_ready_on c w) (sym l.at) ∙ unless_none (is_ready_on c w (worker_at c w)) 31 parts.1 in
+        let parts = or_none (no_worker c w) (unless (is_ready_on c w (worker_at c w)) NotReady) r in
+        let l = live_worker c w (unless_none (is_live_worker (worker_at c w)) NoWorker parts.0) in
+        let ready : is_ready_on c w (Some l.worker) ≡ true = ap (is_ready_on c w) (sym l.at) ∙ unless_none (is_ready_on c w (worker_at c w)) NotReady parts.1 in
         let two = and_parts (l.worker.is_live && is_ready_run l.worker.run) (has_slot w (node_at c l.worker.node)) ready in
         let run = ready_run l.worker.run (and_parts l.worker.is_live (is_ready_run l.worker.run) two.0).1 in
         let d : Whole = record c { jobs = c.jobs ++ record { worker = w; is_committed = false } ∷ [] } in
@@ -182,10 +183,10 @@ module _ (j : ℕ) (job : Job) where
         go OfAnother (Some g) e h = out
         go (OfJob o) None e h = out
         go (OfJob o) (Some g) e h =
-            let parts = or_none (unless (not g.is_committed && true && is_out_by (worker_at c g.worker) i) 32)
-            (unless (is_live_worker (worker_at c g.worker)) 33) h in
+            let parts = or_none (unless (not g.is_committed && true && is_out_by (worker_at c g.worker) i) NoJob)
+            (unless (is_live_worker (worker_at c g.worker)) Stale) h in
             let a = and_parts (not g.is_committed && true) (is_out_by (worker_at c g.worker) i)
-            (unless_none (not g.is_committed && true && is_out_by (worker_at c g.worker) i) 32 parts.0) in
+            (unless_none (not g.is_committed && true && is_out_by (worker_at c g.worker) i) NoJob parts.0) in
             let d : Whole = with_committed c i (length o.births) in
             let left : StandsIn d j job = record {
               given = out.given;
@@ -255,9 +256,9 @@ module _ (j : ℕ) (job : Job) where
     answer_stands : (e : Event) (handed : Handed) → e ≢ Commit j → StandsIn (whole_after c (answer c e handed)) j job
     answer_stands e handed apart = go (refusal c e handed) refl
       where
-        go : (o : Option ℕ) → refusal c e handed ≡ o → StandsIn (whole_after c (decided c e handed o)) j job
+        go : (o : Option Refusal) → refusal c e handed ≡ o → StandsIn (whole_after c (decided c e handed o)) j job
         go (Some code) r = out
-        go None r = at_test (λ i. StandsIn (whole_after c (if i then takes (happens c e handed) (given_out c e) else Refuses 37)) j job)
+        go None r = at_test (λ i. StandsIn (whole_after c (if i then takes (happens c e handed) (given_out c e) else Refuses Limit)) j job)
             (is_within_limits (happens c e handed).whole) (λ _. happens_stands e handed r apart) (λ _. out)
 
 pub jobs_stand : JobsStand
@@ -289,9 +290,9 @@ has_home w (Some node) e = (node, refl)
 taken_out : (c : Whole) (w : ℕ) (handed : Handed) → refusal c (Claim w) handed ≡ None → (job : Job) → given_out c (Claim w) ≡ Some job →
     StandsIn (happens c (Claim w) handed).whole (length c.jobs + 1) job
 taken_out c w handed r job gives =
-    let parts = or_none (no_worker c w) (unless (is_ready_on c w (worker_at c w)) 31) r in
-    let l = live_worker c w (unless_none (is_live_worker (worker_at c w)) 30 parts.0) in
-    let ready : is_ready_on c w (Some l.worker) ≡ true = ap (is_ready_on c w) (sym l.at) ∙ unless_none (is_ready_on c w (worker_at c w)) 31 parts.1 in
+    let parts = or_none (no_worker c w) (unless (is_ready_on c w (worker_at c w)) NotReady) r in
+    let l = live_worker c w (unless_none (is_live_worker (worker_at c w)) NoWorker parts.0) in
+    let ready : is_ready_on c w (Some l.worker) ≡ true = ap (is_ready_on c w) (sym l.at) ∙ unless_none (is_ready_on c w (worker_at c w)) NotReady parts.1 in
     let two = and_parts (l.worker.is_live && is_ready_run l.worker.run) (has_slot w (node_at c l.worker.node)) ready in
     let run = ready_run l.worker.run (and_parts l.worker.is_live (is_ready_run l.worker.run) two.0).1 in
     let home = has_home w (node_at c l.worker.node) two.1 in
@@ -306,7 +307,7 @@ taken_out c w handed r job gives =
 takes_step : (a b : Step) → Takes a ≡ Takes b → a ≡ b
 takes_step a b e = cc
 
-refuses_apart : (code : ℕ) (b : Step) → Refuses code ≡ Takes b → ⊥
+refuses_apart : (code : Refusal) (b : Step) → Refuses code ≡ Takes b → ⊥
 refuses_apart code b e = cc
 
 pub claims_give_jobs_out : ClaimsGiveJobsOut
@@ -321,7 +322,7 @@ claims_give_jobs_out c w handed step job is gives = out_of step.whole (length c.
         subst (λ (x : Whole). StandsIn x (length c.jobs + 1) job) (ap (λ (x : Step). x.whole) same)
         (taken_out c w handed r job (ap (λ (x : Step). x.given) same ∙ gives))
 
-    go : (o : Option ℕ) → refusal c (Claim w) handed ≡ o → decided c (Claim w) handed o ≡ Takes step → StandsIn step.whole (length c.jobs + 1) job
+    go : (o : Option Refusal) → refusal c (Claim w) handed ≡ o → decided c (Claim w) handed o ≡ Takes step → StandsIn step.whole (length c.jobs + 1) job
     go (Some code) r e = absurd (refuses_apart code step e)
-    go None r e = at_test (λ i. (if i then takes m (given_out c (Claim w)) else Refuses 37) ≡ Takes step → StandsIn step.whole (length c.jobs + 1) job)
-        (is_within_limits m.whole) (λ _. of_step r) (λ _ f. absurd (refuses_apart 37 step f)) e
+    go None r e = at_test (λ i. (if i then takes m (given_out c (Claim w)) else Refuses Limit) ≡ Takes step → StandsIn step.whole (length c.jobs + 1) job)
+        (is_within_limits m.whole) (λ _. of_step r) (λ _ f. absurd (refuses_apart Limit step f)) e

@@ -6,14 +6,13 @@ use Rattle.meaning.specs.Values as meant
 use Rattle.meaning.specs.Runs.{Piece, piece}
 use Rattle.meaning.specs.Meaning.{replay}
 use Rattle.meaning.specs.Syntax.{Script}
-use Rattle.values.specs.Values.{content_of, value_of}
-use Rattle.values.specs.declared.content.Content.{Content}
+use Rattle.values.specs.Values.{value_of}
 use Rattle.task_spec.specs.Births.{birth_of}
 use Rattle.frames.specs.Courses.{Past}
 use Rattle.frames.specs.Frames.{IsWaiting}
 use Rattle.frames.specs.declared.frame.Frame.{Frame}
 use Rattle.segment.specs.Frames.{Fits, WaitsAfter}
-use Rattle.segment.specs.Jobs.{Done, IsBegun, JobData, replay_of, whole_of}
+use Rattle.segment.specs.Jobs.{Done, IsBegun, JobParts, replay_of, whole_of}
 use Rattle.kept_frames.specs.Known.{Agrees, IsAfter, IsNext, IsShaped, KnownData, WaitsFor}
 
 head_same : {X : Type 0} (x y : X) (xs ys : List X) → x ∷ xs ≡ y ∷ ys → x ≡ y
@@ -33,10 +32,6 @@ beginnings_same (x ∷ xs) (y ∷ ys) (z ∷ zs) rest first e n =
     let tails : xs ≡ ys = beginnings_same xs ys zs rest first.1 (tail_same z y zs (ys ++ rest) e) (omega (arith, n)) in
     ap (λ v. v ∷ xs) heads ∙ ap (λ vs. y ∷ vs) tails
 
-map_last : {A B : Type 0} (f : A → B) (xs : List A) (x : A) → map f (xs ++ x ∷ []) ≡ map f xs ++ f x ∷ []
-map_last f [] x = refl
-map_last f (y ∷ xs) x = ap (λ zs. f y ∷ zs) (map_last f xs x)
-
 abbrev past : List meant.Outcome → List meant.Birth → List meant.Value → Past
 past cs bs vs = record { answers = cs; births = bs; prints = vs }
 
@@ -44,41 +39,38 @@ same_past : (cs ds : List meant.Outcome) (xs ys : List meant.Birth) (vs ws : Lis
 same_past cs ds xs ys vs ws ec eb ev = ap (λ x. past x xs vs) ec ∙ ap (λ x. past ds x vs) eb ∙ ap (λ x. past ds ys x) ev
 
 module _ (script : Script) (k : KnownData) (f : Frame) where
-  moved : (b : meant.Birth) (o : meant.Id) (x y : Past) → birth_of k.spec ≡ b → k.base ≡ o → x ≡ y → IsWaiting script (birth_of k.spec) k.base x f →
+  moved : (b : meant.Birth) (o : meant.Id) (x y : Past) → k.spec ≡ b → k.base ≡ o → x ≡ y → IsWaiting script k.spec k.base x f →
       IsWaiting script b o y f
   moved b o x y eb eo ey waits =
       subst (λ c. IsWaiting script c o y f) eb
-      (subst (λ c. IsWaiting script (birth_of k.spec) c y f) eo (subst (λ c. IsWaiting script (birth_of k.spec) k.base c f) ey waits))
+      (subst (λ c. IsWaiting script k.spec c y f) eo (subst (λ c. IsWaiting script k.spec k.base c f) ey waits))
 
   -- what a job's task does on the job's answers goes on from what it did before the frame
-  goes_on : (j : JobData) → (waits : WaitsFor script k f) → (is : IsNext k j) →
+  goes_on : (j : JobParts) → (waits : WaitsFor script k f) → (is : IsNext k j) →
       (p : Piece) × ((replay_of script j).births ≡ waits.births ++ p.births) × ((replay_of script j).prints ≡ waits.prints ++ p.prints)
   goes_on j waits is =
-      let c = content_of is.answer in
+      let c = is.answer in
       let left = waits.waits.stood.left (c ∷ []) in
-      let answers : map content_of j.answers ≡ map content_of k.answers ++ c ∷ [] =
-      ap (map content_of) is.ends ∙ map_last content_of is.earlier is.answer ∙ ap (λ cs. cs ++ c ∷ []) (sym is.answers) in
-      let same : replay_of script j ≡ replay script (birth_of k.spec) k.base (map content_of k.answers ++ c ∷ []) =
-      ap (λ b. replay script b j.base (map content_of j.answers)) (sym is.spec)
-      ∙ ap (λ o. replay script (birth_of k.spec) o (map content_of j.answers)) (sym is.base)
-      ∙ ap (replay script (birth_of k.spec) k.base) answers in
+      let answers : j.answers ≡ k.answers ++ c ∷ [] = is.ends ∙ ap (λ cs. cs ++ c ∷ []) (sym is.answers) in
+      let same : replay_of script j ≡ replay script k.spec k.base (k.answers ++ c ∷ []) =
+      ap (λ b. replay script b j.base (j.answers)) (sym is.spec)
+      ∙ ap (λ o. replay script k.spec o (j.answers)) (sym is.base)
+      ∙ ap (replay script k.spec k.base) answers in
       (piece waits.waits.stood.run f.next (c ∷ []), ap (λ (p : Piece). p.births) (same ∙ left), ap (λ (p : Piece). p.prints) (same ∙ left))
 
-  pub fits_next : (j : JobData) → WaitsFor script k f → IsNext k j → IsBegun script j → Fits script j f
+  pub fits_next : (j : JobParts) → WaitsFor script k f → IsNext k j → IsBegun script j → Fits script j f
   fits_next j waits is begun =
       let on = goes_on j waits is in
-      let bs : map birth_of j.births ≡ waits.births =
-      beginnings_same (map birth_of j.births) waits.births (replay_of script j).births on.0.births begun.births on.1
-      (length-map j.births birth_of ∙ sym is.births ∙ sym waits.borne) in
-      let vs : map value_of j.printed ≡ waits.prints =
-      beginnings_same (map value_of j.printed) waits.prints (replay_of script j).prints on.0.prints begun.printed on.2
-      (length-map j.printed value_of ∙ sym is.prints ∙ sym waits.printed) in
+      let bs : j.births ≡ waits.births =
+      beginnings_same j.births waits.births (replay_of script j).births on.0.births begun.births on.1 (sym is.births ∙ sym waits.borne) in
+      let vs : j.prints ≡ waits.prints =
+      beginnings_same j.prints waits.prints (replay_of script j).prints on.0.prints begun.prints on.2 (sym is.prints ∙ sym waits.printed) in
       record {
         earlier = is.earlier;
         answer = is.answer;
         answers = is.ends;
-        waits = moved (birth_of j.spec) j.base _ _ is.spec is.base
-            (same_past (map content_of k.answers) (map content_of is.earlier) waits.births (map birth_of j.births) waits.prints (map value_of j.printed)
+        waits = moved j.spec j.base _ _ is.spec is.base
+            (same_past k.answers is.earlier waits.births j.births waits.prints j.prints
             is.answers (sym bs) (sym vs))
             waits.waits;
       }
@@ -87,16 +79,12 @@ module _ (script : Script) (k : KnownData) (f : Frame) where
   waits_after d waits is = record {
     births = (whole_of d).births;
     prints = (whole_of d).prints;
-    borne = length-append (map birth_of d.job.births) (map birth_of d.births)
-        ∙ ap (λ n. n + length (map birth_of d.births)) (length-map d.job.births birth_of) ∙ ap (λ n. length d.job.births + n) (length-map d.births birth_of)
-        ∙ sym is.births;
-    printed = length-append (map value_of d.job.printed) (map value_of d.prints)
-        ∙ ap (λ n. n + length (map value_of d.prints)) (length-map d.job.printed value_of) ∙ ap (λ n. length d.job.printed + n) (length-map d.prints value_of)
-        ∙ sym is.prints;
+    borne = length-append d.job.births (map birth_of d.births) ∙ ap (λ n. length d.job.births + n) (length-map d.births birth_of) ∙ sym is.births;
+    printed = length-append d.job.prints (map value_of d.prints) ∙ ap (λ n. length d.job.prints + n) (length-map d.prints value_of) ∙ sym is.prints;
     waits =
-        subst (λ x. IsWaiting script x k.base (past (map content_of k.answers) (whole_of d).births (whole_of d).prints) f) (sym is.spec)
-        (subst (λ x. IsWaiting script (birth_of d.job.spec) x (past (map content_of k.answers) (whole_of d).births (whole_of d).prints) f) (sym is.base)
-        (subst (λ x. IsWaiting script (birth_of d.job.spec) d.job.base (past x (whole_of d).births (whole_of d).prints) f) (sym is.answers) waits));
+        subst (λ x. IsWaiting script x k.base (past k.answers (whole_of d).births (whole_of d).prints) f) (sym is.spec)
+        (subst (λ x. IsWaiting script d.job.spec x (past k.answers (whole_of d).births (whole_of d).prints) f) (sym is.base)
+        (subst (λ x. IsWaiting script d.job.spec d.job.base (past x (whole_of d).births (whole_of d).prints) f) (sym is.answers) waits));
   }
 
 -- ---- the job of a known attempt, told by how many answers it has
@@ -105,10 +93,10 @@ first_of : {X : Type 0} (xs ys more : List X) → IsFirst xs (ys ++ more) → le
 first_of xs ys more h e = beginnings_same xs ys (ys ++ more) more h refl e
 
 -- a job of that shape is the attempt's next, where its answers go on from those known
-pub next_so : (k : KnownData) (j : JobData) (earlier : List Content) (answer : Content) → j.answers ≡ earlier ++ answer ∷ [] → IsShaped k j earlier → Agrees k j → IsNext k j
+pub next_so : (k : KnownData) (j : JobParts) (earlier : List meant.Outcome) (answer : meant.Outcome) → j.answers ≡ earlier ++ answer ∷ [] → IsShaped k j earlier → Agrees k j → IsNext k j
 next_so k j earlier answer ends is agrees =
     let one_more : length k.answers + 1 ≡ length j.answers = ap (λ m. m + 1) is.answers ∙ sym (ap length ends ∙ length-append earlier (answer ∷ [])) in
-    let first = subst (IsFirst (map content_of k.answers)) (ap (map content_of) ends ∙ map_last content_of earlier answer) (agrees is.attempt one_more) in
+    let first = subst (IsFirst k.answers) ends (agrees is.attempt one_more) in
     record {
       earlier = earlier;
       answer = answer;
@@ -118,6 +106,5 @@ next_so k j earlier answer ends is agrees =
       spec = is.spec;
       births = is.births;
       prints = is.prints;
-      answers = first_of (map content_of k.answers) (map content_of earlier) (content_of answer ∷ []) first
-          (length-map k.answers content_of ∙ is.answers ∙ sym (length-map earlier content_of));
+      answers = first_of k.answers earlier (answer ∷ []) first is.answers;
     }

@@ -27,12 +27,12 @@ pub struct Frames<S: ScriptName> {
 impl<S: ScriptName> Model for Frames<S> {
     ghost use Rattle.std.specs.Prelude.{List, Option};
     ghost use Rattle.std.specs.Coded.{codes};
-    ghost use Rattle.values.specs.contracts.value.RunValue as run_values;
+    ghost use Rattle.held.specs.Codes.{birth_code, outcome_code};
     ghost use Rattle.kept_frames.specs.Known.{KnownData};
 
     ghost Value = { List (Option KnownData) };
 
-    ghost coded = { Prim.hlevel (codes, run_values.the_row.coded) };
+    ghost coded = { Prim.hlevel (codes, birth_code, outcome_code) };
 
     ghost view = { λ f. f.waiting.items };
 }

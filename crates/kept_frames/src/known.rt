@@ -5,17 +5,17 @@ ghost use Rattle.values.specs.Values.{content_of};
 ghost use Rattle.kept_frames.specs.Known.{IsAfter, IsAt, IsNext};
 ghost use Rattle.kept_frames.specs.Views.{data_of};
 
+use held::Origin;
 use ids::{AttemptId, ObjectId};
 use segment::{Done, Job, ScriptName};
 use std::alloc::{AllocError, Global};
-use task_spec::Birth;
 use values::Content;
 
 /// An attempt, and how far it came. What it bore and printed follows from its answers and how much that was.
 #[derive(Drop)]
 pub(crate) struct Known {
     pub attempt: AttemptId,
-    pub spec: Birth,
+    pub spec: Origin,
     /// The id of its first own birth.
     pub base: ObjectId,
     /// How many births and prints it made so far.
@@ -41,7 +41,7 @@ fn read<S: ScriptName>(alloc: Global, job: &Job<S>) -> Result<Known, AllocError>
 {
     let spec = job.spec().copy(alloc)?;
     let mut answers = Vec::new(alloc);
-    add_answers(alloc, &mut answers, job.answers())?;
+    add_answers(alloc, &mut answers, &job.answers().inner)?;
     Ok(Known {
         attempt: job.attempt(),
         spec,
@@ -64,7 +64,7 @@ fn known_at<S: ScriptName>(
     let Some(known) = known else {
         return read(alloc, job);
     };
-    let Some((answer, _)) = job.answers().split_last() else {
+    let Some((answer, _)) = job.answers().inner.split_last() else {
         return read(alloc, job);
     };
     let mut known = known;

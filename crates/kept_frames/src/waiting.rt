@@ -1,6 +1,7 @@
 // An attempt that waits for an answer.
 
-ghost use Rattle.std.specs.Prelude.{◌≡◌, true, IfSome};
+ghost use Rattle.std.specs.Prelude.{◌≡◌, true, IfSome, map};
+ghost use Rattle.values.specs.Values.{content_of};
 ghost use Rattle.kept_frames.specs.Known.{Agrees, IsNext, IsShaped, WaitsFor};
 ghost use Rattle.kept_frames.specs.Views.{data_of};
 
@@ -19,13 +20,13 @@ pub(crate) struct Waiting<S: ScriptName> {
 
 impl<S: ScriptName> Model for Waiting<S> {
     ghost use Rattle.std.specs.Coded.{codes};
-    ghost use Rattle.values.specs.contracts.value.RunValue as run_values;
+    ghost use Rattle.held.specs.Codes.{birth_code, outcome_code};
     ghost use Rattle.kept_frames.specs.Known.{KnownData, WaitsFor};
     ghost use Rattle.kept_frames.specs.Views.{data_of};
 
     ghost Value = { KnownData };
 
-    ghost coded = { Prim.hlevel (codes, run_values.the_row.coded) };
+    ghost coded = { Prim.hlevel (codes, birth_code, outcome_code) };
 
     ghost view = { λ w. data_of w.known };
 
@@ -41,14 +42,14 @@ pub(crate) struct Ready<S: ScriptName> {
 
 /// Whether the job's attempt is the known one, as far as one sees without reading the answers.
 fn is_shaped<S: ScriptName>(known: &Known, job: &Job<S>, earlier: &[Content]) -> bool
-    ensures { result ≡ true → IsShaped (data_of known.now) job.now earlier.now }
+    ensures { result ≡ true → IsShaped (data_of known.now) job.now (map content_of earlier.now) }
 {
     known.attempt == job.attempt()
         && known.base == job.base()
         && known.births == job.births().len()
         && known.prints == job.printed().len()
         && known.answers.len() == earlier.len()
-        && known.spec.is_same(job.spec())
+        && known.spec.inner.is_same(&job.spec().inner)
 }
 
 /// Whether the job's attempt is the known one, with one answer more. With the same answers, as many births and prints are the same. With `is_own`
@@ -57,7 +58,7 @@ fn is_next<S: ScriptName>(known: &Known, job: &Job<S>, is_own: bool) -> bool
     requires { is_own ≡ true → Agrees (data_of known.now) job.now }
     ensures { result ≡ true → IsNext (data_of known.now) job.now }
 {
-    let Some((_, earlier)) = job.answers().split_last() else {
+    let Some((_, earlier)) = job.answers().inner.split_last() else {
         return false;
     };
     if !is_shaped(known, job, earlier) {

@@ -5,7 +5,7 @@ use Rattle.std.specs.List.{filter}
 use Rattle.std.proofs.lemmas.Bool.Decides.{nat_tests}
 use Rattle.event_log.specs.Entries.{Attempt}
 use Rattle.protocol.specs.Sets.{has, without_number, least, first_item, rest_of}
-use Rattle.protocol.specs.Nodes.{AskKey, Reply, There, with_scheduler}
+use Rattle.protocol.specs.Nodes.{AskKey, AskReply, There, with_scheduler}
 use Rattle.protocol.specs.Slots.{asked, asked_by, asks_slot, forgets, frees, gives_worker, grants, grants_next, grants_queued, has_free_slot, has_no_slot_for, is_back, leases_idle, may_be_idle, reply_to, with_answered, with_idle, without_slot, without_worker}
 use Rattle.lease.specs.Promises.{IsWithinSlots}
 
@@ -37,7 +37,7 @@ worker_given h k e = idle_leased h k (least h.node.scheduler.idle) e
 no_slot : (h : There) (k : AskKey) → IsWithinSlots h → IsWithinSlots (has_no_slot_for h k)
 no_slot h k i = either (nat_lt (k.t + 1) h.nodes) _ _ (λ _. i) (λ _. i)
 
-asked_by_within : (h : There) (k : AskKey) (x : Option Reply) → IsWithinSlots h → IsWithinSlots (asked_by h k x)
+asked_by_within : (h : There) (k : AskKey) (x : Option AskReply) → IsWithinSlots h → IsWithinSlots (asked_by h k x)
 asked_by_within h k None i = either (has_free_slot h.node.scheduler) _ _ (worker_given h k) (λ _. no_slot h k i)
 asked_by_within h k (Some x) i = i
 

@@ -1,7 +1,7 @@
 // A node's scheduler as a type's own calls.
 
 ghost use Rattle.std.specs.Prelude.{◌≡◌, OnErr, OnOk, Some};
-ghost use Rattle.protocol.specs.Nodes.{Reply};
+ghost use Rattle.protocol.specs.Nodes.{AskReply};
 ghost use Rattle.protocol.specs.Slots.{asked, asks_slot, forgets, frees, is_back, replies, reply_to};
 ghost use Rattle.lease.specs.Promises.{IsWithinSlots};
 
@@ -33,7 +33,7 @@ impl Scheduler for There {
     fn ask(&mut self, alloc: Global, key: &AskKey) -> Result<(), AllocError>
         ensures step { OnOk result (self.new ≡ asked self.old key.now) }
         ensures err { OnErr result (self.new ≡ self.old) }
-        ensures again { (x : Reply) → reply_to self.old.node.scheduler key.now ≡ Some x → OnOk result (self.new ≡ replies self.old key.now x) }
+        ensures again { (x : AskReply) → reply_to self.old.node.scheduler key.now ≡ Some x → OnOk result (self.new ≡ replies self.old key.now x) }
         ensures slots { IsWithinSlots self.old → OnOk result (IsWithinSlots self.new) }
     {
         ask(alloc, self, key)

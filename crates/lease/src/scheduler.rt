@@ -1,7 +1,7 @@
 // What a node's scheduler promises its callers.
 
 ghost use Rattle.std.specs.Prelude.{◌≡◌, OnErr, OnOk, Some, None};
-ghost use Rattle.protocol.specs.Nodes.{Reply};
+ghost use Rattle.protocol.specs.Nodes.{AskReply};
 ghost use Rattle.protocol.specs.Slots.{asked, asks_slot, forgets, frees, is_back, replies, reply_to};
 ghost use Rattle.lease.specs.Promises.{IsWithinSlots};
 
@@ -17,7 +17,7 @@ use std::alloc::{AllocError, Global};
 pub fn ask(alloc: Global, there: &mut There, key: &AskKey) -> Result<(), AllocError>
     ensures step { OnOk result (there.new ≡ asked there.old key.now) }
     ensures err { OnErr result (there.new ≡ there.old) }
-    ensures again { (x : Reply) → reply_to there.old.node.scheduler key.now ≡ Some x → OnOk result (there.new ≡ replies there.old key.now x) }
+    ensures again { (x : AskReply) → reply_to there.old.node.scheduler key.now ≡ Some x → OnOk result (there.new ≡ replies there.old key.now x) }
     ensures slots { IsWithinSlots there.old → OnOk result (IsWithinSlots there.new) }
 {
     asked(alloc, there, key)?;

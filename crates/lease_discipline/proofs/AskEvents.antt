@@ -18,7 +18,7 @@ use Rattle.protocol.specs.Sets.{first_item, has, least, repeated, rest_of}
 use Rattle.protocol.specs.Messages.{Letter, letter, Message, Party, TheWorker, TheNode, Ask, Give, Elsewhere, Wait, Back, Push, Finished, FinishedAck, Failed}
 use Rattle.protocol.specs.Messages.{Where, At, Gone, Fetch, CopyOf, Missing, Hold, HoldAck, Unhold}
 use Rattle.protocol.specs.Jobs.{Outcomes}
-use Rattle.protocol.specs.Nodes.{AskKey, Asked, Node, Queued, Reply, Scheduler, SentOn, There, with_scheduler}
+use Rattle.protocol.specs.Nodes.{AskKey, AskReply, Asked, Node, Queued, Scheduler, SentOn, There, with_scheduler}
 use Rattle.protocol.specs.Slots.{ask_key, asked_by, asks_slot, forgets, frees, gives_worker, grants, grants_next, grants_queued, has_free_slot}
 use Rattle.protocol.specs.Slots.{has_no_slot_for, leases_idle}
 use Rattle.protocol.specs.Slots.{next_in_circle, queues, replies_anew, reply_to, same_key, with_answered}
@@ -58,26 +58,26 @@ use Rattle.lease_discipline.proofs.Turns.{sch}
 -- ---- what a node was asked
 
 abbrev pub Keys : Scheduler → Scheduler → Type 0
-Keys s t = (j : AskKey) (x : Reply) → reply_to t j ≡ Some x → (y : Reply) × (reply_to s j ≡ Some y)
+Keys s t = (j : AskKey) (x : AskReply) → reply_to t j ≡ Some x → (y : AskReply) × (reply_to s j ≡ Some y)
 
 -- but for one more
 abbrev pub KeysAnd : AskKey → Scheduler → Scheduler → Type 0
-KeysAnd k s t = (j : AskKey) (x : Reply) → reply_to t j ≡ Some x → ((y : Reply) × (reply_to s j ≡ Some y)) ⊎ (k ≡ j)
+KeysAnd k s t = (j : AskKey) (x : AskReply) → reply_to t j ≡ Some x → ((y : AskReply) × (reply_to s j ≡ Some y)) ⊎ (k ≡ j)
 
 pub same_keys : (s : Scheduler) → Keys s s
 same_keys s j x e = (x, e)
 
-replied_keys : (asks : List Asked) (k : AskKey) (x : Reply) (j : AskKey) (y : Reply) → reply_in (with_reply_in asks k x) j ≡ Some y →
-    ((z : Reply) × (reply_in asks j ≡ Some z)) ⊎ (k ≡ j)
+replied_keys : (asks : List Asked) (k : AskKey) (x : AskReply) (j : AskKey) (y : AskReply) → reply_in (with_reply_in asks k x) j ≡ Some y →
+    ((z : AskReply) × (reply_in asks j ≡ Some z)) ⊎ (k ≡ j)
 replied_keys asks k x j y e =
-    at_test (λ b. same_key k j ≡ b → ((z : Reply) × (reply_in asks j ≡ Some z)) ⊎ (k ≡ j)) (same_key k j)
+    at_test (λ b. same_key k j ≡ b → ((z : AskReply) × (reply_in asks j ≡ Some z)) ⊎ (k ≡ j)) (same_key k j)
     (λ _ f. inr (same_key-true k j f)) (λ _ f. inl (y, sym (reply-other asks k j x f) ∙ e)) refl
 
 leases_keys : (t : There) (k : AskKey) (o : Option ℕ) → KeysAnd k (sch t) (sch (leases_idle t k o))
 leases_keys t k None j x e = replied_keys (sch t).asks k _ j x e
 leases_keys t k (Some w) j x e = replied_keys (sch t).asks k _ j x e
 
-pub asked_keys : (t : There) (k : AskKey) (o : Option Reply) → KeysAnd k (sch t) (sch (asked_by t k o))
+pub asked_keys : (t : There) (k : AskKey) (o : Option AskReply) → KeysAnd k (sch t) (sch (asked_by t k o))
 asked_keys t k None =
     at_test (λ b. KeysAnd k (sch t) (sch (if b then gives_worker t k else has_no_slot_for t k))) (has_free_slot (sch t))
     (λ _. leases_keys t k (least (sch t).idle))
@@ -87,7 +87,7 @@ asked_keys t k None =
 asked_keys t k (Some y) = λ j x e. inl (x, e)
 
 -- one that stands in the queue was asked for before
-known : (s t : Scheduler) (k : AskKey) (y : Reply) → reply_to s k ≡ Some y → KeysAnd k s t → Keys s t
+known : (s t : Scheduler) (k : AskKey) (y : AskReply) → reply_to s k ≡ Some y → KeysAnd k s t → Keys s t
 known s t k y e keys j x f = elim (keys j x f) [ inl g ↦ g | inr same ↦ (y, ap (reply_to s) (sym same) ∙ e) ]
 
 grants_queued_keys : (t : There) (queue : List AskKey) → (sch t).queue ≡ queue → QueueIsRight (sch t).asks (sch t).queue →
@@ -123,7 +123,7 @@ forgets_keys t w q j x e = frees_keys (with_scheduler t (without_worker (sch t) 
 
 -- ---- answers that came
 
-stands_some : (o : Option Reply) (k : AskKey) (m : Message) → Stands o k m → (x : Reply) × (o ≡ Some x)
+stands_some : (o : Option AskReply) (k : AskKey) (m : Message) → Stands o k m → (x : AskReply) × (o ≡ Some x)
 unfolding Stands
 stands_some None k m e = absurd e
 stands_some (Some x) k m e = (x, refl)
@@ -180,7 +180,7 @@ module _ (c d : Whole) (n : ℕ) (node : Node) (t : There) (stood : node_at d n 
     (there_too : (v : ℕ) (y : Worker) → worker_at c v ≡ Some y → (z : Worker) × (worker_at d v ≡ Some z))
     (closed : (a : Attempt) (w : ℕ) → Pushed (d.network ++ t.out.letters) a w → A.IsClosed (IsDeadNode c) (d.network ++ t.out.letters) a w)
     (owned : (a : Attempt) → A.Touched (d.network ++ t.out.letters) a → (y : Worker) × (worker_at c a.object.owner ≡ Some y))
-    (asked : (k : AskKey) (x : Reply) → reply_to t.node.scheduler k ≡ Some x → A.Asked (d.network ++ t.out.letters) k.attempt k.t n) where
+    (asked : (k : AskKey) (x : AskReply) → reply_to t.node.scheduler k ≡ Some x → A.Asked (d.network ++ t.out.letters) k.attempt k.t n) where
   abbrev after : Whole
   after = (after_node d n t).whole
 
@@ -222,7 +222,7 @@ module _ (c d : Whole) (n : ℕ) (node : Node) (t : There) (stood : node_at d n 
     owned = λ a e. let y = owned a e in let z = there_too _ y.0 y.1 in (z.0, there_more d.workers (repeated t.opened (new_worker n)) _ z.0 z.1);
   }
     where
-      earlier : (m : ℕ) (k' : Node) (k : AskKey) (x : Reply) → node_at d m ≡ Some k' → reply_to k'.scheduler k ≡ Some x → A.Asked after.network k.attempt k.t m
+      earlier : (m : ℕ) (k' : Node) (k : AskKey) (x : AskReply) → node_at d m ≡ Some k' → reply_to k'.scheduler k ≡ Some x → A.Asked after.network k.attempt k.t m
       earlier m k' k x at r =
           let old = keeps.nodes m k' k x (subst (λ ns. item_at ns m ≡ Some k') same_nodes at) r in (
             old.0,

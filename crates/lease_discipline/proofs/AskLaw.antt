@@ -4,13 +4,14 @@ use Rattle.std.proofs.Common.{inl, inr}
 use Rattle.std.specs.Prelude.{Bool, true, false, if◌then◌else◌, not, ◌==◌}
 use Rattle.meaning.proofs.BirthLaws.{at_test}
 use Rattle.event_log.specs.Entries.{Attempt, Event, Claim, Commit, Deliver, Tick, Notice, NoticeNode, Evict, Lose, Kill, KillNode, Join}
+use Rattle.event_log.specs.Entries.{Refusal, NotDead, Limit}
 use Rattle.event_log.specs.Breaks.{Among}
 use Rattle.protocol.specs.Numbered.{item_at, changed_at}
 use Rattle.protocol.specs.Sets.{repeated}
 use Rattle.protocol.specs.Messages.{Letter, letter, Message, Party, TheWorker, TheNode, Ask, Give, Elsewhere, Wait, Back, Push, Finished, FinishedAck, Failed}
 use Rattle.protocol.specs.Messages.{Where, At, Gone, Fetch, CopyOf, Missing, Hold, HoldAck, Unhold}
 use Rattle.protocol.specs.Jobs.{Given, Handed, Job, Nothing, OfAnother, OfJob}
-use Rattle.protocol.specs.Nodes.{AskKey, Node, Reply, There, new_node}
+use Rattle.protocol.specs.Nodes.{AskKey, AskReply, Node, There, new_node}
 use Rattle.meaning.specs.Values.{Outcome}
 use Rattle.protocol.specs.Nodes.{with_scheduler}
 use Rattle.protocol.specs.Stores.{copy_in}
@@ -83,7 +84,7 @@ node_asks : (c d : Whole) (n : ℕ) (f : There → There) → d.nodes ≡ c.node
     ((Q : There → Type 0) → IsKeptThere Q → (t : There) → Q t → Q (f t)) →
     ((v : ℕ) (y : Worker) → worker_at d v ≡ Some y → OwnsAsks (IsDeadNode c) d.network v y) →
     ((v : ℕ) (y : Worker) → worker_at c v ≡ Some y → (z : Worker) × (worker_at d v ≡ Some z)) →
-    ((node : Node) → node_at d n ≡ Some node → (k : AskKey) (x : Reply) → reply_to (sch (f (there d n node))) k ≡ Some x → A.Asked d.network k.attempt k.t n) →
+    ((node : Node) → node_at d n ≡ Some node → (k : AskKey) (x : AskReply) → reply_to (sch (f (there d n node))) k ≡ Some x → A.Asked d.network k.attempt k.t n) →
     KeepsAsks c → KeepsAsks d → KeepsAsks (node_does d n f).whole
 node_asks c d n f nodes network moves mine too asked k kd = by_node (node_at d n) refl
   where
@@ -110,7 +111,7 @@ node_asks c d n f nodes network moves mine too asked k kd = by_node (node_at d n
 -- what a node answers after a message, it was asked
 reached_keys : (d : Whole) (n : ℕ) (node : Node) (from : Party) (m : Message) → node_at d n ≡ Some node → KeepsAsks d →
     Among (letter from (TheNode n) m) d.network →
-    (k : AskKey) (x : Reply) → reply_to (sch (node_reached (there d n node) from m)) k ≡ Some x → A.Asked d.network k.attempt k.t n
+    (k : AskKey) (x : AskReply) → reply_to (sch (node_reached (there d n node) from m)) k ≡ Some x → A.Asked d.network k.attempt k.t n
 reached_keys d n node (TheNode i) m at keeps came k x e = keeps.nodes n node k x at e
 reached_keys d n node (TheWorker u) (Ask a i) at keeps came k x e =
     elim (asked_keys (there d n node) (ask_key a i) (reply_to node.scheduler (ask_key a i)) k x e) [
@@ -167,7 +168,7 @@ letter_event c s (TheNode n) m came right leases k =
 changed_asks : (c : Whole) (workers : List Worker) (nodes : List Node) →
     ((v : ℕ) (y : Worker) → item_at workers v ≡ Some y → (x : Worker) × (worker_at c v ≡ Some x) × (y.objects ≡ x.objects)) →
     ((v : ℕ) (x : Worker) → worker_at c v ≡ Some x → (y : Worker) × (item_at workers v ≡ Some y)) →
-    ((n : ℕ) (node : Node) (k : AskKey) (x : Reply) → item_at nodes n ≡ Some node → reply_to node.scheduler k ≡ Some x →
+    ((n : ℕ) (node : Node) (k : AskKey) (x : AskReply) → item_at nodes n ≡ Some node → reply_to node.scheduler k ≡ Some x →
     (old : Node) × (node_at c n ≡ Some old) × (reply_to old.scheduler k ≡ Some x)) →
     ((n : ℕ) → IsDeadNode c n → IsDeadNode (record c { workers = workers; nodes = nodes }) n) → KeepsAsks c →
     KeepsAsks (record c { workers = workers; nodes = nodes })
@@ -200,7 +201,7 @@ same_dead c n f stays workers m (k, at, off) =
         ap (λ (z : Node). z.is_live) is ∙ stays x (ap (λ (z : Node). z.is_live) (sym i) ∙ off)
     by_case y (inr e) = let h : ◌≡◌ {A = Option Node} (Some k) (Some y) = sym at ∙ e in let i : k ≡ y = cc in ap (λ (z : Node). z.is_live) (sym i) ∙ off
 
-same_replies : (c : Whole) (n : ℕ) (f : Node → Node) → ((node : Node) → (f node).scheduler ≡ node.scheduler) → (m : ℕ) (node : Node) (k : AskKey) (x : Reply) →
+same_replies : (c : Whole) (n : ℕ) (f : Node → Node) → ((node : Node) → (f node).scheduler ≡ node.scheduler) → (m : ℕ) (node : Node) (k : AskKey) (x : AskReply) →
     item_at (changed_at c.nodes n f) m ≡ Some node → reply_to node.scheduler k ≡ Some x →
     (old : Node) × (node_at c m ≡ Some old) × (reply_to old.scheduler k ≡ Some x)
 same_replies c n f same m node k x e r = elim (changed_cases c.nodes n m f node e) [
@@ -220,7 +221,7 @@ dead_back c w v y e = elim (changed_cases c.workers w v dead y e) [
   | inr (_, at) ↦ (y, at, refl)
 ]
 
-same_nodes_replies : (c : Whole) (n : ℕ) (node : Node) (k : AskKey) (x : Reply) → node_at c n ≡ Some node → reply_to node.scheduler k ≡ Some x →
+same_nodes_replies : (c : Whole) (n : ℕ) (node : Node) (k : AskKey) (x : AskReply) → node_at c n ≡ Some node → reply_to node.scheduler k ≡ Some x →
     (old : Node) × (node_at c n ≡ Some old) × (reply_to old.scheduler k ≡ Some x)
 same_nodes_replies c n node k x e r = (node, e, r)
 
@@ -246,7 +247,7 @@ join_event c k =
     ])
     (λ n q. (q.0, there_more c.nodes (new_node c.slots ∷ []) n q.0 q.1, q.2)) k
   where
-    nothing_asked : (key : AskKey) (x : Reply) → reply_to (new_node c.slots).scheduler key ≡ Some x → ⊥
+    nothing_asked : (key : AskKey) (x : AskReply) → reply_to (new_node c.slots).scheduler key ≡ Some x → ⊥
     nothing_asked key x e = cc
 
 commit_event : (c : Whole) (j : ℕ) (handed : Handed) (g : Option Given) → NodesAreRight c → KeepsAsks c → KeepsAsks (committed_by c j handed g).whole
@@ -297,7 +298,7 @@ happens_asks c (Notice w v) handed e right leases k =
     (Asks c w x at (IsDeadNode c)) (asks_kept c w x at (IsDeadNode c)) (here c w x node) v q) right k
 happens_asks c (NoticeNode w n) handed e right leases k =
     let off : IsDeadNode c n = dead_by c n (node_at c n) refl
-    (passed (is_dead_node (node_at c n)) 35 (both_passed (no_worker c w) (unless (is_dead_node (node_at c n)) 35) e).1) in
+    (passed (is_dead_node (node_at c n)) NotDead (both_passed (no_worker c w) (unless (is_dead_node (node_at c n)) NotDead) e).1) in
     worker_event c w (λ h. notice_node_step h n) (λ P kept h p. M.notice_node_step-kept P kept h n p)
     (λ x at node home q. notice_node_step-kept (ToldOf c w x at (IsDeadNode c)) (OverBy c w x at (IsDeadNode c)) (GivenOf c w x at (IsDeadNode c))
     (PassedBy c w x at (IsDeadNode c))
@@ -315,11 +316,11 @@ happens_asks c (KillNode n) handed e right leases k =
 happens_asks c Join handed e right leases k = join_event c k
 
 limited_asks : (c : Whole) (m : Moved) (b : Bool) (given : Option Job) → KeepsAsks c → KeepsAsks m.whole →
-    KeepsAsks (whole_after c (if b then takes m given else Refuses 37))
+    KeepsAsks (whole_after c (if b then takes m given else Refuses Limit))
 limited_asks c m true given k l = l
 limited_asks c m false given k l = k
 
-decided_asks : (c : Whole) (e : Event) (handed : Handed) (code : Option ℕ) → refusal c e handed ≡ code → NodesAreRight c → KeepsLeases c → KeepsAsks c →
+decided_asks : (c : Whole) (e : Event) (handed : Handed) (code : Option Refusal) → refusal c e handed ≡ code → NodesAreRight c → KeepsLeases c → KeepsAsks c →
     KeepsAsks (whole_after c (decided c e handed code))
 decided_asks c e handed None unrefused right leases k =
     limited_asks c (happens c e handed) (is_within_limits (happens c e handed).whole) (given_out c e) k (happens_asks c e handed unrefused right leases k)
@@ -352,7 +353,7 @@ opens-asks nodes slots = record {
     new : (n : ℕ) (y : Node) → item_at (repeated nodes (new_node slots)) n ≡ Some y → new_node slots ≡ y
     new n y at = one_of 1 nodes n (new_node slots) y (counted (repeated nodes (new_node slots)) n at)
 
-    nothing_asked : (key : AskKey) (x : Reply) → reply_to (new_node slots).scheduler key ≡ Some x → ⊥
+    nothing_asked : (key : AskKey) (x : AskReply) → reply_to (new_node slots).scheduler key ≡ Some x → ⊥
     nothing_asked key x e = cc
 
     untouched : (a : Attempt) → A.Touched [] a → ⊥

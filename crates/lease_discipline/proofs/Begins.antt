@@ -5,6 +5,7 @@ use Rattle.sequence.proofs.Places.{list_any-push_right}
 use Rattle.meaning.proofs.BirthLaws.{at_test}
 use Rattle.meaning.specs.Values.{Birth}
 use Rattle.event_log.specs.Entries.{Attempt, Deliver}
+use Rattle.event_log.specs.Entries.{NoMessage, Limit}
 use Rattle.event_log.specs.Words.{same_attempt}
 use Rattle.event_log.proofs.WordLaws.{same_attempt-refl}
 use Rattle.protocol.specs.Numbered.{changed_at}
@@ -68,7 +69,7 @@ whole_of : Whole → Answer → Whole
 whole_of c (Takes s) = s.whole
 whole_of c (Refuses code) = c
 
-taken_whole : (m : Moved) (given : Option Job) (b : Bool) (step : Step) → (if b then takes m given else Refuses 37) ≡ Takes step → m.whole ≡ step.whole
+taken_whole : (m : Moved) (given : Option Job) (b : Bool) (step : Step) → (if b then takes m given else Refuses Limit) ≡ Takes step → m.whole ≡ step.whole
 unfolding whole_of
 taken_whole m given true step e = ap (whole_of m.whole) e
 taken_whole m given false step e = absurd (cc)
@@ -80,8 +81,8 @@ pushes_begin c keeps k w u a spec x handed step sent at live answered =
     let f : Here → Here = λ h. reached h (TheWorker u) (Push a spec) in
     let start : Here = here d w x home.0 in
     let g : Here = release_step (f start) in
-    let unrefused : refusal c (Deliver k) handed ≡ None = ap (λ y. unless (is_some y) 34) sent in
-    let taken : (if is_within_limits (delivered c k).whole then takes (delivered c k) None else Refuses 37) ≡ Takes step =
+    let unrefused : refusal c (Deliver k) handed ≡ None = ap (λ y. unless (is_some y) NoMessage) sent in
+    let taken : (if is_within_limits (delivered c k).whole then takes (delivered c k) None else Refuses Limit) ≡ Takes step =
     ap (decided c (Deliver k) handed) (sym unrefused) ∙ answered in
     let whole : (delivered c k).whole ≡ (after_worker d w x.node g).whole =
     ap (λ y. (delivered_by c k y).whole) sent ∙

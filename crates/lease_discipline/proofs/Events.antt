@@ -6,6 +6,7 @@ use Rattle.std.proofs.lemmas.Bool.{both_ways, false_from_ne_true}
 use Rattle.sequence.proofs.Places.{and_left, and_right, slice_get-last}
 use Rattle.meaning.proofs.BirthLaws.{at_test}
 use Rattle.event_log.specs.Entries.{Attempt, Event, Claim, Commit, Deliver, Tick, Notice, NoticeNode, Evict, Lose, Kill, KillNode, Join}
+use Rattle.event_log.specs.Entries.{Refusal, NotReady, NoJob, Stale, Limit}
 use Rattle.event_log.specs.Breaks.{Among}
 use Rattle.protocol.specs.Numbered.{item_at, changed_at, changed_by}
 use Rattle.protocol.specs.Sets.{repeated}
@@ -27,7 +28,7 @@ use Rattle.protocol.specs.Events.{as_committed, claimed, committed_by, with_comm
 use Rattle.protocol.specs.Events.{is_live_node, killed_by, dead, dies_with, happens}
 use Rattle.protocol.specs.Answers.{Refuses, answer, decided, takes, given_out, whole_after}
 use Rattle.protocol.specs.Refusals.{commit_refusal, has_slot, is_of_job, is_out_by, is_ready, is_ready_on, is_ready_run, is_within_limits}
-use Rattle.protocol.specs.Refusals.{no_worker, or_code, refusal, unless}
+use Rattle.protocol.specs.Refusals.{no_worker, or_refusal, refusal, unless}
 use Rattle.protocol_owed.proofs.Nodes.{changed_cases, push_cases, nothing_past, there_still, there_more}
 use Rattle.protocol_owed.proofs.Letters.{among-append_cases, among-more}
 use Rattle.protocol_owed.proofs.CourseEvents.{append_split, one_of}
@@ -246,11 +247,11 @@ ready_run c w x at e =
     let f : is_ready_on c w (Some x) ≡ true = ap (is_ready_on c w) (sym at) ∙ e in
     and_right x.is_live (is_ready_run x.run) (and_left (x.is_live && is_ready_run x.run) (has_slot w (node_at c x.node)) f)
 
-claim_event : (c : Whole) (w : ℕ) → or_code (no_worker c w) (unless (is_ready c w) 31) ≡ None → KeepsLeases c → KeepsLeases (claimed c w).whole
+claim_event : (c : Whole) (w : ℕ) → or_refusal (no_worker c w) (unless (is_ready c w) NotReady) ≡ None → KeepsLeases c → KeepsLeases (claimed c w).whole
 claim_event c w e k =
     let g : Given = record { worker = w; is_committed = false } in
     let jobs : List Given = c.jobs ++ g ∷ [] in
-    let ready : is_ready c w ≡ true = passed (is_ready c w) 31 (both_passed (no_worker c w) (unless (is_ready c w) 31) e).1 in
+    let ready : is_ready c w ≡ true = passed (is_ready c w) NotReady (both_passed (no_worker c w) (unless (is_ready c w) NotReady) e).1 in
     worker_event (record c { jobs = jobs }) w (λ h. claim_step h (length c.jobs + 1))
     (λ x at node d. claim_does (record c { jobs = jobs }) w x.node x at (here (record c { jobs = jobs }) w x node) (length c.jobs + 1)
     (ready_run c w x at ready) (g, item_last c.jobs g, refl) d)
@@ -273,9 +274,9 @@ commit_event c j OfAnother g e k = k
 commit_event c j (OfJob o) None e k = k
 commit_event c j (OfJob o) (Some g) e k =
     let open_job : Bool = not g.is_committed && is_of_job (OfJob o) in
-    let both = both_passed (unless (open_job && is_out_by (worker_at c g.worker) j) 32) (unless (is_live_worker (worker_at c g.worker)) 33) e in
+    let both = both_passed (unless (open_job && is_out_by (worker_at c g.worker) j) NoJob) (unless (is_live_worker (worker_at c g.worker)) Stale) e in
     let out : is_out_by (worker_at c g.worker) j ≡ true =
-    and_right open_job (is_out_by (worker_at c g.worker) j) (passed (open_job && is_out_by (worker_at c g.worker) j) 32 both.0) in
+    and_right open_job (is_out_by (worker_at c g.worker) j) (passed (open_job && is_out_by (worker_at c g.worker) j) NoJob both.0) in
     let d : Whole = with_committed c j (length o.births) in
     worker_event d g.worker (λ h. commit_step h o)
     (λ x at node does.
@@ -535,11 +536,11 @@ happens_keeps c (KillNode n) handed e k = kill_node_event c n _ (λ _. refl) k
 happens_keeps c Join handed e k = join_event c k
 
 limited_keeps : (c : Whole) (m : Moved) (b : Bool) (given : Option Job) → KeepsLeases c → KeepsLeases m.whole →
-    KeepsLeases (whole_after c (if b then takes m given else Refuses 37))
+    KeepsLeases (whole_after c (if b then takes m given else Refuses Limit))
 limited_keeps c m true given k l = l
 limited_keeps c m false given k l = k
 
-decided_keeps : (c : Whole) (e : Event) (handed : Handed) (code : Option ℕ) → refusal c e handed ≡ code → KeepsLeases c →
+decided_keeps : (c : Whole) (e : Event) (handed : Handed) (code : Option Refusal) → refusal c e handed ≡ code → KeepsLeases c →
     KeepsLeases (whole_after c (decided c e handed code))
 decided_keeps c e handed None unrefused k = limited_keeps c (happens c e handed) (is_within_limits (happens c e handed).whole) (given_out c e) k
     (happens_keeps c e handed unrefused k)

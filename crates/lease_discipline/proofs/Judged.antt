@@ -6,6 +6,7 @@ use Rattle.meaning.specs.Values.{Birth, Outcome}
 use Rattle.meaning.specs.Births.{birth_at, same_id}
 use Rattle.event_log.specs.Breaks.{Among}
 use Rattle.event_log.specs.Entries.{Attempt, Begun, Claim, Commit, Deliver, Ended, Entry, Refused, Tick, main_attempt}
+use Rattle.event_log.specs.Entries.{NotReady}
 use Rattle.event_log.specs.Events.{accepted_events, is_live}
 use Rattle.event_log.specs.Rules.{Setting}
 use Rattle.event_log.specs.Words.{births}
@@ -138,7 +139,7 @@ claims_are_judged = record {
     claimed : (w : ℕ) → Claim 1 ≡ Claim w → 1 ≡ w
     claimed w e = cc
 
-    empty_not : ◌≡◌ {A = List Entry} [] (Refused 31 ∷ []) → ⊥
+    empty_not : ◌≡◌ {A = List Entry} [] (Refused NotReady ∷ []) → ⊥
     empty_not e = cc
 
     lives_one : (s : Setting) → is_live 1 opening ≡ true

@@ -10,7 +10,7 @@ use Rattle.event_log.specs.Words.{same_attempt}
 use Rattle.event_log.proofs.WordLaws.{same_attempt-true, same_attempt-refl}
 use Rattle.protocol.specs.Sets.{first_item, has, without_number}
 use Rattle.protocol.specs.Messages.{Letter}
-use Rattle.protocol.specs.Nodes.{AskKey, Lease, Leased, Reply, Scheduler}
+use Rattle.protocol.specs.Nodes.{AskKey, AskReply, Lease, Leased, Scheduler}
 use Rattle.protocol.specs.Slots.{is_latest_lease, may_be_idle, reply_to, same_key, slot_taken, with_answered, with_idle, with_lease, with_reply}
 use Rattle.protocol.specs.Slots.{without_lease, without_slot, without_worker}
 use Rattle.protocol.specs.Runs.{is_free}
@@ -110,7 +110,7 @@ module _ (look : Look) (sent : List Letter) (n : ℕ) where
   }
 
   -- another answer than a worker was given
-  pub reply_lessens : (s : Scheduler) (k : AskKey) (x : Reply) → ((w : ℕ) → x ≡ Leased w → ⊥) → Lessens look sent n s (with_reply s k x)
+  pub reply_lessens : (s : Scheduler) (k : AskKey) (x : AskReply) → ((w : ℕ) → x ≡ Leased w → ⊥) → Lessens look sent n s (with_reply s k x)
   reply_lessens s k x other = record {
     idle = λ w e. e;
     slotless = λ w e f g. (f, g);
@@ -120,7 +120,7 @@ module _ (look : Look) (sent : List Letter) (n : ℕ) where
     replied = λ j w e.
         at_test (λ b. same_key k j ≡ b → reply_to s j ≡ Some (Leased w)) (same_key k j)
         (λ _ f.
-        let g : ◌≡◌ {A = Option Reply} (Some x) (Some (Leased w)) = sym (reply-same s.asks k x) ∙ ap (reply_to (with_reply s k x)) (same_key-true k j f) ∙ e in
+        let g : ◌≡◌ {A = Option AskReply} (Some x) (Some (Leased w)) = sym (reply-same s.asks k x) ∙ ap (reply_to (with_reply s k x)) (same_key-true k j f) ∙ e in
         absurd (other w (let h : x ≡ Leased w = cc in h)))
         (λ _ f. sym (reply-other s.asks k j x f) ∙ e) refl;
   }
@@ -315,7 +315,7 @@ module _ (look : Look) (sent : List Letter) (n : ℕ) where
       replied = λ j v e.
           at_test (λ b. same_key k j ≡ b → Gave t n j.attempt v) (same_key k j)
           (λ _ f.
-          let g : ◌≡◌ {A = Option Reply} (Some (Leased w)) (Some (Leased v)) =
+          let g : ◌≡◌ {A = Option AskReply} (Some (Leased w)) (Some (Leased v)) =
           sym (reply-same s.asks k (Leased w)) ∙ ap (reply_to next) (same_key-true k j f) ∙ e in
           let h : w ≡ v = cc in
           subst (λ u. Gave t n j.attempt u) h (subst (λ (i : AskKey). Gave t n i.attempt w) (same_key-true k j f) given))

@@ -14,7 +14,7 @@ use Rattle.protocol.specs.Messages.{Letter, letter, Message, Party, TheWorker, T
 use Rattle.protocol.specs.Messages.{Where, At, Gone, Fetch, CopyOf, Missing, Hold, HoldAck, Unhold}
 use Rattle.protocol.specs.Jobs.{Given}
 use Rattle.protocol.specs.Stores.{Store, copy_in}
-use Rattle.protocol.specs.Nodes.{AskKey, Leased, Queued, Reply, Scheduler, SentOn, There, node_logs, posts, with_scheduler, with_store_there}
+use Rattle.protocol.specs.Nodes.{AskKey, AskReply, Leased, Queued, Scheduler, SentOn, There, node_logs, posts, with_scheduler, with_store_there}
 use Rattle.protocol.specs.Slots.{ask_key, asked_by, asks_slot, fetched, forgets, frees, gives_worker, grants, grants_next, grants_queued, has_free_slot}
 use Rattle.protocol.specs.Slots.{has_no_slot_for, is_back, leases_idle}
 use Rattle.protocol.specs.Slots.{leases_worker, may_be_idle, next_in_circle, next_worker, node_reached, node_reached_from, opens_worker, queues, replies}
@@ -148,7 +148,7 @@ module _ (jobs : List Given) (ws : List Worker) (net : List Letter) (n : ℕ) wh
   -- ---- answers
 
   -- an answer that stands is given again
-  again_goes : (t : There) (k : AskKey) (x : Reply) → reply_to t.node.scheduler k ≡ Some x → Goes t → Goes (replies t k x)
+  again_goes : (t : There) (k : AskKey) (x : AskReply) → reply_to t.node.scheduler k ≡ Some x → Goes t → Goes (replies t k x)
   again_goes t k (Leased w) e g =
       let gave : Gave (sent_in t) n k.attempt w = g.there.replied k w e in
       let there : IsOfNode (look_in t) n w = given_there t g k.attempt w gave in
@@ -166,7 +166,7 @@ module _ (jobs : List Given) (ws : List Worker) (net : List Letter) (n : ℕ) wh
   again_goes t k Queued e g = node_says_goes t (TheWorker k.attempt.object.owner) (Wait k.attempt k.t) tt refl g
 
   -- another answer than a worker
-  anew_goes : (t : There) (k : AskKey) (x : Reply) → ((w : ℕ) → x ≡ Leased w → ⊥) → is_give (reply_message k x) ≡ false →
+  anew_goes : (t : There) (k : AskKey) (x : AskReply) → ((w : ℕ) → x ≡ Leased w → ⊥) → is_give (reply_message k x) ≡ false →
       IsTrue (look_in t) (sent_in t) (letter (TheNode t.number) (TheWorker k.attempt.object.owner) (reply_message k x)) → Goes t → Goes (replies_anew t k x)
   anew_goes t k x other plain is g =
       let s : Scheduler = with_reply t.node.scheduler k x in
@@ -268,7 +268,7 @@ module _ (jobs : List Given) (ws : List Worker) (net : List Letter) (n : ℕ) wh
   pub asked_goes : (t : There) (k : AskKey) → Goes t → Goes (asked_by t k (reply_to t.node.scheduler k))
   asked_goes t k g = by_reply (reply_to t.node.scheduler k) refl
     where
-      by_reply : (x : Option Reply) → reply_to t.node.scheduler k ≡ x → Goes (asked_by t k x)
+      by_reply : (x : Option AskReply) → reply_to t.node.scheduler k ≡ x → Goes (asked_by t k x)
       by_reply None e = at_test (λ b. Goes (if b then gives_worker t k else has_no_slot_for t k)) (has_free_slot t.node.scheduler) (λ _. gives_goes t k g)
           (λ _. no_slot_goes t k g)
       by_reply (Some x) e = again_goes t k x e g

@@ -7,6 +7,7 @@ use Rattle.sequence.proofs.Places.{and_right}
 use Rattle.meaning.proofs.BirthLaws.{at_test}
 use Rattle.meaning.specs.Values.{Birth}
 use Rattle.event_log.specs.Entries.{Attempt, Event, Claim, Commit, Deliver, Tick, Notice, NoticeNode, Evict, Lose, Kill, KillNode, Join}
+use Rattle.event_log.specs.Entries.{Refusal, NotReady, NoJob, Stale, Limit}
 use Rattle.protocol.specs.Numbered.{item_at, changed_at}
 use Rattle.protocol.specs.Sets.{repeated}
 use Rattle.protocol.specs.Messages.{Letter, letter, Message, Party, TheWorker, TheNode, Ask, Give, Elsewhere, Wait, Back, Push, Finished, FinishedAck, Failed}
@@ -28,7 +29,7 @@ use Rattle.protocol.specs.Events.{claimed, committed_by, with_committed, deliver
 use Rattle.protocol.specs.Events.{dead, dies_with, happens}
 use Rattle.protocol.specs.Answers.{Refuses, answer, decided, takes, given_out, whole_after}
 use Rattle.protocol.specs.Refusals.{commit_refusal, has_slot, is_of_job, is_out_by, is_ready, is_ready_on, is_ready_run, is_within_limits, no_worker}
-use Rattle.protocol.specs.Refusals.{or_code, refusal, unless}
+use Rattle.protocol.specs.Refusals.{or_refusal, refusal, unless}
 use Rattle.protocol_owed.specs.Courses.{has_begun}
 use Rattle.protocol_owed.proofs.Nodes.{changed_cases, nothing_past, push_cases}
 use Rattle.protocol_owed.proofs.CourseEvents.{append_split, one_of}
@@ -147,11 +148,11 @@ worker_turns c w f steps k = by_worker (worker_at c w) refl
 
 -- ---- claims and commits
 
-claim_event : (c : Whole) (w : ℕ) → or_code (no_worker c w) (unless (is_ready c w) 31) ≡ None → KeepsSlots c → KeepsSlots (claimed c w).whole
+claim_event : (c : Whole) (w : ℕ) → or_refusal (no_worker c w) (unless (is_ready c w) NotReady) ≡ None → KeepsSlots c → KeepsSlots (claimed c w).whole
 claim_event c w e k =
     let jobs : List Given = c.jobs ++ record { worker = w; is_committed = false } ∷ [] in
     let d : Whole = record c { jobs = jobs } in
-    let ready : is_ready c w ≡ true = passed (is_ready c w) 31 (both_passed (no_worker c w) (unless (is_ready c w) 31) e).1 in
+    let ready : is_ready c w ≡ true = passed (is_ready c w) NotReady (both_passed (no_worker c w) (unless (is_ready c w) NotReady) e).1 in
     worker_turns d w (λ h. claim_step h (length c.jobs + 1))
     (λ x at node home t.
     let f : is_ready_on c w (Some x) ≡ true = ap (is_ready_on c w) (sym at) ∙ ready in
@@ -165,10 +166,10 @@ commit_event c j OfAnother g e k = k
 commit_event c j (OfJob o) None e k = k
 commit_event c j (OfJob o) (Some g) e k =
     let open_job : Bool = not g.is_committed && is_of_job (OfJob o) in
-    let both = both_passed (unless (open_job && is_out_by (worker_at c g.worker) j) 32) (unless (is_live_worker (worker_at c g.worker)) 33) e in
+    let both = both_passed (unless (open_job && is_out_by (worker_at c g.worker) j) NoJob) (unless (is_live_worker (worker_at c g.worker)) Stale) e in
     let out : is_out_by (worker_at c g.worker) j ≡ true =
-    and_right open_job (is_out_by (worker_at c g.worker) j) (passed (open_job && is_out_by (worker_at c g.worker) j) 32 both.0) in
-    let live : is_live_worker (worker_at c g.worker) ≡ true = passed (is_live_worker (worker_at c g.worker)) 33 both.1 in
+    and_right open_job (is_out_by (worker_at c g.worker) j) (passed (open_job && is_out_by (worker_at c g.worker) j) NoJob both.0) in
+    let live : is_live_worker (worker_at c g.worker) ≡ true = passed (is_live_worker (worker_at c g.worker)) Stale both.1 in
     let d : Whole = with_committed c j (length o.births) in
     worker_turns d g.worker (λ h. commit_step h o)
     (λ x at node home t.
@@ -348,11 +349,11 @@ happens_turns c (KillNode n) handed e leases k = kill_node_event c n _ (λ _. re
 happens_turns c Join handed e leases k = join_event c leases k
 
 limited_turns : (c : Whole) (m : Moved) (b : Bool) (given : Option Job) → KeepsSlots c → KeepsSlots m.whole →
-    KeepsSlots (whole_after c (if b then takes m given else Refuses 37))
+    KeepsSlots (whole_after c (if b then takes m given else Refuses Limit))
 limited_turns c m true given k l = l
 limited_turns c m false given k l = k
 
-decided_turns : (c : Whole) (e : Event) (handed : Handed) (code : Option ℕ) → refusal c e handed ≡ code → KeepsLeases c → KeepsSlots c →
+decided_turns : (c : Whole) (e : Event) (handed : Handed) (code : Option Refusal) → refusal c e handed ≡ code → KeepsLeases c → KeepsSlots c →
     KeepsSlots (whole_after c (decided c e handed code))
 decided_turns c e handed None unrefused leases k =
     limited_turns c (happens c e handed) (is_within_limits (happens c e handed).whole) (given_out c e) k (happens_turns c e handed unrefused leases k)

@@ -14,7 +14,7 @@ use Rattle.protocol.specs.Jobs.{AtEnd, AtGet, Outcomes, Stopped, stop_of}
 use Rattle.protocol.specs.Messages.{Message, Party, TheWorker, TheNode, Ask, Give, Elsewhere, Wait, Back, Push, Finished, FinishedAck, Failed}
 use Rattle.protocol.specs.Messages.{Where, At, Gone, Fetch, CopyOf, Missing, Hold, HoldAck, Unhold}
 use Rattle.protocol.specs.Stores.{copy_in, with_ended}
-use Rattle.protocol.specs.Nodes.{AskKey, Reply, Scheduler, SentOn, There, with_scheduler}
+use Rattle.protocol.specs.Nodes.{AskKey, AskReply, Scheduler, SentOn, There, with_scheduler}
 use Rattle.protocol.specs.Slots.{ask_key, asked_by, asks_slot, fetched, forgets, frees, gives_worker, grants, grants_next, grants_queued, has_free_slot}
 use Rattle.protocol.specs.Slots.{has_no_slot_for, leases_idle, may_be_idle}
 use Rattle.protocol.specs.Slots.{next_in_circle, node_reached, node_reached_from, queues, replies_anew, reply_to, with_answered, with_idle, without_slot}
@@ -71,7 +71,7 @@ leases_lose : (t : There) (k : AskKey) (o : Option ℕ) → NoLoss (sch t) (sch 
 leases_lose t k None = record { holders = λ w _ e. list_any-push_left (λ y. y == w) (sch t).holders _ e; answered = λ w _ e. inr e }
 leases_lose t k (Some v) = record { holders = λ w _ e. list_any-push_left (λ y. y == w) (sch t).holders v e; answered = λ w _ e. inr e }
 
-asked_lose : (t : There) (k : AskKey) (x : Option Reply) → NoLoss (sch t) (sch (asked_by t k x))
+asked_lose : (t : There) (k : AskKey) (x : Option AskReply) → NoLoss (sch t) (sch (asked_by t k x))
 asked_lose t k None =
     at_test (λ b. NoLoss (sch t) (sch (if b then gives_worker t k else has_no_slot_for t k))) (has_free_slot (sch t))
     (λ _. leases_lose t k (least (sch t).idle))

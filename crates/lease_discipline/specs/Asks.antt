@@ -4,7 +4,7 @@ use Rattle.meaning.specs.Values.{Birth}
 use Rattle.event_log.specs.Entries.{Attempt}
 use Rattle.event_log.specs.Words.{attempt}
 use Rattle.protocol.specs.Messages.{Ask, Elsewhere, Give, Letter, TheNode, TheWorker}
-use Rattle.protocol.specs.Nodes.{AskKey, Node, Reply}
+use Rattle.protocol.specs.Nodes.{AskKey, AskReply, Node}
 use Rattle.protocol.specs.Numbered.{item_at}
 use Rattle.protocol.specs.Sets.{object_id}
 use Rattle.protocol.specs.Slots.{reply_to}
@@ -67,7 +67,7 @@ pub record OwnsAsks (dead : ℕ → Type 0) (sent : List Letter) (v : ℕ) (x : 
 
 pub record KeepsAsks (c : Whole) : Type 0 where
   -- a node answers what it was asked
-  pub nodes : (n : ℕ) (node : Node) (k : AskKey) (x : Reply) → node_at c n ≡ Some node → reply_to node.scheduler k ≡ Some x → Asked c.network k.attempt k.t n
+  pub nodes : (n : ℕ) (node : Node) (k : AskKey) (x : AskReply) → node_at c n ≡ Some node → reply_to node.scheduler k ≡ Some x → Asked c.network k.attempt k.t n
   pub owners : (v : ℕ) (x : Worker) → worker_at c v ≡ Some x → OwnsAsks (IsDeadNode c) c.network v x
   pub closed : (a : Attempt) (w : ℕ) → Pushed c.network a w → IsClosed (IsDeadNode c) c.network a w
   -- only the attempts of workers that are there were asked for or pushed

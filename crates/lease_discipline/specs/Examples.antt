@@ -2,6 +2,7 @@
 use Rattle.std.specs.Prelude.{List, [], codes, false, ℕ, ◌==◌, ◌∷◌, if◌then◌else◌}
 use Rattle.meaning.specs.Values.{Birth, Task}
 use Rattle.event_log.specs.Entries.{Attempt, Begun, Born, Claim, Commit, Deliver, Entry, In, Opened, Refused, Tick, main_attempt}
+use Rattle.event_log.specs.Entries.{NotReady}
 use Rattle.event_log.specs.Rules.{Setting}
 use Rattle.event_log.specs.Words.{attempt}
 use Rattle.event_log.specs.Legal.{opening}
@@ -90,8 +91,8 @@ TicksOweNothing = (s : Setting) → RepliesAreMade (nothing_comes s)
 -- as a run opens worker 1 is ready: it may be given out, and isn't to be answered 31; where it has no slot it is
 pub record ClaimsAreJudged : Type 0 where
   pub given_out : (s : Setting) → ClaimIsAnswered (scene s opening [] (1 ∷ [])) (Claim 1) []
-  pub not_refused : (s : Setting) → ClaimIsAnswered (scene s opening [] (1 ∷ [])) (Claim 1) (Refused 31 ∷ []) → ⊥
-  pub refused : (s : Setting) → ClaimIsAnswered (scene s opening [] []) (Claim 1) (Refused 31 ∷ [])
+  pub not_refused : (s : Setting) → ClaimIsAnswered (scene s opening [] (1 ∷ [])) (Claim 1) (Refused NotReady ∷ []) → ⊥
+  pub refused : (s : Setting) → ClaimIsAnswered (scene s opening [] []) (Claim 1) (Refused NotReady ∷ [])
   pub not_given_out : (s : Setting) → ClaimIsAnswered (scene s opening [] []) (Claim 1) [] → ⊥
 
 -- ---- a slot

@@ -2,7 +2,7 @@
 
 ghost use Rattle.std.specs.Prelude.{◌≡◌, ◌++◌, List, OnOk, string_bytes};
 ghost use Rattle.values.specs.Values.{content_of};
-ghost use Rattle.event_log.specs.Entries as logged;
+ghost use Rattle.event_log.specs.Entries.{Entry};
 ghost use Rattle.history.specs.Attempts.{AreStatesOf};
 ghost use Rattle.lineage_text.specs.Attempts.{attempt_edge, attempt_node, begun_text, ended_text, fate_head, fate_tail, fault_tail, faulted_text};
 
@@ -20,7 +20,7 @@ fn write_attempt_node(
     attempt: AttemptId,
     worker: WorkerId,
 ) -> Result<(), AllocError>
-    ensures { (log : List logged.Entry) → AreStatesOf states.now log → OnOk result
+    ensures { (log : List Entry) → AreStatesOf states.now log → OnOk result
         (string_bytes text.new ≡ string_bytes text.old ++ attempt_node log attempt worker) }
 {
     let state = states.name(attempt);
@@ -48,7 +48,7 @@ pub fn write_begun(
     attempt: AttemptId,
     worker: WorkerId,
 ) -> Result<(), AllocError>
-    ensures { (log : List logged.Entry) → AreStatesOf states.now log → OnOk result
+    ensures { (log : List Entry) → AreStatesOf states.now log → OnOk result
         (string_bytes text.new ≡ string_bytes text.old ++ begun_text log attempt worker) }
 {
     write_attempt_node(text, states, attempt, worker)?;

@@ -1,16 +1,15 @@
 // What each entry adds to the graph.
 
 ghost use Rattle.std.specs.Prelude.{◌≡◌, ◌++◌, List, OnOk, string_bytes};
-ghost use Rattle.event_log.specs.Entries as logged;
-ghost use Rattle.event_log.specs.Views.{entry_of};
+ghost use Rattle.event_log.specs.Entries.{Entry};
 ghost use Rattle.history.specs.Attempts.{AreStatesOf};
 ghost use Rattle.lineage_text.specs.Entries.{lineage_in, released_text, resolved_head, resolved_text};
 
 use crate::attempts::{write_begun, write_ended, write_fault_tail, write_faulted};
 use crate::births::write_born;
-use event_log::Entry;
 use history::AttemptStates;
 use ids::ObjectId;
+use log_entries::Entry;
 use std::alloc::{AllocError, Global};
 use values::Fault;
 
@@ -42,13 +41,13 @@ pub fn write_entry(
     states: &AttemptStates,
     entry: &Entry,
 ) -> Result<(), AllocError>
-    ensures { (log : List logged.Entry) → AreStatesOf states.now log → OnOk result
-        (string_bytes text.new ≡ string_bytes text.old ++ lineage_in log (entry_of entry.now)) }
+    ensures { (log : List Entry) → AreStatesOf states.now log → OnOk result
+        (string_bytes text.new ≡ string_bytes text.old ++ lineage_in log entry.now) }
 {
     match entry {
-        Entry::Born { object, birth, .. } => write_born(alloc, text, *object, birth),
+        Entry::Born { object, birth, .. } => write_born(alloc, text, *object, &birth.inner),
         Entry::Begun { attempt, worker } => write_begun(text, states, *attempt, *worker),
-        Entry::Ended { attempt, content } => write_ended(alloc, text, *attempt, content),
+        Entry::Ended { attempt, content } => write_ended(alloc, text, *attempt, &content.inner),
         Entry::Faulted { attempt, fault, .. } => write_faulted(text, *attempt, *fault),
         Entry::Resolved { object, fault } => write_resolved(text, *object, *fault),
         Entry::Released(object) => write_released(text, *object),

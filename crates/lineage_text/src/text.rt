@@ -2,13 +2,12 @@
 
 ghost use Rattle.std.specs.Prelude.{◌≡◌, ◌++◌, IfOk, OnOk, string_bytes};
 ghost use Rattle.std.specs.List.{flat_map};
-ghost use Rattle.event_log.specs.Views.{log_of};
 ghost use Rattle.lineage_text.specs.Entries.{lineage_in};
 ghost use Rattle.lineage_text.specs.Text.{graph_head, lineage_text};
 
 use crate::entries::write_entry;
-use event_log::Entry;
 use history::AttemptStates;
+use log_entries::Entry;
 use std::alloc::{AllocError, Global};
 
 #[tactic(auto, unfolding(crate::specs::Text::graph_head))]
@@ -21,7 +20,7 @@ fn write_head(text: &mut String) -> Result<(), AllocError>
 }
 
 fn write_entries(alloc: Global, text: &mut String, log: &[Entry]) -> Result<(), AllocError>
-    ensures { OnOk result (string_bytes text.new ≡ string_bytes text.old ++ flat_map (lineage_in (log_of log.now)) (log_of log.now)) }
+    ensures { OnOk result (string_bytes text.new ≡ string_bytes text.old ++ flat_map (lineage_in log.now) log.now) }
 {
     let states = AttemptStates::of(alloc, log)?;
     for entry in log {
@@ -39,7 +38,7 @@ fn write_entries(alloc: Global, text: &mut String, log: &[Entry]) -> Result<(), 
 /// It is made of any log, a legal one or not. Names of functions are written as they are: those of a script that was
 /// checked need no escapes. Goes over the log a fixed number of times.
 pub fn lineage_text(alloc: Global, log: &[Entry]) -> Result<String, AllocError>
-    ensures { IfOk result (λ text. string_bytes text ≡ lineage_text (log_of log.now)) }
+    ensures { IfOk result (λ text. string_bytes text ≡ lineage_text log.now) }
 {
     let mut text = String::new(alloc);
     write_head(&mut text)?;

@@ -1,8 +1,10 @@
-//! The events of a run, and why one is refused.
+//! The events of a run, why one is refused, and the entries of its log.
 #![tactic(auto)]
 
+mod entry;
 mod event;
 mod refusal;
 
+pub use entry::Entry;
 pub use event::Event;
 pub use refusal::Refusal;

@@ -6,6 +6,7 @@ use Rattle.meaning.specs.Births.{same_id}
 use Rattle.meaning.specs.Meaning.{call_at, replay}
 use Rattle.meaning.specs.Examples.{object}
 use Rattle.event_log.specs.Entries.{Evict, Lose, Claim, Commit, Deliver, In, Refused, Opened, Begun, Born, Faulted, Resolved, Released, main_attempt}
+use Rattle.event_log.specs.Entries.{Pinned}
 use Rattle.event_log.specs.Words.{same_attempt}
 use Rattle.event_log.specs.Events.{accepted_events, under_way_from, ends_with_in, is_committed, has_job_out, node_is_killed, node_lives, is_killed, is_live, was_told, was_lost}
 use Rattle.event_log.specs.Breaks.{breaks_from, breaks_of}
@@ -52,7 +53,7 @@ put_lost_12 : Allowed put_lost_setting (opening ++ take 12 put_lost_rest) (Begun
 unfolding call_at same_id same_attempt accepted_events under_way_from ends_with_in is_committed has_job_out node_is_killed node_lives is_killed is_live was_told was_lost breaks_from breaks_of is_one_of anchored may_be_held
 put_lost_12 = record { own = record { event = Deliver 4; now = refl; own = refl; lives = refl }; function = codes "g"; args = read (Named (object 1 2)) ∷ []; depth = 1; retries = 3; born = refl; unreleased = refl; unresolved = refl; node = 1; place = refl; next = refl; broken = tt; few = omega arith }
 
-put_lost_16 : Allowed put_lost_setting (opening ++ take 16 put_lost_rest) (Refused 20)
+put_lost_16 : Allowed put_lost_setting (opening ++ take 16 put_lost_rest) (Refused Pinned)
 unfolding call_at same_id same_attempt accepted_events under_way_from ends_with_in is_committed has_job_out node_is_killed node_lives is_killed is_live was_told was_lost breaks_from breaks_of is_one_of anchored may_be_held
 put_lost_16 = record { log = opening ++ take 15 put_lost_rest; event = Evict 1 (object 1 1); seat = 0; parts = refl; cause = (true, (0, refl)) }
 

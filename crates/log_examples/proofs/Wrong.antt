@@ -9,6 +9,7 @@ use Rattle.meaning.specs.Births.{same_id, numbered, birth_at}
 use Rattle.meaning.proofs.BirthLaws.{same_id-true}
 use Rattle.meaning.specs.Examples.{value, object, square, squaring}
 use Rattle.event_log.specs.Entries.{Attempt, Entry, OwnerDied, PutLost, Event, Claim, Commit, Deliver, Tick, Notice, Kill, In, Refused, Opened, Begun, Born, Got, Printed, Ended, Accepted, Faulted, Resolved, Released, main_object, main_attempt}
+use Rattle.event_log.specs.Entries.{Refusal, Pinned, NoWorker, NotReady, Limit}
 use Rattle.event_log.specs.Words.{same_attempt, attempt, births, runs_of}
 use Rattle.event_log.specs.Events.{accepted_events, under_way_from, is_committed, has_job_out, is_killed, is_live, was_told, was_lost}
 use Rattle.event_log.specs.Breaks.{Among, PutIsLost, breaks_from, breaks_of}
@@ -228,7 +229,7 @@ unfolding accepted_events has_job_out is_committed
 given_out_twice_is_wrong = wrong_by_event two_puts_setting (take 1 given_out_twice) (Claim 1) (Commit 2) (λ h. so h.1)
 
 -- a refusal of that number, directly behind the event
-wrong_number : (s : Setting) (before : List Entry) (e : Event) (code : ℕ) (es : List Entry) → (IsRefusal s (opening ++ before) e code → ⊥) → IsWrong s (before ++ In e 0 ∷ Refused code ∷ es)
+wrong_number : (s : Setting) (before : List Entry) (e : Event) (code : Refusal) (es : List Entry) → (IsRefusal s (opening ++ before) e code → ⊥) → IsWrong s (before ++ In e 0 ∷ Refused code ∷ es)
 wrong_number s before e code es h legal =
     let k = (entries_have_their_needs s (opening ++ (before ++ In e 0 ∷ Refused code ∷ es)) legal (before ++ In e 0 ∷ []) (Refused code) es (ap (λ l. opening ++ l) (sym (append_assoc before (In e 0 ∷ []) (Refused code ∷ es))))).allowed in
     let l = last_parts (opening ++ before) k.log e k.event 0 k.seat (append_assoc opening before (In e 0 ∷ []) ∙ k.parts) in
@@ -254,23 +255,23 @@ wrong_number s before e code es h legal =
         let q = last_parts xs ys f g m n p.1 in
         (ap (λ z. z ∷ xs) p.0 ∙ ap (λ zs. y ∷ zs) q.0, q.1)
 
--- a claim that can be taken, or is refused 31 or 37
-never_seven : (k : ℕ) → ◌≡◌ {A = Option ℕ} (slice_get (31 ∷ 37 ∷ []) k) (Some 7) → ⊥
-never_seven zero e = absurd (cc)
-never_seven (suc zero) e = absurd (cc)
-never_seven (suc (suc k)) e = absurd (cc)
+-- a claim that can be taken, or is refused since it isn't ready or for a limit
+never_pinned : (k : ℕ) → ◌≡◌ {A = Option Refusal} (slice_get (NotReady ∷ Limit ∷ []) k) (Some Pinned) → ⊥
+never_pinned zero e = absurd (cc)
+never_pinned (suc zero) e = absurd (cc)
+never_pinned (suc (suc k)) e = absurd (cc)
 
 pub refused_for_nothing_is_wrong : IsWrong square_setting refused_for_nothing
 unfolding accepted_events is_live has_job_out
-refused_for_nothing_is_wrong = wrong_number square_setting [] (Claim 1) 7 (In (Tick 1) 0 ∷ []) (λ h. never_seven h.1.0 h.1.1)
+refused_for_nothing_is_wrong = wrong_number square_setting [] (Claim 1) Pinned (In (Tick 1) 0 ∷ []) (λ h. never_pinned h.1.0 h.1.1)
 
 -- a worker that isn't there
-thirty_one : ◌≡◌ {A = ℕ} 31 30 → ⊥
-thirty_one e = absurd (omega (arith, e))
+not_ready_no_worker : NotReady ≡ NoWorker → ⊥
+not_ready_no_worker e = absurd (cc)
 
 pub refused_for_less_is_wrong : IsWrong square_setting refused_for_less
 unfolding accepted_events is_live has_job_out
-refused_for_less_is_wrong = wrong_number square_setting [] (Claim 2) 31 [] (λ h. thirty_one h.1)
+refused_for_less_is_wrong = wrong_number square_setting [] (Claim 2) NotReady [] (λ h. not_ready_no_worker h.1)
 
 -- ---- a cause that comes later
 

@@ -6,6 +6,7 @@ use Rattle.meaning.specs.Examples.{value, object, parameter, function, script_of
 use Rattle.meaning.specs.Examples as made
 use Rattle.event_log.specs.Entries.{Attempt, OwnerDied, PutLost, RetriesUsed, Fault, Claim, Commit, Deliver, Notice, Evict, Lose, Kill, Entry, In}
 use Rattle.event_log.specs.Entries.{Refused, Opened, Begun, Born, Got, Ended, Accepted, Faulted, Resolved, Released, main_attempt}
+use Rattle.event_log.specs.Entries.{Pinned}
 use Rattle.event_log.specs.Words.{attempt}
 use Rattle.event_log.specs.Rules.{Setting}
 use Rattle.event_log.specs.Legal.{opening}
@@ -150,7 +151,7 @@ put_lost_rest =
     ∷ In (Deliver 5) 0
     ∷ In (Deliver 6) 0
     ∷ In (Evict 1 (object 1 1)) 0
-    ∷ Refused 20
+    ∷ Refused Pinned
     ∷ In (Lose 1 (object 1 1)) 0
     ∷ In (Claim 2) 0
     ∷ In (Commit 2) 0

@@ -6,6 +6,7 @@ use Rattle.meaning.specs.Examples.{value, object, squaring, square, script_of, a
 use Rattle.meaning.specs.Examples as made
 use Rattle.event_log.specs.Entries.{OwnerDied, PutLost, Fault, Claim, Commit, Deliver, Tick, Notice, Lose, Kill, Entry, In, Refused, Opened, Begun}
 use Rattle.event_log.specs.Entries.{Born, Got, Printed, Ended, Accepted, Faulted, Resolved, Released, main_object, main_attempt}
+use Rattle.event_log.specs.Entries.{Pinned, NoWorker, NotReady}
 use Rattle.event_log.specs.Words.{attempt}
 use Rattle.event_log.specs.Rules.{Setting}
 use Rattle.event_log.specs.Legal.{Legal, opening}
@@ -90,7 +91,7 @@ notice_of_the_living = take 5 square_rest ++ (In (Notice 1 2) 0 ∷ In (Claim 1)
 
 -- an entry behind a refusal
 abbrev pub entry_of_a_refused_event : List Entry
-entry_of_a_refused_event = In (Claim 2) 0 ∷ Refused 30 ∷ Opened 2 1 ∷ []
+entry_of_a_refused_event = In (Claim 2) 0 ∷ Refused NoWorker ∷ Opened 2 1 ∷ []
 
 -- a commit that leaves out what its attempt bears
 abbrev pub half_a_commit : List Entry
@@ -158,11 +159,11 @@ given_out_twice = In (Claim 1) 0 ∷ In (Claim 1) 0 ∷ In (Commit 2) 0 ∷ []
 
 -- an event is refused with a number that is none of a claim's
 abbrev pub refused_for_nothing : List Entry
-refused_for_nothing = In (Claim 1) 0 ∷ Refused 7 ∷ In (Tick 1) 0 ∷ []
+refused_for_nothing = In (Claim 1) 0 ∷ Refused Pinned ∷ In (Tick 1) 0 ∷ []
 
 -- the claim of a worker that was never opened is refused as if it weren't ready
 abbrev pub refused_for_less : List Entry
-refused_for_less = In (Claim 2) 0 ∷ Refused 31 ∷ []
+refused_for_less = In (Claim 2) 0 ∷ Refused NotReady ∷ []
 
 -- main has a fault, and its cause stands behind it
 abbrev pub cause_comes_later : List Entry

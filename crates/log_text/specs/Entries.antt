@@ -43,7 +43,7 @@ act_text births _ = []
 -- what came of an event
 abbrev pub entry_text : List Bearing → Entry → List ℕ
 entry_text births (In e seat) = []
-entry_text births (Refused code) = refusal_text code
+entry_text births (Refused r) = refusal_text r
 entry_text births (Opened w n) = codes "n" ++ (decimal n ++ (codes " opens w" ++ decimal w))
 entry_text births (Printed v) = print_text v
 entry_text births (Resolved o f) = resolve_text o f

@@ -4,12 +4,11 @@ ghost use Rattle.std.specs.Prelude.{◌≡◌, ◌++◌, OnOk, option_copied, st
 ghost use Rattle.std.specs.Option.{option_map};
 ghost use Rattle.task_spec.specs.Births.{birth_of};
 ghost use Rattle.event_log.specs.Words.{births};
-ghost use Rattle.event_log.specs.Views.{log_of};
 ghost use Rattle.log_words.specs.Index.{IsIndexOf};
 ghost use Rattle.log_text.specs.Attempts.{again_note, begun_text, call_note, name_note, named_text};
 
-use event_log::Entry;
 use ids::{AttemptId, WorkerId};
+use log_entries::Entry;
 use log_words::{BirthIndex, write_call};
 use std::alloc::AllocError;
 use task_spec::Birth;
@@ -61,7 +60,7 @@ pub fn write_named(
     attempt: AttemptId,
 ) -> Result<(), AllocError>
     ensures { IsIndexOf index.now log.now → OnOk result
-        (string_bytes text.new ≡ string_bytes text.old ++ named_text (births (log_of log.now)) attempt) }
+        (string_bytes text.new ≡ string_bytes text.old ++ named_text (births log.now) attempt) }
 {
     write!(text, "{attempt}")?;
     write_name(text, index.birth(log, attempt.object))
@@ -76,7 +75,7 @@ pub fn write_begun(
     worker: WorkerId,
 ) -> Result<(), AllocError>
     ensures { IsIndexOf index.now log.now → OnOk result
-        (string_bytes text.new ≡ string_bytes text.old ++ begun_text (births (log_of log.now)) attempt worker) }
+        (string_bytes text.new ≡ string_bytes text.old ++ begun_text (births log.now) attempt worker) }
 {
     write!(text, "{worker} begins {attempt}")?;
     write_again(text, attempt.number)?;

@@ -3,7 +3,6 @@
 ghost use Rattle.std.specs.Prelude.{◌≡◌, ◌+◌, ◌++◌, ◌<◌, ◌^◌, OnOk, string_bytes};
 ghost use Rattle.event_log.specs.Words.{births};
 ghost use Rattle.values.specs.Values.{value_of};
-ghost use Rattle.event_log.specs.Views.{entry_of, log_of};
 ghost use Rattle.log_words.specs.Index.{IsIndexOf};
 ghost use Rattle.log_text.specs.Entries.{act_text, entry_text, indent, lack_head, lack_text, line, print_text};
 ghost use Rattle.log_text.specs.Entries.{resolve_head, resolve_text};
@@ -12,8 +11,8 @@ ghost use Rattle.log_words.specs.Told.{told_of};
 use crate::attempts::{write_begun, write_named};
 use crate::events::write_event;
 use crate::refusals::write_refusal;
-use event_log::Entry;
 use ids::ObjectId;
+use log_entries::Entry;
 use log_words::{BirthIndex, Told, write_birth, write_content, write_fault};
 use report::write_value;
 use std::alloc::AllocError;
@@ -63,7 +62,7 @@ fn write_act(
     entry: &Entry,
 ) -> Result<(), AllocError>
     ensures { IsIndexOf index.now log.now → OnOk result
-        (string_bytes text.new ≡ string_bytes text.old ++ act_text (births (log_of log.now)) (entry_of entry.now)) }
+        (string_bytes text.new ≡ string_bytes text.old ++ act_text (births log.now) entry.now) }
 {
     match entry {
         Entry::Begun { attempt, worker } => write_begun(text, index, log, *attempt, *worker),
@@ -74,7 +73,7 @@ fn write_act(
         } => {
             write_named(text, index, log, *attempt)?;
             write!(text, " makes {object}: ")?;
-            write_birth(text, birth)
+            write_birth(text, &birth.inner)
         }
         Entry::Got {
             attempt,
@@ -83,12 +82,12 @@ fn write_act(
         } => {
             write_named(text, index, log, *attempt)?;
             write!(text, " gets {object}: ")?;
-            write_content(text, content)
+            write_content(text, &content.inner)
         }
         Entry::Ended { attempt, content } => {
             write_named(text, index, log, *attempt)?;
             text.push_str(" ends with ")?;
-            write_content(text, content)
+            write_content(text, &content.inner)
         }
         Entry::Accepted(attempt) => {
             let owner = attempt.object.owner;
@@ -115,13 +114,13 @@ fn write_entry(
     entry: &Entry,
 ) -> Result<(), AllocError>
     ensures { IsIndexOf index.now log.now → OnOk result
-        (string_bytes text.new ≡ string_bytes text.old ++ entry_text (births (log_of log.now)) (entry_of entry.now)) }
+        (string_bytes text.new ≡ string_bytes text.old ++ entry_text (births log.now) entry.now) }
 {
     match entry {
         Entry::In { .. } => Ok(()),
         Entry::Refused(refusal) => write_refusal(text, *refusal),
         Entry::Opened { worker, node } => write!(text, "{node} opens {worker}"),
-        Entry::Printed(value) => write_print(text, value),
+        Entry::Printed(value) => write_print(text, &value.inner),
         Entry::Resolved { object, fault } => write_resolve(text, *object, *fault),
         Entry::Released(object) => {
             let owner = object.owner;
@@ -151,7 +150,7 @@ pub fn write_line(
 ) -> Result<(), AllocError>
     requires { told.now.events + 1 < 2 ^ 64 }
     ensures { IsIndexOf index.now log.now → OnOk result (string_bytes text.new
-        ≡ string_bytes text.old ++ line (births (log_of log.now)) (told_of told.now) (entry_of entry.now) is_refused) }
+        ≡ string_bytes text.old ++ line (births log.now) (told_of told.now) entry.now is_refused) }
 {
     if let Entry::In { event, seat } = entry {
         return write_event(text, told.events + 1, &told.jobs, event, *seat, is_refused);

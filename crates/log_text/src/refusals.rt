@@ -1,7 +1,6 @@
 // Refusals, with their causes.
 
 ghost use Rattle.std.specs.Prelude.{◌≡◌, ◌++◌, OnOk, string_bytes};
-ghost use Rattle.log_entries.specs.Refusals.{code_of};
 ghost use Rattle.log_text.specs.Refusals.{reason_of, refusal_text};
 
 use log_entries::Refusal;
@@ -10,7 +9,7 @@ use std::alloc::AllocError;
 
 /// The reason that explains a refusal.
 fn reason_of(refusal: Refusal) -> RefusalCause
-    ensures { result ≡ reason_of (code_of refusal) }
+    ensures { result ≡ reason_of refusal }
 {
     match refusal {
         Refusal::Pinned => RefusalCause::Pinned,
@@ -30,7 +29,7 @@ fn reason_of(refusal: Refusal) -> RefusalCause
 
 /// Writes a refusal with its cause, such as `refused 33: A commit of a job whose worker is dead.`
 pub fn write_refusal(text: &mut String, refusal: Refusal) -> Result<(), AllocError>
-    ensures { OnOk result (string_bytes text.new ≡ string_bytes text.old ++ refusal_text (code_of refusal)) }
+    ensures { OnOk result (string_bytes text.new ≡ string_bytes text.old ++ refusal_text refusal) }
 {
     let code = refusal.number();
     write!(text, "refused {code}: ")?;

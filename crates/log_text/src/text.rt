@@ -1,11 +1,10 @@
 // A log in words.
 
 ghost use Rattle.std.specs.Prelude.{◌≡◌, IfOk, string_bytes};
-ghost use Rattle.event_log.specs.Views.{log_of};
 ghost use Rattle.log_text.specs.Text.{log_text};
 
 use crate::entries::write_line;
-use event_log::Entry;
+use log_entries::Entry;
 use log_words::{BirthIndex, Told, is_refusal_at};
 use std::alloc::{AllocError, Global};
 
@@ -15,7 +14,7 @@ use std::alloc::{AllocError, Global};
 /// It is made of any log, a legal one or not: of several births of an object the first counts, an attempt of an object
 /// without a birth has no function beside it, and a commit of a job that was never given out names no worker.
 pub fn log_text(alloc: Global, log: &[Entry]) -> Result<String, AllocError>
-    ensures { IfOk result (λ text. string_bytes text ≡ log_text (log_of log.now)) }
+    ensures { IfOk result (λ text. string_bytes text ≡ log_text log.now) }
 {
     let mut text = String::new(alloc);
     let index = BirthIndex::of(alloc, log)?;

@@ -6,16 +6,13 @@ use Rattle.indexmap.specs.IndexMap.{IndexMap}
 use Rattle.task_spec.specs.Births.{birth_of}
 use Rattle.meaning.specs.Values.{Id, Birth, main_birth}
 use Rattle.meaning.specs.Births.{same_id, birth_at}
-use Rattle.event_log.specs.Entries as logged
+use Rattle.event_log.specs.Entries.{Entry, Born}
 use Rattle.event_log.specs.Words.{born_in}
-use Rattle.event_log.specs.Views.{log_of}
-use Rattle.event_log.specs.declared.entry.Entry.{Entry}
-use Rattle.event_log.specs.declared.entry.Entry.TheVariants as entries
 use Rattle.log_words.specs.declared.births.BirthIndex.{BirthIndex}
 
 -- the birth that stands at a place
 abbrev pub birth_in : Option Entry → Option Birth
-birth_in (Some (entries.Born o a b)) = Some (birth_of b)
+birth_in (Some (Born o a b)) = Some b
 birth_in _ = None
 
 -- the place that is noted for the object
@@ -23,8 +20,8 @@ abbrev pub found : {S : Type 0} → IndexMap Id ℕ S → Id → Option ℕ
 found places o = lookup (λ p. same_id o p) places.entries
 
 -- the entry is the object's birth
-abbrev pub is_born_in : Id → logged.Entry → Bool
-is_born_in o (logged.Born p a b) = same_id p o
+abbrev pub is_born_in : Id → Entry → Bool
+is_born_in o (Born p a b) = same_id p o
 is_born_in o _ = false
 
 abbrev pub birth_found : List Entry → Option ℕ → Option Birth
@@ -34,7 +31,7 @@ birth_found log (Some place) = birth_in (slice_get log place)
 -- the births from the place on are noted
 abbrev pub AreIndexed : {S : Type 0} → IndexMap Id ℕ S → List Entry → ℕ → Type 0
 AreIndexed places log from =
-    (o : Id) → birth_found log (found places o) ≡ birth_at (flat_map born_in (log_of (drop from log))) o
+    (o : Id) → birth_found log (found places o) ≡ birth_at (flat_map born_in (drop from log)) o
 
 pub record IsIndexOf (index : BirthIndex) (log : List Entry) : Type 0 where
   pub main : birth_of index.main ≡ main_birth

@@ -8,12 +8,11 @@ ghost use Rattle.meaning.specs.Values.{main_birth};
 ghost use Rattle.meaning.specs.Births.{same_id, birth_at};
 ghost use Rattle.event_log.specs.Entries.{main_object};
 ghost use Rattle.event_log.specs.Words.{births};
-ghost use Rattle.event_log.specs.Views.{entry_of, log_of};
 ghost use Rattle.log_words.specs.Index.{birth_in, found, is_born_in, AreIndexed, IsIndexOf};
 
-use event_log::Entry;
 use ids::ObjectId;
 use indexmap::IndexMap;
+use log_entries::Entry;
 use std::alloc::{AllocError, Global};
 use task_spec::Birth;
 
@@ -44,7 +43,7 @@ fn note(
     place: usize,
 ) -> Result<(), AllocError>
     ensures { OnOk result ((o : Id) →
-        found places.new o ≡ (if is_born_in o (entry_of entry.now) then Some place else found places.old o)) }
+        found places.new o ≡ (if is_born_in o entry.now then Some place else found places.old o)) }
 {
     match entry {
         Entry::Born { object, .. } => add(places, *object, place),
@@ -76,7 +75,7 @@ fn birth_in(log: &[Entry], place: usize) -> Option<&Birth>
     ensures { option_map birth_of (option_copied result) ≡ birth_in (slice_get log.now place) }
 {
     match log.get(place) {
-        Some(Entry::Born { birth, .. }) => Some(birth),
+        Some(Entry::Born { birth, .. }) => Some(&birth.inner),
         _ => None,
     }
 }
@@ -115,7 +114,7 @@ impl BirthIndex {
     /// What the object was born as, by the log of which this is the index. Takes no memory.
     pub fn birth<'a>(&'a self, log: &'a [Entry], object: ObjectId) -> Option<&'a Birth>
         ensures { IsIndexOf self.now log.now →
-            option_map birth_of (option_copied result) ≡ birth_at (births (log_of log.now)) object }
+            option_map birth_of (option_copied result) ≡ birth_at (births log.now) object }
     {
         if is_main(object) {
             return Some(&self.main);

@@ -2,12 +2,10 @@
 
 ghost use Rattle.std.specs.Prelude.{◌≡◌, ◌+◌, ◌++◌, ◌<◌, ◌≤◌, ◌^◌, OnOk, [], if◌then◌else◌, drop};
 ghost use Rattle.event_log.specs.Events.{claim_in, from_one, refused_next};
-ghost use Rattle.event_log.specs.Views.{entry_of, log_of};
 ghost use Rattle.log_words.specs.Told.{nothing_told, told_after, told_of};
 
-use event_log::Entry;
 use ids::WorkerId;
-use log_entries::Event;
+use log_entries::{Entry, Event};
 use std::alloc::{AllocError, Global};
 
 /// How many events came, and the workers to which jobs were given, by job.
@@ -47,7 +45,7 @@ pub fn worker_of_job(jobs: &[WorkerId], job: u64) -> Option<WorkerId>
 
 /// Whether a refusal stands at the place.
 pub fn is_refusal_at(log: &[Entry], place: usize) -> bool
-    ensures { result ≡ refused_next (log_of (drop place log.now)) }
+    ensures { result ≡ refused_next (drop place log.now) }
 {
     matches!(log.get(place), Some(Entry::Refused(_)))
 }
@@ -66,7 +64,7 @@ impl Told {
     /// Notes an entry.
     pub fn note(&mut self, entry: &Entry, is_refused: bool) -> Result<(), AllocError>
         requires { self.old.events + 1 < 2 ^ 64 }
-        ensures told { OnOk result (told_of self.new ≡ told_after (told_of self.old) (entry_of entry.now) is_refused) }
+        ensures told { OnOk result (told_of self.new ≡ told_after (told_of self.old) entry.now is_refused) }
         ensures counted { self.new.events ≤ self.old.events + 1 }
     {
         let Entry::In { event, .. } = entry else {

@@ -1,11 +1,11 @@
 // Messages.
 
 ghost use Rattle.std.specs.Prelude.{◌≡◌, ◌++◌, OnOk, string_bytes};
-ghost use Rattle.message_text.specs.Messages.{at_text, carrying_text, closed_text, copy_text, finished_ack_text, finished_text, hold_text, kept_text, kind_text};
-ghost use Rattle.message_text.specs.Messages.{message_text, place_text, push_text, reason_text, stop_text, unhold_text};
+ghost use Rattle.message_text.specs.Messages.{at_text, carrying_text, closed_text, copy_text, finished_ack_text, finished_text, hold_text, kept_text};
+ghost use Rattle.message_text.specs.Messages.{kind_text, message_text, place_text, push_text, reason_text, stop_text, unhold_text};
 
 use crate::lists::{write_nodes, write_objects};
-use held::{Content, Origin};
+use held::{Origin, SharedContent};
 use history::kind_name;
 use ids::{AttemptId, NodeId, ObjectId};
 use log_words::{write_birth, write_content};
@@ -21,7 +21,7 @@ fn write_push(text: &mut String, attempt: AttemptId, birth: &Origin) -> Result<(
     text.push_str(")")
 }
 
-fn write_kept(text: &mut String, kept: &Option<Content>) -> Result<(), AllocError>
+fn write_kept(text: &mut String, kept: &Option<SharedContent>) -> Result<(), AllocError>
     ensures { OnOk result (string_bytes text.new ≡ string_bytes text.old ++ kept_text kept.now) }
 {
     let Some(content) = kept else {
@@ -36,7 +36,7 @@ fn write_finished(
     attempt: AttemptId,
     node: NodeId,
     ids: &Seq<ObjectId>,
-    kept: &Option<Content>,
+    kept: &Option<SharedContent>,
 ) -> Result<(), AllocError>
     ensures { OnOk result (string_bytes text.new ≡ string_bytes text.old ++ finished_text attempt node ids.now kept.now) }
 {
@@ -52,7 +52,7 @@ fn write_at(
     object: ObjectId,
     number: u32,
     nodes: &Seq<NodeId>,
-    kept: &Option<Content>,
+    kept: &Option<SharedContent>,
 ) -> Result<(), AllocError>
     ensures { OnOk result (string_bytes text.new ≡ string_bytes text.old ++ at_text object number nodes.now kept.now) }
 {
@@ -66,7 +66,7 @@ fn write_copy(
     text: &mut String,
     object: ObjectId,
     number: u32,
-    content: &Content,
+    content: &SharedContent,
 ) -> Result<(), AllocError>
     ensures { OnOk result (string_bytes text.new ≡ string_bytes text.old ++ copy_text object number content.now) }
 {

@@ -1,11 +1,10 @@
 // The messages that each event sent.
 
 ghost use Rattle.std.specs.Prelude.{◌≡◌, ◌++◌, OnOk, drop, string_bytes};
-ghost use Rattle.event_log.specs.Views.{log_of};
 ghost use Rattle.message_text.specs.Sent.{is_over, letters_between, sent_behind, sent_note, sent_text};
 
 use crate::letters::write_letters;
-use event_log::Entry;
+use log_entries::Entry;
 use protocol_data::Letter;
 use std::alloc::AllocError;
 
@@ -56,7 +55,7 @@ fn write_sent(
 
 /// Whether no entry of an event is still to come at the place.
 pub fn is_over_at(log: &[Entry], place: usize) -> bool
-    ensures { result ≡ is_over (log_of (drop place log.now)) }
+    ensures { result ≡ is_over (drop place log.now) }
 {
     match log.get(place) {
         None | Some(Entry::In { .. }) => true,

@@ -1,11 +1,10 @@
 // A log in words, with the messages that each event sent.
 
 ghost use Rattle.std.specs.Prelude.{◌≡◌, IfOk, string_bytes};
-ghost use Rattle.event_log.specs.Views.{log_of};
 ghost use Rattle.message_text.specs.Text.{log_with_messages};
 
 use crate::sent::{is_over_at, write_sent_where_over};
-use event_log::Entry;
+use log_entries::Entry;
 use log_text::write_line;
 use log_words::{BirthIndex, Told, is_refusal_at};
 use protocol_data::Letter;
@@ -20,7 +19,7 @@ pub fn log_with_messages(
     letters: &[Letter],
     sent: &[usize],
 ) -> Result<String, AllocError>
-    ensures { IfOk result (λ text. string_bytes text ≡ log_with_messages (log_of log.now) letters.now sent.now) }
+    ensures { IfOk result (λ text. string_bytes text ≡ log_with_messages log.now letters.now sent.now) }
 {
     let mut text = String::new(alloc);
     let index = BirthIndex::of(alloc, log)?;

@@ -1,8 +1,6 @@
 -- A history replays to one run.
-use Rattle.std.proofs.Common.{◌≡◌, ℕ, zero, suc, true, false, Bool, List, [], ◌∷◌, ◌++◌, map}
+use Rattle.std.proofs.Common.{◌≡◌, ℕ, true, false, Bool, List, [], ◌∷◌, ◌++◌, map}
 use Rattle.std.proofs.Common.{Option, Some, None, refl, sym, ap, ◌∙◌, subst, inl, inr}
-use Rattle.std.specs.Prelude.{slice_get}
-use Rattle.std.specs.Option.{option_map, option_flatten}
 use Rattle.meaning.specs.Syntax.{Script}
 use Rattle.meaning.specs.Meaning.{replay}
 use Rattle.meaning.specs.Values.{Birth, Named, Value}
@@ -10,21 +8,20 @@ use Rattle.meaning.specs.Runs as runs
 use Rattle.meaning.specs.Runs.{Piece}
 use Rattle.values.specs.Values.{value_of}
 use Rattle.task_spec.specs.Births.{birth_of}
-use Rattle.evaluation.specs.declared.piece.Stop.{Stop}
-use Rattle.evaluation.specs.declared.piece.Stop.TheVariants as stops
+use Rattle.evaluation.specs.declared.piece.PieceStop.{PieceStop}
+use Rattle.evaluation.specs.declared.piece.PieceStop.TheVariants as stops
 use Rattle.evaluation.specs.Pieces.{stop_of}
-use Rattle.segment.specs.Jobs.{Done, IsTrueOf, JobData, replay_of, whole_of}
+use Rattle.segment.specs.Jobs.{Done, IsTrueOf, JobParts, replay_of, whole_of}
 use Rattle.event_log.specs.Entries.{Entry, Event, Commit}
 use Rattle.event_files.specs.declared.recorded.RecordedEvent.{RecordedEvent}
 use Rattle.protocol.specs.Jobs.{AtEnd, AtGet, Handed, Job, OfJob, Outcomes, Stopped}
-use Rattle.protocol.specs.Numbered.{changed_by}
 use Rattle.protocol.specs.Whole.{Whole}
 use Rattle.protocol.specs.Answers.{Answer, answer, logged, whole_after}
 use Rattle.protocol.specs.Answers as answers
-use Rattle.exchange.specs.Jobs.{job_in, stopped_of, work_of}
+use Rattle.protocol_board.specs.Cores.{stopped_of, work_of}
 use Rattle.protocol_board.specs.Cores.{RunState}
-use Rattle.protocol_core.specs.Steps.{Follows, GivesThat, IsApplied, IsHanded, IsHandedFor, IsOut, Reply, Tells}
-use Rattle.protocol_board.specs.Replays.{AllPlay, IsDoneOn, Play, PlaysHistory, Step, found_no_memory, handed_in, job_at, job_for, left_by, next_line, with_given}
+use Rattle.protocol_board.specs.Cores.{Follows, GivesThat, IsApplied, IsHanded, IsHandedFor, IsOut, Reply, Tells}
+use Rattle.protocol_board.specs.Replays.{AllPlay, IsDoneOn, Play, PlaysHistory, Step, found_no_memory, job_at, job_for, left_by, next_line, with_given}
 use Rattle.histories.specs.Recorded.{recorded_in}
 use Rattle.migration.specs.Migration.{MigratedIsSame, OneRun}
 use Rattle.migration.proofs.Migrating.{histories_replay}
@@ -46,7 +43,7 @@ meant_stop (runs.Needs (Named i)) = AtGet i
 meant_stop (runs.Needs r) = AtGet (record { owner = 0; serial = 0 })
 meant_stop (runs.Over c) = AtEnd c
 
-same_stop : (s : Stop) → stopped_of s ≡ meant_stop (stop_of s)
+same_stop : (s : PieceStop) → stopped_of s ≡ meant_stop (stop_of s)
 unfolding meant_stop
 same_stop (stops.Needs y) = refl
 same_stop (stops.Ends c) = refl
@@ -55,122 +52,54 @@ outcomes : (a b : List Birth) (c d : List Value) (s t : Stopped) → a ≡ b →
     ◌≡◌ {A = Outcomes} (record { births = a; prints = c; stop = s }) (record { births = b; prints = d; stop = t })
 outcomes a b c d s t e f g = cc
 
-one_work : (script : Script) (d f : Done) → job_in d.job ≡ job_in f.job → IsTrueOf script d → IsTrueOf script f →
+one_work : (script : Script) (d f : Done) → d.job ≡ f.job → IsTrueOf script d → IsTrueOf script f →
     work_of d.births d.prints d.stop ≡ work_of f.births f.prints f.stop
 one_work script d f same is others =
     let again : replay_of script d.job ≡ replay_of script f.job = ap (λ (j : Job). replay script j.spec j.base j.answers) same in
     let whole : whole_of d ≡ whole_of f = sym is ∙ again ∙ others in
     outcomes _ _ _ _ _ _
-    (same_rest (map birth_of d.job.births) (map birth_of f.job.births) (map birth_of d.births) (map birth_of f.births) (ap (λ (j : Job). j.births) same)
+    (same_rest d.job.births f.job.births (map birth_of d.births) (map birth_of f.births) (ap (λ (j : Job). j.births) same)
     (ap (λ (p : Piece). p.births) whole))
-    (same_rest (map value_of d.job.printed) (map value_of f.job.printed) (map value_of d.prints) (map value_of f.prints) (ap (λ (j : Job). j.prints) same)
+    (same_rest d.job.prints f.job.prints (map value_of d.prints) (map value_of f.prints) (ap (λ (j : Job). j.prints) same)
     (ap (λ (p : Piece). p.prints) whole))
     (same_stop d.stop ∙ ap (λ (p : Piece). meant_stop p.stop) whole ∙ sym (same_stop f.stop))
 
--- ---- jobs that are the same by what they mean
+-- ---- what is told gives one job
 
-abbrev meant : Option JobData → Option Job
-meant job = option_map job_in job
+given_same : (given : Option Job) (told other : Reply) → GivesThat given told → GivesThat given other → told ≡ other
+given_same None told other a b = a ∙ sym b
+given_same (Some job) told other a b = a ∙ sym b
 
-SameJobs : List (Option JobData) → List (Option JobData) → Type 0
-SameJobs [] [] = Unit {0}
-SameJobs [] (y ∷ ys) = ⊥
-SameJobs (x ∷ xs) [] = ⊥
-SameJobs (x ∷ xs) (y ∷ ys) = (meant x ≡ meant y) × SameJobs xs ys
-
-same_at : (xs ys : List (Option JobData)) → SameJobs xs ys → (i : ℕ) → meant (option_flatten (slice_get xs i)) ≡ meant (option_flatten (slice_get ys i))
-unfolding SameJobs
-same_at [] [] h i = refl
-same_at [] (y ∷ ys) h i = absurd h
-same_at (x ∷ xs) [] h i = absurd h
-same_at (x ∷ xs) (y ∷ ys) h zero = h.0
-same_at (x ∷ xs) (y ∷ ys) h (suc i) = same_at xs ys h.1 i
-
-same_job : (xs ys : List (Option JobData)) → SameJobs xs ys → (j : ℕ) → meant (job_at xs j) ≡ meant (job_at ys j)
-same_job xs ys h zero = refl
-same_job xs ys h (suc i) = same_at xs ys h i
-
-abbrev cleared : List (Option JobData) → ℕ → List (Option JobData)
-cleared xs i = changed_by xs (suc i) (λ job. None) (slice_get xs i)
-
-cleared_by : (x : Option JobData) (xs : List (Option JobData)) (i : ℕ) (o : Option (Option JobData)) →
-    changed_by (x ∷ xs) (suc (suc i)) (λ job. None) o ≡ x ∷ changed_by xs (suc i) (λ job. None) o
-cleared_by x xs i None = refl
-cleared_by x xs i (Some y) = refl
-
-both_cleared : (xs ys : List (Option JobData)) → SameJobs xs ys → (i : ℕ) → SameJobs (cleared xs i) (cleared ys i)
-unfolding SameJobs
-both_cleared [] [] h i = tt
-both_cleared [] (y ∷ ys) h i = absurd h
-both_cleared (x ∷ xs) [] h i = absurd h
-both_cleared (x ∷ xs) (y ∷ ys) h zero = (refl, h.1)
-both_cleared (x ∷ xs) (y ∷ ys) h (suc i) =
-    subst (λ l. SameJobs l (cleared (y ∷ ys) (suc i))) (sym (cleared_by x xs i (slice_get xs i)))
-    (subst (λ l. SameJobs (x ∷ cleared xs i) l) (sym (cleared_by y ys i (slice_get ys i))) (h.0, both_cleared xs ys h.1 i))
-
-both_handed : (xs ys : List (Option JobData)) → SameJobs xs ys → (j : ℕ) → SameJobs (handed_in xs j) (handed_in ys j)
-both_handed xs ys h zero = h
-both_handed xs ys h (suc i) = both_cleared xs ys h i
-
-both_left : (e : Event) (xs ys : List (Option JobData)) → SameJobs xs ys → SameJobs (left_by e xs) (left_by e ys)
-both_left (Commit j) xs ys h = both_handed xs ys h j
-both_left e xs ys h = h
-
-both_more : (xs ys : List (Option JobData)) (a b : Option JobData) → SameJobs xs ys → meant a ≡ meant b → SameJobs (xs ++ a ∷ []) (ys ++ b ∷ [])
-unfolding SameJobs
-both_more [] [] a b h e = (e, tt)
-both_more [] (y ∷ ys) a b h e = absurd h
-both_more (x ∷ xs) [] a b h e = absurd h
-both_more (x ∷ xs) (y ∷ ys) a b h e = (h.0, both_more xs ys a b h.1 e)
-
-given_same : (given : Option Job) (told other : Reply) (xs ys : List (Option JobData)) → GivesThat given told → GivesThat given other → SameJobs xs ys →
-    SameJobs (with_given told xs) (with_given other ys)
-given_same None told other xs ys a b h =
-    subst (λ t. SameJobs (with_given t xs) (with_given other ys)) (sym a) (subst (λ t. SameJobs xs (with_given t ys)) (sym b) h)
-given_same (Some job) told other xs ys a b h =
-    subst (λ t. SameJobs (with_given t xs) (with_given other ys)) (sym a.1)
-    (subst (λ t. SameJobs (xs ++ Some a.0 ∷ []) (with_given t ys)) (sym b.1)
-    (both_more xs ys (Some a.0) (Some b.0) h (ap (λ j. Some j) (a.2 ∙ sym b.2))))
-
-told_same : (a : Answer) (told other : Reply) (xs ys : List (Option JobData)) → Tells a told → Tells a other → SameJobs xs ys →
-    SameJobs (with_given told xs) (with_given other ys)
-told_same (answers.Takes s) told other xs ys h k same = given_same s.given told other xs ys h k same
-told_same (answers.Refuses code) told other xs ys (r, h, n) (t, k, m) same =
-    subst (λ u. SameJobs (with_given u xs) (with_given other ys)) (sym h) (subst (λ u. SameJobs xs (with_given u ys)) (sym k) same)
+told_same : (a : Answer) (told other : Reply) (jobs : List (Option JobParts)) → Tells a told → Tells a other → with_given told jobs ≡ with_given other jobs
+told_same (answers.Takes s) told other jobs h k = ap (λ t. with_given t jobs) (given_same s.given told other h k)
+told_same (answers.Refuses refusal) told other jobs h k = ap (λ u. with_given u jobs) h ∙ sym (ap (λ u. with_given u jobs) k)
 
 -- ---- what is handed in is one thing
 
-meant_some : (a b : JobData) → meant (Some a) ≡ meant (Some b) → job_in a ≡ job_in b
-meant_some a b e = cc
-
-of_jobs : (script : Script) (c : Whole) (j : ℕ) (d f : Done) → job_in d.job ≡ job_in f.job → IsTrueOf script d → IsTrueOf script f → (h k : Handed) →
+of_jobs : (script : Script) (c : Whole) (j : ℕ) (d f : Done) → d.job ≡ f.job → IsTrueOf script d → IsTrueOf script f → (h k : Handed) →
     IsHandedFor c j (Some d) h → IsHandedFor c j (Some f) k → h ≡ k
 of_jobs script c j d f same is others h k (inl x) (inl y) = x.0 ∙ ap (λ w. OfJob w) (one_work script d f same is others) ∙ sym y.0
 of_jobs script c j d f same is others h k (inl x) (inr y) = absurd (y.1 (subst (IsOut c j) same x.1))
 of_jobs script c j d f same is others h k (inr x) (inl y) = absurd (x.1 (subst (IsOut c j) (sym same) y.1))
 of_jobs script c j d f same is others h k (inr x) (inr y) = x.0 ∙ sym y.0
 
-one_commit : (script : Script) (c : Whole) (j : ℕ) (a b : Option JobData) → meant a ≡ meant b → (d f : Option Done) → IsDoneOn script a d → IsDoneOn script b f →
+one_commit : (script : Script) (c : Whole) (j : ℕ) (job : Option JobParts) (d f : Option Done) → IsDoneOn script job d → IsDoneOn script job f →
     (h k : Handed) → IsHandedFor c j d h → IsHandedFor c j f k → h ≡ k
-one_commit script c j None None e d f x y h k s t = subst (λ o. IsHandedFor c j o h) x s ∙ sym (subst (λ o. IsHandedFor c j o k) y t)
-one_commit script c j None (Some b) e d f x y h k s t = absurd (cc)
-one_commit script c j (Some a) None e d f x y h k s t = absurd (cc)
-one_commit script c j (Some a) (Some b) e None f x y h k s t = absurd x
-one_commit script c j (Some a) (Some b) e (Some d) None x y h k s t = absurd y
-one_commit script c j (Some a) (Some b) e (Some d) (Some f) x y h k s t =
-    of_jobs script c j d f (ap job_in x.0 ∙ meant_some a b e ∙ sym (ap job_in y.0)) x.1 y.1 h k s t
+one_commit script c j None d f x y h k s t = subst (λ o. IsHandedFor c j o h) x s ∙ sym (subst (λ o. IsHandedFor c j o k) y t)
+one_commit script c j (Some a) None f x y h k s t = absurd x
+one_commit script c j (Some a) (Some d) None x y h k s t = absurd y
+one_commit script c j (Some a) (Some d) (Some f) x y h k s t = of_jobs script c j d f (x.0 ∙ sym y.0) x.1 y.1 h k s t
 
-one_handed : (script : Script) (c : Whole) (e : Event) (xs ys : List (Option JobData)) → SameJobs xs ys → (d f : Option Done) →
-    IsDoneOn script (job_for e xs) d → IsDoneOn script (job_for e ys) f → (h k : Handed) → IsHanded c e d h → IsHanded c e f k → h ≡ k
-one_handed script c (Commit j) xs ys same d f x y h k s t =
-    one_commit script c j (job_at xs j) (job_at ys j) (same_job xs ys same j) d f x y h k s t
-one_handed script c e xs ys same d f x y h k s t = s ∙ sym t
+one_handed : (script : Script) (c : Whole) (e : Event) (jobs : List (Option JobParts)) (d f : Option Done) →
+    IsDoneOn script (job_for e jobs) d → IsDoneOn script (job_for e jobs) f → (h k : Handed) → IsHanded c e d h → IsHanded c e f k → h ≡ k
+one_handed script c (Commit j) jobs d f x y h k s t = one_commit script c j (job_at jobs j) d f x y h k s t
+one_handed script c e jobs d f x y h k s t = s ∙ sym t
 
 -- ---- one step, and all
 
 record Alike (p q : Play) : Type 0 where
   pub run : p.run ≡ q.run
-  pub jobs : SameJobs p.jobs q.jobs
+  pub jobs : p.jobs ≡ q.jobs
   pub goes_on : p.run.is_halted ≡ false
 
 applied : (before after : RunState) (e : Event) (seat : ℕ) (d : Option Done) (told : Reply) → found_no_memory told ≡ false → Follows before e seat d after told →
@@ -194,7 +123,8 @@ alike_step script p q r s e seat h a b =
     let ib = applied q.run s.run e seat fb.0 b.told b.goes_on (fb.2.follows halted) in
     let whole : p.run.whole ≡ q.run.whole = ap (λ (c : RunState). c.whole) h.run in
     let handed : ia.0 ≡ ib.0 =
-    one_handed script q.run.whole e p.jobs q.jobs h.jobs fa.0 fb.0 fa.1 fb.1 ia.0 ib.0 (subst (λ c. IsHanded c e fa.0 ia.0) whole ia.1) ib.1 in
+    one_handed script q.run.whole e q.jobs fa.0 fb.0 (subst (λ jobs. IsDoneOn script (job_for e jobs) fa.0) h.jobs fa.1) fb.1 ia.0 ib.0
+    (subst (λ c. IsHanded c e fa.0 ia.0) whole ia.1) ib.1 in
     let same : answer p.run.whole e ia.0 ≡ answer q.run.whole e ib.0 = ap (λ c. answer c e ia.0) whole ∙ ap (answer q.run.whole e) handed in
     let log : r.run.log ≡ s.run.log =
     ia.2.log ∙ ap (λ (c : RunState). c.log ++ logged e seat (answer p.run.whole e ia.0)) h.run
@@ -202,12 +132,11 @@ alike_step script p q r s e seat h a b =
     let wholes : r.run.whole ≡ s.run.whole =
     ia.2.whole ∙ ap (λ c. whole_after c (answer p.run.whole e ia.0)) whole ∙ ap (whole_after q.run.whole) same ∙ sym ib.2.whole in
     let nodes : r.run.first_nodes ≡ s.run.first_nodes = ia.2.nodes ∙ ap (λ (c : RunState). c.first_nodes) h.run ∙ sym ib.2.nodes in
-    let told : SameJobs (with_given a.told (left_by e p.jobs)) (with_given b.told (left_by e q.jobs)) =
-    told_same (answer q.run.whole e ib.0) a.told b.told (left_by e p.jobs) (left_by e q.jobs) (subst (λ x. Tells x a.told) same ia.2.told_so) ib.2.told_so
-    (both_left e p.jobs q.jobs h.jobs) in
+    let told : with_given a.told (left_by e q.jobs) ≡ with_given b.told (left_by e q.jobs) =
+    told_same (answer q.run.whole e ib.0) a.told b.told (left_by e q.jobs) (subst (λ x. Tells x a.told) same ia.2.told_so) ib.2.told_so in
     record {
       run = run_parts r.run s.run log wholes nodes (ia.2.goes_on ∙ sym ib.2.goes_on);
-      jobs = subst (λ l. SameJobs l s.jobs) (sym a.jobs) (subst (SameJobs (with_given a.told (left_by e p.jobs))) (sym b.jobs) told);
+      jobs = a.jobs ∙ ap (λ jobs. with_given a.told (left_by e jobs)) h.jobs ∙ told ∙ sym b.jobs;
       goes_on = ia.2.goes_on;
     }
 
@@ -220,14 +149,9 @@ alike_all script [] p q r s h a b = subst (λ x. Alike x s) (sym a) (subst (Alik
 alike_all script (v ∷ events) p q r s h (x, here, rest) (y, there, more) =
     alike_all script events x y r s (alike_step script (next_line p) (next_line q) x y v.event v.seat (alike_next p q h) here.0 there.0) rest more
 
-same_self : (xs : List (Option JobData)) → SameJobs xs xs
-unfolding SameJobs
-same_self [] = tt
-same_self (x ∷ xs) = (refl, same_self xs)
-
 pub one_run : OneRun
 one_run script events first p q goes_on a b =
-    (alike_all script events first first p q (record { run = refl; jobs = same_self first.jobs; goes_on = goes_on }) a b).run
+    (alike_all script events first first p q (record { run = refl; jobs = refl; goes_on = goes_on }) a b).run
 
 pub migrated_is_same : MigratedIsSame
 migrated_is_same script ls first after again log begins plays same history =

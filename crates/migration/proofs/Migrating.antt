@@ -7,13 +7,9 @@ use Rattle.std.proofs.lemmas.List.Concat.{flat_map-append}
 use Rattle.meaning.specs.Syntax.{Script}
 use Rattle.segment.specs.Jobs.{Done}
 use Rattle.event_log.specs.Entries.{Entry, In, Refused, Event, Claim}
+use Rattle.event_log.specs.Entries.{Limit}
 use Rattle.event_log.specs.Events.{accepted_events, claims, claim_in, refused_next}
 use Rattle.event_log.specs.Legal.{has_event}
-use Rattle.event_log.specs.Views.{log_of}
-use Rattle.event_log.specs.declared.entry.Entry.{Entry as CodeEntry}
-use Rattle.event_log.specs.declared.entry.Entry.TheVariants as entries
-use Rattle.log_entries.specs.declared.event.Event.{Event as CodeEvent}
-use Rattle.log_entries.specs.declared.event.Event.TheVariants as events
 use Rattle.log_entries.specs.declared.refusal.Refusal.{Refusal}
 use Rattle.event_files.specs.declared.line.Line.{Line}
 use Rattle.event_files.specs.declared.line.Line.TheVariants as lines
@@ -26,8 +22,8 @@ use Rattle.protocol.specs.Refusals.{is_within_limits, refusal}
 use Rattle.protocol.specs.Answers.{Answer, Refuses, decided, given_out, logged, takes}
 use Rattle.protocol_owed.proofs.Counting.{happens-counted, no_event, not_refused}
 use Rattle.protocol_board.specs.Cores.{RunState}
-use Rattle.protocol_core.specs.Steps.{GivesThat, Reply, Tells, Answers, Follows}
-use Rattle.protocol_core.specs.Steps as replies
+use Rattle.protocol_board.specs.Cores.{GivesThat, Reply, Tells, Answers, Follows}
+use Rattle.protocol_board.specs.Cores as replies
 use Rattle.seats.specs.Counted.{ClaimsGaveJobs}
 use Rattle.protocol_board.specs.Replays.{AllPlay, LinePlays, Play, PlaysHistory, Plays, Settles, Step, found_no_memory, given_by, next_line}
 use Rattle.migration.specs.Migration.{Begins, HistoriesReplay, Said, SaidPlays, claims_after, given_at, said_by, said_from}
@@ -92,7 +88,7 @@ said-event log e s es h =
 
 claim_told : (w n : ℕ) (job : Job) (told : Reply) → job.number ≡ n + 1 → GivesThat (Some job) told → given_at (Claim w) false n ≡ given_by (Claim w) told
 claim_told w n job told number h =
-    sym (ap (given_by (Claim w)) h.1 ∙ ap (λ k. Some k) (ap (λ (j : Job). j.number) h.2 ∙ number))
+    sym (ap (given_by (Claim w)) h ∙ ap (λ k. Some k) number)
 
 given_taken : (c : Whole) (e : Event) (handed : Handed) (told : Reply) (n : ℕ) → n ≡ length c.jobs → refusal c e handed ≡ None → GivesThat (given_out c e) told →
     given_at e false n ≡ given_by e told
@@ -108,9 +104,9 @@ given_refused e n told r h = refl
 abbrev Says : List Entry → Event → ℕ → Answer → Reply → Type 0
 Says log e seat a told = said_from 0 (log ++ logged e seat a) ≡ said_from 0 log ++ said seat e (given_by e told) ∷ []
 
-refused_says : (log : List Entry) (e : Event) (seat code : ℕ) (told : Reply) → Tells (Refuses code) told → Says log e seat (Refuses code) told
+refused_says : (log : List Entry) (e : Event) (seat : ℕ) (code : Refusal) (told : Reply) → Tells (Refuses code) told → Says log e seat (Refuses code) told
 refused_says log e seat code told h =
-    said-event log e seat (Refused code ∷ []) refl ∙ ap (λ g. said_from 0 log ++ said seat e g ∷ []) (given_refused e (length (claims log)) told h.0 h.1)
+    said-event log e seat (Refused code ∷ []) refl ∙ ap (λ g. said_from 0 log ++ said seat e g ∷ []) (given_refused e (length (claims log)) told code h)
 
 taken_says : (log : List Entry) (c : Whole) (e : Event) (seat : ℕ) (handed : Handed) (told : Reply) → length (claims log) ≡ length c.jobs → refusal c e handed ≡ None →
     GivesThat (given_out c e) told → Says log e seat (takes (happens c e handed) (given_out c e)) told
@@ -123,12 +119,12 @@ taken_says log c e seat handed told same r h =
     ∙ ap (λ g. said_from 0 log ++ said seat e g ∷ []) (given_taken c e handed told (length (claims log)) same r h)
 
 limited_says : (log : List Entry) (c : Whole) (e : Event) (seat : ℕ) (handed : Handed) (told : Reply) → length (claims log) ≡ length c.jobs → refusal c e handed ≡ None →
-    (b : Bool) → Tells (if b then takes (happens c e handed) (given_out c e) else Refuses 37) told →
-    Says log e seat (if b then takes (happens c e handed) (given_out c e) else Refuses 37) told
+    (b : Bool) → Tells (if b then takes (happens c e handed) (given_out c e) else Refuses Limit) told →
+    Says log e seat (if b then takes (happens c e handed) (given_out c e) else Refuses Limit) told
 limited_says log c e seat handed told same r true h = taken_says log c e seat handed told same r h
-limited_says log c e seat handed told same r false h = refused_says log e seat 37 told h
+limited_says log c e seat handed told same r false h = refused_says log e seat Limit told h
 
-decided_says : (log : List Entry) (c : Whole) (e : Event) (seat : ℕ) (handed : Handed) (told : Reply) → length (claims log) ≡ length c.jobs → (o : Option ℕ) →
+decided_says : (log : List Entry) (c : Whole) (e : Event) (seat : ℕ) (handed : Handed) (told : Reply) → length (claims log) ≡ length c.jobs → (o : Option Refusal) →
     refusal c e handed ≡ o → Tells (decided c e handed o) told → Says log e seat (decided c e handed o) told
 decided_says log c e seat handed told same None r h = limited_says log c e seat handed told same r (is_within_limits (happens c e handed).whole) h
 decided_says log c e seat handed told same (Some code) r h = refused_says log e seat code told h
@@ -222,27 +218,21 @@ behind_lines script (line ∷ ls) first q r h (between, here, rest) =
 
 -- ---- as the code records it
 
-same_next : (rest : List CodeEntry) → refused_next (log_of rest) ≡ recorded.refused_next rest
-same_next [] = refl
-same_next (entries.Refused r ∷ rest) = refl
-same_next (x ∷ rest) = refl
-
-same_given : (e : CodeEvent) (b : Bool) (n : ℕ) → recorded.given_by e b n ≡ given_at e b n
-same_given (events.Claim w) b n = refl
+same_given : (e : Event) (b : Bool) (n : ℕ) → recorded.given_by e b n ≡ given_at e b n
+same_given (Claim w) b n = refl
 same_given e b n = refl
 
-same_claims : (e : CodeEvent) (b : Bool) (n : ℕ) → recorded.claims_behind e b n ≡ claims_after e b n
-same_claims (events.Claim w) b n = refl
+same_claims : (e : Event) (b : Bool) (n : ℕ) → recorded.claims_behind e b n ≡ claims_after e b n
+same_claims (Claim w) b n = refl
 same_claims e b n = refl
 
-pub same_said : (n : ℕ) (log : List CodeEntry) → map said_by (recorded.recorded_from n log) ≡ said_from n (log_of log)
+pub same_said : (n : ℕ) (log : List Entry) → map said_by (recorded.recorded_from n log) ≡ said_from n log
 same_said n [] = refl
-same_said n (entries.In e s ∷ rest) =
-    let b = recorded.refused_next rest in
+same_said n (In e s ∷ rest) =
+    let b = refused_next rest in
     ap (λ g. said s e g ∷ map said_by (recorded.recorded_from (recorded.claims_behind e b n) rest)) (same_given e b n)
     ∙ ap (λ xs. said s e (given_at e b n) ∷ xs) (same_said (recorded.claims_behind e b n) rest)
-    ∙ ap (λ k. said s e (given_at e b n) ∷ said_from k (log_of rest)) (same_claims e b n)
-    ∙ ap (λ c. said s e (given_at e c n) ∷ said_from (claims_after e c n) (log_of rest)) (sym (same_next rest))
+    ∙ ap (λ k. said s e (given_at e b n) ∷ said_from k rest) (same_claims e b n)
 same_said n (x ∷ rest) = same_said n rest
 
 pub recorded_plays : (script : Script) (rs : List RecordedEvent) (a b : Play) → AllPlay (SaidPlays script) (map said_by rs) a b → PlaysHistory script rs a b

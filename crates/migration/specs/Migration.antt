@@ -4,8 +4,6 @@ use Rattle.meaning.specs.Syntax.{Script}
 use Rattle.event_log.specs.Entries.{Claim, Entry, Event, In}
 use Rattle.event_log.specs.Events.{refused_next}
 use Rattle.event_log.specs.Legal.{opening}
-use Rattle.event_log.specs.Views.{log_of}
-use Rattle.event_log.specs.declared.entry.Entry.{Entry as CodeEntry}
 use Rattle.event_files.specs.declared.line.Line.{Line}
 use Rattle.event_files.specs.declared.recorded.RecordedEvent.{RecordedEvent}
 use Rattle.histories.specs.Recorded.{recorded_in}
@@ -49,8 +47,8 @@ pub record Begins (p : Play) : Type 0 where
 -- the history of a replay of a file of format 1 replays to the same run
 abbrev pub HistoriesReplay : Type 0
 HistoriesReplay =
-    (script : Script) (lines : List Line) (first after : Play) (log : List CodeEntry) →
-    Begins first → Plays script lines first after → log_of log ≡ after.run.log →
+    (script : Script) (lines : List Line) (first after : Play) (log : List Entry) →
+    Begins first → Plays script lines first after → log ≡ after.run.log →
     (again : Play) × PlaysHistory script (recorded_in log) first again × (again.run ≡ after.run)
 
 -- a history replays to one run
@@ -62,6 +60,6 @@ OneRun =
 -- whatever comes of the history of a replay of a file of format 1 is the same run, with the same log
 abbrev pub MigratedIsSame : Type 0
 MigratedIsSame =
-    (script : Script) (lines : List Line) (first after again : Play) (log : List CodeEntry) →
-    Begins first → Plays script lines first after → log_of log ≡ after.run.log →
+    (script : Script) (lines : List Line) (first after again : Play) (log : List Entry) →
+    Begins first → Plays script lines first after → log ≡ after.run.log →
     PlaysHistory script (recorded_in log) first again → again.run ≡ after.run

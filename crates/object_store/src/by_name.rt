@@ -5,7 +5,7 @@ ghost use Rattle.protocol.specs.Stores.{copy_in, evict_refusal, evicted, lose_re
 ghost use Rattle.object_store.specs.Refusals.{refused};
 
 use crate::stores::{evict, get, lose, put_primary, put_secondary};
-use held::Content;
+use held::SharedContent;
 use ids::ObjectId;
 use log_entries::Refusal;
 use protocol_data::Store;
@@ -18,7 +18,7 @@ pub trait CopyStore {
         &mut self,
         object: ObjectId,
         number: u32,
-        content: Content,
+        content: SharedContent,
     ) -> Result<(), AllocError>;
 
     /// Puts a secondary copy as the one used last, unless there is a primary one. Where there are sixteen others, the one used longest ago goes.
@@ -28,7 +28,7 @@ pub trait CopyStore {
         alloc: Global,
         object: ObjectId,
         number: u32,
-        content: Content,
+        content: SharedContent,
     ) -> Result<(), AllocError>;
 
     /// The content of a copy, a primary before a secondary one. A secondary copy that is found is the one used last; where none is found the store is
@@ -38,7 +38,7 @@ pub trait CopyStore {
         alloc: Global,
         object: ObjectId,
         number: u32,
-    ) -> Result<Option<Content>, AllocError>;
+    ) -> Result<Option<SharedContent>, AllocError>;
 
     /// All secondary copies of the object go. Refused where there is none: pinned if a primary one is there. It takes no memory.
     fn evict(&mut self, object: ObjectId) -> Result<(), Refusal>;
@@ -52,7 +52,7 @@ impl CopyStore for Store {
         &mut self,
         object: ObjectId,
         number: u32,
-        content: Content,
+        content: SharedContent,
     ) -> Result<(), AllocError>
         ensures ok { OnOk result (self.new ≡ with_primary self.old object number content) }
         ensures err { OnErr result (self.new ≡ self.old) }
@@ -65,7 +65,7 @@ impl CopyStore for Store {
         alloc: Global,
         object: ObjectId,
         number: u32,
-        content: Content,
+        content: SharedContent,
     ) -> Result<(), AllocError>
         ensures ok { OnOk result (self.new ≡ with_secondary self.old object number content) }
         ensures err { OnErr result (self.new ≡ self.old) }
@@ -78,7 +78,7 @@ impl CopyStore for Store {
         alloc: Global,
         object: ObjectId,
         number: u32,
-    ) -> Result<Option<Content>, AllocError>
+    ) -> Result<Option<SharedContent>, AllocError>
         ensures content { IfOk result (λ c. c ≡ copy_in self.old object number) }
         ensures after { OnOk result (self.new ≡ looked_up self.old object number) }
         ensures none { IfOk result (λ c. IfNone c (self.new ≡ self.old)) }

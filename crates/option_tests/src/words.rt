@@ -106,6 +106,45 @@ fn reads_a_migration(rt: HostRuntime) -> Result<(), Fail> {
 }
 
 #[test]
+fn reads_which_faults_are_tried(rt: HostRuntime) -> Result<(), Fail> {
+    let alloc = rt.alloc();
+    let w = words(
+        alloc,
+        &[
+            "raysim",
+            "faults",
+            "sq.ray",
+            "--of",
+            "lose,evict",
+            "--nodes",
+            "3",
+        ],
+    )?;
+    let Request::Faults(faults) = options(alloc, w.as_slice())? else {
+        return Err(Fail::from("faults"));
+    };
+    assert_eq!(rt; faults.script, "sq.ray");
+    assert_eq!(rt; faults.events, None);
+    assert_eq!(rt; faults.nodes, 3);
+    assert_eq!(rt; faults.slots, 4);
+    assert_eq!(rt; faults.of, Some("lose,evict"));
+    assert_eq!(rt; faults.most, None);
+    let w = words(
+        alloc,
+        &[
+            "raysim", "faults", "sq.ray", "events", "--most", "9", "--out", "found",
+        ],
+    )?;
+    let Request::Faults(faults) = options(alloc, w.as_slice())? else {
+        return Err(Fail::from("faults"));
+    };
+    assert_eq!(rt; faults.events, Some("events"));
+    assert_eq!(rt; faults.most, Some("9"));
+    assert_eq!(rt; faults.out, Some("found"));
+    Ok(())
+}
+
+#[test]
 fn reads_what_is_to_be_told(rt: HostRuntime) -> Result<(), Fail> {
     let alloc = rt.alloc();
     let w = words(alloc, &["raysim", "log", "sq.ray", "--nodes", "2"])?;

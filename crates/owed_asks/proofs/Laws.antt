@@ -8,6 +8,7 @@ use Rattle.meaning.specs.Values.{Argument, Birth, Id, Name, Put, Task, Value}
 use Rattle.meaning.specs.Births.{birth_at}
 use Rattle.event_log.specs.Entries.{Attempt, Begun, Born, Claim, Commit, Deliver, Entry, Event, Evict, In, Join, Kill, KillNode, Lose, Notice, NoticeNode}
 use Rattle.event_log.specs.Entries.{Tick}
+use Rattle.event_log.specs.Entries.{Refusal, Limit}
 use Rattle.event_log.specs.Words.{attempt, births, next_serial, runs_of}
 use Rattle.event_log.specs.Events.{node_is_killed, node_of}
 use Rattle.event_log.specs.Breaks.{Among}
@@ -20,7 +21,7 @@ use Rattle.protocol.specs.Numbered.{changed_at, item_at}
 use Rattle.protocol.specs.Sets.{has, is_empty, object_id}
 use Rattle.protocol.specs.Messages.{Ask, Elsewhere, Give, Letter, Message, Party, Push, TheNode, TheWorker, letter}
 use Rattle.protocol.specs.Jobs.{Given, Handed, Nothing, OfAnother, OfJob}
-use Rattle.protocol.specs.Nodes.{Leased, Node, Outbox, Queued, Reply, SentOn, There}
+use Rattle.protocol.specs.Nodes.{AskReply, Leased, Node, Outbox, Queued, SentOn, There}
 use Rattle.protocol.specs.Slots.{ask_key, forgets, node_reached}
 use Rattle.protocol.specs.Tables.{AskedAt, AtRest, ByTask, Maker, Object, OwnTask, Progress, RunsOn, WasPut, Worker, task_in, task_of}
 use Rattle.protocol.specs.Steps.{Here, object_at, own_object}
@@ -73,13 +74,13 @@ same_step : (s t : Step) → ◌≡◌ {A = Answer} (Takes s) (Takes t) → s �
 same_step s t e = cc
 
 taken_by : (c : Whole) (e : Event) (handed : Handed) (step : Step) (b : Bool) →
-    (if b then takes (happens c e handed) (given_out c e) else Refuses 37) ≡ Takes step → IsTaken c e handed step
+    (if b then takes (happens c e handed) (given_out c e) else Refuses Limit) ≡ Takes step → IsTaken c e handed step
 taken_by c e handed step false f = absurd (cc)
 taken_by c e handed step true f =
     let is = same_step _ step f in
     record { whole = ap (λ (s : Step). s.whole) (sym is); entries = ap (λ (s : Step). s.entries) (sym is); letters = ap (λ (s : Step). s.letters) (sym is) }
 
-taken_so : (c : Whole) (e : Event) (handed : Handed) (step : Step) (code : Option ℕ) → decided c e handed code ≡ Takes step → IsTaken c e handed step
+taken_so : (c : Whole) (e : Event) (handed : Handed) (step : Step) (code : Option Refusal) → decided c e handed code ≡ Takes step → IsTaken c e handed step
 taken_so c e handed step None f = taken_by c e handed step (is_within_limits (happens c e handed).whole) f
 taken_so c e handed step (Some code) f = absurd (cc)
 
@@ -208,7 +209,7 @@ next_keeps s slots some slot apart gs right g is =
 -- ---- a calm run
 
 -- an answer that stands is one
-one_answer : (o : Option Reply) (a : Attempt) (t v m : ℕ) → Stands o (ask_key a t) (Give a t v) → Stands o (ask_key a t) (Elsewhere a t m) → ⊥
+one_answer : (o : Option AskReply) (a : Attempt) (t v m : ℕ) → Stands o (ask_key a t) (Give a t v) → Stands o (ask_key a t) (Elsewhere a t m) → ⊥
 unfolding Stands
 one_answer None a t v m p q = p
 one_answer (Some (Leased w)) a t v m p (inl e) = absurd (cc)

@@ -9,6 +9,7 @@ use Rattle.meaning.specs.Values.{Id, Outcome}
 use Rattle.values.specs.Listed.{each_once, ids_in_outcome}
 use Rattle.event_log.specs.Commits.{commit_entries}
 use Rattle.event_log.specs.Entries.{Attempt, Commit, Deliver, Entry, Event, Faulted, Got, OwnerDied}
+use Rattle.event_log.specs.Entries.{Refusal, NoJob, Stale}
 use Rattle.event_log.specs.Events.{from_one}
 use Rattle.event_log.specs.Breaks.{Among}
 use Rattle.protocol.specs.Numbered.{changed_at, item_at}
@@ -216,7 +217,7 @@ some_job Nothing e = absurd (cc)
 some_job OfAnother e = absurd (cc)
 some_job (OfJob d) e = (d, refl)
 
-unrefused_so : (c : Whole) (e : Event) (handed : Handed) (step : Step) (code : Option ℕ) → decided c e handed code ≡ Takes step → code ≡ None
+unrefused_so : (c : Whole) (e : Event) (handed : Handed) (step : Step) (code : Option Refusal) → decided c e handed code ≡ Takes step → code ≡ None
 unrefused_so c e handed step None f = refl
 unrefused_so c e handed step (Some code) f = absurd (cc)
 
@@ -226,20 +227,20 @@ module _ (c : Whole) (j w : ℕ) (handed : Handed) (g : Given) (at : item_at c.j
   open_so : commit_refusal c j handed (Some g) ≡ None
   open_so = ap (commit_refusal c j handed) (sym at) ∙ taken
 
-  two : (unless (not g.is_committed && is_of_job handed && is_out_by (worker_at c g.worker) j) 32 ≡ None) ×
-      (unless (is_live_worker (worker_at c g.worker)) 33 ≡ None)
-  two = both_passed (unless (not g.is_committed && is_of_job handed && is_out_by (worker_at c g.worker) j) 32) (unless (is_live_worker
-      (worker_at c g.worker)) 33) open_so
+  two : (unless (not g.is_committed && is_of_job handed && is_out_by (worker_at c g.worker) j) NoJob ≡ None) ×
+      (unless (is_live_worker (worker_at c g.worker)) Stale ≡ None)
+  two = both_passed (unless (not g.is_committed && is_of_job handed && is_out_by (worker_at c g.worker) j) NoJob) (unless (is_live_worker
+      (worker_at c g.worker)) Stale) open_so
 
   open_job : (not g.is_committed && is_of_job handed && is_out_by (worker_at c g.worker) j) ≡ true
-  open_job = passed (not g.is_committed && is_of_job handed && is_out_by (worker_at c g.worker) j) 32 two.0
+  open_job = passed (not g.is_committed && is_of_job handed && is_out_by (worker_at c g.worker) j) NoJob two.0
 
   done : (d : Outcomes) × (handed ≡ OfJob d)
   done = some_job handed (and_right (not g.is_committed) (is_of_job handed) (and_left (not g.is_committed && is_of_job handed) (is_out_by
       (worker_at c g.worker) j) open_job))
 
   who : (x : Worker) × (worker_at c g.worker ≡ Some x) × (x.is_live ≡ true)
-  who = some_worker (worker_at c g.worker) (passed (is_live_worker (worker_at c g.worker)) 33 two.1)
+  who = some_worker (worker_at c g.worker) (passed (is_live_worker (worker_at c g.worker)) Stale two.1)
 
   commit_of_job : (y : Id) (f : Option Fetching) (x : Worker) (last : Run) → worker_at (happens c (Commit j) handed).whole w ≡ Some x → x.run ≡ Some last →
       last.phase ≡ Waits y f → y.owner ≢ w → Sends (happens c (Commit j) handed).out.letters (TheWorker w) (TheWorker y.owner) (Where y)

@@ -7,6 +7,7 @@ use Rattle.meaning.specs.Values.{Birth, Id, Outcome}
 use Rattle.values.specs.Listed.{each_once, ids_in_outcome}
 use Rattle.event_log.specs.Commits.{commit_entries}
 use Rattle.event_log.specs.Entries.{Attempt, Entry, Event, Claim, Commit, Deliver, Tick, Notice, NoticeNode, Evict, Lose, Kill, KillNode, Join}
+use Rattle.event_log.specs.Entries.{Refusal, Limit}
 use Rattle.event_log.specs.Words.{same_attempt}
 use Rattle.event_log.specs.Breaks.{Among}
 use Rattle.protocol.specs.Numbered.{item_at, changed_at}
@@ -292,11 +293,11 @@ happens_routes c (KillNode n) handed k = kill_node_event c n _ k
 happens_routes c Join handed k = record { letters = k.letters; follow = k.follow; owners = k.owners }
 
 limited_routes : (c : Whole) (m : Moved) (b : Bool) (given : Option Job) → KeepsRoutes c → KeepsRoutes m.whole →
-    KeepsRoutes (whole_after c (if b then takes m given else Refuses 37))
+    KeepsRoutes (whole_after c (if b then takes m given else Refuses Limit))
 limited_routes c m true given k l = l
 limited_routes c m false given k l = k
 
-decided_routes : (c : Whole) (e : Event) (handed : Handed) (code : Option ℕ) → KeepsRoutes c → KeepsRoutes (whole_after c (decided c e handed code))
+decided_routes : (c : Whole) (e : Event) (handed : Handed) (code : Option Refusal) → KeepsRoutes c → KeepsRoutes (whole_after c (decided c e handed code))
 decided_routes c e handed None k =
     limited_routes c (happens c e handed) (is_within_limits (happens c e handed).whole) (given_out c e) k (happens_routes c e handed k)
 decided_routes c e handed (Some code) k = k

@@ -10,7 +10,7 @@ use Rattle.protocol.specs.Numbered.{item_at, changed_at}
 use Rattle.protocol.specs.Sets.{is_empty, object_id}
 use Rattle.protocol.specs.Messages.{Letter, letter, Message, Party, TheWorker, TheNode, Ask, Give, Elsewhere, Wait, Back, Push, Finished, FinishedAck, Failed}
 use Rattle.protocol.specs.Messages.{Where, At, Gone, Fetch, CopyOf, Missing, Hold, HoldAck, Unhold}
-use Rattle.protocol.specs.Nodes.{AskKey, Leased, Queued, Reply, SentOn, There}
+use Rattle.protocol.specs.Nodes.{AskKey, AskReply, Leased, Queued, SentOn, There}
 use Rattle.protocol.specs.Slots.{asks_slot, frees, reply_message}
 use Rattle.protocol.specs.Tables.{AskedAt, AtRest, ByTask, HasFaulted, Object, OwnTask, Progress, RunsOn, Worker, new_task, task_in, task_of, with_task}
 use Rattle.protocol.specs.Steps.{Here, logs, object_at, own_id, own_object, with_phase, with_run, with_task_of}
@@ -78,7 +78,7 @@ unasked_routed u to (Hold e o) f = tt
 unasked_routed u to (HoldAck e o) f = tt
 unasked_routed u to (Unhold e o why) f = tt
 
-answer_routed : (n : ℕ) (k : AskKey) (x : Reply) → IsRoutedBetween (TheNode n) (TheWorker k.attempt.object.owner) (reply_message k x)
+answer_routed : (n : ℕ) (k : AskKey) (x : AskReply) → IsRoutedBetween (TheNode n) (TheWorker k.attempt.object.owner) (reply_message k x)
 answer_routed n k (Leased w) = refl
 answer_routed n k (SentOn m) = refl
 answer_routed n k Queued = tt

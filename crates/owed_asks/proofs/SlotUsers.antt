@@ -14,7 +14,7 @@ use Rattle.protocol.specs.Sets.{first_item, has, least, repeated, rest_of, witho
 use Rattle.protocol.specs.Messages.{Letter, letter, Message, Party, TheWorker, TheNode, Ask, Give, Elsewhere, Wait, Back, Push, Finished, FinishedAck, Failed}
 use Rattle.protocol.specs.Messages.{Where, At, Gone, Fetch, CopyOf, Missing, Hold, HoldAck, Unhold}
 use Rattle.protocol.specs.Stores.{copy_in}
-use Rattle.protocol.specs.Nodes.{AskKey, Lease, Reply, Scheduler, SentOn, There, with_scheduler}
+use Rattle.protocol.specs.Nodes.{AskKey, AskReply, Lease, Scheduler, SentOn, There, with_scheduler}
 use Rattle.protocol.specs.Slots.{ask_key, asked_by, asks_slot, fetched, forgets, frees, gives_worker, grants, grants_next, grants_queued, has_free_slot}
 use Rattle.protocol.specs.Slots.{has_no_slot_for, is_back, is_latest_lease, leases_idle, leases_worker, may_be_idle, next_in_circle, next_worker}
 use Rattle.protocol.specs.Slots.{node_reached}
@@ -381,7 +381,7 @@ module _ (ws : List Worker) (net : List Letter) (n : ℕ) where
       T (asked_by t k (reply_to t.node.scheduler k))
   asked_used t k c fresh u = by_reply (reply_to t.node.scheduler k) refl
     where
-      by_reply : (x : Option Reply) → reply_to t.node.scheduler k ≡ x → T (asked_by t k x)
+      by_reply : (x : Option AskReply) → reply_to t.node.scheduler k ≡ x → T (asked_by t k x)
       by_reply None e = at_test (λ b. T (if b then gives_worker t k else has_no_slot_for t k)) (has_free_slot t.node.scheduler)
           (λ _. gives_used ws net n Nobody Nobody t k c (none_gone t.node.scheduler.idle) (fresh e) u)
           (λ _. at_test (λ b. T (if b then replies_anew t k (SentOn (next_in_circle t.nodes t.number)) else queues t k)) (nat_lt (k.t + 1) t.nodes)

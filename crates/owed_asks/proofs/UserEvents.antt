@@ -9,13 +9,14 @@ use Rattle.meaning.specs.Values.{Birth, Id, Outcome}
 use Rattle.values.specs.Listed.{each_once, ids_in_outcome}
 use Rattle.event_log.specs.Commits.{commit_entries}
 use Rattle.event_log.specs.Entries.{Attempt, Entry, Event, Claim, Commit, Deliver, Tick, Notice, NoticeNode, Evict, Lose, Kill, KillNode, Join, main_attempt}
+use Rattle.event_log.specs.Entries.{Refusal, NoWorker, NotReady, NoJob, Stale, NotDead, Limit}
 use Rattle.event_log.specs.Breaks.{Among}
 use Rattle.protocol.specs.Numbered.{item_at, changed_at}
 use Rattle.protocol.specs.Sets.{has, repeated}
 use Rattle.protocol.specs.Messages.{Letter, letter, Message, Party, TheWorker, TheNode, Ask, Give, Elsewhere, Wait, Back, Push, Finished, FinishedAck, Failed}
 use Rattle.protocol.specs.Messages.{Where, At, Gone, Fetch, CopyOf, Missing, Hold, HoldAck, Unhold}
 use Rattle.protocol.specs.Jobs.{AtEnd, AtGet, Given, Handed, Job, Nothing, OfAnother, OfJob, Outcomes, Stopped, stop_of}
-use Rattle.protocol.specs.Nodes.{Leased, Node, Queued, Reply, SentOn, There, new_node}
+use Rattle.protocol.specs.Nodes.{AskReply, Leased, Node, Queued, SentOn, There, new_node}
 use Rattle.protocol.specs.Stores.{with_ended}
 use Rattle.protocol.specs.Slots.{ask_key, forgets, node_reached, reply_to}
 use Rattle.protocol.specs.Tables.{Fetching, HasEnded, Out, Run, has_stopped, Waits, Worker, is_waiting_for, new_worker}
@@ -67,7 +68,7 @@ KeepsUses c = (n : ℕ) (node : Node) → node_at c n ≡ Some node → node.is_
 
 -- ---- an idle worker never began what is asked for
 
-unanswered : (o : Option Reply) (a : Attempt) (t v : ℕ) → (o ≡ None) ⊎ (o ≡ Some Queued) → Stands o (ask_key a t) (Give a t v) → ⊥
+unanswered : (o : Option AskReply) (a : Attempt) (t v : ℕ) → (o ≡ None) ⊎ (o ≡ Some Queued) → Stands o (ask_key a t) (Give a t v) → ⊥
 unfolding Stands
 unanswered None a t v e p = p
 unanswered (Some (Leased w)) a t v (inl e) p = absurd (cc)
@@ -77,7 +78,7 @@ unanswered (Some (SentOn w)) a t v (inr e) p = absurd (cc)
 unanswered (Some Queued) a t v e (inl p) = absurd (cc)
 unanswered (Some Queued) a t v e (inr (u, p, q)) = absurd (cc)
 
-not_sent_on : (o : Option Reply) (a : Attempt) (t m : ℕ) → (o ≡ None) ⊎ (o ≡ Some Queued) → Stands o (ask_key a t) (Elsewhere a t m) → ⊥
+not_sent_on : (o : Option AskReply) (a : Attempt) (t m : ℕ) → (o ≡ None) ⊎ (o ≡ Some Queued) → Stands o (ask_key a t) (Elsewhere a t m) → ⊥
 unfolding Stands
 not_sent_on None a t m e p = p
 not_sent_on (Some (Leased w)) a t m (inl e) p = absurd (cc)
@@ -367,9 +368,9 @@ claim_event : (c : Whole) (w : ℕ) → refusal c (Claim w) Nothing ≡ None →
 claim_event c w e knowing k =
     let jobs : List Given = c.jobs ++ record { worker = w; is_committed = false } ∷ [] in
     let d : Whole = record c { jobs = jobs } in
-    let two = both_passed (no_worker c w) (unless (is_ready c w) 31) e in
-    let ready : is_ready c w ≡ true = passed (is_ready c w) 31 two.1 in
-    worker_uses_event c jobs c.made c.delivered w (λ h. claim_step h (length c.jobs + 1)) (passed (is_live_worker (worker_at c w)) 30 two.0) knowing
+    let two = both_passed (no_worker c w) (unless (is_ready c w) NotReady) e in
+    let ready : is_ready c w ≡ true = passed (is_ready c w) NotReady two.1 in
+    worker_uses_event c jobs c.made c.delivered w (λ h. claim_step h (length c.jobs + 1)) (passed (is_live_worker (worker_at c w)) NoWorker two.0) knowing
     (λ x at node home lives node_lives u.
     let f : is_ready_on c w (Some x) ≡ true = ap (is_ready_on c w) (sym at) ∙ ready in
     let slot : has_slot w (Some node) ≡ true = ap (has_slot w) (sym home) ∙ and_right (x.is_live && is_ready_run x.run) (has_slot w (node_at c x.node)) f in
@@ -383,10 +384,10 @@ commit_event c j OfAnother g e knowing k = k
 commit_event c j (OfJob o) None e knowing k = k
 commit_event c j (OfJob o) (Some g) e knowing k =
     let open_job : Bool = not g.is_committed && is_of_job (OfJob o) in
-    let both = both_passed (unless (open_job && is_out_by (worker_at c g.worker) j) 32) (unless (is_live_worker (worker_at c g.worker)) 33) e in
+    let both = both_passed (unless (open_job && is_out_by (worker_at c g.worker) j) NoJob) (unless (is_live_worker (worker_at c g.worker)) Stale) e in
     let out : is_out_by (worker_at c g.worker) j ≡ true =
-    and_right open_job (is_out_by (worker_at c g.worker) j) (passed (open_job && is_out_by (worker_at c g.worker) j) 32 both.0) in
-    let live : is_live_worker (worker_at c g.worker) ≡ true = passed (is_live_worker (worker_at c g.worker)) 33 both.1 in
+    and_right open_job (is_out_by (worker_at c g.worker) j) (passed (open_job && is_out_by (worker_at c g.worker) j) NoJob both.0) in
+    let live : is_live_worker (worker_at c g.worker) ≡ true = passed (is_live_worker (worker_at c g.worker)) Stale both.1 in
     let d : Whole = with_committed c j (length o.births) in
     worker_uses_event c d.jobs d.made c.delivered g.worker (λ h. commit_step h o) live knowing
     (λ x at node home lives node_lives u.
@@ -622,31 +623,31 @@ happens_uses c (Claim w) handed e knowing k = claim_event c w e knowing k
 happens_uses c (Commit j) handed e knowing k = commit_event c j handed (item_at c.jobs j) e knowing k
 happens_uses c (Deliver i) handed e knowing k = deliver_event c i (item_at c.network i) refl knowing k
 happens_uses c (Tick w) handed e knowing k =
-    worker_uses_event c c.jobs c.made c.delivered w tick_step (passed (is_live_worker (worker_at c w)) 30 e) knowing
+    worker_uses_event c c.jobs c.made c.delivered w tick_step (passed (is_live_worker (worker_at c w)) NoWorker e) knowing
     (λ x at node home _ _ u. tick_step-kept AnyTold AnyOver GivenBy AnyPassed (Uses c w x.node x at None) (uses_kept c w x.node x at AnyTold AnyOver GivenBy None)
     (here c w x node) u) k
 happens_uses c (Notice w v) handed e knowing k =
     worker_uses_event c c.jobs c.made c.delivered w (λ h. notice_step h v)
-    (passed (is_live_worker (worker_at c w)) 30 (both_passed (no_worker c w) (unless (is_dead_worker (worker_at c v)) 35) e).0) knowing
+    (passed (is_live_worker (worker_at c w)) NoWorker (both_passed (no_worker c w) (unless (is_dead_worker (worker_at c v)) NotDead) e).0) knowing
     (λ x at node home _ _ u. notice_step-kept AnyTold AnyOver GivenBy AnyPassed (Uses c w x.node x at None) (uses_kept c w x.node x at AnyTold AnyOver GivenBy None)
     (here c w x node) v u) k
 happens_uses c (NoticeNode w n) handed e knowing k =
     worker_uses_event c c.jobs c.made c.delivered w (λ h. notice_node_step h n)
-    (passed (is_live_worker (worker_at c w)) 30 (both_passed (no_worker c w) (unless (is_dead_node (node_at c n)) 35) e).0) knowing
+    (passed (is_live_worker (worker_at c w)) NoWorker (both_passed (no_worker c w) (unless (is_dead_node (node_at c n)) NotDead) e).0) knowing
     (λ x at node home _ _ u. notice_node_step-kept AnyTold AnyOver GivenBy AnyPassed (Uses c w x.node x at None)
     (uses_kept c w x.node x at AnyTold AnyOver GivenBy None) (here c w x node) n (λ a i. tt) u) k
 happens_uses c (Evict n o) handed e knowing k = store_event c n _ (λ _. refl) (λ _. refl) k
 happens_uses c (Lose n o) handed e knowing k = store_event c n _ (λ _. refl) (λ _. refl) k
-happens_uses c (Kill w) handed e knowing k = kill_event c w (passed (is_live_worker (worker_at c w)) 30 e) knowing k
+happens_uses c (Kill w) handed e knowing k = kill_event c w (passed (is_live_worker (worker_at c w)) NoWorker e) knowing k
 happens_uses c (KillNode n) handed e knowing k = kill_node_event c n k
 happens_uses c Join handed e knowing k = join_event c k
 
 limited_uses : (c : Whole) (m : Moved) (b : Bool) (given : Option Job) → KeepsUses c → KeepsUses m.whole →
-    KeepsUses (whole_after c (if b then takes m given else Refuses 37))
+    KeepsUses (whole_after c (if b then takes m given else Refuses Limit))
 limited_uses c m true given k l = l
 limited_uses c m false given k l = k
 
-decided_uses : (c : Whole) (e : Event) (handed : Handed) (code : Option ℕ) → refusal c e handed ≡ code → Knowing c → KeepsUses c →
+decided_uses : (c : Whole) (e : Event) (handed : Handed) (code : Option Refusal) → refusal c e handed ≡ code → Knowing c → KeepsUses c →
     KeepsUses (whole_after c (decided c e handed code))
 decided_uses c e handed None unrefused knowing k =
     limited_uses c (happens c e handed) (is_within_limits (happens c e handed).whole) (given_out c e) k (happens_uses c e handed unrefused knowing k)

@@ -11,6 +11,7 @@ use Rattle.meaning.specs.Mains.{KeepsMainApart}
 use Rattle.event_log.specs.Breaks.{Among}
 use Rattle.event_log.specs.Entries.{Attempt, Claim, Commit, Deliver, Ended, Entry, Event, Evict, In, Join, Kill, KillNode, Lose, Notice, NoticeNode, Refused, Tick}
 use Rattle.event_log.specs.Entries.{main_attempt}
+use Rattle.event_log.specs.Entries.{Refusal, NoWorker, NotReady, NoJob, Stale, NoMessage, NotDead, Limit}
 use Rattle.event_log.specs.Events.{accepted_events, refused_next}
 use Rattle.event_log.specs.Legal.{opening}
 use Rattle.event_log.specs.Rules.{Setting}
@@ -27,7 +28,7 @@ use Rattle.protocol.specs.Messages.{Push, TheNode, TheWorker, Unhold, Wait, Wher
 use Rattle.protocol.specs.Nodes.{Node, There}
 use Rattle.protocol.specs.Notices.{notice_node_step, notice_step}
 use Rattle.protocol.specs.Numbered.{item_at}
-use Rattle.protocol.specs.Refusals.{commit_refusal, is_dead_node, is_dead_worker, is_of_job, is_out_by, is_ready, is_within_limits, no_worker, or_code, refusal, unless}
+use Rattle.protocol.specs.Refusals.{commit_refusal, is_dead_node, is_dead_worker, is_of_job, is_out_by, is_ready, is_within_limits, no_worker, or_refusal, refusal, unless}
 use Rattle.protocol.specs.Releases.{release_step}
 use Rattle.protocol.specs.Runs.{begins_run, is_free}
 use Rattle.protocol.specs.Sets.{repeated}
@@ -114,54 +115,54 @@ module _ (s : Setting) (log : List Entry) (c : Whole) (step : IsInStep s log c) 
 
   tick_fits : (w : ℕ) → no_worker c w ≡ None → Fits (Tick w) (worker_does c w tick_step)
   tick_fits w e =
-      let x : IsThere (worker_at c w) = live_there (worker_at c w) (passed (is_live_worker (worker_at c w)) 30 e) in
+      let x : IsThere (worker_at c w) = live_there (worker_at c w) (passed (is_live_worker (worker_at c w)) NoWorker e) in
       let n = home_of w x.worker x.at in
       of_worker (Tick w) c.jobs c.made c.delivered w x.worker x.at x.live n.0 n.1 tick_step
       (λ a. C.tick_goes s log c step replies k seat (Tick w) c.jobs c.made c.delivered w x.worker x.at x.live n.0 n.1 a (λ i v from l is. absurd (cc)) (λ i is. absurd (cc)))
 
-  claim_fits : (w : ℕ) → or_code (no_worker c w) (unless (is_ready c w) 31) ≡ None →
+  claim_fits : (w : ℕ) → or_refusal (no_worker c w) (unless (is_ready c w) NotReady) ≡ None →
       Fits (Claim w) (worker_does (record c { jobs = c.jobs ++ record { worker = w; is_committed = false } ∷ [] }) w (λ h. claim_step h (length c.jobs + 1)))
   claim_fits w e =
-      let x : IsThere (worker_at c w) = live_there (worker_at c w) (passed (is_live_worker (worker_at c w)) 30 (both_passed (no_worker c w) (unless (is_ready c w) 31) e).0) in
+      let x : IsThere (worker_at c w) = live_there (worker_at c w) (passed (is_live_worker (worker_at c w)) NoWorker (both_passed (no_worker c w) (unless (is_ready c w) NotReady) e).0) in
       let n = home_of w x.worker x.at in
       let jobs : List Given = c.jobs ++ record { worker = w; is_committed = false } ∷ [] in
       of_worker (Claim w) jobs c.made c.delivered w x.worker x.at x.live n.0 n.1 (λ h. claim_step h (length c.jobs + 1))
       (λ a. C.claim_goes s log c step replies k seat (Claim w) jobs c.made c.delivered w x.worker x.at x.live n.0 n.1 (length c.jobs + 1) a (λ i v from l is. absurd (cc)) (λ i is. absurd (cc)))
 
-  notice_fits : (w v : ℕ) → or_code (no_worker c w) (unless (is_dead_worker (worker_at c v)) 35) ≡ None → Fits (Notice w v) (worker_does c w (λ h. notice_step h v))
+  notice_fits : (w v : ℕ) → or_refusal (no_worker c w) (unless (is_dead_worker (worker_at c v)) NotDead) ≡ None → Fits (Notice w v) (worker_does c w (λ h. notice_step h v))
   notice_fits w v e =
-      let x : IsThere (worker_at c w) = live_there (worker_at c w) (passed (is_live_worker (worker_at c w)) 30
-      (both_passed (no_worker c w) (unless (is_dead_worker (worker_at c v)) 35) e).0) in
+      let x : IsThere (worker_at c w) = live_there (worker_at c w) (passed (is_live_worker (worker_at c w)) NoWorker
+      (both_passed (no_worker c w) (unless (is_dead_worker (worker_at c v)) NotDead) e).0) in
       let n = home_of w x.worker x.at in
       let h : Here = here c w x.worker n.0 in
       of_worker (Notice w v) c.jobs c.made c.delivered w x.worker x.at x.live n.0 n.1 (λ g. notice_step g v)
       (λ a. C.plain_goes s log c step replies k seat (Notice w v) c.jobs c.made c.delivered w x.worker x.at x.live n.0 n.1 (notice_step h v)
       (λ X Q kept q. R.notice_step-kept Q kept h v q) a (λ i u from l is. absurd (cc)) (λ run r j t i is. absurd (cc)))
 
-  notice_node_fits : (w v : ℕ) → or_code (no_worker c w) (unless (is_dead_node (node_at c v)) 35) ≡ None → Fits (NoticeNode w v) (worker_does c w (λ h. notice_node_step h v))
+  notice_node_fits : (w v : ℕ) → or_refusal (no_worker c w) (unless (is_dead_node (node_at c v)) NotDead) ≡ None → Fits (NoticeNode w v) (worker_does c w (λ h. notice_node_step h v))
   notice_node_fits w v e =
-      let x : IsThere (worker_at c w) = live_there (worker_at c w) (passed (is_live_worker (worker_at c w)) 30
-      (both_passed (no_worker c w) (unless (is_dead_node (node_at c v)) 35) e).0) in
+      let x : IsThere (worker_at c w) = live_there (worker_at c w) (passed (is_live_worker (worker_at c w)) NoWorker
+      (both_passed (no_worker c w) (unless (is_dead_node (node_at c v)) NotDead) e).0) in
       let n = home_of w x.worker x.at in
       let h : Here = here c w x.worker n.0 in
       of_worker (NoticeNode w v) c.jobs c.made c.delivered w x.worker x.at x.live n.0 n.1 (λ g. notice_node_step g v)
       (λ a. C.plain_goes s log c step replies k seat (NoticeNode w v) c.jobs c.made c.delivered w x.worker x.at x.live n.0 n.1 (notice_node_step h v)
       (λ X Q kept q. R.notice_node_step-kept Q kept h v q) a (λ i u from l is. absurd (cc)) (λ run r j t i is. absurd (cc)))
 
-  unhanded : (j : ℕ) (b d : Bool) (o : Option ℕ) → or_code (unless (d && false && b) 32) o ≡ None → Fits (Commit j) (moved c)
+  unhanded : (j : ℕ) (b d : Bool) (o : Option Refusal) → or_refusal (unless (d && false && b) NoJob) o ≡ None → Fits (Commit j) (moved c)
   unhanded j b true o f = absurd (cc)
   unhanded j b false o f = absurd (cc)
 
   commit_fits : (j : ℕ) (handed : Handed) (g : Option Given) → commit_refusal c j handed g ≡ None → Fits (Commit j) (committed_by c j handed g)
   commit_fits j handed None e = absurd (cc)
-  commit_fits j Nothing (Some g) e = unhanded j (is_out_by (worker_at c g.worker) j) (not g.is_committed) (unless (is_live_worker (worker_at c g.worker)) 33) e
-  commit_fits j OfAnother (Some g) e = unhanded j (is_out_by (worker_at c g.worker) j) (not g.is_committed) (unless (is_live_worker (worker_at c g.worker)) 33) e
+  commit_fits j Nothing (Some g) e = unhanded j (is_out_by (worker_at c g.worker) j) (not g.is_committed) (unless (is_live_worker (worker_at c g.worker)) Stale) e
+  commit_fits j OfAnother (Some g) e = unhanded j (is_out_by (worker_at c g.worker) j) (not g.is_committed) (unless (is_live_worker (worker_at c g.worker)) Stale) e
   commit_fits j (OfJob o) (Some g) e =
       let open_job : Bool = not g.is_committed && is_of_job (OfJob o) in
-      let both = both_passed (unless (open_job && is_out_by (worker_at c g.worker) j) 32) (unless (is_live_worker (worker_at c g.worker)) 33) e in
+      let both = both_passed (unless (open_job && is_out_by (worker_at c g.worker) j) NoJob) (unless (is_live_worker (worker_at c g.worker)) Stale) e in
       let out : is_out_by (worker_at c g.worker) j ≡ true =
-      and_right open_job (is_out_by (worker_at c g.worker) j) (passed (open_job && is_out_by (worker_at c g.worker) j) 32 both.0) in
-      let x : IsThere (worker_at c g.worker) = live_there (worker_at c g.worker) (passed (is_live_worker (worker_at c g.worker)) 33 both.1) in
+      and_right open_job (is_out_by (worker_at c g.worker) j) (passed (open_job && is_out_by (worker_at c g.worker) j) NoJob both.0) in
+      let x : IsThere (worker_at c g.worker) = live_there (worker_at c g.worker) (passed (is_live_worker (worker_at c g.worker)) Stale both.1) in
       let n = home_of g.worker x.worker x.at in
       let run : OutOf x.worker.run j = out_of x.worker.run j (ap (λ y. is_out_by y j) (sym x.at) ∙ out) in
       let d : Whole = with_committed c j (length o.births) in
@@ -318,8 +319,8 @@ module _ (s : Setting) (log : List Entry) (c : Whole) (step : IsInStep s log c) 
   sent_before : refusal c e handed ≡ None → (n : ℕ) → e ≡ Deliver n → (l : Letter) × (item_at c.network n ≡ Some l)
   sent_before f n is = by_letter (item_at c.network n) refl (subst (λ d. refusal c d handed ≡ None) is f)
     where
-      by_letter : (o : Option Letter) → item_at c.network n ≡ o → unless (is_some (item_at c.network n)) 34 ≡ None → (l : Letter) × (item_at c.network n ≡ Some l)
-      by_letter None at g = let h : unless (is_some (item_at c.network n)) 34 ≡ Some 34 = ap (λ o. unless (is_some o) 34) at in absurd (cc)
+      by_letter : (o : Option Letter) → item_at c.network n ≡ o → unless (is_some (item_at c.network n)) NoMessage ≡ None → (l : Letter) × (item_at c.network n ≡ Some l)
+      by_letter None at g = let h : unless (is_some (item_at c.network n)) NoMessage ≡ Some NoMessage = ap (λ o. unless (is_some o) NoMessage) at in absurd (cc)
       by_letter (Some l) at g = (l, at)
 
   taken_keeps : refusal c e handed ≡ None → Keeps (takes (happens c e handed) (given_out c e))
@@ -337,7 +338,7 @@ module _ (s : Setting) (log : List Entry) (c : Whole) (step : IsInStep s log c) 
       } in
       E.gone s log c step replies k e seat m a.after a.asks a.calm a.accepted a.network a.sent (event_fits s log c step replies k seat e handed unrefused a)
 
-  refused_keeps : (code : ℕ) → Keeps (Refuses code)
+  refused_keeps : (code : Refusal) → Keeps (Refuses code)
   refused_keeps code after asks calm k = record {
     pushes = k.pushes;
     behind = λ p i u w v a spec o less pushed hold.
@@ -355,11 +356,11 @@ module _ (s : Setting) (log : List Entry) (c : Whole) (step : IsInStep s log c) 
         };
   }
 
-  limited_keeps : (t : Bool) → refusal c e handed ≡ None → Keeps (if t then takes (happens c e handed) (given_out c e) else Refuses 37)
+  limited_keeps : (t : Bool) → refusal c e handed ≡ None → Keeps (if t then takes (happens c e handed) (given_out c e) else Refuses Limit)
   limited_keeps true unrefused = taken_keeps unrefused
-  limited_keeps false unrefused = refused_keeps 37
+  limited_keeps false unrefused = refused_keeps Limit
 
-  decided_keeps : (code : Option ℕ) → refusal c e handed ≡ code → Keeps (decided c e handed code)
+  decided_keeps : (code : Option Refusal) → refusal c e handed ≡ code → Keeps (decided c e handed code)
   decided_keeps None is = limited_keeps (is_within_limits (happens c e handed).whole) is
   decided_keeps (Some code) is = refused_keeps code
 

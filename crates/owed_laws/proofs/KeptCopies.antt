@@ -13,6 +13,7 @@ use Rattle.meaning.specs.Values.{Id, Put, main_birth}
 use Rattle.event_log.specs.Breaks.{Among}
 use Rattle.event_log.specs.Entries.{Accepted, Attempt, Claim, Commit, Deliver, Entry, Event, Evict, In, Join, Kill, KillNode, Lose, Notice, NoticeNode}
 use Rattle.event_log.specs.Entries.{Refused, Tick, main_object}
+use Rattle.event_log.specs.Entries.{Refusal, Limit}
 use Rattle.event_log.specs.Events.{accepted_events, from_one, loses, node_of, refused_next, was_lost}
 use Rattle.event_log.specs.Legal as L
 use Rattle.event_log.specs.Legal.{opening}
@@ -192,7 +193,7 @@ module _ (s : Setting) (log : List Entry) (c : Whole) (b : Between s log c) wher
       | inr (inr small) ↦ inr (inr (inr small))
     ]
 
-  module _ (k : KeepsMade log c) (e : Event) (seat code : ℕ) where
+  module _ (k : KeepsMade log c) (e : Event) (seat : ℕ) (code : Refusal) where
     abbrev refusing : List Entry
     refusing = In e seat ∷ Refused code ∷ []
 
@@ -235,11 +236,11 @@ module _ (s : Setting) (log : List Entry) (c : Whole) (before : IsInStep s log c
       (accepted-event log e seat m.out.entries (no_event m.out.entries q) ∙ ap (λ t. accepted_events log ++ (if t then [] else e ∷ [])) (not_refused m.out.entries q))
       (event_makes s log c before seat e handed unrefused)
 
-  limited_made : (t : Bool) → refusal c e handed ≡ None → Kept (if t then takes (happens c e handed) (given_out c e) else Refuses 37)
+  limited_made : (t : Bool) → refusal c e handed ≡ None → Kept (if t then takes (happens c e handed) (given_out c e) else Refuses Limit)
   limited_made true unrefused = taken_made unrefused
-  limited_made false unrefused = refused_made s log c before.sound.between k e seat 37
+  limited_made false unrefused = refused_made s log c before.sound.between k e seat Limit
 
-  decided_made : (code : Option ℕ) → refusal c e handed ≡ code → Kept (decided c e handed code)
+  decided_made : (code : Option Refusal) → refusal c e handed ≡ code → Kept (decided c e handed code)
   decided_made None is = limited_made (is_within_limits (happens c e handed).whole) is
   decided_made (Some code) is = refused_made s log c before.sound.between k e seat code
 

@@ -33,6 +33,7 @@ use Rattle.protocol.specs.Steps.{Here, store_here, with_phase, with_run, with_st
 use Rattle.protocol.specs.Tables.{HasEnded, Out, Ready, Run, Waits, Worker, has_stopped, is_waiting_for, knows_dead, needed_by, new_worker, object_needed, owner_of}
 use Rattle.protocol.specs.Whole.{Moved, Whole, after_worker, worker_at, worker_does_at, worker_does_by}
 use Rattle.event_log.specs.Entries.{main_attempt}
+use Rattle.event_log.specs.Entries.{Refusal, NoJob, Stale}
 use Rattle.event_log.specs.Words.{same_attempt}
 use Rattle.protocol_laws.specs.Coming.{IsRight}
 use Rattle.protocol_laws.specs.Sound.{IsSound}
@@ -161,13 +162,13 @@ commit_there c j w handed g at same unrefused = go handed refl (ap (commit_refus
     nothing q = never (and_parts (not g.is_committed) false q).1
 
     go : (i : Handed) → handed ≡ i → commit_refusal c j i (Some g) ≡ None → IsCommit c j w handed
-    go Nothing e h = absurd (nothing (and_parts (not g.is_committed && false) (is_out_by (worker_at c g.worker) j) (unless_none _ 32 (or_none _ _ h).0)).0)
-    go OfAnother e h = absurd (nothing (and_parts (not g.is_committed && false) (is_out_by (worker_at c g.worker) j) (unless_none _ 32 (or_none _ _ h).0)).0)
+    go Nothing e h = absurd (nothing (and_parts (not g.is_committed && false) (is_out_by (worker_at c g.worker) j) (unless_none _ NoJob (or_none _ _ h).0)).0)
+    go OfAnother e h = absurd (nothing (and_parts (not g.is_committed && false) (is_out_by (worker_at c g.worker) j) (unless_none _ NoJob (or_none _ _ h).0)).0)
     go (OfJob d) e h =
-        let parts = or_none (unless (not g.is_committed && true && is_out_by (worker_at c g.worker) j) 32) (unless (is_live_worker (worker_at c g.worker)) 33) h in
-        let l = live_worker c g.worker (unless_none (is_live_worker (worker_at c g.worker)) 33 parts.1) in
+        let parts = or_none (unless (not g.is_committed && true && is_out_by (worker_at c g.worker) j) NoJob) (unless (is_live_worker (worker_at c g.worker)) Stale) h in
+        let l = live_worker c g.worker (unless_none (is_live_worker (worker_at c g.worker)) Stale parts.1) in
         let a = and_parts (not g.is_committed && true) (is_out_by (worker_at c g.worker) j)
-        (unless_none (not g.is_committed && true && is_out_by (worker_at c g.worker) j) 32 parts.0) in
+        (unless_none (not g.is_committed && true && is_out_by (worker_at c g.worker) j) NoJob parts.0) in
         let run = out_run l.worker.run j (ap (λ (i : Option Worker). is_out_by i j) (sym l.at) ∙ a.1) in
         record {
           given = g;
@@ -188,7 +189,7 @@ from_mapped : (f : Given → ℕ) (xs : List Given) (k w : ℕ) → from_one (ma
 from_mapped f xs zero w e = absurd (cc)
 from_mapped f xs (suc i) w e = item_mapped f xs (suc i) w e
 
-unrefused_so : (c : Whole) (e : Event) (handed : Handed) (step : Step) (code : Option ℕ) → decided c e handed code ≡ Takes step → code ≡ None
+unrefused_so : (c : Whole) (e : Event) (handed : Handed) (step : Step) (code : Option Refusal) → decided c e handed code ≡ Takes step → code ≡ None
 unrefused_so c e handed step None f = refl
 unrefused_so c e handed step (Some code) f = absurd (cc)
 

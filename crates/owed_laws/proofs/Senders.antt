@@ -5,6 +5,7 @@ use Rattle.meaning.proofs.BirthLaws.{at_test}
 use Rattle.meaning.specs.Values.{Id, Outcome}
 use Rattle.event_log.specs.Breaks.{Among}
 use Rattle.event_log.specs.Entries.{Claim, Commit, Deliver, Event, Evict, Join, Kill, KillNode, Lose, Notice, NoticeNode, Tick}
+use Rattle.event_log.specs.Entries.{Refusal, Limit}
 use Rattle.protocol.specs.Answers.{Refuses, decided, given_out, takes, whole_after}
 use Rattle.protocol.specs.Commits.{claim_step, commit_step}
 use Rattle.protocol.specs.Deliveries.{reached}
@@ -12,7 +13,7 @@ use Rattle.protocol.specs.Events.{committed_by, dead, delivered_by, delivered_to
 use Rattle.protocol.specs.Jobs.{Given, Handed, Nothing, OfAnother, OfJob}
 use Rattle.protocol.specs.Messages.{Ask, At, Back, CopyOf, Elsewhere, Failed, Fetch, Finished, FinishedAck, Give, Gone, Hold, HoldAck, Letter, Message, Missing, Party, Push}
 use Rattle.protocol.specs.Messages.{TheNode, TheWorker, Unhold, Wait, Where, letter}
-use Rattle.protocol.specs.Nodes.{AskKey, Leased, Node, Queued, Reply, SentOn, There}
+use Rattle.protocol.specs.Nodes.{AskKey, AskReply, Leased, Node, Queued, SentOn, There}
 use Rattle.protocol.specs.Notices.{notice_node_step, notice_step}
 use Rattle.protocol.specs.Numbered.{changed_at, item_at}
 use Rattle.protocol.specs.Refusals.{is_within_limits, refusal}
@@ -62,7 +63,7 @@ module _ (Who : ℕ → Type 0) where
       same_worker : (w v : ℕ) → TheWorker w ≡ TheWorker v → w ≡ v
       same_worker w v e = cc
 
-  replied : (k : AskKey) (x : Reply) (y : Id) (number m : ℕ) → reply_message k x ≡ Missing y number m → ⊥
+  replied : (k : AskKey) (x : AskReply) (y : Id) (number m : ℕ) → reply_message k x ≡ Missing y number m → ⊥
   replied k (Leased w) y number m e = cc
   replied k (SentOn n) y number m e = cc
   replied k Queued y number m e = cc
@@ -232,9 +233,9 @@ happens_said c (KillNode n) handed k =
     grown (IsHere c) (IsHere (happens c (KillNode n) handed).whole) (λ v x. still_mapped (dies_with n) c.workers v x.0 x.1) c.network k
 happens_said c Join handed k = k
 
-decided_said : (c : Whole) (e : Event) (handed : Handed) (code : Option ℕ) → KeepsSenders c → KeepsSenders (whole_after c (decided c e handed code))
+decided_said : (c : Whole) (e : Event) (handed : Handed) (code : Option Refusal) → KeepsSenders c → KeepsSenders (whole_after c (decided c e handed code))
 decided_said c e handed None k =
-    at_test (λ b. KeepsSenders (whole_after c (if b then takes (happens c e handed) (given_out c e) else Refuses 37))) (is_within_limits (happens c e handed).whole)
+    at_test (λ b. KeepsSenders (whole_after c (if b then takes (happens c e handed) (given_out c e) else Refuses Limit))) (is_within_limits (happens c e handed).whole)
     (λ _. happens_said c e handed k) (λ _. k)
 decided_said c e handed (Some code) k = k
 

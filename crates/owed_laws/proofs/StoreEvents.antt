@@ -8,6 +8,7 @@ use Rattle.meaning.specs.Births.{same_id}
 use Rattle.meaning.specs.Values.{Id, Outcome}
 use Rattle.event_log.specs.Commits.{commit_entries}
 use Rattle.event_log.specs.Entries.{Claim, Commit, Deliver, Entry, Event, Evict, In, Join, Kill, KillNode, Lose, Notice, NoticeNode, Tick}
+use Rattle.event_log.specs.Entries.{Refusal, NoJob, Stale}
 use Rattle.event_log.specs.Events.{node_of}
 use Rattle.event_log.specs.Rules.{Setting}
 use Rattle.event_log.specs.Words.{attempt, worker_of}
@@ -22,7 +23,7 @@ use Rattle.protocol.specs.Messages.{Party, Push, Reason, TheNode, TheWorker, Unh
 use Rattle.protocol.specs.Nodes.{Node, There, new_node}
 use Rattle.protocol.specs.Notices.{notice_node_step, notice_step}
 use Rattle.protocol.specs.Numbered.{changed_at, item_at}
-use Rattle.protocol.specs.Refusals.{commit_refusal, is_of_job, is_out_by, or_code, refusal, unless}
+use Rattle.protocol.specs.Refusals.{commit_refusal, is_of_job, is_out_by, or_refusal, refusal, unless}
 use Rattle.protocol.specs.Releases.{release_step}
 use Rattle.protocol.specs.Slots.{ask_key, fetched, forgets, node_reached, node_reached_from, reply_to}
 use Rattle.protocol.specs.Steps.{Here}
@@ -349,21 +350,21 @@ module _ (s : Setting) (log : List Entry) (c : Whole) (before : IsInStep s log c
   silent : (e : Event) (m : Moved) → Silent c e m → Makes c (After e m) e m
   silent e m p = makes_none c (After e m) e m p.0 p.1
 
-  unhanded : (j : ℕ) (b d : Bool) (o : Option ℕ) → or_code (unless (d && false && b) 32) o ≡ None → Makes c (After (Commit j) (moved c)) (Commit j) (moved c)
+  unhanded : (j : ℕ) (b d : Bool) (o : Option Refusal) → or_refusal (unless (d && false && b) NoJob) o ≡ None → Makes c (After (Commit j) (moved c)) (Commit j) (moved c)
   unhanded j b true o f = absurd (cc)
   unhanded j b false o f = absurd (cc)
 
   commits_make : (j : ℕ) (handed : Handed) (g : Option Given) → commit_refusal c j handed g ≡ None →
       Makes c (After (Commit j) (committed_by c j handed g)) (Commit j) (committed_by c j handed g)
   commits_make j handed None e = absurd (cc)
-  commits_make j Nothing (Some g) e = unhanded j (is_out_by (worker_at c g.worker) j) (not g.is_committed) (unless (is_live_worker (worker_at c g.worker)) 33) e
-  commits_make j OfAnother (Some g) e = unhanded j (is_out_by (worker_at c g.worker) j) (not g.is_committed) (unless (is_live_worker (worker_at c g.worker)) 33) e
+  commits_make j Nothing (Some g) e = unhanded j (is_out_by (worker_at c g.worker) j) (not g.is_committed) (unless (is_live_worker (worker_at c g.worker)) Stale) e
+  commits_make j OfAnother (Some g) e = unhanded j (is_out_by (worker_at c g.worker) j) (not g.is_committed) (unless (is_live_worker (worker_at c g.worker)) Stale) e
   commits_make j (OfJob o) (Some g) e =
       let open_job : Bool = not g.is_committed && is_of_job (OfJob o) in
-      let both = both_passed (unless (open_job && is_out_by (worker_at c g.worker) j) 32) (unless (is_live_worker (worker_at c g.worker)) 33) e in
+      let both = both_passed (unless (open_job && is_out_by (worker_at c g.worker) j) NoJob) (unless (is_live_worker (worker_at c g.worker)) Stale) e in
       let out : is_out_by (worker_at c g.worker) j ≡ true =
-      and_right open_job (is_out_by (worker_at c g.worker) j) (passed (open_job && is_out_by (worker_at c g.worker) j) 32 both.0) in
-      let x : LiveOne (worker_at c g.worker) = live_one (worker_at c g.worker) (passed (is_live_worker (worker_at c g.worker)) 33 both.1) in
+      and_right open_job (is_out_by (worker_at c g.worker) j) (passed (open_job && is_out_by (worker_at c g.worker) j) NoJob both.0) in
+      let x : LiveOne (worker_at c g.worker) = live_one (worker_at c g.worker) (passed (is_live_worker (worker_at c g.worker)) Stale both.1) in
       let n = before.leases.homes g.worker x.worker x.at in
       let run : OutOf x.worker.run j = out_of x.worker.run j (ap (λ y. is_out_by y j) (sym x.at) ∙ out) in
       let d : Whole = with_committed c j (length o.births) in

@@ -8,6 +8,7 @@ use Rattle.meaning.specs.Readings.{IsBorn}
 use Rattle.meaning.specs.Values.{Id}
 use Rattle.event_log.specs.Breaks.{Among}
 use Rattle.event_log.specs.Entries.{Accepted, Attempt, Begun, Born, Deliver, Entry, Opened, main_attempt, main_object}
+use Rattle.event_log.specs.Entries.{NoMessage, Limit}
 use Rattle.event_log.specs.Legal as L
 use Rattle.event_log.specs.Legal.{opening}
 use Rattle.event_log.specs.Rules.{Allowed, Setting}
@@ -40,7 +41,7 @@ pub record IsOut (m : Moved) (step : Step) : Type 0 where
   pub entries : step.entries ≡ m.out.entries
   pub letters : step.letters ≡ m.out.letters
 
-pub taken_out : (m : Moved) (given : Option Job) (b : Bool) (step : Step) → (if b then takes m given else Refuses 37) ≡ Takes step → IsOut m step
+pub taken_out : (m : Moved) (given : Option Job) (b : Bool) (step : Step) → (if b then takes m given else Refuses Limit) ≡ Takes step → IsOut m step
 taken_out m given true step e = record { entries = sym (ap entries_in e); letters = sym (ap letters_in e) }
   where
     entries_in : Answer → List Entry
@@ -63,8 +64,8 @@ module _ (c : Whole) (i : ℕ) (handed : Handed) (step : Step) (from : Party) (w
   delivered_out =
       let d : Whole = with_delivered c i in
       let f : Here → Here = λ h. reached h from m in
-      let unrefused : refusal c (Deliver i) handed ≡ None = ap (λ y. unless (is_some y) 34) sent in
-      let g : (if is_within_limits (delivered c i).whole then takes (delivered c i) None else Refuses 37) ≡ Takes step = ap (decided c (Deliver i) handed) (sym unrefused) ∙ answered in
+      let unrefused : refusal c (Deliver i) handed ≡ None = ap (λ y. unless (is_some y) NoMessage) sent in
+      let g : (if is_within_limits (delivered c i).whole then takes (delivered c i) None else Refuses Limit) ≡ Takes step = ap (decided c (Deliver i) handed) (sym unrefused) ∙ answered in
       let out : (delivered c i).out ≡ (release_step (reached (here c w x node) from m)).there.out =
       ap (λ y. (delivered_by c i y).out) sent ∙
       ap (λ y. (if is_live_worker y then worker_does d w f else moved d).out) at ∙

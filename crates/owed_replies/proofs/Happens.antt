@@ -14,6 +14,7 @@ use Rattle.values.specs.Listed.{each_once, ids_in_outcome}
 use Rattle.event_log.specs.Breaks.{Among}
 use Rattle.event_log.specs.Commits.{commit_entries}
 use Rattle.event_log.specs.Entries.{Attempt, Born, Claim, Commit, Deliver, Ended, Entry, Event, Evict, In, Join, Kill, KillNode, Lose, Notice, NoticeNode, Tick}
+use Rattle.event_log.specs.Entries.{Refusal, NoWorker, NotReady, NoJob, Stale, NoMessage, NotDead}
 use Rattle.event_log.specs.Events.{accepted_events}
 use Rattle.event_log.specs.Holding.{ids_of_birth}
 use Rattle.event_log.specs.Rules.{Setting}
@@ -41,7 +42,7 @@ use Rattle.protocol.specs.Ticks.{tick_step}
 use Rattle.protocol.specs.Releases.{release_step}
 use Rattle.protocol.specs.Whole.{Moved, Whole, after_node, after_worker, here, moved, node_at, node_does, node_does_by, there, worker_at, worker_does, worker_does_at, worker_does_by}
 use Rattle.protocol.specs.Events.{as_committed, claimed, committed_by, dead, delivered_by, delivered_to, dies_with, happens, is_live_node, is_live_worker, killed_by, with_committed, with_delivered}
-use Rattle.protocol.specs.Refusals.{commit_refusal, is_dead_node, is_dead_worker, is_of_job, is_out_by, is_ready, no_worker, or_code, refusal, unless}
+use Rattle.protocol.specs.Refusals.{commit_refusal, is_dead_node, is_dead_worker, is_of_job, is_out_by, is_ready, no_worker, or_refusal, refusal, unless}
 use Rattle.protocol_owed.specs.Replies.{IsRequest}
 use Rattle.protocol_owed.proofs.Moves as M
 use Rattle.protocol_owed.proofs.Counting.{happens-counted, no_event, not_refused}
@@ -272,34 +273,34 @@ module _ (s : Setting) (log : List Entry) (c : Whole) (before : IsInStep s log c
 
   tick_advances : (w : ℕ) → no_worker c w ≡ None → Advances log c (Tick w) seat (worker_does c w tick_step)
   tick_advances w e =
-      let x = live_there (worker_at c w) (passed (is_live_worker (worker_at c w)) 30 e) in
+      let x = live_there (worker_at c w) (passed (is_live_worker (worker_at c w)) NoWorker e) in
       let n = home_of w x.worker x.at in
       let h : Here = here c w x.worker n.0 in
       does_advance (Tick w) c.jobs c.made c.delivered w x.worker x.at x.live n.0 n.1 tick_step (λ P kept g p. M.tick_step-kept P kept g p)
       (λ q. tick_step-kept _ (pays_kept _ _ _ _ _ _) h tt tt q) (λ i v o m is. absurd (cc))
       (λ run is _. (steady_end h (tick_step h) (tick_step-kept _ (steady_kept x.worker.objects (attempt_by x.worker.run)) h tt tt (steady_start h))).attempt ∙ ap attempt_by is)
 
-  notice_advances : (w v : ℕ) → or_code (no_worker c w) (unless (is_dead_worker (worker_at c v)) 35) ≡ None → Advances log c (Notice w v) seat (worker_does c w (λ h. notice_step h v))
+  notice_advances : (w v : ℕ) → or_refusal (no_worker c w) (unless (is_dead_worker (worker_at c v)) NotDead) ≡ None → Advances log c (Notice w v) seat (worker_does c w (λ h. notice_step h v))
   notice_advances w v e =
-      let x = live_there (worker_at c w) (passed (is_live_worker (worker_at c w)) 30 (both_passed (no_worker c w) (unless (is_dead_worker (worker_at c v)) 35) e).0) in
+      let x = live_there (worker_at c w) (passed (is_live_worker (worker_at c w)) NoWorker (both_passed (no_worker c w) (unless (is_dead_worker (worker_at c v)) NotDead) e).0) in
       let n = home_of w x.worker x.at in
       let h : Here = here c w x.worker n.0 in
       does_advance (Notice w v) c.jobs c.made c.delivered w x.worker x.at x.live n.0 n.1 (λ g. notice_step g v) (λ P kept g p. M.notice_step-kept P kept g v p)
       (λ q. notice_step-kept _ (pays_kept _ _ _ _ _ _) h v q) (λ i u o m is. absurd (cc))
       (λ run is _. (steady_end h (notice_step h v) (notice_step-kept _ (steady_kept x.worker.objects (attempt_by x.worker.run)) h v (steady_start h))).attempt ∙ ap attempt_by is)
 
-  notice_node_advances : (w m : ℕ) → or_code (no_worker c w) (unless (is_dead_node (node_at c m)) 35) ≡ None → Advances log c (NoticeNode w m) seat (worker_does c w (λ h. notice_node_step h m))
+  notice_node_advances : (w m : ℕ) → or_refusal (no_worker c w) (unless (is_dead_node (node_at c m)) NotDead) ≡ None → Advances log c (NoticeNode w m) seat (worker_does c w (λ h. notice_node_step h m))
   notice_node_advances w m e =
-      let x = live_there (worker_at c w) (passed (is_live_worker (worker_at c w)) 30 (both_passed (no_worker c w) (unless (is_dead_node (node_at c m)) 35) e).0) in
+      let x = live_there (worker_at c w) (passed (is_live_worker (worker_at c w)) NoWorker (both_passed (no_worker c w) (unless (is_dead_node (node_at c m)) NotDead) e).0) in
       let n = home_of w x.worker x.at in
       let h : Here = here c w x.worker n.0 in
       does_advance (NoticeNode w m) c.jobs c.made c.delivered w x.worker x.at x.live n.0 n.1 (λ g. notice_node_step g m) (λ P kept g p. M.notice_node_step-kept P kept g m p)
       (λ q. notice_node_step-kept _ (pays_kept _ _ _ _ _ _) h m q) (λ i u o v is. absurd (cc))
       (λ run is _. (steady_end h (notice_node_step h m) (notice_node_step-kept _ (steady_kept x.worker.objects (attempt_by x.worker.run)) h m (steady_start h))).attempt ∙ ap attempt_by is)
 
-  claim_advances : (w : ℕ) → or_code (no_worker c w) (unless (is_ready c w) 31) ≡ None → Advances log c (Claim w) seat (claimed c w)
+  claim_advances : (w : ℕ) → or_refusal (no_worker c w) (unless (is_ready c w) NotReady) ≡ None → Advances log c (Claim w) seat (claimed c w)
   claim_advances w e =
-      let x = live_there (worker_at c w) (passed (is_live_worker (worker_at c w)) 30 (both_passed (no_worker c w) (unless (is_ready c w) 31) e).0) in
+      let x = live_there (worker_at c w) (passed (is_live_worker (worker_at c w)) NoWorker (both_passed (no_worker c w) (unless (is_ready c w) NotReady) e).0) in
       let n = home_of w x.worker x.at in
       let jobs : List Given = c.jobs ++ record { worker = w; is_committed = false } ∷ [] in
       let h : Here = here (with_parts jobs c.made c.delivered) w x.worker n.0 in
@@ -376,22 +377,22 @@ module _ (s : Setting) (log : List Entry) (c : Whole) (before : IsInStep s log c
   commit_advances : (j : ℕ) (handed : Handed) (g : Option Given) → commit_refusal c j handed g ≡ None →
       IsInStep s (log ++ In (Commit j) seat ∷ (committed_by c j handed g).out.entries) (committed_by c j handed g).whole → Advances log c (Commit j) seat (committed_by c j handed g)
   commit_advances j handed None e after = absurd (cc)
-  commit_advances j Nothing (Some g) e after = nothing_handed (is_out_by (worker_at c g.worker) j) (not g.is_committed) (unless (is_live_worker (worker_at c g.worker)) 33) e
+  commit_advances j Nothing (Some g) e after = nothing_handed (is_out_by (worker_at c g.worker) j) (not g.is_committed) (unless (is_live_worker (worker_at c g.worker)) Stale) e
     where
-      nothing_handed : (b d : Bool) (o : Option ℕ) → or_code (unless (d && false && b) 32) o ≡ None → Advances log c (Commit j) seat (moved c)
+      nothing_handed : (b d : Bool) (o : Option Refusal) → or_refusal (unless (d && false && b) NoJob) o ≡ None → Advances log c (Commit j) seat (moved c)
       nothing_handed b true o f = absurd (cc)
       nothing_handed b false o f = absurd (cc)
-  commit_advances j OfAnother (Some g) e after = nothing_handed (is_out_by (worker_at c g.worker) j) (not g.is_committed) (unless (is_live_worker (worker_at c g.worker)) 33) e
+  commit_advances j OfAnother (Some g) e after = nothing_handed (is_out_by (worker_at c g.worker) j) (not g.is_committed) (unless (is_live_worker (worker_at c g.worker)) Stale) e
     where
-      nothing_handed : (b d : Bool) (o : Option ℕ) → or_code (unless (d && false && b) 32) o ≡ None → Advances log c (Commit j) seat (moved c)
+      nothing_handed : (b d : Bool) (o : Option Refusal) → or_refusal (unless (d && false && b) NoJob) o ≡ None → Advances log c (Commit j) seat (moved c)
       nothing_handed b true o f = absurd (cc)
       nothing_handed b false o f = absurd (cc)
   commit_advances j (OfJob o) (Some g) e after =
       let open_job : Bool = not g.is_committed && is_of_job (OfJob o) in
-      let both = both_passed (unless (open_job && is_out_by (worker_at c g.worker) j) 32) (unless (is_live_worker (worker_at c g.worker)) 33) e in
+      let both = both_passed (unless (open_job && is_out_by (worker_at c g.worker) j) NoJob) (unless (is_live_worker (worker_at c g.worker)) Stale) e in
       let out : is_out_by (worker_at c g.worker) j ≡ true =
-      and_right open_job (is_out_by (worker_at c g.worker) j) (passed (open_job && is_out_by (worker_at c g.worker) j) 32 both.0) in
-      let x = live_there (worker_at c g.worker) (passed (is_live_worker (worker_at c g.worker)) 33 both.1) in
+      and_right open_job (is_out_by (worker_at c g.worker) j) (passed (open_job && is_out_by (worker_at c g.worker) j) NoJob both.0) in
+      let x = live_there (worker_at c g.worker) (passed (is_live_worker (worker_at c g.worker)) Stale both.1) in
       let n = home_of g.worker x.worker x.at in
       let run : OutOf x.worker.run j = out_of x.worker.run j (ap (λ y. is_out_by y j) (sym x.at) ∙ out) in
       let d : Whole = with_committed c j (length o.births) in
@@ -681,9 +682,9 @@ module _ (s : Setting) (log : List Entry) (c : Whole) (before : IsInStep s log c
   event_advances Join handed e after = nothing_advances Join _ refl (same_left _ refl) (λ i v p m x is. absurd (cc))
 
   sent_before : (e : Event) (handed : Handed) → refusal c e handed ≡ None → (i : ℕ) → e ≡ Deliver i → (l : Letter) × (item_at c.network i ≡ Some l)
-  sent_before (Deliver j) handed e i is = let same : j ≡ i = cc in by_letter (item_at c.network i) refl (subst (λ q. unless (is_some (item_at c.network q)) 34 ≡ None) same e)
+  sent_before (Deliver j) handed e i is = let same : j ≡ i = cc in by_letter (item_at c.network i) refl (subst (λ q. unless (is_some (item_at c.network q)) NoMessage ≡ None) same e)
     where
-      by_letter : (o : Option Letter) → item_at c.network i ≡ o → unless (is_some o) 34 ≡ None → (l : Letter) × (item_at c.network i ≡ Some l)
+      by_letter : (o : Option Letter) → item_at c.network i ≡ o → unless (is_some o) NoMessage ≡ None → (l : Letter) × (item_at c.network i ≡ Some l)
       by_letter None f g = absurd (cc)
       by_letter (Some l) f g = (l, f)
   sent_before (Claim w) handed e i is = absurd (cc)

@@ -3,6 +3,7 @@ use Rattle.std.proofs.Common.{◌≡◌, ℕ, List, [], ◌∷◌, ◌++◌, Som
 use Rattle.std.specs.Prelude.{Bool, true, false, if◌then◌else◌}
 use Rattle.event_log.specs.Breaks.{Among}
 use Rattle.event_log.specs.Entries.{Accepted, Attempt, Entry, Event, In}
+use Rattle.event_log.specs.Entries.{Refusal, Limit}
 use Rattle.event_log.specs.Rules.{Setting}
 use Rattle.protocol.specs.Answers.{Answer, Refuses, Step, Takes, answer, decided, given_out, logged, takes, whole_after}
 use Rattle.protocol.specs.Events.{happens}
@@ -29,11 +30,11 @@ record IsTaken (c : Whole) (e : Event) (handed : Handed) (step : Step) : Type 0 
 taken : (c : Whole) (e : Event) (handed : Handed) (step : Step) → answer c e handed ≡ Takes step → IsTaken c e handed step
 taken c e handed step answered = by_code (refusal c e handed) refl answered
   where
-    by_limit : (t : Bool) → refusal c e handed ≡ None → (if t then takes (happens c e handed) (given_out c e) else Refuses 37) ≡ Takes step → IsTaken c e handed step
+    by_limit : (t : Bool) → refusal c e handed ≡ None → (if t then takes (happens c e handed) (given_out c e) else Refuses Limit) ≡ Takes step → IsTaken c e handed step
     by_limit true is f = record { unrefused = is; same = f }
     by_limit false is f = absurd (cc)
 
-    by_code : (o : Option ℕ) → refusal c e handed ≡ o → decided c e handed o ≡ Takes step → IsTaken c e handed step
+    by_code : (o : Option Refusal) → refusal c e handed ≡ o → decided c e handed o ≡ Takes step → IsTaken c e handed step
     by_code None is f = by_limit (is_within_limits (happens c e handed).whole) is f
     by_code (Some code) is f = absurd (cc)
 

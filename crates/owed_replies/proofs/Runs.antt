@@ -6,6 +6,7 @@ use Rattle.meaning.specs.Mains.{KeepsMainApart}
 use Rattle.meaning.specs.Values.{Outcome}
 use Rattle.event_log.specs.Breaks.{Among}
 use Rattle.event_log.specs.Entries.{Attempt, Deliver, Ended, Entry, Event, In, Refused}
+use Rattle.event_log.specs.Entries.{Refusal, Limit}
 use Rattle.event_log.specs.Events.{accepted_events}
 use Rattle.event_log.specs.Legal.{opening}
 use Rattle.event_log.specs.Rules.{Setting}
@@ -67,7 +68,7 @@ opening_keeps_replies nodes slots = record {
 
 -- ---- every event
 
-refused_keeps : (log : List Entry) (c : Whole) (e : Event) (seat code : ℕ) → KeepsReplies log c → KeepsReplies (log ++ In e seat ∷ Refused code ∷ []) c
+refused_keeps : (log : List Entry) (c : Whole) (e : Event) (seat : ℕ) (code : Refusal) → KeepsReplies log c → KeepsReplies (log ++ In e seat ∷ Refused code ∷ []) c
 refused_keeps log c e seat code k =
     let same : accepted_events (log ++ In e seat ∷ Refused code ∷ []) ≡ accepted_events log = accepted-refused log e seat code in
     record {
@@ -96,12 +97,12 @@ module _ (s : Setting) (log : List Entry) (c : Whole) (e : Event) (seat : ℕ) (
   abbrev Kept : Answer → Type 0
   Kept a = KeepsReplies (log ++ logged e seat a) (whole_after c a)
 
-  limited_keeps : (b : Bool) → refusal c e handed ≡ None → After (if b then takes (happens c e handed) (given_out c e) else Refuses 37) →
-      Kept (if b then takes (happens c e handed) (given_out c e) else Refuses 37)
+  limited_keeps : (b : Bool) → refusal c e handed ≡ None → After (if b then takes (happens c e handed) (given_out c e) else Refuses Limit) →
+      Kept (if b then takes (happens c e handed) (given_out c e) else Refuses Limit)
   limited_keeps true unrefused after = happens_keeps s log c before k seat e handed unrefused after
-  limited_keeps false unrefused after = refused_keeps log c e seat 37 k
+  limited_keeps false unrefused after = refused_keeps log c e seat Limit k
 
-  decided_keeps : (code : Option ℕ) → refusal c e handed ≡ code → After (decided c e handed code) → Kept (decided c e handed code)
+  decided_keeps : (code : Option Refusal) → refusal c e handed ≡ code → After (decided c e handed code) → Kept (decided c e handed code)
   decided_keeps None is after = limited_keeps (is_within_limits (happens c e handed).whole) is after
   decided_keeps (Some code) is after = refused_keeps log c e seat code k
 

@@ -1,13 +1,11 @@
 -- The way round the circle of nodes, and a task that is changed in its place.
 use Rattle.std.proofs.Common.{◌≡◌, ℕ, zero, ◌+◌, ◌-◌, ◌<◌, true, false, if◌then◌else◌, suc, refl, ap, arith, sym, ◌∙◌, List, [], ◌∷◌, Option, Some, None}
 use Rattle.std.specs.Prelude.{slice_get, slice_set}
-use Rattle.event_log.specs.Entries.{Attempt}
 use Rattle.protocol.specs.Numbered.{changed_at, changed_by, item_at}
 use Rattle.protocol.specs.Sets.{has}
 use Rattle.protocol.specs.Slots.{next_in_circle}
 use Rattle.protocol.specs.Tables.{Object, OwnTask, Worker, task_of, with_task}
-use Rattle.protocol.specs.Steps.{Here, is_own, own_object}
-use Rattle.protocol.specs.Asking.{asks_next, elsewhere_by, elsewhere_reached, first_live, if_asked}
+use Rattle.protocol.specs.Asking.{first_live}
 
 pub live_here : (x : Worker) (count n i at : ℕ) → i < n → has x.dead_nodes at ≡ false → first_live x count (n - i) at ≡ at
 live_here x count n i at less live =
@@ -46,11 +44,3 @@ task_or d (Some x) = x
 -- what is read twice is the same task
 pub same_task : (o : Option OwnTask) (x y : OwnTask) → o ≡ Some x → o ≡ Some y → x ≡ y
 same_task o x y e f = ap (task_or x) (sym e ∙ f)
-
--- the ask of an own task that stands is moved on
-pub elsewhere_asked : (h : Here) (a : Attempt) (t n : ℕ) (task : OwnTask) → is_own h a.object ≡ true → task_of (own_object h a.object.serial) ≡ Some task
-    → if_asked t a task ≡ true → elsewhere_reached h a t n ≡ asks_next h a.object task t n
-elsewhere_asked h a t n task own there asked =
-    ap (λ b. elsewhere_by h a t n (task_of (if b then own_object h a.object.serial else None))) own
-    ∙ ap (elsewhere_by h a t n) there
-    ∙ ap (λ b. if b then asks_next h a.object task t n else h) asked

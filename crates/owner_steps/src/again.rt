@@ -3,16 +3,20 @@
 ghost use Rattle.std.specs.Prelude.{◌≡◌, ◌++◌, ◌∷◌, [], OnOk, IfOk, Some, None};
 ghost use Rattle.protocol.specs.Numbered.{changed_at, item_at};
 ghost use Rattle.protocol.specs.Tables.{task_of, with_task};
+ghost use Rattle.protocol.specs.Steps.{object_at};
 ghost use Rattle.protocol.specs.Asking.{asks_next, begins, breaks, elsewhere_reached, first_live, given_reached, if_asked, pushes, with_begun};
 ghost use Rattle.protocol_data.specs.declared.tables.OwnTask.{OwnTask};
+ghost use Rattle.owner_steps.specs.Asked.{has_ask};
 
 use crate::ends::rest;
 use crate::faulted::answer_faulted;
 use ids::{AttemptId, NodeId, ObjectId, WorkerId};
 use lease::next_in_circle;
 use lineage::may_try_again;
+use log_entries::Entry;
 use number_lists::{has_node, object_at_number, row_of};
-use protocol_data::{Here, Maker, Message, Object, Objects, OwnTask, Progress, Said, Worker};
+use protocol_data::{Here, Maker, Message, Object, Objects, OwnTask, Progress, Worker};
+use sequence::refused_growth;
 use std::alloc::{AllocError, Global};
 use values::{Fault, FaultKind};
 use worker_steps::{ask_at, is_own, knows_dead, log, request, resolve, say};
@@ -93,7 +97,7 @@ fn push(
     };
     let spec = task.spec.copy(alloc)?;
     set_begun_at(&mut here.worker.objects, object.serial, worker, node)?;
-    log(here, Said::Begun(attempt, worker))?;
+    log(here, Entry::Begun { attempt, worker })?;
     say(here, worker, Message::Push(attempt, spec))
 }
 
@@ -143,6 +147,22 @@ fn is_asked(t: u32, attempt: AttemptId, task: &OwnTask) -> bool
     }
 }
 
+/// Whether ask `t` of the attempt, of an own object, is the one that stands.
+fn has_ask(here: &Here, attempt: AttemptId, t: u32) -> bool
+    ensures { result ≡ has_ask t attempt (task_of (object_at here.now attempt.object)) }
+{
+    if !is_own(here, attempt.object) {
+        return false;
+    }
+    let Some(found) = object_at_number(&here.worker.objects, attempt.object.serial) else {
+        return false;
+    };
+    match &found.maker {
+        Maker::ByTask(task) => is_asked(t, attempt, task),
+        _ => false,
+    }
+}
+
 /// The node has given the worker to ask `t` of the attempt. Where that ask stands the attempt begins: that is logged, and the worker gets the
 /// Push; if it is known dead the attempt is broken at once. Another Give is passed over.
 pub fn given_reached(
@@ -155,16 +175,7 @@ pub fn given_reached(
 ) -> Result<(), AllocError>
     ensures { OnOk result (here.new ≡ given_reached here.old node attempt t worker) }
 {
-    if !is_own(here, attempt.object) {
-        return Ok(());
-    }
-    let Some(found) = object_at_number(&here.worker.objects, attempt.object.serial) else {
-        return Ok(());
-    };
-    let Maker::ByTask(task) = &found.maker else {
-        return Ok(());
-    };
-    if !is_asked(t, attempt, task) {
+    if !has_ask(here, attempt, t) {
         return Ok(());
     }
     begin(alloc, here, attempt.object, worker, node)
@@ -198,7 +209,7 @@ pub fn ask_next(
         → OnOk result (here.new ≡ asks_next here.old object (record task { number = number }) t node) }
 {
     if t == u32::MAX {
-        return Err(AllocError);
+        return Err(refused_growth(*here.there.out.entries.items.allocator()));
     }
     let next = first_live(&here.worker, here.there.nodes, node);
     ask_at(here, object, number, t + 1, next)
@@ -229,16 +240,7 @@ pub fn elsewhere_reached(
 ) -> Result<(), AllocError>
     ensures { OnOk result (here.new ≡ elsewhere_reached here.old attempt t node) }
 {
-    if !is_own(here, attempt.object) {
-        return Ok(());
-    }
-    let Some(found) = object_at_number(&here.worker.objects, attempt.object.serial) else {
-        return Ok(());
-    };
-    let Maker::ByTask(task) = &found.maker else {
-        return Ok(());
-    };
-    if !is_asked(t, attempt, task) {
+    if !has_ask(here, attempt, t) {
         return Ok(());
     }
     ask_on(here, attempt.object, t, node)

@@ -7,7 +7,7 @@ ghost use Rattle.protocol_data.specs.declared.tables.Object.{Object};
 
 use crate::faulted::clear_askers;
 use crate::needs::{need_own_if_waiting, settled_number};
-use held::Content;
+use held::SharedContent;
 use ids::{NodeId, ObjectId, WorkerId};
 use protocol_data::{Here, Message, copy_of};
 use sequence::Seq;
@@ -22,7 +22,7 @@ fn tell_place(
     object: ObjectId,
     number: u32,
     places: &Seq<NodeId>,
-    kept: &Option<Content>,
+    kept: &Option<SharedContent>,
 ) -> Result<(), AllocError>
     ensures { (x : Object) → settled_number x ≡ number → x.places ≡ places.now → x.kept ≡ kept.now
         → OnOk result (here.new ≡ tells_places here.old (worker ∷ []) object x) }
@@ -40,7 +40,7 @@ fn tell_places(
     object: ObjectId,
     number: u32,
     places: &Seq<NodeId>,
-    kept: &Option<Content>,
+    kept: &Option<SharedContent>,
 ) -> Result<(), AllocError>
     ensures { (x : Object) → settled_number x ≡ number → x.places ≡ places.now → x.kept ≡ kept.now
         → OnOk result (here.new ≡ tells_places here.old workers.now object x) }

@@ -9,7 +9,7 @@ ghost use Rattle.protocol.specs.Asking.{requests};
 ghost use Rattle.protocol.specs.Commits.{bears, bears_all, bears_put, bears_task, next_id_here, with_object};
 
 use crate::birth_ids::ids_in_birth;
-use held::{Content, Origin};
+use held::{Origin, SharedContent};
 use ids::{AttemptId, NodeId, ObjectId};
 use number_lists::row_of;
 use object_store::put_primary;
@@ -101,11 +101,11 @@ fn task_object(
 }
 
 /// The content that was put.
-fn content_put(alloc: Global, value: &RunValue) -> Result<Content, AllocError>
+fn content_put(alloc: Global, value: &RunValue) -> Result<SharedContent, AllocError>
     ensures { IfOk result (λ c. c ≡ Val (value_of value.now)) }
 {
     let value = value.copy(alloc)?;
-    Content::new(alloc, values::Content::Value(value))
+    SharedContent::new(alloc, values::Content::Value(value))
 }
 
 /// A value is put.

@@ -11,7 +11,7 @@ ghost use Rattle.protocol_data.specs.declared.tables.Run.{Run};
 use crate::births::{bear_all, next_id};
 use crate::logged::log_outcomes;
 use crate::needs::need_own;
-use held::{Births, Content, Origin, Printed, Prints};
+use held::{Births, Origin, Printed, Prints, SharedContent};
 use ids::ObjectId;
 use object_store::put_end;
 use protocol_data::{Here, Message, Outcomes, Phase, Stopped};
@@ -59,7 +59,7 @@ fn need(alloc: Global, here: &mut Here, object: ObjectId) -> Result<(), AllocErr
 }
 
 /// The attempt has ended with the content, which goes into the node's store, unless it is small.
-fn keep_end(alloc: Global, here: &mut Here, content: &Content) -> Result<(), AllocError>
+fn keep_end(alloc: Global, here: &mut Here, content: &SharedContent) -> Result<(), AllocError>
     ensures { (run : Run) → here.old.worker.run ≡ Some run → OnOk result (here.new ≡ with_store (with_phase here.old run (HasEnded content.now))
         (with_ended (store_here here.old) run.attempt.object run.attempt.number content.now)) }
 {
@@ -87,7 +87,7 @@ fn hold_content(here: &mut Here, object: ObjectId, ids: &Seq<ObjectId>) -> Resul
 }
 
 /// The attempt ends with a content.
-fn end(alloc: Global, here: &mut Here, content: &Content) -> Result<(), AllocError>
+fn end(alloc: Global, here: &mut Here, content: &SharedContent) -> Result<(), AllocError>
     ensures { (run : Run) → here.old.worker.run ≡ Some run → OnOk result (here.new ≡ ends here.old run content.now) }
 {
     let Some(run) = &here.worker.run else {

@@ -10,10 +10,11 @@ ghost use Rattle.protocol_data.specs.declared.tables.OwnTask.{OwnTask};
 
 use crate::answers::answer_settled;
 use crate::faulted::answer_faulted;
-use held::Content;
+use held::SharedContent;
 use ids::{AttemptId, NodeId, ObjectId, WorkerId};
+use log_entries::Entry;
 use number_lists::{add_objects, object_at_number, row_of};
-use protocol_data::{Here, Maker, Message, Object, Objects, OwnTask, Progress, Said, copy_of};
+use protocol_data::{Here, Maker, Message, Object, Objects, OwnTask, Progress, copy_of};
 use sequence::Seq;
 use std::alloc::{AllocError, Global};
 use values::Fault;
@@ -54,7 +55,7 @@ pub fn rest(here: &mut Here, object: ObjectId, number: u32)
 fn places_for(
     alloc: Global,
     node: NodeId,
-    kept: &Option<Content>,
+    kept: &Option<SharedContent>,
 ) -> Result<Seq<NodeId>, AllocError>
     ensures { IfOk result (λ places. places ≡ places_for node kept.now) }
 {
@@ -74,7 +75,7 @@ fn set_content_at(
     number: u32,
     node: NodeId,
     ids: &Seq<ObjectId>,
-    kept: &Option<Content>,
+    kept: &Option<SharedContent>,
 ) -> Result<(), AllocError>
     ensures { OnOk result (objects.new ≡ changed_at objects.old serial (with_content number node ids.now kept.now)) }
 {
@@ -98,7 +99,7 @@ fn accept(
     attempt: AttemptId,
     node: NodeId,
     ids: &Seq<ObjectId>,
-    kept: &Option<Content>,
+    kept: &Option<SharedContent>,
 ) -> Result<(), AllocError>
     ensures { (task : OwnTask) → task_of (item_at here.old.worker.objects attempt.object.serial) ≡ Some task → task.number ≡ attempt.number
         → OnOk result (here.new ≡ accepts here.old attempt task node ids.now kept.now) }
@@ -114,7 +115,7 @@ fn accept(
         ids,
         kept,
     )?;
-    log(here, Said::Accepted(attempt))
+    log(here, Entry::Accepted(attempt))
 }
 
 /// The worker tells that the attempt has ended, with a content at the node that has these ids, and that comes along if it is small. If it is the
@@ -126,7 +127,7 @@ pub fn finished_reached(
     attempt: AttemptId,
     node: NodeId,
     ids: &Seq<ObjectId>,
-    kept: &Option<Content>,
+    kept: &Option<SharedContent>,
 ) -> Result<(), AllocError>
     ensures { OnOk result (here.new ≡ finished_reached here.old worker attempt node ids.now kept.now) }
 {

@@ -1,6 +1,6 @@
 //! What a worker does as the owner of its objects, and how its own attempt goes on: asks, beginnings and broken attempts, ends that are
 //! accepted, answers to whoever waits, lost objects that are made again, needs, claims and commits. Each function is equal to its pure step in
-//! `protocol`. An error says that memory or numbers ran out, and then nothing is said of the tables.
+//! `protocol`. An error is want of memory, and then nothing is said of the tables.
 #![tactic(auto, unfolding(meaning::specs::Births::same_id, ids::specs::Attempts::same_attempt))]
 
 mod again;

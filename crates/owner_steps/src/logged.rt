@@ -9,7 +9,8 @@ ghost use Rattle.owner_steps.specs.Logged.{born, ended};
 
 use held::{Origin, Printed};
 use ids::{AttemptId, ObjectId};
-use protocol_data::{Here, Outcomes, Said, Stopped};
+use log_entries::Entry;
+use protocol_data::{Here, Outcomes, Stopped};
 use sequence::Seq;
 use std::alloc::{AllocError, Global};
 use worker_steps::log;
@@ -32,7 +33,14 @@ fn log_births(
             serial: first.serial + i as u64,
         };
         let birth = births[i].copy(alloc)?;
-        log(here, Said::Born(object, attempt, birth))?;
+        log(
+            here,
+            Entry::Born {
+                object,
+                attempt,
+                birth,
+            },
+        )?;
     }
     Ok(())
 }
@@ -44,7 +52,7 @@ fn log_prints(alloc: Global, here: &mut Here, prints: &[Printed]) -> Result<(), 
 {
     for value in prints {
         let value = value.copy(alloc)?;
-        log(here, Said::Printed(value))?;
+        log(here, Entry::Printed(value))?;
     }
     Ok(())
 }
@@ -63,7 +71,7 @@ fn log_end(
         Stopped::AtGet(_) => Ok(()),
         Stopped::AtEnd(content) => {
             let content = content.copy(alloc)?;
-            log(here, Said::Ended(attempt, content))
+            log(here, Entry::Ended { attempt, content })
         }
     }
 }

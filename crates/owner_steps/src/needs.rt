@@ -11,7 +11,7 @@ ghost use Rattle.protocol.specs.Places.{needs_own, needs_own_if_waiting, needs_r
 ghost use Rattle.protocol_data.specs.declared.tables.Object.{Object};
 
 use crate::recovery::recover;
-use held::Content;
+use held::SharedContent;
 use ids::{NodeId, ObjectId};
 use lineage::{has_content, is_lost};
 use number_lists::{has_node, remove_node, row_of};
@@ -139,7 +139,7 @@ fn look_for(
     object: ObjectId,
     number: u32,
     places: &Seq<NodeId>,
-    kept: &Option<Content>,
+    kept: &Option<SharedContent>,
 ) -> Result<(), AllocError>
     ensures { (x : Object) → settled_number x ≡ number → x.places ≡ places.now → OnOk result (here.new ≡ looks_for_by here.old object x kept.now) }
 {

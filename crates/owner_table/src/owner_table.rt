@@ -8,7 +8,7 @@ ghost use Rattle.protocol.specs.Notices.{notice_node_step, notice_step};
 ghost use Rattle.protocol.specs.Places.{adds_places, missing_reached, where_reached};
 ghost use Rattle.protocol.specs.Releases.{release_step};
 
-use held::{Content, Origin};
+use held::{Origin, SharedContent};
 use ids::{AttemptId, NodeId, ObjectId, WorkerId};
 use owner_steps::{
     bear_all, failed_reached, finished_reached, given_reached, missing_reached, where_reached,
@@ -20,8 +20,8 @@ use values::Fault;
 use worker_acts::{notice_node_step, notice_step};
 use worker_steps::{add_places_of, release_all};
 
-/// A worker's own objects in an event: what is told of them, and what is done then. An error is want of memory, or that numbers ran out; then nothing is
-/// said of the tables.
+/// A worker's own objects in an event: what is told of them, and what is done then. An error is want of memory; then nothing is said of
+/// the tables.
 pub trait OwnerTable {
     /// The attempt bears these objects: each enters the table, holds the ids in it, and is stored or asked for.
     fn born(
@@ -49,7 +49,7 @@ pub trait OwnerTable {
         attempt: AttemptId,
         node: NodeId,
         ids: &Seq<ObjectId>,
-        kept: &Option<Content>,
+        kept: &Option<SharedContent>,
     ) -> Result<(), AllocError>;
 
     /// The attempt has ended by a fault: its object is resolved to that fault if it is the present one.
@@ -129,7 +129,7 @@ impl OwnerTable for Here {
         attempt: AttemptId,
         node: NodeId,
         ids: &Seq<ObjectId>,
-        kept: &Option<Content>,
+        kept: &Option<SharedContent>,
     ) -> Result<(), AllocError>
         ensures { OnOk result (self.new ≡ finished_reached self.old worker attempt node ids.now kept.now) }
     {

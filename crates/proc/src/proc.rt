@@ -12,8 +12,8 @@ use protocol_data::{Here, Message, Outcomes, Party};
 use std::alloc::{AllocError, Global};
 use worker_acts::{notice_node_step, notice_step, reached, tick_step};
 
-/// A worker's step in an event, before what nobody can reach any more is released (`take_part` does both). An error is want of memory, or that numbers
-/// ran out; then nothing is said of the tables.
+/// A worker's step in an event, before what nobody can reach any more is released (`take_part` does both). An error is want of memory;
+/// then nothing is said of the tables.
 pub trait Proc {
     /// A message of that sender reaches the worker; what no rule names is passed over.
     fn deliver(

@@ -3,6 +3,7 @@ use Rattle.std.specs.Prelude.{List, None, Some, [], codes, false, map, pos, true
 use Rattle.meaning.specs.Values.{Birth, Int, Named, Outcome, Task, Val, main_birth}
 use Rattle.event_log.specs.Entries.{Begun, Born, Claim, Commit, Deliver, Faulted, In, Kill, Notice, Opened, PutLost, Released, Resolved}
 use Rattle.event_log.specs.Entries.{RetriesUsed, main_attempt}
+use Rattle.event_log.specs.Entries.{Pinned, NoCopy, NoJob}
 use Rattle.event_log.specs.Words.{attempt}
 use Rattle.protocol.specs.Sets.{fault, object_id}
 use Rattle.protocol.specs.Messages.{Ask, Elsewhere, Give, Push, TheNode, TheWorker, Wait, letter}
@@ -42,15 +43,15 @@ one_pinned = with_secondary (with_primary empty_store (object_id 1 1) 0 one) (ob
 -- at most sixteen secondary copies are kept, those that were used last; a primary copy is pinned, and stands alone
 pub record StoresKeep : Type 0 where
   pub last_used_first : kept sixteen_kept ≡ 17 ∷ 1 ∷ 16 ∷ 15 ∷ 14 ∷ 13 ∷ 12 ∷ 11 ∷ 10 ∷ 9 ∷ 8 ∷ 7 ∷ 6 ∷ 5 ∷ 4 ∷ 3 ∷ []
-  pub gone : evict_refusal (object_id 1 2) sixteen_kept ≡ Some 21
+  pub gone : evict_refusal (object_id 1 2) sixteen_kept ≡ Some NoCopy
   pub there : evict_refusal (object_id 1 3) sixteen_kept ≡ None
   pub found : copy_in sixteen_kept (object_id 1 17) 0 ≡ Some one
   pub of_another_number : copy_in sixteen_kept (object_id 1 17) 1 ≡ None
-  pub pinned : evict_refusal (object_id 1 1) one_pinned ≡ Some 20
+  pub pinned : evict_refusal (object_id 1 1) one_pinned ≡ Some Pinned
   pub alone : kept one_pinned ≡ []
   pub not_evicted : copy_in (evicted one_pinned (object_id 1 1)) (object_id 1 1) 0 ≡ Some one
   pub lost : copy_in (without_copies one_pinned (object_id 1 1)) (object_id 1 1) 0 ≡ None
-  pub nothing_to_lose : lose_refusal (object_id 1 1) (without_copies one_pinned (object_id 1 1)) ≡ Some 21
+  pub nothing_to_lose : lose_refusal (object_id 1 1) (without_copies one_pinned (object_id 1 1)) ≡ Some NoCopy
 
 -- ---- holders
 
@@ -154,8 +155,8 @@ pub record AsksAre : Type 0 where
 
 -- main's first job is out
 pub record HandedIn : Type 0 where
-  pub nothing : answer (plays [] (first_played 1 4) (Does (Claim 1) ∷ [])).whole (Commit 1) Nothing ≡ Refuses 32
-  pub of_another : answer (plays [] (first_played 1 4) (Does (Claim 1) ∷ [])).whole (Commit 1) OfAnother ≡ Refuses 32
+  pub nothing : answer (plays [] (first_played 1 4) (Does (Claim 1) ∷ [])).whole (Commit 1) Nothing ≡ Refuses NoJob
+  pub of_another : answer (plays [] (first_played 1 4) (Does (Claim 1) ∷ [])).whole (Commit 1) OfAnother ≡ Refuses NoJob
 
 -- ---- a run with a death
 

@@ -2,7 +2,7 @@
 use Rattle.std.proofs.Common.{◌≡◌, ◌∙◌, ℕ, suc, ◌+◌, List, [], ◌∷◌, ◌++◌, length, Some, refl, sym, ap, subst, inr, arith}
 use Rattle.std.specs.Prelude.{slice_set}
 use Rattle.meaning.specs.Syntax.{Script}
-use Rattle.segment.specs.Jobs.{JobData, Done, IsTrueOf}
+use Rattle.segment.specs.Jobs.{JobParts, Done, IsTrueOf}
 use Rattle.event_log.specs.Entries.{Commit}
 use Rattle.log_entries.specs.declared.refusal.Refusal.{Refusal}
 use Rattle.protocol.specs.Settling.{next}
@@ -28,12 +28,12 @@ pub is_next : (c : Course) (but : List ℕ) (e : Event) → but ≡ [] → Some 
 is_next c but e none named = subst (λ b. next c.run.whole b ≡ Some e) none (sym named)
 
 -- what was done on the job was committed
-pub committed_so : (script : Script) (before after : Course) (job : JobData) (work : Done) (number : ℕ) (told : Reply) → number ≡ job.number → work.job ≡ job → IsTrueOf script work →
+pub committed_so : (script : Script) (before after : Course) (job : JobParts) (work : Done) (number : ℕ) (told : Reply) → number ≡ job.number → work.job ≡ job → IsTrueOf script work →
     Goes before (Commit number) (Some work) after told → IsTaken told → Commits script before job after
 committed_so script before after job work number told same own is_true goes taken =
     record { work = work; own = own; is_true = is_true; told = told; goes = subst (λ n. Goes before (Commit n) (Some work) after told) same goes; taken = taken }
 
-pub broken_so : (script : Script) (before after : Course) (job : JobData) (work : Done) (number : ℕ) (told : Reply) (refusal : Refusal) → number ≡ job.number → work.job ≡ job → IsTrueOf script work →
+pub broken_so : (script : Script) (before after : Course) (job : JobParts) (work : Done) (number : ℕ) (told : Reply) (refusal : Refusal) → number ≡ job.number → work.job ≡ job → IsTrueOf script work →
     Goes before (Commit number) (Some work) after told → told ≡ Refuses refusal → BreaksAfter script before job after refusal
 broken_so script before after job work number told refusal same own is_true goes refused =
     inr (work, own, is_true, subst (λ n. Goes before (Commit n) (Some work) after (Refuses refusal)) same (subst (λ t. Goes before (Commit number) (Some work) after t) refused goes))

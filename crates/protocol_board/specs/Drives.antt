@@ -1,7 +1,7 @@
 -- A run that is driven: turn by turn the event that the settle rule names is applied, and a job that it gives out is run and committed at once.
 use Rattle.std.specs.Prelude.{◌≡◌, ◌⊎◌, ℕ, zero, suc, List, [], ◌∷◌, ◌++◌, length, Option, Some, None}
 use Rattle.meaning.specs.Syntax.{Script}
-use Rattle.segment.specs.Jobs.{JobData, Done, IsTrueOf}
+use Rattle.segment.specs.Jobs.{JobParts, Done, IsTrueOf}
 use Rattle.event_log.specs.Entries.{Commit, Event}
 use Rattle.log_entries.specs.declared.refusal.Refusal.{Refusal}
 use Rattle.log_entries.specs.declared.refusal.Refusal.TheVariants as refusals
@@ -28,7 +28,7 @@ IsTaken (GivesJob job) = Unit {0}
 IsTaken Accepts = Unit {0}
 
 -- the job is run, and what was done on it is committed
-pub record Commits (script : Script) (before : Course) (job : JobData) (after : Course) : Type 0 where
+pub record Commits (script : Script) (before : Course) (job : JobParts) (after : Course) : Type 0 where
   pub work : Done
   pub own : work.job ≡ job
   pub is_true : IsTrueOf script work
@@ -39,11 +39,11 @@ pub record Commits (script : Script) (before : Course) (job : JobData) (after : 
 -- the event is taken; where it gives out a job, that is run and committed
 abbrev pub Turn : Script → Course → Event → Course → Type 0
 Turn script before e after =
-    Goes before e None after Accepts ⊎ ((claimed : Course) × (job : JobData) × Goes before e None claimed (GivesJob job) ×
+    Goes before e None after Accepts ⊎ ((claimed : Course) × (job : JobParts) × Goes before e None claimed (GivesJob job) ×
     Commits script claimed job after)
 
 -- behind an event that gave out a job: no memory while it ran, or its commit is refused
-abbrev pub BreaksAfter : Script → Course → JobData → Course → Refusal → Type 0
+abbrev pub BreaksAfter : Script → Course → JobParts → Course → Refusal → Type 0
 BreaksAfter script claimed job after refusal =
     ((after ≡ claimed) × (refusal ≡ refusals.NoMemory))
     ⊎ ((work : Done) × (work.job ≡ job) × IsTrueOf script work × Goes claimed (Commit job.number) (Some work) after (Refuses refusal))
@@ -53,7 +53,7 @@ abbrev pub BreaksOff : Script → Course → Event → Course → Refusal → Ty
 BreaksOff script before e after refusal =
     ((after ≡ before) × (refusal ≡ refusals.NoMemory))
     ⊎ (Goes before e None after (Refuses refusal)
-    ⊎ ((claimed : Course) × (job : JobData) × Goes before e None claimed (GivesJob job) × BreaksAfter script claimed job after refusal))
+    ⊎ ((claimed : Course) × (job : JobParts) × Goes before e None claimed (GivesJob job) × BreaksAfter script claimed job after refusal))
 
 -- the settle rule names the event, and nobody is left out
 abbrev pub IsNext : Course → Event → Type 0

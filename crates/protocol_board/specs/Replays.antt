@@ -2,7 +2,7 @@
 use Rattle.std.specs.Prelude.{◌≡◌, ◌≢◌, ◌<◌, ◌≤◌, ◌⊎◌, ◌+◌, ℕ, zero, suc, Bool, true, false, List, [], ◌∷◌, ◌++◌, take, slice_get, length, Option, Some, None}
 use Rattle.std.specs.Option.{option_flatten}
 use Rattle.meaning.specs.Syntax.{Script}
-use Rattle.segment.specs.Jobs.{JobData, Done, IsTrueOf}
+use Rattle.segment.specs.Jobs.{JobParts, Done, IsTrueOf}
 use Rattle.event_log.specs.Entries.{Claim, Commit, Event}
 use Rattle.log_entries.specs.declared.refusal.Refusal.{Refusal}
 use Rattle.log_entries.specs.declared.refusal.Refusal.TheVariants as refusals
@@ -22,7 +22,7 @@ use Rattle.protocol_board.specs.declared.stopped.ReplayStop.TheVariants as stops
 -- each event how many messages had been sent; how many lines were begun; and of each event the number of its line
 pub record Play : Type 0 where
   pub run : RunState
-  pub jobs : List (Option JobData)
+  pub jobs : List (Option JobParts)
   pub applied : ℕ
   pub sent : List ℕ
   pub begun : ℕ
@@ -37,29 +37,29 @@ abbrev pub next_line : Play → Play
 next_line p = record p { begun = p.begun + 1 }
 
 -- the job of that number, counted from 1, unless it was handed in
-abbrev pub job_at : List (Option JobData) → ℕ → Option JobData
+abbrev pub job_at : List (Option JobParts) → ℕ → Option JobParts
 job_at jobs j = option_flatten (item_at jobs j)
 
-abbrev pub handed_in : List (Option JobData) → ℕ → List (Option JobData)
+abbrev pub handed_in : List (Option JobParts) → ℕ → List (Option JobParts)
 handed_in jobs j = changed_at jobs j (λ job. None)
 
 -- the job that an event hands in: a commit's, the first time
-abbrev pub job_for : Event → List (Option JobData) → Option JobData
+abbrev pub job_for : Event → List (Option JobParts) → Option JobParts
 job_for (Commit j) jobs = job_at jobs j
 job_for e jobs = None
 
-abbrev pub left_by : Event → List (Option JobData) → List (Option JobData)
+abbrev pub left_by : Event → List (Option JobParts) → List (Option JobParts)
 left_by (Commit j) jobs = handed_in jobs j
 left_by e jobs = jobs
 
 -- what was done on the job, and nothing where there is none
-abbrev pub IsDoneOn : Script → Option JobData → Option Done → Type 0
+abbrev pub IsDoneOn : Script → Option JobParts → Option Done → Type 0
 IsDoneOn script None done = done ≡ None
 IsDoneOn script (Some job) None = ⊥
 IsDoneOn script (Some job) (Some d) = (d.job ≡ job) × IsTrueOf script d
 
 -- with the job that is given out
-abbrev pub with_given : Reply → List (Option JobData) → List (Option JobData)
+abbrev pub with_given : Reply → List (Option JobParts) → List (Option JobParts)
 with_given (GivesJob job) jobs = jobs ++ Some job ∷ []
 with_given Accepts jobs = jobs
 with_given (Refuses refusal) jobs = jobs

@@ -1,24 +1,21 @@
 // Boards.
 
 ghost use Rattle.std.specs.Prelude.{◌≡◌, IfOk, string_bytes};
-ghost use Rattle.event_log.specs.Views.{log_of};
 ghost use Rattle.protocol.specs.Settling.{next};
 ghost use Rattle.protocol_core.specs.Own.{GivesOwn, IsOwn};
 ghost use Rattle.protocol_core.specs.Limits.{Limits};
 ghost use Rattle.protocol_core.specs.Owed.{Pays};
 ghost use Rattle.protocol_core.specs.Steps.{Answers, AnswersAsShown, reply_of};
-ghost use Rattle.protocol_core.specs.Views.{state_of};
 ghost use Rattle.history.specs.Main.{status_of};
 ghost use Rattle.history.specs.Report.{report_text};
 ghost use Rattle.protocol_core.specs.Meant.{IsSoundLog};
 ghost use Rattle.protocol_board.specs.Reports.{json_text};
 
-use event_log::Entry;
 use history::{report_text, status_of};
 use ids::WorkerId;
-use log_entries::Event;
+use log_entries::{Entry, Event};
 use protocol_core::{Core, Reply};
-use protocol_data::Letter;
+use protocol_data::{Letter, Whole};
 use report_json::report_json;
 use segment::{Done, ScriptName};
 use sequence::Seq;
@@ -40,9 +37,9 @@ impl<S: ScriptName> Model for Board<S> {
     ghost use Rattle.ids.specs.Codes.{attempt_code};
     ghost use Rattle.values.specs.FaultCodes.{fault_code};
     ghost use Rattle.values.specs.contracts.value.RunValue as run_values;
-    ghost use Rattle.protocol_core.specs.Views.{RunData};
+    ghost use Rattle.protocol_core.specs.States.{RunState};
 
-    ghost Value = { RunData };
+    ghost Value = { RunState };
 
     ghost coded = { Prim.hlevel (codes, run_values.the_row.coded, value_code, outcome_code, birth_code, id_code, attempt_code, fault_code) };
 
@@ -65,11 +62,11 @@ impl<S: ScriptName> Board<S> {
         seat: u8,
         done: Option<Done<S>>,
     ) -> Reply<S>
-        ensures answers { Answers (state_of self.old) event seat done (state_of self.new) (reply_of result) }
-        ensures shown { AnswersAsShown S.script (state_of self.old) event done (state_of self.new) (reply_of result) }
-        ensures paid { Pays S.script (state_of self.old) event seat done (state_of self.new) (reply_of result) }
-        ensures limited { Limits S.script (state_of self.old) event seat done (state_of self.new) (reply_of result) }
-        ensures meant { IsSoundLog S.script (state_of self.new) }
+        ensures answers { Answers self.old event seat done self.new (reply_of result) }
+        ensures shown { AnswersAsShown S.script self.old event done self.new (reply_of result) }
+        ensures paid { Pays S.script self.old event seat done self.new (reply_of result) }
+        ensures limited { Limits S.script self.old event seat done self.new (reply_of result) }
+        ensures meant { IsSoundLog S.script self.new }
     {
         self.core.apply(alloc, event, seat, done)
     }
@@ -82,13 +79,13 @@ impl<S: ScriptName> Board<S> {
         seat: u8,
         done: Option<Done<S>>,
     ) -> Reply<S>
-        requires { IsOwn (log_of self.old.log) done }
-        ensures answers { Answers (state_of self.old) event seat done (state_of self.new) (reply_of result) }
-        ensures shown { AnswersAsShown S.script (state_of self.old) event done (state_of self.new) (reply_of result) }
-        ensures paid { Pays S.script (state_of self.old) event seat done (state_of self.new) (reply_of result) }
-        ensures limited { Limits S.script (state_of self.old) event seat done (state_of self.new) (reply_of result) }
-        ensures own { GivesOwn (log_of self.new.log) (reply_of result) }
-        ensures meant { IsSoundLog S.script (state_of self.new) }
+        requires { IsOwn self.old.log done }
+        ensures answers { Answers self.old event seat done self.new (reply_of result) }
+        ensures shown { AnswersAsShown S.script self.old event done self.new (reply_of result) }
+        ensures paid { Pays S.script self.old event seat done self.new (reply_of result) }
+        ensures limited { Limits S.script self.old event seat done self.new (reply_of result) }
+        ensures own { GivesOwn self.new.log (reply_of result) }
+        ensures meant { IsSoundLog S.script self.new }
     {
         self.core.apply_own(alloc, event, seat, done)
     }
@@ -103,7 +100,7 @@ impl<S: ScriptName> Board<S> {
     /// The entries so far, oldest first.
     pub fn log(&self) -> &[Entry]
         ensures log { result.now ≡ self.now.log }
-        ensures meant { IsSoundLog S.script (state_of self.now) }
+        ensures meant { IsSoundLog S.script self.now }
     {
         self.core.log()
     }
@@ -115,25 +112,32 @@ impl<S: ScriptName> Board<S> {
         self.core.messages()
     }
 
+    /// The run without its log: see `Core::whole`.
+    pub fn whole(&self) -> &Whole
+        ensures { result.now ≡ self.now.whole }
+    {
+        self.core.whole()
+    }
+
     /// The report of the log: see docs/runs.md for its lines. Where memory runs out there is none.
     pub fn report(&self, alloc: Global) -> Result<String, AllocError>
-        ensures text { IfOk result (λ text. string_bytes text ≡ report_text (log_of self.now.log)) }
-        ensures meant { IsSoundLog S.script (state_of self.now) }
+        ensures text { IfOk result (λ text. string_bytes text ≡ report_text self.now.log) }
+        ensures meant { IsSoundLog S.script self.now }
     {
         report_text(alloc, self.log())
     }
 
     /// The report of the log as JSON, on one line that ends with a line feed: see `report_json::report_json`.
     pub fn report_json(&self, alloc: Global) -> Result<String, AllocError>
-        ensures text { IfOk result (λ text. string_bytes text ≡ json_text (log_of self.now.log)) }
-        ensures meant { IsSoundLog S.script (state_of self.now) }
+        ensures text { IfOk result (λ text. string_bytes text ≡ json_text self.now.log) }
+        ensures meant { IsSoundLog S.script self.now }
     {
         report_json(alloc, self.log())
     }
 
     /// The status that a program ends with: 0 where main ended with a value, 1 where it ended with a trap, 2 where it is open or has a fault.
     pub fn status(&self) -> u8
-        ensures { result ≡ status_of (log_of self.now.log) }
+        ensures { result ≡ status_of self.now.log }
     {
         status_of(self.log())
     }

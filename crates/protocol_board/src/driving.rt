@@ -2,9 +2,7 @@
 
 ghost use Rattle.std.specs.Prelude.{◌≡◌, IfOk, OnOk, IfErr};
 ghost use Rattle.script_check.specs.Trees.{script_of};
-ghost use Rattle.event_log.specs.Views.{log_of};
 ghost use Rattle.log_entries.specs.declared.refusal.Refusal.TheVariants.{NoMemory};
-ghost use Rattle.exchange.specs.Jobs.{job_in};
 ghost use Rattle.protocol_laws.specs.Given.{IsOfLog};
 ghost use Rattle.protocol_core.specs.Own.{GivesOwn, IsOwn};
 ghost use Rattle.protocol_core.specs.Steps.{Refuses, reply_of};
@@ -44,8 +42,8 @@ fn go<S: ScriptName>(
     event: Event,
     done: Option<Done<S>>,
 ) -> Result<Reply<S>, Refusal>
-    requires { IsOwn (log_of board.old.log) done }
-    ensures own { IfOk result (λ told. GivesOwn (log_of board.new.log) (reply_of told)) }
+    requires { IsOwn board.old.log done }
+    ensures own { IfOk result (λ told. GivesOwn board.new.log (reply_of told)) }
     ensures goes { IfOk result (λ told. Goes (course_of board.old sent.old) event done (course_of board.new sent.new) (reply_of told)) }
     ensures lacks { IfErr result (λ refusal. (course_of board.new sent.new ≡ course_of board.old sent.old) × (refusal ≡ NoMemory)) }
 {
@@ -68,9 +66,9 @@ fn commit<S: ScriptName>(
     job: Job<S>,
 ) -> Result<(), Refusal>
     requires script { script_of script.now ≡ S.script }
-    requires own { IsOfLog (log_of board.old.log) (job_in job) }
-    requires frames { FramesAreOwn (log_of board.old.log) frames.old }
-    ensures frames { OnOk result (FramesAreOwn (log_of board.new.log) frames.new) }
+    requires own { IsOfLog board.old.log job }
+    requires frames { FramesAreOwn board.old.log frames.old }
+    ensures frames { OnOk result (FramesAreOwn board.new.log frames.new) }
     ensures committed { OnOk result (Commits S.script (course_of board.old sent.old) job (course_of board.new sent.new)) }
     ensures broken { IfErr result (λ refusal. BreaksAfter S.script (course_of board.old sent.old) job (course_of board.new sent.new) refusal) }
 {
@@ -97,8 +95,8 @@ fn take_turn<S: ScriptName>(
     event: Event,
 ) -> Result<(), Refusal>
     requires script { script_of script.now ≡ S.script }
-    requires frames { FramesAreOwn (log_of board.old.log) frames.old }
-    ensures frames { OnOk result (FramesAreOwn (log_of board.new.log) frames.new) }
+    requires frames { FramesAreOwn board.old.log frames.old }
+    ensures frames { OnOk result (FramesAreOwn board.new.log frames.new) }
     ensures taken { OnOk result (Turn S.script (course_of board.old sent.old) event (course_of board.new sent.new)) }
     ensures broken { IfErr result (λ refusal.
         BreaksOff S.script (course_of board.old sent.old) event (course_of board.new sent.new) refusal) }

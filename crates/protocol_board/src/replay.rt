@@ -5,7 +5,7 @@ ghost use Rattle.script_check.specs.Trees.{script_of};
 ghost use Rattle.protocol.specs.Settling.{next};
 ghost use Rattle.protocol_board.specs.Replays.{ComesToRest, LinePlays, LineStops, PlayStops, Plays, SettleStops, Step, StopsAt, from_first};
 ghost use Rattle.protocol_board.specs.Replays.{EventPlays, EventStops, FileStops, Gives, HistoryStops, PlaysFile, PlaysHistory};
-ghost use Rattle.protocol_board.specs.Views.{noted, play_of};
+ghost use Rattle.protocol_board.specs.Views.{noted};
 
 use crate::board::Board;
 use crate::given::{given_by, hand_in, is_same, keep, run_job};
@@ -46,18 +46,17 @@ impl<S: ScriptName> Model for Replay<S> {
     ghost use Rattle.ids.specs.Codes.{attempt_code};
     ghost use Rattle.values.specs.FaultCodes.{fault_code};
     ghost use Rattle.values.specs.contracts.value.RunValue as run_values;
-    ghost use Rattle.protocol_board.specs.Views.{PlayData};
+    ghost use Rattle.protocol_board.specs.Replays.{Play};
 
-    ghost Value = { PlayData };
+    ghost Value = { Play };
 
     ghost coded = { Prim.hlevel (codes, run_values.the_row.coded, value_code, outcome_code, birth_code, id_code, attempt_code, fault_code) };
 
-    ghost use Rattle.event_log.specs.Views.{log_of};
     ghost use Rattle.protocol_board.specs.Own.{FramesAreOwn, JobsAreOwn};
 
     ghost view = { λ r. record { run = r.board; jobs = r.jobs; applied = r.applied; sent = r.sent; begun = r.begun; lines = r.lines } };
 
-    ghost invariant = { λ r. JobsAreOwn (log_of r.board.log) r.jobs × FramesAreOwn (log_of r.board.log) r.frames };
+    ghost invariant = { λ r. JobsAreOwn r.board.log r.jobs × FramesAreOwn r.board.log r.frames };
 }
 
 impl<S: ScriptName> Replay<S> {
@@ -124,9 +123,9 @@ impl<S: ScriptName> Replay<S> {
         seat: u8,
     ) -> Result<Option<u64>, ReplayStop>
         requires { script_of script.now ≡ S.script }
-        ensures gives { IfOk result (λ given. Gives S.script (play_of self.old) event seat (play_of self.new) given) }
+        ensures gives { IfOk result (λ given. Gives S.script self.old event seat self.new given) }
         ensures same { OnOk result (self.new.begun ≡ self.old.begun) }
-        ensures stops { IfErr result (λ stopped. StopsAt S.script (play_of self.old) event seat (play_of self.new) stopped) }
+        ensures stops { IfErr result (λ stopped. StopsAt S.script self.old event seat self.new stopped) }
     {
         if self.applied >= MOST_EVENTS {
             return Err(ReplayStop::TooLong);
@@ -144,9 +143,9 @@ impl<S: ScriptName> Replay<S> {
     /// Applies one event from seat 0.
     fn take(&mut self, alloc: Global, script: &Compiled, event: Event) -> Result<(), ReplayStop>
         requires { script_of script.now ≡ S.script }
-        ensures step { OnOk result (Step S.script (play_of self.old) event 0 (play_of self.new)) }
+        ensures step { OnOk result (Step S.script self.old event 0 self.new) }
         ensures same { OnOk result (self.new.begun ≡ self.old.begun) }
-        ensures stops { IfErr result (λ stopped. StopsAt S.script (play_of self.old) event 0 (play_of self.new) stopped) }
+        ensures stops { IfErr result (λ stopped. StopsAt S.script self.old event 0 self.new stopped) }
     {
         self.apply(alloc, script, event, 0)?;
         Ok(())
@@ -167,9 +166,9 @@ impl<S: ScriptName> Replay<S> {
         but: &Seq<WorkerId>,
     ) -> Result<(), ReplayStop>
         requires { script_of script.now ≡ S.script }
-        ensures rests { OnOk result (ComesToRest S.script but.now (play_of self.old) (play_of self.new)) }
+        ensures rests { OnOk result (ComesToRest S.script but.now self.old self.new) }
         ensures same { OnOk result (self.new.begun ≡ self.old.begun) }
-        ensures stops { IfErr result (λ stopped. SettleStops S.script but.now (play_of self.old) (play_of self.new) stopped) }
+        ensures stops { IfErr result (λ stopped. SettleStops S.script but.now self.old self.new stopped) }
     {
         while let Some(event) = self.next(but) {
             self.take(alloc, script, event)?;
@@ -179,7 +178,7 @@ impl<S: ScriptName> Replay<S> {
 
     /// No line is begun yet.
     fn restart(&mut self)
-        ensures first { play_of self.new ≡ from_first (play_of self.old) }
+        ensures first { self.new ≡ from_first self.old }
         ensures begun { self.new.begun ≡ 0 }
     {
         self.begun = 0;
@@ -190,8 +189,8 @@ impl<S: ScriptName> Replay<S> {
         requires script { script_of script.now ≡ S.script }
         requires counts { self.old.begun + 1 < 2 ^ 64 }
         ensures counted { OnOk result (self.new.begun ≡ self.old.begun + 1) }
-        ensures plays { OnOk result (LinePlays S.script line.now (play_of self.old) (play_of self.new)) }
-        ensures stops { IfErr result (λ stopped. LineStops S.script line.now (play_of self.old) (play_of self.new) stopped) }
+        ensures plays { OnOk result (LinePlays S.script line.now self.old self.new) }
+        ensures stops { IfErr result (λ stopped. LineStops S.script line.now self.old self.new stopped) }
     {
         self.begun += 1;
         match line {
@@ -212,8 +211,8 @@ impl<S: ScriptName> Replay<S> {
         lines: &Seq<Line>,
     ) -> Result<(), ReplayStop>
         requires { script_of script.now ≡ S.script }
-        ensures plays { OnOk result (Plays S.script lines.now (from_first (play_of self.old)) (play_of self.new)) }
-        ensures stops { IfErr result (λ stopped. PlayStops S.script lines.now (from_first (play_of self.old)) (play_of self.new) stopped) }
+        ensures plays { OnOk result (Plays S.script lines.now (from_first self.old) self.new) }
+        ensures stops { IfErr result (λ stopped. PlayStops S.script lines.now (from_first self.old) self.new stopped) }
     {
         self.restart();
         for line in &lines.items {
@@ -232,8 +231,8 @@ impl<S: ScriptName> Replay<S> {
         requires script { script_of script.now ≡ S.script }
         requires counts { self.old.begun + 1 < 2 ^ 64 }
         ensures counted { OnOk result (self.new.begun ≡ self.old.begun + 1) }
-        ensures plays { OnOk result (EventPlays S.script said.now (play_of self.old) (play_of self.new)) }
-        ensures stops { IfErr result (λ stopped. EventStops S.script said.now (play_of self.old) (play_of self.new) stopped) }
+        ensures plays { OnOk result (EventPlays S.script said.now self.old self.new) }
+        ensures stops { IfErr result (λ stopped. EventStops S.script said.now self.old self.new stopped) }
     {
         self.begun += 1;
         let given = self.apply(alloc, script, said.event, said.seat)?;
@@ -254,8 +253,8 @@ impl<S: ScriptName> Replay<S> {
         events: &Seq<RecordedEvent>,
     ) -> Result<(), ReplayStop>
         requires { script_of script.now ≡ S.script }
-        ensures plays { OnOk result (PlaysHistory S.script events.now (from_first (play_of self.old)) (play_of self.new)) }
-        ensures stops { IfErr result (λ stopped. HistoryStops S.script events.now (from_first (play_of self.old)) (play_of self.new) stopped) }
+        ensures plays { OnOk result (PlaysHistory S.script events.now (from_first self.old) self.new) }
+        ensures stops { IfErr result (λ stopped. HistoryStops S.script events.now (from_first self.old) self.new stopped) }
     {
         self.restart();
         for said in &events.items {
@@ -272,8 +271,8 @@ impl<S: ScriptName> Replay<S> {
         file: &EventFile,
     ) -> Result<(), ReplayStop>
         requires { script_of script.now ≡ S.script }
-        ensures plays { OnOk result (PlaysFile S.script file.now (from_first (play_of self.old)) (play_of self.new)) }
-        ensures stops { IfErr result (λ stopped. FileStops S.script file.now (from_first (play_of self.old)) (play_of self.new) stopped) }
+        ensures plays { OnOk result (PlaysFile S.script file.now (from_first self.old) self.new) }
+        ensures stops { IfErr result (λ stopped. FileStops S.script file.now (from_first self.old) self.new stopped) }
     {
         match file {
             EventFile::Lines(lines) => self.play(alloc, script, lines),

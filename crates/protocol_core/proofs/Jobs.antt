@@ -1,6 +1,5 @@
 -- Jobs that are given out, and what is handed in as done on them.
 use Rattle.std.proofs.Common.{◌≡◌, ℕ, Bool, true, false, List, [], ◌∷◌, ◌++◌, map, length, arith, Option, Some, None, IfSome, refl, sym, ap, ◌∙◌, subst, inl, inr, if◌then◌else◌}
-use Rattle.std.proofs.lemmas.List.{length-map}
 use Rattle.meaning.specs.Lists.{IsFirst}
 use Rattle.meaning.specs.Values as meant
 use Rattle.meaning.specs.Values.{Put, Task, main_birth}
@@ -9,15 +8,16 @@ use Rattle.meaning.specs.Kinds.{IsBirthOf, MarkedOf}
 use Rattle.meaning.specs.Meaning.{replay}
 use Rattle.kind_laws.specs.Law.{HasKind}
 use Rattle.script_check.specs.Scripts.{IsWellTyped}
-use Rattle.values.specs.Values.{content_of, value_of}
+use Rattle.values.specs.Values.{value_of}
 use Rattle.task_spec.specs.Births.{birth_of}
-use Rattle.evaluation.specs.declared.piece.Stop.{Stop}
-use Rattle.evaluation.specs.declared.piece.Stop.TheVariants as stops
+use Rattle.evaluation.specs.declared.piece.PieceStop.{PieceStop}
+use Rattle.evaluation.specs.declared.piece.PieceStop.TheVariants as stops
 use Rattle.evaluation.specs.Pieces as pieces
-use Rattle.segment.specs.Jobs.{JobData, Done, IsTaskOf, IsBegun, IsTrueOf}
+use Rattle.segment.specs.Jobs.{JobParts, Done, IsTaskOf, IsBegun, IsTrueOf}
 use Rattle.event_log.specs.Entries.{Entry, Event, Claim, Commit, Deliver, Tick, Notice, NoticeNode, Evict, Lose, Kill, KillNode, Join}
+use Rattle.event_log.specs.Entries.{Limit, Refusal}
 use Rattle.event_log.specs.Words.{answers_of}
-use Rattle.exchange.specs.Jobs.{job_in, stopped_of, work_of}
+use Rattle.protocol_core.specs.Work.{stopped_of, work_of}
 use Rattle.protocol.specs.Answers.{Refuses, answer, decided, given_out, job_of, limited, takes}
 use Rattle.protocol.specs.Events.{happens}
 use Rattle.protocol.specs.Jobs.{Given, Handed, Job, Nothing, OfAnother, OfJob, Outcomes}
@@ -48,12 +48,12 @@ task_of script (Put v) t k = absurd t
 task_of script (Task g args depth retries) t k = let h = k.1 in (h.0, h.1, h.2)
 
 -- a good job is one that may be run
-pub begun : (script : Script) (d : JobData) → IsGood script (job_in d) → IsBegun script d
+pub begun : (script : Script) (d : JobParts) → IsGood script d → IsBegun script d
 begun script d h = record {
-  task = task_of script (birth_of d.spec) h.task h.kind;
+  task = task_of script d.spec h.task h.kind;
   answers = h.answers;
   births = h.births;
-  printed = h.prints;
+  prints = h.prints;
 }
 
 -- what attempts of live workers bore and printed is in pace
@@ -63,11 +63,11 @@ in_pace script c kept goes_on law w x run at live is =
     record { births = good.births; prints = good.prints }
 
 -- an event that is no claim gives out no job
-gives_none : (script : Script) (m : Moved) (b : Bool) → GivesGood script (if b then takes m None else Refuses 37)
+gives_none : (script : Script) (m : Moved) (b : Bool) → GivesGood script (if b then takes m None else Refuses Limit)
 gives_none script m true = tt
 gives_none script m false = tt
 
-no_job : (script : Script) (c : Whole) (e : Event) (handed : Handed) → given_out c e ≡ None → (o : Option ℕ) → GivesGood script (decided c e handed o)
+no_job : (script : Script) (c : Whole) (e : Event) (handed : Handed) → given_out c e ≡ None → (o : Option Refusal) → GivesGood script (decided c e handed o)
 no_job script c e handed none (Some code) = tt
 no_job script c e handed none None =
     let m : Moved = happens c e handed in
@@ -90,11 +90,11 @@ gives_good script typed law nodes log c sound Join handed = no_job script c Join
 
 -- ---- the answers of jobs that are given out
 
-gives_no_own : (log : List Entry) (m : Moved) (b : Bool) → GivesOfLog log (if b then takes m None else Refuses 37)
+gives_no_own : (log : List Entry) (m : Moved) (b : Bool) → GivesOfLog log (if b then takes m None else Refuses Limit)
 gives_no_own log m true = tt
 gives_no_own log m false = tt
 
-no_own : (log : List Entry) (c : Whole) (e : Event) (handed : Handed) → given_out c e ≡ None → (o : Option ℕ) → GivesOfLog log (decided c e handed o)
+no_own : (log : List Entry) (c : Whole) (e : Event) (handed : Handed) → given_out c e ≡ None → (o : Option Refusal) → GivesOfLog log (decided c e handed o)
 no_own log c e handed none (Some code) = tt
 no_own log c e handed none None =
     let m : Moved = happens c e handed in
@@ -123,11 +123,10 @@ whole_first (x ∷ xs) [] h e = absurd h
 whole_first (x ∷ xs) (y ∷ ys) h e = ap (λ v. v ∷ xs) (sym h.0) ∙ ap (λ vs. y ∷ vs) (whole_first xs ys h.1 (omega (arith, e)))
 
 -- as many answers of a job of the log are those of each live worker's attempt that it is of
-has_answers : (script : Script) (c : RunState) → IsSoundRun script c → c.is_halted ≡ false → RunsHaveTheLogsAnswers → (j : JobData) → IsOfLog c.log (job_in j) → HasAnswersIn c.whole j
+has_answers : (script : Script) (c : RunState) → IsSoundRun script c → c.is_halted ≡ false → RunsHaveTheLogsAnswers → (j : JobParts) → IsOfLog c.log j → HasAnswersIn c.whole j
 has_answers script c kept goes_on law j own w x run at live is same as_many =
     let there : answers_of run.attempt c.log ≡ run.answers = law (beside script c.first_nodes []) c.log c.whole (kept.sound goes_on) w x run at live is in
-    whole_first (map content_of j.answers) run.answers
-    (subst (IsFirst (map content_of j.answers)) (ap (λ a. answers_of a c.log) same ∙ there) own) (length-map j.answers content_of ∙ as_many)
+    whole_first j.answers run.answers (subst (IsFirst j.answers) (ap (λ a. answers_of a c.log) same ∙ there) own) as_many
 
 pub have_answers : (script : Script) (c : RunState) → IsSoundRun script c → c.is_halted ≡ false → RunsHaveTheLogsAnswers → (d : Option Done) → IsOwn c.log d → HaveAnswersIn c.whole d
 have_answers script c kept goes_on law None own = tt
@@ -135,7 +134,7 @@ have_answers script c kept goes_on law (Some d) own = has_answers script c kept 
 
 -- ---- what is handed in
 
-same_stop : (stop : Stop) → jobs.stop_of (stopped_of stop) ≡ pieces.stop_of stop
+same_stop : (stop : PieceStop) → jobs.stop_of (stopped_of stop) ≡ pieces.stop_of stop
 same_stop (stops.Needs y) = refl
 same_stop (stops.Ends c) = refl
 
@@ -144,9 +143,9 @@ abbrev IsTrueOn : Script → Job → Outcomes → Type 0
 IsTrueOn script job d =
     replay script job.spec job.base job.answers ≡ record { births = job.births ++ d.births; prints = job.prints ++ d.prints; stop = jobs.stop_of d.stop }
 
-true_on : (script : Script) (d : Done) → IsTrueOf script d → IsTrueOn script (job_in d.job) (work_of d.births d.prints d.stop)
+true_on : (script : Script) (d : Done) → IsTrueOf script d → IsTrueOn script d.job (work_of d.births d.prints d.stop)
 true_on script d h =
-    h ∙ ap (λ stop. record { births = map birth_of d.job.births ++ map birth_of d.births; prints = map value_of d.job.printed ++ map value_of d.prints; stop = stop }) (sym (same_stop d.stop))
+    h ∙ ap (λ stop. record { births = d.job.births ++ map birth_of d.births; prints = d.job.prints ++ map value_of d.prints; stop = stop }) (sym (same_stop d.stop))
 
 -- one attempt is out as that job
 one_out : (c : Whole) (j : ℕ) (run : Run) → IsOutAs c j run → (g : Given) (x : Worker) (other : Run) → item_at c.jobs j ≡ Some g → worker_at c g.worker ≡ Some x → x.run ≡ Some other → run ≡ other
@@ -158,9 +157,9 @@ one_out c j run out g x other given worker runs =
     some_of : {X : Type 0} (a b : X) → Some a ≡ Some b → a ≡ b
     some_of a b e = cc
 
-right_job : (script : Script) (nodes : ℕ) (c : Whole) (j : ℕ) (d : Done) → IsTrueOf script d → IsOut c j (job_in d.job) → IsRight (beside script nodes []) c (Commit j) (OfJob (work_of d.births d.prints d.stop))
+right_job : (script : Script) (nodes : ℕ) (c : Whole) (j : ℕ) (d : Done) → IsTrueOf script d → IsOut c j d.job → IsRight (beside script nodes []) c (Commit j) (OfJob (work_of d.births d.prints d.stop))
 right_job script nodes c j d is_true out g x run given worker runs is_out =
-    let same : job_in d.job ≡ job_of j run = out.2 ∙ ap (λ r. job_of j r) (one_out c j out.0 out.1 g x run given worker runs) in
+    let same : d.job ≡ job_of j run = out.2 ∙ ap (λ r. job_of j r) (one_out c j out.0 out.1 g x run given worker runs) in
     subst (λ job. IsTrueOn script job (work_of d.births d.prints d.stop)) same (true_on script d is_true)
 
 right_for : (script : Script) (nodes : ℕ) (c : Whole) (j : ℕ) (d : Option Done) (h : Handed) → IsHanded c (Commit j) d h → IfSome d (λ x. IsTrueOf script x) → IsRight (beside script nodes []) c (Commit j) h

@@ -1,34 +1,28 @@
 -- What is kept of a run, event by event.
 use Rattle.std.proofs.Common.{◌≡◌, ℕ, ◌<◌, ◌≤◌, true, false, List, [], ◌++◌, Option, Some, None, IfSome, refl, sym, ap, ◌∙◌, subst}
 use Rattle.meaning.specs.Syntax.{Script}
-use Rattle.std.specs.List.{AllByRecursion}
 use Rattle.script_check.specs.Scripts.{IsWellTyped}
 use Rattle.event_log.specs.Entries.{Entry, Event}
 use Rattle.event_log.specs.Legal as logs
-use Rattle.log_entries.specs.Refusals.{code_of}
 use Rattle.log_entries.specs.declared.refusal.Refusal.{Refusal}
-use Rattle.segment.specs.Jobs.{JobData, Done, IsBegun, IsTrueOf}
+use Rattle.segment.specs.Jobs.{JobParts, Done, IsBegun, IsTrueOf}
 use Rattle.answers.specs.Replies.{outcome_of, reply_of}
 use Rattle.answers.specs.declared.reply.Answered.{Answered}
 use Rattle.answers.specs.declared.reply.Verdict.{Verdict}
 use Rattle.answers.specs.declared.reply.Verdict.TheVariants.{Taken, Refused}
-use Rattle.exchange.specs.Jobs.{job_in}
 use Rattle.protocol.specs.Answers.{Answer, Takes, Refuses, answer, logged, whole_after}
 use Rattle.protocol.specs.Jobs.{Handed, Job}
 use Rattle.protocol.specs.Whole.{Whole}
 use Rattle.protocol_laws.specs.Given.{ClaimsGiveGoodJobs, ClaimsGiveJobsOfTheLog, GivesGood, GivesOfLog, IsGood, IsGoodIfGiven, IsOfLog, IsOfLogIfGiven, JobsStayOfTheLog}
 use Rattle.protocol_laws.specs.Law.{EventsKeepSound, OpeningIsSound, SoundIsLegal}
 use Rattle.protocol_laws.specs.Sound.{IsSound}
-use Rattle.protocol_legal.specs.Whole.{setting_of}
-use Rattle.exchange.specs.Refusals.{HasUnknown, IsNoCode}
 use Rattle.protocol_owed.specs.Runs.{Handing, Running, after_event, opening_run}
-use Rattle.owed_laws.specs.Law.{IsReached}
-use Rattle.owed_laws.proofs.Paid.{reached_goes_on}
+use Rattle.count_laws.specs.Law.{IsReached}
+use Rattle.count_laws.proofs.Reached.{reached_goes_on}
 use Rattle.protocol_core.specs.States.{RunState, IsLegal, IsReachedRun, IsSoundRun, beside, first_state, run_of}
 use Rattle.protocol_core.specs.Steps.{Accepts, GivesJob, GivesThat, IsHanded, IsApplied, Applies, RunsOut, Tells}
 use Rattle.protocol_core.specs.Steps as told
 use Rattle.protocol_core.proofs.Jobs.{begun, gives_good, gives_own, right}
-use Rattle.protocol_core.proofs.Known.{IsKnown, known_behind, none_unknown, refused_for_cause}
 
 -- ---- what is kept
 
@@ -129,18 +123,9 @@ module _ (script : Script) (before after : RunState) (e : Event) (seat : ℕ) (w
       let there : IsSound s after.log after.whole = subst (λ l. IsSound s l after.whole) (sym log) (subst (λ c. IsSound s (before.log ++ logged e seat a) c) (sym whole) next) in
       kept_of script after legal kept.typed (subst (λ n. 0 < n) (sym nodes) kept.nodes) (subst (λ n. n ≤ 64) (sym nodes) kept.few) (reached_behind log whole nodes) (subst (λ n. IsSound (beside script n []) after.log after.whole) (sym nodes) there)
 
-  -- nothing of it is a refusal of a number that none has
-  pub known_applied : EventsKeepSound → SoundIsLegal → AllByRecursion IsKnown (logged e seat (answer before.whole e handed))
-  known_applied law legal =
-      let a : Answer = answer before.whole e handed in
-      let s = beside script before.first_nodes [] in
-      let next : IsSound s (before.log ++ logged e seat a) (whole_after before.whole a) =
-      law s kept.typed.main_apart before.log before.whole e seat handed sound_before (right script before.first_nodes before.whole e work handed is_handed is_true) in
-      known_behind (setting_of s (whole_after before.whole a)) before.log (logged e seat a) (legal s (before.log ++ logged e seat a) (whole_after before.whole a) next)
-
   -- a job that it gives out may be run
-  pub job_begun : ClaimsGiveGoodJobs → (job : JobData) → outcome_of (answer before.whole e handed) ≡ Taken (Some (job_in job)) → IsBegun script job
-  job_begun law job gives = begun script job (is_good script (answer before.whole e handed) (job_in job) (gives_good script kept.typed law before.first_nodes before.log before.whole sound_before e handed) gives)
+  pub job_begun : ClaimsGiveGoodJobs → (job : JobParts) → outcome_of (answer before.whole e handed) ≡ Taken (Some job) → IsBegun script job
+  job_begun law job gives = begun script job (is_good script (answer before.whole e handed) job (gives_good script kept.typed law before.first_nodes before.log before.whole sound_before e handed) gives)
     where
       given_in : Verdict → Option Job
       given_in (Taken g) = g
@@ -154,8 +139,8 @@ module _ (script : Script) (before after : RunState) (e : Event) (seat : ℕ) (w
       is_good script (Refuses code) j good e = absurd (none_some j (ap given_in e))
 
   -- the log before it has that job's answers
-  pub job_own : ClaimsGiveJobsOfTheLog → (job : JobData) → outcome_of (answer before.whole e handed) ≡ Taken (Some (job_in job)) → IsOfLog before.log (job_in job)
-  job_own law job gives = is_own (answer before.whole e handed) (job_in job) (gives_own script law before.first_nodes before.log before.whole sound_before e handed) gives
+  pub job_own : ClaimsGiveJobsOfTheLog → (job : JobParts) → outcome_of (answer before.whole e handed) ≡ Taken (Some job) → IsOfLog before.log job
+  job_own law job gives = is_own (answer before.whole e handed) job (gives_own script law before.first_nodes before.log before.whole sound_before e handed) gives
     where
       given_in : Verdict → Option Job
       given_in (Taken g) = g
@@ -174,9 +159,9 @@ abbrev given_by : Verdict → Option Job
 given_by (Taken g) = g
 given_by (Refused code) = None
 
-abbrev code_by : Verdict → Option ℕ
-code_by (Taken g) = None
-code_by (Refused code) = Some code
+abbrev refused_by : Verdict → Option Refusal
+refused_by (Taken g) = None
+refused_by (Refused refusal) = Some refusal
 
 none_is_some : {X : Type 0} (x : X) → None ≡ Some x → ⊥
 none_is_some x e = cc
@@ -184,17 +169,17 @@ none_is_some x e = cc
 some_is : {X : Type 0} (x y : X) → Some x ≡ Some y → x ≡ y
 some_is x y e = cc
 
-pub tells_refused : (a : Answer) (code : ℕ) (refusal : Refusal) → outcome_of a ≡ Refused code → code_of refusal ≡ code → Tells a (told.Refuses refusal)
-tells_refused (Takes s) code refusal e h = absurd (none_is_some code (ap code_by e))
-tells_refused (Refuses other) code refusal e h = (refusal, refl, h ∙ sym (some_is other code (ap code_by e)))
+pub tells_refused : (a : Answer) (refusal : Refusal) → outcome_of a ≡ Refused refusal → Tells a (told.Refuses refusal)
+tells_refused (Takes s) refusal e = absurd (none_is_some refusal (ap refused_by e))
+tells_refused (Refuses other) refusal e = sym (ap told.Refuses (some_is other refusal (ap refused_by e)))
 
 pub tells_accepted : (a : Answer) → outcome_of a ≡ Taken None → Tells a Accepts
 tells_accepted (Takes s) e = subst (λ o. GivesThat o Accepts) (sym (ap given_by e)) refl
-tells_accepted (Refuses code) e = absurd (none_is_some code (sym (ap code_by e)))
+tells_accepted (Refuses code) e = absurd (none_is_some code (sym (ap refused_by e)))
 
-pub tells_job : (a : Answer) (job : JobData) → outcome_of a ≡ Taken (Some (job_in job)) → Tells a (GivesJob job)
-tells_job (Takes s) job e = subst (λ o. GivesThat o (GivesJob job)) (sym (ap given_by e)) (job, refl, refl)
-tells_job (Refuses code) job e = absurd (none_is_some code (sym (ap code_by e)))
+pub tells_job : (a : Answer) (job : JobParts) → outcome_of a ≡ Taken (Some job) → Tells a (GivesJob job)
+tells_job (Takes s) job e = subst (λ o. GivesThat o (GivesJob job)) (sym (ap given_by e)) refl
+tells_job (Refuses code) job e = absurd (none_is_some code (sym (ap refused_by e)))
 
 -- ---- an event that was answered, and stands in the log
 
@@ -209,13 +194,13 @@ pub record Came (script : Script) (before after : RunState) (e : Event) (seat : 
   pub outcome_is : outcome ≡ outcome_of (answer before.whole e handed)
 
 -- what the whole answered to the event as it takes it
-pub came : (script : Script) (before after : RunState) (e taken : Event) (seat : ℕ) (work : Option Done) (handed : Handed) (reply : Answered) (chunk : List Entry) →
+pub came : (script : Script) (before after : RunState) (e taken : Event) (seat : ℕ) (work : Option Done) (handed : Handed) (reply : Answered) →
     taken ≡ e → IsHanded before.whole e work handed → IfSome work (λ d. IsTrueOf script d) →
-    reply ≡ reply_of taken seat (answer before.whole taken handed) → chunk ≡ reply.entries →
-    after.log ≡ before.log ++ chunk → after.whole ≡ whole_after before.whole (answer before.whole taken handed) →
+    reply ≡ reply_of taken seat (answer before.whole taken handed) →
+    after.log ≡ before.log ++ reply.entries → after.whole ≡ whole_after before.whole (answer before.whole taken handed) →
     after.first_nodes ≡ before.first_nodes → after.is_halted ≡ false → Came script before after e seat work reply.outcome
-came script before after e taken seat work handed reply chunk same is_handed is_true replied logs log whole nodes goes_on =
-    let entries : chunk ≡ logged taken seat (answer before.whole taken handed) = logs ∙ ap (λ (r : Answered). r.entries) replied in
+came script before after e taken seat work handed reply same is_handed is_true replied log whole nodes goes_on =
+    let entries : reply.entries ≡ logged taken seat (answer before.whole taken handed) = ap (λ (r : Answered). r.entries) replied in
     record {
       handed = handed;
       is_handed = is_handed;
@@ -238,31 +223,13 @@ kept_behind script before after e seat work outcome kept goes_on law legal h =
     kept_applied script before after e seat work h.handed kept goes_on h.is_handed h.is_true law legal h.log h.whole h.nodes
 
 pub begun_behind : (script : Script) (before after : RunState) (e : Event) (seat : ℕ) (work : Option Done) (outcome : Verdict) → IsSoundRun script before → before.is_halted ≡ false →
-    ClaimsGiveGoodJobs → Came script before after e seat work outcome → (job : JobData) → outcome ≡ Taken (Some (job_in job)) → IsBegun script job
+    ClaimsGiveGoodJobs → Came script before after e seat work outcome → (job : JobParts) → outcome ≡ Taken (Some job) → IsBegun script job
 begun_behind script before after e seat work outcome kept goes_on law h job gives =
     job_begun script before after e seat work h.handed kept goes_on h.is_handed h.is_true law job (sym h.outcome_is ∙ gives)
 
 pub own_behind : (script : Script) (before after : RunState) (e : Event) (seat : ℕ) (work : Option Done) (outcome : Verdict) → IsSoundRun script before → before.is_halted ≡ false →
-    ClaimsGiveJobsOfTheLog → JobsStayOfTheLog → Came script before after e seat work outcome → (job : JobData) → outcome ≡ Taken (Some (job_in job)) → IsOfLog after.log (job_in job)
+    ClaimsGiveJobsOfTheLog → JobsStayOfTheLog → Came script before after e seat work outcome → (job : JobParts) → outcome ≡ Taken (Some job) → IsOfLog after.log job
 own_behind script before after e seat work outcome kept goes_on law stay h job gives =
     let a : Answer = answer before.whole e h.handed in
     let own = job_own script before after e seat work h.handed kept goes_on h.is_handed h.is_true law job (sym h.outcome_is ∙ gives) in
-    subst (λ log. IsOfLog log (job_in job)) (sym h.log) (stay before.log (logged e seat a) (job_in job) own)
-
--- ---- what can't come: an entry of a number that none has, a refusal of such a number
-
-pub known_entries : (script : Script) (before : RunState) (e taken : Event) (seat : ℕ) (work : Option Done) (handed : Handed) (reply : Answered) → IsSoundRun script before → before.is_halted ≡ false →
-    taken ≡ e → IsHanded before.whole e work handed → IfSome work (λ d. IsTrueOf script d) → reply ≡ reply_of taken seat (answer before.whole taken handed) →
-    EventsKeepSound → SoundIsLegal → HasUnknown reply.entries → ⊥
-known_entries script before e taken seat work handed reply kept goes_on same is_handed is_true replied law legal unknown =
-    let known = known_applied script before before e seat work handed kept goes_on is_handed is_true law legal in
-    let there : AllByRecursion IsKnown (logged taken seat (answer before.whole taken handed)) = subst (λ x. AllByRecursion IsKnown (logged x seat (answer before.whole x handed))) (sym same) known in
-    none_unknown (logged taken seat (answer before.whole taken handed)) there (subst HasUnknown (ap (λ (r : Answered). r.entries) replied) unknown)
-
-pub known_code : (script : Script) (before : RunState) (e taken : Event) (seat code : ℕ) (work : Option Done) (handed : Handed) (reply : Answered) → IsSoundRun script before → before.is_halted ≡ false →
-    taken ≡ e → IsHanded before.whole e work handed → IfSome work (λ d. IsTrueOf script d) → reply ≡ reply_of taken seat (answer before.whole taken handed) →
-    EventsKeepSound → SoundIsLegal → reply.outcome ≡ Refused code → IsNoCode code → ⊥
-known_code script before e taken seat code work handed reply kept goes_on same is_handed is_true replied law legal refused none =
-    let known = known_applied script before before e seat work handed kept goes_on is_handed is_true law legal in
-    let there : AllByRecursion IsKnown (logged taken seat (answer before.whole taken handed)) = subst (λ x. AllByRecursion IsKnown (logged x seat (answer before.whole x handed))) (sym same) known in
-    refused_for_cause taken seat (answer before.whole taken handed) code there (sym (ap (λ (r : Answered). r.outcome) replied) ∙ refused) none
+    subst (λ log. IsOfLog log job) (sym h.log) (stay before.log (logged e seat a) job own)

@@ -1,7 +1,8 @@
+mod Cursors
 mod Jobs
 mod Kept
-mod Known
-mod Cursors
-mod Shown
-mod Paid
 mod Meant
+mod Paid
+mod Shown
+pub mod Apart
+pub mod Pace

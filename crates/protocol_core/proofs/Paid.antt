@@ -3,7 +3,7 @@ use Rattle.std.proofs.Common.{◌≡◌, ℕ, true, false, List, [], Option, IfS
 use Rattle.meaning.specs.Syntax.{Script}
 use Rattle.event_log.specs.Entries.{Entry, Event}
 use Rattle.segment.specs.Jobs.{Done, IsTrueOf}
-use Rattle.owed_laws.proofs.Paid.{reached_pays}
+use Rattle.count_laws.proofs.Reached.{reached_pays}
 use Rattle.count_laws.specs.Counts.{counted, is_within}
 use Rattle.count_laws.proofs.Laws.{events_are_limited, runs_are_within}
 use Rattle.protocol_core.specs.Limits.{IsWithin, Limits}

@@ -7,17 +7,17 @@ use Rattle.segment.specs.Jobs.{Done}
 use Rattle.protocol.specs.Answers.{Answer, Refuses, Takes, answer}
 use Rattle.protocol.specs.Jobs.{Job}
 use Rattle.protocol.specs.Refusals.{is_of_job}
-use Rattle.protocol_laws.specs.Shown.{IsAsShown, RefusalsAreAsShown, number_of}
+use Rattle.protocol_laws.specs.Shown.{IsAsShown, RefusalsAreAsShown, refusal_of}
 use Rattle.protocol_core.specs.States.{IsSoundRun, RunState, beside}
-use Rattle.protocol_core.specs.Steps.{AnswersAsShown, Follows, GivesThat, Reply, Tells, number_in}
+use Rattle.protocol_core.specs.Steps.{AnswersAsShown, Follows, GivesThat, Reply, Tells, refusal_in}
 
-told_number : (a : Answer) (told : Reply) → Tells a told → number_of a ≡ number_in told
-told_number (Takes s) told h = go s.given h
+told_refusal : (a : Answer) (told : Reply) → Tells a told → refusal_of a ≡ refusal_in told
+told_refusal (Takes s) told h = go s.given h
   where
-    go : (o : Option Job) → GivesThat o told → None ≡ number_in told
-    go None k = sym (ap number_in k)
-    go (Some job) k = sym (ap number_in k.1)
-told_number (Refuses code) told h = ap Some (sym h.2) ∙ sym (ap number_in h.1)
+    go : (o : Option Job) → GivesThat o told → None ≡ refusal_in told
+    go None k = sym (ap refusal_in k)
+    go (Some job) k = sym (ap refusal_in k)
+told_refusal (Refuses refusal) told h = sym (ap refusal_in h)
 
 true_false : true ≡ false → ⊥
 true_false e = cc
@@ -29,7 +29,7 @@ as_shown script before after e seat work told law kept follows goes on = elim (f
   | inr a ↦ (
     a.0,
     a.1,
-    subst (IsAsShown e (shown (beside script before.first_nodes before.whole.network) before.log (is_of_job a.0) e)) (told_number (answer before.whole e a.0) told a.2.told_so)
+    subst (IsAsShown e (shown (beside script before.first_nodes before.whole.network) before.log (is_of_job a.0) e)) (told_refusal (answer before.whole e a.0) told a.2.told_so)
         (law (beside script before.first_nodes []) before.log before.whole (kept.sound goes) e a.0),
   )
 ]

@@ -4,7 +4,7 @@ use Rattle.meaning.specs.Syntax.{Script}
 use Rattle.segment.specs.Jobs.{Done}
 use Rattle.event_log.specs.Entries.{Event}
 use Rattle.protocol.specs.Jobs.{Handed}
-use Rattle.owed_laws.specs.Law.{AnswerPays}
+use Rattle.count_laws.specs.Law.{AnswerPays}
 use Rattle.protocol_core.specs.States.{RunState, beside, run_of}
 use Rattle.protocol_core.specs.Steps.{IsApplied, IsHanded, Reply}
 

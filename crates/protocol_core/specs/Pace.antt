@@ -1,7 +1,7 @@
 -- What attempts did so far begins what their tasks do.
 use Rattle.std.specs.Prelude.{◌≡◌, ℕ, true, Some}
 use Rattle.meaning.specs.Syntax.{Script}
-use Rattle.exchange.specs.Runs.{IsInPace}
+use Rattle.protocol_core.specs.SameJobs.{IsInPace}
 use Rattle.protocol.specs.Tables.{Run, Worker}
 use Rattle.protocol.specs.Whole.{Whole, worker_at}
 

@@ -9,7 +9,7 @@ use Rattle.protocol.specs.Messages.{Letter, receiver_in}
 use Rattle.protocol.specs.Whole.{Whole, first_whole}
 use Rattle.protocol_laws.specs.Sound.{IsSound}
 use Rattle.protocol_owed.specs.Runs.{Running}
-use Rattle.owed_laws.specs.Law.{IsReached}
+pub use Rattle.count_laws.specs.Law.{IsReached}
 
 -- what the log is read beside: the script, how many nodes there were at first, and the messages that were sent
 abbrev pub beside : Script → ℕ → List Letter → Setting

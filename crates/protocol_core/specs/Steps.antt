@@ -1,13 +1,12 @@
 -- What an event makes of the state, and what is answered to it.
 use Rattle.std.specs.Prelude.{◌≡◌, ◌⊎◌, ℕ, true, false, ◌++◌, Option, Some, None}
 use Rattle.meaning.specs.Syntax.{Script}
-use Rattle.segment.specs.Jobs.{JobData, Done}
+use Rattle.segment.specs.Jobs.{JobParts, Done}
 use Rattle.event_log.specs.Causes.{shown}
 use Rattle.event_log.specs.Entries.{Commit, Event}
-use Rattle.log_entries.specs.Refusals.{code_of}
 use Rattle.log_entries.specs.declared.refusal.Refusal.{Refusal}
 use Rattle.log_entries.specs.declared.refusal.Refusal.TheVariants as refusals
-use Rattle.exchange.specs.Jobs.{job_in, work_of}
+use Rattle.protocol_core.specs.Work.{work_of}
 use Rattle.protocol.specs.Answers.{Answer, answer, job_of, logged, whole_after}
 use Rattle.protocol.specs.Answers as answers
 use Rattle.protocol.specs.Jobs.{Given, Handed, Job, Nothing, OfAnother, OfJob}
@@ -37,7 +36,7 @@ IsOut c j job = (run : Run) × IsOutAs c j run × (job ≡ job_of j run)
 abbrev pub IsHandedFor : Whole → ℕ → Option Done → Handed → Type 0
 IsHandedFor c j None handed = handed ≡ Nothing
 IsHandedFor c j (Some d) handed =
-    ((handed ≡ OfJob (work_of d.births d.prints d.stop)) × IsOut c j (job_in d.job)) ⊎ ((handed ≡ OfAnother) × (IsOut c j (job_in d.job) → ⊥))
+    ((handed ≡ OfJob (work_of d.births d.prints d.stop)) × IsOut c j d.job) ⊎ ((handed ≡ OfAnother) × (IsOut c j d.job → ⊥))
 
 -- what is handed in with an event: with any but a commit nothing
 abbrev pub IsHanded : Whole → Event → Option Done → Handed → Type 0
@@ -46,18 +45,18 @@ IsHanded c _ d handed = handed ≡ Nothing
 
 -- what is answered: the job that is given out, that the event is accepted, or why it is refused
 pub data Reply : Type 0 where
-  GivesJob : (j : JobData) → Reply
+  GivesJob : (j : JobParts) → Reply
   Accepts : Reply
   Refuses : (refusal : Refusal) → Reply
 
 abbrev pub GivesThat : Option Job → Reply → Type 0
 GivesThat None told = told ≡ Accepts
-GivesThat (Some job) told = (j : JobData) × (told ≡ GivesJob j) × (job_in j ≡ job)
+GivesThat (Some job) told = told ≡ GivesJob job
 
 -- it tells of the pure step's answer
 abbrev pub Tells : Answer → Reply → Type 0
 Tells (answers.Takes s) told = GivesThat s.given told
-Tells (answers.Refuses code) told = (refusal : Refusal) × (told ≡ Refuses refusal) × (code_of refusal ≡ code)
+Tells (answers.Refuses refusal) told = told ≡ Refuses refusal
 
 abbrev pub reply_of : {X : Type 0} → coded.Reply X → Reply
 reply_of (replies.Job j) = GivesJob j
@@ -92,17 +91,17 @@ pub record Answers (before : RunState) (e : Event) (seat : ℕ) (done : Option D
   pub halted : before.is_halted ≡ true → (after ≡ before) × (told ≡ Refuses refusals.Halted)
   pub follows : before.is_halted ≡ false → Follows before e seat done after told
 
--- the number of a refusal
-abbrev pub number_in : Reply → Option ℕ
-number_in (GivesJob j) = None
-number_in Accepts = None
-number_in (Refuses refusal) = Some (code_of refusal)
+-- why it is refused, if it is
+abbrev pub refusal_in : Reply → Option Refusal
+refusal_in (GivesJob j) = None
+refusal_in Accepts = None
+refusal_in (Refuses refusal) = Some refusal
 
 -- it is answered as the log shows, beside the messages that the run sent and what is handed in
 abbrev pub IsShown : Script → RunState → Event → Option Done → Reply → Type 0
 IsShown script before e done told =
     (handed : Handed) × IsHanded before.whole e done handed
-    × IsAsShown e (shown (beside script before.first_nodes before.whole.network) before.log (is_of_job handed) e) (number_in told)
+    × IsAsShown e (shown (beside script before.first_nodes before.whole.network) before.log (is_of_job handed) e) (refusal_in told)
 
 -- so every event is, unless it finds no memory or one before found none
 abbrev pub AnswersAsShown : Script → RunState → Event → Option Done → RunState → Reply → Type 0

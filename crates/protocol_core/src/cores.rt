@@ -2,7 +2,6 @@
 
 ghost use Rattle.std.specs.Prelude.{◌≡◌, true, IfOk};
 ghost use Rattle.script_check.specs.Trees.{script_of};
-ghost use Rattle.event_log.specs.Views.{log_of};
 ghost use Rattle.protocol.specs.Settling.{next};
 ghost use Rattle.protocol_core.specs.Own.{GivesOwn, IsOwn};
 ghost use Rattle.protocol_core.specs.Limits.{IsWithin, Limits};
@@ -10,17 +9,15 @@ ghost use Rattle.protocol_core.specs.Meant.{IsSoundLog};
 ghost use Rattle.protocol_core.specs.Owed.{Pays};
 ghost use Rattle.protocol_core.specs.States.{first_state};
 ghost use Rattle.protocol_core.specs.Steps.{Answers, AnswersAsShown, reply_of};
-ghost use Rattle.protocol_core.specs.Views.{state_of};
 
 use crate::cluster::Cluster;
 use crate::reply::Reply;
 use crate::state::State;
 use crate::steps::step;
-use event_log::Entry;
 use ids::WorkerId;
-use log_entries::Event;
+use log_entries::{Entry, Event};
 use meaning_laws::law::{legal_logs_read_as_serial, main_begins_the_serial_run};
-use protocol_data::Letter;
+use protocol_data::{Letter, Whole};
 use protocol_laws::law::{opening_is_sound, sound_is_legal};
 use script_check::Checked;
 use segment::{Done, ScriptName};
@@ -47,23 +44,23 @@ impl<S: ScriptName> Model for Core<S> {
     ghost use Rattle.values.specs.FaultCodes.{fault_code};
     ghost use Rattle.values.specs.contracts.value.RunValue as run_values;
     ghost use Rattle.cursor_laws.specs.Cursors.{IsPast};
-    ghost use Rattle.protocol_core.specs.States.{IsSoundRun};
-    ghost use Rattle.protocol_core.specs.Views.{RunData, data_of, state_of};
+    ghost use Rattle.protocol_core.specs.States.{IsSoundRun, RunState};
+    ghost use Rattle.protocol_core.specs.Views.{state_of};
 
-    ghost Value = { RunData };
+    ghost Value = { RunState };
 
     ghost coded = { Prim.hlevel (codes, run_values.the_row.coded, value_code, outcome_code, birth_code, id_code, attempt_code, fault_code) };
 
-    ghost view = { λ c. data_of c.state };
+    ghost view = { λ c. state_of c.state };
 
-    ghost invariant = { λ c. IsSoundRun S.script (state_of (data_of c.state)) × IsPast c.cursor c.state.whole.delivered };
+    ghost invariant = { λ c. IsSoundRun S.script (state_of c.state) × IsPast c.cursor c.state.whole.delivered };
 }
 
 impl<S: ScriptName> Core<S> {
     /// A run of the script that begins: worker 1 is opened on node 1 and runs main.
     pub fn new(alloc: Global, script: &Checked, cluster: Cluster) -> Result<Core<S>, AllocError>
         requires { script_of script.now ≡ S.script }
-        ensures { IfOk result (λ c. state_of c ≡ first_state cluster.nodes cluster.slots) }
+        ensures { IfOk result (λ c. c ≡ first_state cluster.nodes cluster.slots) }
     {
         opening_is_sound();
         sound_is_legal();
@@ -80,8 +77,8 @@ impl<S: ScriptName> Core<S> {
     /// The entries so far, oldest first.
     pub fn log(&self) -> &[Entry]
         ensures log { result.now ≡ self.now.log }
-        ensures meant { IsSoundLog S.script (state_of self.now) }
-        ensures within { IsWithin S.script (state_of self.now) }
+        ensures meant { IsSoundLog S.script self.now }
+        ensures within { IsWithin S.script self.now }
     {
         legal_logs_read_as_serial();
         main_begins_the_serial_run();
@@ -93,6 +90,13 @@ impl<S: ScriptName> Core<S> {
         ensures { result.now ≡ self.now.whole.network }
     {
         &self.state.whole.network
+    }
+
+    /// The run without its log: nodes and workers with their tables, the messages, which of them were delivered, and the jobs.
+    pub fn whole(&self) -> &Whole
+        ensures { result.now ≡ self.now.whole }
+    {
+        &self.state.whole
     }
 
     /// The next event where nothing else is asked for; see docs/protocol.md, "The settle rule". These workers neither claim nor commit.
@@ -115,12 +119,12 @@ impl<S: ScriptName> Core<S> {
         seat: u8,
         done: Option<Done<S>>,
     ) -> Reply<S>
-        ensures answers { Answers (state_of self.old) event seat done (state_of self.new) (reply_of result) }
-        ensures own { GivesOwn (log_of self.new.log) (reply_of result) }
-        ensures meant { IsSoundLog S.script (state_of self.new) }
-        ensures shown { AnswersAsShown S.script (state_of self.old) event done (state_of self.new) (reply_of result) }
-        ensures paid { Pays S.script (state_of self.old) event seat done (state_of self.new) (reply_of result) }
-        ensures limited { Limits S.script (state_of self.old) event seat done (state_of self.new) (reply_of result) }
+        ensures answers { Answers self.old event seat done self.new (reply_of result) }
+        ensures own { GivesOwn self.new.log (reply_of result) }
+        ensures meant { IsSoundLog S.script self.new }
+        ensures shown { AnswersAsShown S.script self.old event done self.new (reply_of result) }
+        ensures paid { Pays S.script self.old event seat done self.new (reply_of result) }
+        ensures limited { Limits S.script self.old event seat done self.new (reply_of result) }
     {
         step(
             alloc,
@@ -142,13 +146,13 @@ impl<S: ScriptName> Core<S> {
         seat: u8,
         done: Option<Done<S>>,
     ) -> Reply<S>
-        requires { IsOwn (log_of self.old.log) done }
-        ensures answers { Answers (state_of self.old) event seat done (state_of self.new) (reply_of result) }
-        ensures own { GivesOwn (log_of self.new.log) (reply_of result) }
-        ensures meant { IsSoundLog S.script (state_of self.new) }
-        ensures shown { AnswersAsShown S.script (state_of self.old) event done (state_of self.new) (reply_of result) }
-        ensures paid { Pays S.script (state_of self.old) event seat done (state_of self.new) (reply_of result) }
-        ensures limited { Limits S.script (state_of self.old) event seat done (state_of self.new) (reply_of result) }
+        requires { IsOwn self.old.log done }
+        ensures answers { Answers self.old event seat done self.new (reply_of result) }
+        ensures own { GivesOwn self.new.log (reply_of result) }
+        ensures meant { IsSoundLog S.script self.new }
+        ensures shown { AnswersAsShown S.script self.old event done self.new (reply_of result) }
+        ensures paid { Pays S.script self.old event seat done self.new (reply_of result) }
+        ensures limited { Limits S.script self.old event seat done self.new (reply_of result) }
     {
         step(
             alloc,

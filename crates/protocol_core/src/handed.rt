@@ -2,13 +2,13 @@
 
 ghost use Rattle.std.specs.Prelude.{◌≡◌, IfOk, IfSome, true};
 ghost use Rattle.protocol.specs.Tables.{Out};
-ghost use Rattle.exchange.specs.Jobs.{job_in};
 ghost use Rattle.segment.specs.Jobs.{IsTrueOf};
 ghost use Rattle.protocol_core.specs.Own.{HasAnswersIn, HaveAnswersIn};
 ghost use Rattle.protocol_core.specs.Pace.{AreInPace};
 ghost use Rattle.protocol_core.specs.Steps.{IsHanded, IsHandedFor, IsOut};
 
-use exchange::{is_job_in_pace, is_job_of, is_own_job, outcomes_of};
+use crate::outcomes::outcomes_of;
+use crate::same_job::{is_job_in_pace, is_job_of, is_own_job};
 use log_entries::Event;
 use number_lists::item_at_number;
 use protocol_data::{Handed, Phase, Run, Whole};
@@ -37,8 +37,8 @@ fn is_done_on<S: ScriptName>(
 ) -> Result<bool, AllocError>
     requires pace { AreInPace S.script whole.now }
     requires own { is_own ≡ true → HasAnswersIn whole.now done.now.job }
-    ensures out { IfOk result (λ is. is ≡ true → IsOut whole.now job (job_in done.now.job)) }
-    ensures only { IfOk result (λ is. IsOut whole.now job (job_in done.now.job) → is ≡ true) }
+    ensures out { IfOk result (λ is. is ≡ true → IsOut whole.now job done.now.job) }
+    ensures only { IfOk result (λ is. IsOut whole.now job done.now.job → is ≡ true) }
 {
     let Some(given) = item_at_number(&whole.jobs, job) else {
         return Ok(false);

@@ -1,16 +1,15 @@
 // The state of a run.
 
-ghost use Rattle.std.specs.Prelude.{◌≡◌, ◌++◌, IfOk, OnOk, OnErr, map, true};
+ghost use Rattle.std.specs.Prelude.{◌≡◌, ◌++◌, IfOk, OnOk, OnErr, true};
 ghost use Rattle.event_log.specs.Legal.{opening};
-ghost use Rattle.event_log.specs.Views.{entry_of, log_of};
 ghost use Rattle.protocol_core.specs.Clusters.{IsCluster};
 ghost use Rattle.protocol_core.specs.States.{first_state};
-ghost use Rattle.protocol_core.specs.Views.{data_of, state_of};
+ghost use Rattle.protocol_core.specs.Views.{state_of};
 
 use crate::cluster::Cluster;
 use crate::opening::first_whole;
-use event_log::Entry;
 use ids::{AttemptId, NodeId, ObjectId, WorkerId};
+use log_entries::Entry;
 use protocol_data::Whole;
 use sequence::Seq;
 use std::alloc::{AllocError, Global};
@@ -26,7 +25,7 @@ pub struct State {
 
 /// The log of a run that begins: worker 1 on node 1 runs main.
 fn opening(alloc: Global) -> Result<Seq<Entry>, AllocError>
-    ensures { IfOk result (λ log. log_of log ≡ opening) }
+    ensures { IfOk result (λ log. log ≡ opening) }
 {
     let mut log = Seq::new(alloc);
     log.push(Entry::Opened {
@@ -47,7 +46,7 @@ fn opening(alloc: Global) -> Result<Seq<Entry>, AllocError>
 impl State {
     /// A run that begins, on these nodes.
     pub fn new(alloc: Global, cluster: Cluster) -> Result<State, AllocError>
-        ensures { IfOk result (λ c. state_of (data_of c) ≡ first_state cluster.nodes cluster.slots) }
+        ensures { IfOk result (λ c. state_of c ≡ first_state cluster.nodes cluster.slots) }
     {
         let first_nodes = cluster.nodes();
         let whole = first_whole(alloc, first_nodes, cluster.slots())?;
@@ -61,14 +60,14 @@ impl State {
     }
 
     /// Adds an event and what comes of it at the log's end, or leaves the log as it is.
-    pub fn add(&mut self, entries: Vec<Entry>) -> Result<(), AllocError>
-        ensures ok { OnOk result (log_of self.new.log ≡ log_of self.old.log ++ map entry_of entries.items) }
+    pub fn add(&mut self, entries: Seq<Entry>) -> Result<(), AllocError>
+        ensures ok { OnOk result (self.new.log ≡ self.old.log ++ entries) }
         ensures err { OnErr result (self.new.log ≡ self.old.log) }
         ensures whole { self.new.whole ≡ self.old.whole }
         ensures nodes { self.new.first_nodes ≡ self.old.first_nodes }
         ensures halted { self.new.is_halted ≡ self.old.is_halted }
     {
-        self.log.append(Seq { items: entries })
+        self.log.append(entries)
     }
 
     /// An event found no memory.

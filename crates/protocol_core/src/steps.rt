@@ -2,7 +2,6 @@
 
 ghost use Rattle.std.specs.Prelude.{◌≡◌, ◌≤◌, false, true, IfOk, IfSome, OnOk, OnErr};
 ghost use Rattle.cursor_laws.specs.Cursors.{IsPast};
-ghost use Rattle.event_log.specs.Views.{log_of};
 ghost use Rattle.segment.specs.Jobs.{IsTrueOf};
 ghost use Rattle.protocol_core.specs.Limits.{Limits};
 ghost use Rattle.protocol_core.specs.Meant.{IsSoundLog};
@@ -10,14 +9,13 @@ ghost use Rattle.protocol_core.specs.Owed.{Pays};
 ghost use Rattle.protocol_core.specs.Own.{GivesOwn, IsOwn};
 ghost use Rattle.protocol_core.specs.States.{IsSoundRun};
 ghost use Rattle.protocol_core.specs.Steps.{Answers, AnswersAsShown, Applies, Follows, RunsOut, reply_of};
-ghost use Rattle.protocol_core.specs.Views.{data_of, state_of};
+ghost use Rattle.protocol_core.specs.Views.{state_of};
 
 use crate::cursor::cursor_behind;
 use crate::handed::handed_with;
 use crate::reply::Reply;
 use crate::state::State;
 use answers::{Answered, Verdict, answer};
-use exchange::{job_parts, logged_entries, refusal_of};
 use log_entries::{Event, Refusal};
 use meaning_laws::law::{legal_logs_read_as_serial, main_begins_the_serial_run};
 use protocol_laws::law::{
@@ -29,7 +27,7 @@ use std::alloc::{AllocError, Global};
 
 /// An event that found no memory.
 fn run_out<S: ScriptName>(state: &mut State) -> Reply<S>
-    ensures { RunsOut (state_of (data_of state.old)) (state_of (data_of state.new)) (reply_of result) }
+    ensures { RunsOut (state_of state.old) (state_of state.new) (reply_of result) }
 {
     state.halt();
     Reply::Refused(Refusal::NoMemory)
@@ -44,12 +42,12 @@ fn try_step<S: ScriptName>(
     done: Option<Done<S>>,
     is_own: bool,
 ) -> Result<Reply<S>, AllocError>
-    requires kept { IsSoundRun S.script (state_of (data_of state.old)) }
+    requires kept { IsSoundRun S.script (state_of state.old) }
     requires goes_on { state.old.is_halted ≡ false }
-    requires own { is_own ≡ true → IsOwn (log_of state.old.log) done }
-    ensures applied { IfOk result (λ told. Applies (state_of (data_of state.old)) event seat done (state_of (data_of state.new)) (reply_of told)) }
-    ensures kept { OnOk result (IsSoundRun S.script (state_of (data_of state.new))) }
-    ensures own { IfOk result (λ told. GivesOwn (log_of state.new.log) (reply_of told)) }
+    requires own { is_own ≡ true → IsOwn state.old.log done }
+    ensures applied { IfOk result (λ told. Applies (state_of state.old) event seat done (state_of state.new) (reply_of told)) }
+    ensures kept { OnOk result (IsSoundRun S.script (state_of state.new)) }
+    ensures own { IfOk result (λ told. GivesOwn state.new.log (reply_of told)) }
     ensures same { OnErr result (state.new.log ≡ state.old.log) }
     ensures nodes { state.new.first_nodes ≡ state.old.first_nodes }
     ensures is_true { IfSome done (λ d. IsTrueOf S.script d) }
@@ -64,25 +62,18 @@ fn try_step<S: ScriptName>(
     let handed = handed_with(alloc, &state.whole, &event, done, is_own)?;
     let reply = answer(alloc, &mut state.whole, &event, seat, handed)?;
     let Answered { entries, outcome } = reply;
-    let Some(logged) = logged_entries(alloc, &entries)? else {
-        unreachable!();
-    };
     match outcome {
-        Verdict::Refused(code) => {
-            let Some(refusal) = refusal_of(code) else {
-                unreachable!();
-            };
-            state.add(logged)?;
+        Verdict::Refused(refusal) => {
+            state.add(entries)?;
             Ok(Reply::Refused(refusal))
         }
         Verdict::Taken(None) => {
-            state.add(logged)?;
+            state.add(entries)?;
             Ok(Reply::Ok)
         }
         Verdict::Taken(Some(job)) => {
-            let parts = job_parts(job);
-            state.add(logged)?;
-            Ok(Reply::Job(Job::new(parts)))
+            state.add(entries)?;
+            Ok(Reply::Job(Job::new(job)))
         }
     }
 }
@@ -96,12 +87,12 @@ fn taken<S: ScriptName>(
     done: Option<Done<S>>,
     is_own: bool,
 ) -> Reply<S>
-    requires kept { IsSoundRun S.script (state_of (data_of state.old)) }
+    requires kept { IsSoundRun S.script (state_of state.old) }
     requires goes_on { state.old.is_halted ≡ false }
-    requires own { is_own ≡ true → IsOwn (log_of state.old.log) done }
-    ensures follows { Follows (state_of (data_of state.old)) event seat done (state_of (data_of state.new)) (reply_of result) }
-    ensures kept { IsSoundRun S.script (state_of (data_of state.new)) }
-    ensures own { GivesOwn (log_of state.new.log) (reply_of result) }
+    requires own { is_own ≡ true → IsOwn state.old.log done }
+    ensures follows { Follows (state_of state.old) event seat done (state_of state.new) (reply_of result) }
+    ensures kept { IsSoundRun S.script (state_of state.new) }
+    ensures own { GivesOwn state.new.log (reply_of result) }
     ensures is_true { IfSome done (λ d. IsTrueOf S.script d) }
 {
     match try_step(alloc, state, event, seat, done, is_own) {
@@ -120,16 +111,16 @@ pub fn step<S: ScriptName>(
     done: Option<Done<S>>,
     is_own: bool,
 ) -> Reply<S>
-    requires kept { IsSoundRun S.script (state_of (data_of state.old)) }
-    requires own { is_own ≡ true → IsOwn (log_of state.old.log) done }
+    requires kept { IsSoundRun S.script (state_of state.old) }
+    requires own { is_own ≡ true → IsOwn state.old.log done }
     requires past { IsPast cursor.old state.old.whole.delivered }
-    ensures answers { Answers (state_of (data_of state.old)) event seat done (state_of (data_of state.new)) (reply_of result) }
-    ensures own { GivesOwn (log_of state.new.log) (reply_of result) }
-    ensures meant { IsSoundLog S.script (state_of (data_of state.new)) }
-    ensures shown { AnswersAsShown S.script (state_of (data_of state.old)) event done (state_of (data_of state.new)) (reply_of result) }
-    ensures paid { Pays S.script (state_of (data_of state.old)) event seat done (state_of (data_of state.new)) (reply_of result) }
-    ensures limited { Limits S.script (state_of (data_of state.old)) event seat done (state_of (data_of state.new)) (reply_of result) }
-    ensures kept { IsSoundRun S.script (state_of (data_of state.new)) }
+    ensures answers { Answers (state_of state.old) event seat done (state_of state.new) (reply_of result) }
+    ensures own { GivesOwn state.new.log (reply_of result) }
+    ensures meant { IsSoundLog S.script (state_of state.new) }
+    ensures shown { AnswersAsShown S.script (state_of state.old) event done (state_of state.new) (reply_of result) }
+    ensures paid { Pays S.script (state_of state.old) event seat done (state_of state.new) (reply_of result) }
+    ensures limited { Limits S.script (state_of state.old) event seat done (state_of state.new) (reply_of result) }
+    ensures kept { IsSoundRun S.script (state_of state.new) }
     ensures past { IsPast cursor.new state.new.whole.delivered }
     ensures on { state.new.is_halted ≡ false → cursor.old ≤ cursor.new }
 {

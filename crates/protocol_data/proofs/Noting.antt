@@ -11,7 +11,7 @@ use Rattle.event_log.proofs.WordLaws.{same_attempt-true}
 use Rattle.sequence.proofs.Places.{and_left, and_right, or_left, or_right}
 use Rattle.protocol_data.specs.declared.node.AskKey.{AskKey}
 use Rattle.protocol_data.specs.declared.node.Asked.{Asked}
-use Rattle.protocol_data.specs.declared.node.Reply.{Reply}
+use Rattle.protocol_data.specs.declared.node.AskReply.{AskReply}
 use Rattle.protocol_data.specs.Noted.{AreBounded, AreDistinct, AreNoted, is_that_ask, may_be_noted}
 
 true_false : true ≡ false → ⊥
@@ -228,7 +228,7 @@ pub noted_wider : (bounds wider : List ℕ) (xs : List Asked) → AreDistinct xs
     AreDistinct xs × AreNoted wider xs
 noted_wider bounds wider xs d f = (d.0, noted_more bounds wider xs f d.1)
 
-pub put_right : (bounds wider : List ℕ) (k : AskKey) (o : Id) (x : Reply) (xs after : List Asked) → AreDistinct xs × AreNoted bounds xs →
+pub put_right : (bounds wider : List ℕ) (k : AskKey) (o : Id) (x : AskReply) (xs after : List Asked) → AreDistinct xs × AreNoted bounds xs →
     after ≡ filter (λ r. not (is_that_ask k r)) xs ++ record { key = k; reply = x } ∷ [] → ((o : Id) → may_be_noted bounds o ≡ true → may_be_noted wider o ≡ true) →
     o ≡ k.attempt.object → may_be_noted wider o ≡ true → AreDistinct after × AreNoted wider after
 put_right bounds wider k o x xs after d e f s h =
@@ -238,7 +238,7 @@ put_right bounds wider k o x xs after d e f s h =
     )
 
 -- where it never stood, the row is pushed
-pub pushed_anew : (k : AskKey) (x : Reply) (xs after : List Asked) (y : Asked) → list_any (is_that_ask k) xs ≡ false → after ≡ xs ++ y ∷ [] → y ≡ record { key = k; reply = x } →
+pub pushed_anew : (k : AskKey) (x : AskReply) (xs after : List Asked) (y : Asked) → list_any (is_that_ask k) xs ≡ false → after ≡ xs ++ y ∷ [] → y ≡ record { key = k; reply = x } →
     after ≡ filter (λ r. not (is_that_ask k r)) xs ++ record { key = k; reply = x } ∷ []
 pushed_anew k x xs after y n a r = a ∙ ap (λ ys. ys ++ y ∷ []) (sym (none_taken (is_that_ask k) xs n)) ∙ ap (λ z. filter (λ r. not (is_that_ask k r)) xs ++ z ∷ []) r
 
@@ -252,14 +252,14 @@ pub is_within_pushed : (xs pushed : List Asked) (i : ℕ) (k : AskKey) (y : Aske
 is_within_pushed xs pushed i k y f e = let l = is_within xs i k f in let m = ap length e ∙ length-append xs (y ∷ []) in omega (arith, l, m)
 
 -- where it stood, the row is pushed, and then the one that stood before goes
-pub pushed_again : (k : AskKey) (x : Reply) (xs pushed after : List Asked) (i : ℕ) (y : Asked) → AreDistinct xs → (x : Asked) × (slice_get xs i ≡ Some x) × (is_that_ask k x ≡ true) →
+pub pushed_again : (k : AskKey) (x : AskReply) (xs pushed after : List Asked) (i : ℕ) (y : Asked) → AreDistinct xs → (x : Asked) × (slice_get xs i ≡ Some x) × (is_that_ask k x ≡ true) →
     pushed ≡ xs ++ y ∷ [] → y ≡ record { key = k; reply = x } → after ≡ remove pushed i →
     after ≡ filter (λ r. not (is_that_ask k r)) xs ++ record { key = k; reply = x } ∷ []
 pushed_again k x xs pushed after i y d f p r a =
     a ∙ ap (λ ys. remove ys i) p ∙ remove_before xs y i (is_within xs i k f) ∙ ap (λ ys. ys ++ y ∷ []) (sym (taken_there xs i k d f))
     ∙ ap (λ z. filter (λ r. not (is_that_ask k r)) xs ++ z ∷ []) r
 
-pub put_viewed : (k : AskKey) (x : Reply) (seen xs after : List Asked) → xs ≡ seen →
+pub put_viewed : (k : AskKey) (x : AskReply) (seen xs after : List Asked) → xs ≡ seen →
     after ≡ filter (λ r. not (is_that_ask k r)) xs ++ record { key = k; reply = x } ∷ [] → after ≡ filter (λ r. not (is_that_ask k r)) seen ++ record { key = k; reply = x } ∷ []
 put_viewed k x seen xs after v e = e ∙ ap (λ ys. filter (λ r. not (is_that_ask k r)) ys ++ record { key = k; reply = x } ∷ []) v
 

@@ -7,7 +7,7 @@ ghost use Rattle.event_log.specs.Words.{same_attempt};
 ghost use Rattle.meaning.specs.Values.{Id};
 ghost use Rattle.protocol_data.specs.Noted.{AreDistinct, AreNoted, is_that_ask, may_be_noted, serial_or};
 
-use crate::node::{AskKey, Asked, Reply};
+use crate::node::{AskKey, AskReply, Asked};
 use ids::ObjectId;
 use sequence::Seq;
 use std::alloc::{AllocError, Global};
@@ -69,7 +69,7 @@ fn object_of(key: &AskKey) -> ObjectId
     key.attempt.object
 }
 
-fn answered(key: &AskKey, reply: &Reply) -> Asked
+fn answered(key: &AskKey, reply: &AskReply) -> Asked
     ensures { result ≡ record { key = key.now; reply = reply.now } }
 {
     Asked {
@@ -121,7 +121,7 @@ fn known_place(rows: &Seq<Asked>, bounds: &Seq<u64>, key: &AskKey) -> Option<usi
 }
 
 /// What was answered to the ask.
-fn reply_in(rows: &Seq<Asked>, bounds: &Seq<u64>, key: &AskKey) -> Option<Reply>
+fn reply_in(rows: &Seq<Asked>, bounds: &Seq<u64>, key: &AskKey) -> Option<AskReply>
     requires distinct { AreDistinct rows.now }
     requires noted { AreNoted bounds.now rows.now }
     ensures { result ≡ option_map (λ r. r.reply) (find (is_that_ask key.now) rows.now) }
@@ -179,14 +179,14 @@ impl Asks {
     }
 
     /// What was answered to the ask.
-    pub fn reply_to(&self, key: &AskKey) -> Option<Reply>
+    pub fn reply_to(&self, key: &AskKey) -> Option<AskReply>
         ensures { result ≡ option_map (λ r. r.reply) (find (is_that_ask key.now) self.now) }
     {
         reply_in(&self.rows, &self.bounds, key)
     }
 
     /// The answer to the ask stands from now on. An error is want of memory, and leaves the answers as they were.
-    pub fn put(&mut self, key: &AskKey, reply: &Reply) -> Result<(), AllocError>
+    pub fn put(&mut self, key: &AskKey, reply: &AskReply) -> Result<(), AllocError>
         ensures ok { OnOk result (self.new ≡ filter (λ r. not (is_that_ask key.now r)) self.old ++ record { key = key.now; reply = reply.now } ∷ []) }
         ensures err { OnErr result (self.new ≡ self.old) }
     {

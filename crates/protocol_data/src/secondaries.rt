@@ -9,7 +9,7 @@ ghost use Rattle.protocol_data.specs.Recent.{brought_to_front, copies_of, key_in
 ghost use Rattle.protocol_data.specs.Shelves.{is_sought, without};
 
 use crate::store::Copy;
-use held::Content;
+use held::SharedContent;
 use ids::ObjectId;
 use lru::LruCache;
 use std::alloc::{AllocError, Global};
@@ -26,14 +26,14 @@ pub struct CopyKey {
     pub number: u32,
 }
 
-fn new_cache(alloc: Global) -> Result<LruCache<CopyKey, Content>, AllocError>
+fn new_cache(alloc: Global) -> Result<LruCache<CopyKey, SharedContent>, AllocError>
     ensures { IfOk result (λ c. c ≡ lru_cache [] 16) }
 {
     LruCache::new(alloc, NonZeroUsize::new(MOST_COPIES).unwrap())
 }
 
 /// The key of the first copy of the object.
-fn key_of(cache: &LruCache<CopyKey, Content>, object: ObjectId) -> Option<CopyKey>
+fn key_of(cache: &LruCache<CopyKey, SharedContent>, object: ObjectId) -> Option<CopyKey>
     ensures { result ≡ option_map key_in (find (is_sought object None) (copies_of cache.now.entries)) }
 {
     let mut rest = cache.iter();
@@ -47,10 +47,10 @@ fn key_of(cache: &LruCache<CopyKey, Content>, object: ObjectId) -> Option<CopyKe
 
 /// The content under the key.
 fn content_under(
-    cache: &LruCache<CopyKey, Content>,
+    cache: &LruCache<CopyKey, SharedContent>,
     object: ObjectId,
     number: u32,
-) -> Option<&Content>
+) -> Option<&SharedContent>
     ensures { MatchOption result
         (find (is_sought object (Some number)) (copies_of cache.now.entries) ≡ None)
         (λ c. option_map (λ x. x.content) (find (is_sought object (Some number)) (copies_of cache.now.entries)) ≡ Some c.now) }
@@ -60,9 +60,9 @@ fn content_under(
 
 /// Puts a content under the key, as the one used last.
 fn put_under(
-    cache: &mut LruCache<CopyKey, Content>,
+    cache: &mut LruCache<CopyKey, SharedContent>,
     key: CopyKey,
-    content: Content,
+    content: SharedContent,
 ) -> Result<(), AllocError>
     ensures ok { OnOk result (cache.new ≡ lru_cache (put_entries same_key cache.old key content) cache.old.cap) }
     ensures err { OnErr result (cache.new ≡ cache.old) }
@@ -72,7 +72,7 @@ fn put_under(
 }
 
 /// Puts the copy as the one used last, in place of one of the same key.
-fn put_copy(cache: &mut LruCache<CopyKey, Content>, copy: Copy) -> Result<(), AllocError>
+fn put_copy(cache: &mut LruCache<CopyKey, SharedContent>, copy: Copy) -> Result<(), AllocError>
     requires { cache.old.cap ≡ 16 }
     ensures cap { cache.new.cap ≡ 16 }
     ensures ok { OnOk result (copies_of cache.new.entries ≡ put_first copy (copies_of cache.old.entries)) }
@@ -90,7 +90,7 @@ fn put_copy(cache: &mut LruCache<CopyKey, Content>, copy: Copy) -> Result<(), Al
 }
 
 /// The copy under the key is the one used last, if there is one.
-fn promote(cache: &mut LruCache<CopyKey, Content>, object: ObjectId, number: u32)
+fn promote(cache: &mut LruCache<CopyKey, SharedContent>, object: ObjectId, number: u32)
     ensures cap { cache.new.cap ≡ cache.old.cap }
     ensures copies { copies_of cache.new.entries ≡ brought_to_front object number (copies_of cache.old.entries) }
 {
@@ -99,14 +99,14 @@ fn promote(cache: &mut LruCache<CopyKey, Content>, object: ObjectId, number: u32
 }
 
 /// Takes out the copy under the key.
-fn take_out(cache: &mut LruCache<CopyKey, Content>, key: CopyKey)
+fn take_out(cache: &mut LruCache<CopyKey, SharedContent>, key: CopyKey)
     ensures { cache.new ≡ lru_cache (remove_entry (same_key key) cache.old.entries) cache.old.cap }
 {
     drop(cache.pop(&key));
 }
 
 /// Takes out the copies of the object.
-fn take_all(cache: &mut LruCache<CopyKey, Content>, object: ObjectId)
+fn take_all(cache: &mut LruCache<CopyKey, SharedContent>, object: ObjectId)
     ensures cap { cache.new.cap ≡ cache.old.cap }
     ensures copies { copies_of cache.new.entries ≡ without object None (copies_of cache.old.entries) }
 {
@@ -118,8 +118,8 @@ fn take_all(cache: &mut LruCache<CopyKey, Content>, object: ObjectId)
 /// An equal cache.
 fn copy_cache(
     alloc: Global,
-    cache: &LruCache<CopyKey, Content>,
-) -> Result<LruCache<CopyKey, Content>, AllocError>
+    cache: &LruCache<CopyKey, SharedContent>,
+) -> Result<LruCache<CopyKey, SharedContent>, AllocError>
     ensures { IfOk result (λ c. c ≡ cache.now) }
 {
     let _ = cache.len();
@@ -136,7 +136,7 @@ fn copy_cache(
 /// The cache is made at the first copy, so that having none takes no memory.
 #[derive(Drop)]
 pub struct Secondaries {
-    cache: Option<LruCache<CopyKey, Content>>,
+    cache: Option<LruCache<CopyKey, SharedContent>>,
 }
 
 impl Model for Secondaries {
@@ -176,7 +176,7 @@ impl Secondaries {
     }
 
     /// The content of the copy of that attempt of the object. The order stays.
-    pub fn find(&self, object: ObjectId, number: u32) -> Option<&Content>
+    pub fn find(&self, object: ObjectId, number: u32) -> Option<&SharedContent>
         ensures { MatchOption result
             (find (is_sought object (Some number)) self.now ≡ None)
             (λ c. option_map (λ x. x.content) (find (is_sought object (Some number)) self.now) ≡ Some c.now) }

@@ -7,6 +7,7 @@ use Rattle.std.proofs.lemmas.Bool.{and_parts, eq-eqb, eqb-true, not-true}
 use Rattle.meaning.specs.Mains.{KeepsMainApart}
 use Rattle.meaning.proofs.BirthLaws.{at_test}
 use Rattle.event_log.specs.Entries.{Event, Claim, Commit, Deliver, Tick, Notice, NoticeNode, Evict, Lose, Kill, KillNode, Join, Entry, In, Refused}
+use Rattle.event_log.specs.Entries.{Refusal, NoWorker, NotReady, NoJob, Stale, NoMessage, NotDead, NoNode, Limit}
 use Rattle.event_log.specs.Events.{from_one, has_job_out, is_killed, node_is_killed, worker_of_job}
 use Rattle.event_log.specs.Words.{births, next_serial}
 use Rattle.event_log.specs.Causes.{IsRefusal}
@@ -140,9 +141,9 @@ module _ (s : Setting) (apart : KeepsMainApart s.script) (log : List Entry) (c :
   -- who may claim has no job that is out
   idle_claim : (w : ℕ) (handed : Handed) → refusal c (Claim w) handed ≡ None → has_job_out w log ≡ false
   idle_claim w handed r =
-      let parts = or_none (no_worker c w) (unless (is_ready_on c w (worker_at c w)) 31) r in
-      let l = live_worker c w (unless_none (is_live_worker (worker_at c w)) 30 parts.0) in
-      let ready : is_ready_on c w (Some l.worker) ≡ true = ap (is_ready_on c w) (sym l.at) ∙ unless_none (is_ready_on c w (worker_at c w)) 31 parts.1 in
+      let parts = or_none (no_worker c w) (unless (is_ready_on c w (worker_at c w)) NotReady) r in
+      let l = live_worker c w (unless_none (is_live_worker (worker_at c w)) NoWorker parts.0) in
+      let ready : is_ready_on c w (Some l.worker) ≡ true = ap (is_ready_on c w) (sym l.at) ∙ unless_none (is_ready_on c w (worker_at c w)) NotReady parts.1 in
       let two = and_parts (l.worker.is_live && is_ready_run l.worker.run) (has_slot w (node_at c l.worker.node)) ready in
       let run = ready_run l.worker.run (and_parts l.worker.is_live (is_ready_run l.worker.run) two.0).1 in
       ready_has_none c sound.jobs w l.worker l.at log b.knows.claims (λ j g e. b.knows.commits j ∙ ap committed_in e) run.0 run.1 run.2
@@ -152,9 +153,9 @@ module _ (s : Setting) (apart : KeepsMainApart s.script) (log : List Entry) (c :
 
   claim_event : (w seat : ℕ) (handed : Handed) → refusal c (Claim w) handed ≡ None → Follows s log (Claim w) seat (happens c (Claim w) handed)
   claim_event w seat handed r =
-      let parts = or_none (no_worker c w) (unless (is_ready_on c w (worker_at c w)) 31) r in
-      let l = live_worker c w (unless_none (is_live_worker (worker_at c w)) 30 parts.0) in
-      let ready : is_ready_on c w (Some l.worker) ≡ true = ap (is_ready_on c w) (sym l.at) ∙ unless_none (is_ready_on c w (worker_at c w)) 31 parts.1 in
+      let parts = or_none (no_worker c w) (unless (is_ready_on c w (worker_at c w)) NotReady) r in
+      let l = live_worker c w (unless_none (is_live_worker (worker_at c w)) NoWorker parts.0) in
+      let ready : is_ready_on c w (Some l.worker) ≡ true = ap (is_ready_on c w) (sym l.at) ∙ unless_none (is_ready_on c w (worker_at c w)) NotReady parts.1 in
       let two = and_parts (l.worker.is_live && is_ready_run l.worker.run) (has_slot w (node_at c l.worker.node)) ready in
       let run = ready_run l.worker.run (and_parts l.worker.is_live (is_ready_run l.worker.run) two.0).1 in
       let j = length c.jobs + 1 in
@@ -167,7 +168,7 @@ module _ (s : Setting) (apart : KeepsMainApart s.script) (log : List Entry) (c :
 
   tick_event : (w seat : ℕ) (handed : Handed) → refusal c (Tick w) handed ≡ None → Follows s log (Tick w) seat (happens c (Tick w) handed)
   tick_event w seat handed r =
-      let l = live_worker c w (unless_none (is_live_worker (worker_at c w)) 30 r) in
+      let l = live_worker c w (unless_none (is_live_worker (worker_at c w)) NoWorker r) in
       worker_event (Tick w) seat w l.worker l.at l.lives (record { own = refl; spares = λ v n. refl; spares_nodes = λ n. refl; brings_none = refl })
       c.jobs c.made c.delivered (on_workers.jobs_stay (Tick w) refl refl) tick_step
       (λ a. steps_stay_legal.steps.ticks _ _ (λ v i. absurd (cc)) (at_once a (on_workers.sound_at_once _ _ _ _ _ a a.lived (λ u. refl))))
@@ -179,9 +180,9 @@ module _ (s : Setting) (apart : KeepsMainApart s.script) (log : List Entry) (c :
 
   notice_event : (w v seat : ℕ) (handed : Handed) → refusal c (Notice w v) handed ≡ None → Follows s log (Notice w v) seat (happens c (Notice w v) handed)
   notice_event w v seat handed r =
-      let parts = or_none (no_worker c w) (unless (is_dead_worker (worker_at c v)) 35) r in
-      let l = live_worker c w (unless_none (is_live_worker (worker_at c w)) 30 parts.0) in
-      let k = dead_worker c v (unless_none (is_dead_worker (worker_at c v)) 35 parts.1) in
+      let parts = or_none (no_worker c w) (unless (is_dead_worker (worker_at c v)) NotDead) r in
+      let l = live_worker c w (unless_none (is_live_worker (worker_at c w)) NoWorker parts.0) in
+      let k = dead_worker c v (unless_none (is_dead_worker (worker_at c v)) NotDead parts.1) in
       let killed : is_killed v log ≡ true = on_workers.dead_worker v k.worker k.at k.lives in
       worker_event (Notice w v) seat w l.worker l.at l.lives (record { own = refl; spares = λ u n. refl; spares_nodes = λ n. refl; brings_none = refl })
       c.jobs c.made c.delivered (on_workers.jobs_stay (Notice w v) refl refl) (λ g. notice_step g v)
@@ -192,9 +193,9 @@ module _ (s : Setting) (apart : KeepsMainApart s.script) (log : List Entry) (c :
 
   node_notice_event : (w n seat : ℕ) (handed : Handed) → refusal c (NoticeNode w n) handed ≡ None → Follows s log (NoticeNode w n) seat (happens c (NoticeNode w n) handed)
   node_notice_event w n seat handed r =
-      let parts = or_none (no_worker c w) (unless (is_dead_node (node_at c n)) 35) r in
-      let l = live_worker c w (unless_none (is_live_worker (worker_at c w)) 30 parts.0) in
-      let k = dead_node c n (unless_none (is_dead_node (node_at c n)) 35 parts.1) in
+      let parts = or_none (no_worker c w) (unless (is_dead_node (node_at c n)) NotDead) r in
+      let l = live_worker c w (unless_none (is_live_worker (worker_at c w)) NoWorker parts.0) in
+      let k = dead_node c n (unless_none (is_dead_node (node_at c n)) NotDead parts.1) in
       let killed : node_is_killed n log ≡ true = on_workers.dead_node n k.node k.at k.lives in
       worker_event (NoticeNode w n) seat w l.worker l.at l.lives (record { own = refl; spares = λ u m. refl; spares_nodes = λ m. refl; brings_none = refl })
       c.jobs c.made c.delivered (on_workers.jobs_stay (NoticeNode w n) refl refl) (λ g. notice_node_step g n)
@@ -261,7 +262,7 @@ module _ (s : Setting) (apart : KeepsMainApart s.script) (log : List Entry) (c :
           to_node i = ap (delivered_by c k) sent ∙ ap (delivered_to (with_delivered c k) l) to ∙ ap (λ v. if v then node_does (with_delivered c k) n (λ g. node_reached g l.sender l.message) else moved (with_delivered c k)) i
 
   deliver_event : (k seat : ℕ) (handed : Handed) → refusal c (Deliver k) handed ≡ None → Follows s log (Deliver k) seat (happens c (Deliver k) handed)
-  deliver_event k seat handed r = go (item_at c.network k) refl (unless_none (is_some (item_at c.network k)) 34 r)
+  deliver_event k seat handed r = go (item_at c.network k) refl (unless_none (is_some (item_at c.network k)) NoMessage r)
     where
       go : (o : Option Letter) → item_at c.network k ≡ o → is_some o ≡ true → Follows s log (Deliver k) seat (delivered_by c k o)
       go None e h = absurd (cc)
@@ -280,12 +281,12 @@ module _ (s : Setting) (apart : KeepsMainApart s.script) (log : List Entry) (c :
 
       go : (handed : Handed) (o : Option Given) → item_at c.jobs j ≡ o → commit_refusal c j handed o ≡ None → IsRight s c (Commit j) handed → Follows s log (Commit j) seat (committed_by c j handed o)
       go handed None e h right = absurd (cc)
-      go Nothing (Some g) e h right = absurd (nothing g (and_parts (not g.is_committed && false) (is_out_by (worker_at c g.worker) j) (unless_none _ 32 (or_none _ _ h).0)).0)
-      go OfAnother (Some g) e h right = absurd (nothing g (and_parts (not g.is_committed && false) (is_out_by (worker_at c g.worker) j) (unless_none _ 32 (or_none _ _ h).0)).0)
+      go Nothing (Some g) e h right = absurd (nothing g (and_parts (not g.is_committed && false) (is_out_by (worker_at c g.worker) j) (unless_none _ NoJob (or_none _ _ h).0)).0)
+      go OfAnother (Some g) e h right = absurd (nothing g (and_parts (not g.is_committed && false) (is_out_by (worker_at c g.worker) j) (unless_none _ NoJob (or_none _ _ h).0)).0)
       go (OfJob o) (Some g) e h right =
-          let parts = or_none (unless (not g.is_committed && true && is_out_by (worker_at c g.worker) j) 32) (unless (is_live_worker (worker_at c g.worker)) 33) h in
-          let l = live_worker c g.worker (unless_none (is_live_worker (worker_at c g.worker)) 33 parts.1) in
-          let a = and_parts (not g.is_committed && true) (is_out_by (worker_at c g.worker) j) (unless_none (not g.is_committed && true && is_out_by (worker_at c g.worker) j) 32 parts.0) in
+          let parts = or_none (unless (not g.is_committed && true && is_out_by (worker_at c g.worker) j) NoJob) (unless (is_live_worker (worker_at c g.worker)) Stale) h in
+          let l = live_worker c g.worker (unless_none (is_live_worker (worker_at c g.worker)) Stale parts.1) in
+          let a = and_parts (not g.is_committed && true) (is_out_by (worker_at c g.worker) j) (unless_none (not g.is_committed && true && is_out_by (worker_at c g.worker) j) NoJob parts.0) in
           let fresh : g.is_committed ≡ false = not-true g.is_committed (and_parts (not g.is_committed) true a.0).0 in
           let run = out_run l.worker.run j (ap (λ (i : Option Worker). is_out_by i j) (sym l.at) ∙ a.1) in
           let claimed : worker_of_job j log ≡ Some g.worker = ap (λ (ws : List ℕ). from_one ws j) b.knows.claims ∙ from_one_of (λ (i : Given). i.worker) c.jobs j g e in
@@ -337,12 +338,12 @@ module _ (s : Setting) (apart : KeepsMainApart s.script) (log : List Entry) (c :
   happens_to (Evict n o) seat handed r right = record { between = on_others.evicted n seat o (store_node_lives s log c b n (evict_refusal o) r); jobs = beside_jobs c (happens c (Evict n o) Nothing).whole refl refl sound.jobs; past = facts; held = steps_land.evicts (log ++ In (Evict n o) seat ∷ []) facts c n o (steps_land.comes log facts c (Evict n o) seat t) }
   happens_to (Lose n o) seat handed r right = record { between = on_others.lost n seat o (store_node_lives s log c b n (lose_refusal o) r); jobs = beside_jobs c (happens c (Lose n o) Nothing).whole refl refl sound.jobs; past = facts; held = steps_land.loses (log ++ In (Lose n o) seat ∷ []) facts c n o (steps_land.comes log facts c (Lose n o) seat t) }
   happens_to (Kill w) seat handed r right =
-      let l = live_worker c w (unless_none (is_live_worker (worker_at c w)) 30 r) in
+      let l = live_worker c w (unless_none (is_live_worker (worker_at c w)) NoWorker r) in
       both s log (Kill w) seat (happens c (Kill w) handed) (on_others.killed w seat l.worker l.at l.lives)
       (steps_land.worker_dies log facts c (Kill w) seat w t (worker_killed_in s log c b (Kill w) seat w l.worker l.at (eq-eqb w w refl)))
       (killed_jobs w)
   happens_to (KillNode n) seat handed r right =
-      let l = live_node c n (unless_none (is_live_node (node_at c n)) 36 r) in
+      let l = live_node c n (unless_none (is_live_node (node_at c n)) NoNode r) in
       record {
         between = on_others.node_killed n seat l.node l.at l.lives;
         past = _;
@@ -359,14 +360,14 @@ module _ (s : Setting) (apart : KeepsMainApart s.script) (log : List Entry) (c :
   abbrev Stands : Event → ℕ → Answer → Type 0
   Stands e seat a = IsSound s (log ++ logged e seat a) (whole_after c a)
 
-  refused_event : (e : Event) (seat code : ℕ) → IsRefusal S log e code → IsSound s (log ++ In e seat ∷ Refused code ∷ []) c
+  refused_event : (e : Event) (seat : ℕ) (code : Refusal) → IsRefusal S log e code → IsSound s (log ++ In e seat ∷ Refused code ∷ []) c
   refused_event e seat code cause = record { between = on_others.refused e seat code cause; jobs = sound.jobs; past = facts; held = refused_true log facts c e seat code t }
 
   pub event_stays : (e : Event) (seat : ℕ) (handed : Handed) → IsRight s c e handed → Stands e seat (answer c e handed)
   event_stays e seat handed right = go (refusal c e handed) refl
     where
-      go : (o : Option ℕ) → refusal c e handed ≡ o → Stands e seat (decided c e handed o)
+      go : (o : Option Refusal) → refusal c e handed ≡ o → Stands e seat (decided c e handed o)
       go (Some code) r = refused_event e seat code (refused_for_cause s log c b e handed code r)
-      go None r = at_test (λ i. Stands e seat (if i then takes (happens c e handed) (given_out c e) else Refuses 37)) (is_within_limits (happens c e handed).whole)
+      go None r = at_test (λ i. Stands e seat (if i then takes (happens c e handed) (given_out c e) else Refuses Limit)) (is_within_limits (happens c e handed).whole)
           (λ i. happens_to e seat handed r right)
-          (λ i. refused_event e seat 37 (limited_for_cause s log c b e handed r (λ w q. idle_claim w handed (subst (λ x. refusal c x handed ≡ None) q r))))
+          (λ i. refused_event e seat Limit (limited_for_cause s log c b e handed r (λ w q. idle_claim w handed (subst (λ x. refusal c x handed ≡ None) q r))))

@@ -12,6 +12,7 @@ use Rattle.meaning.specs.Lists.{IsFirst}
 use Rattle.meaning.specs.Meaning.{replay, run_birth}
 use Rattle.meaning.proofs.BirthLaws.{at_test, same_id-refl, same_id-true}
 use Rattle.event_log.specs.Entries.{Attempt, Claim, Entry, Begun, main_attempt}
+use Rattle.event_log.specs.Entries.{Refusal, NoWorker, NotReady, Limit}
 use Rattle.event_log.specs.Words.{answers_of, births, got_in, run_in, runs_of}
 use Rattle.event_log.specs.Rules.{Setting, Allowed}
 use Rattle.event_log.specs.Legal.{opening}
@@ -79,9 +80,9 @@ record GivenRun (c : Whole) (w : ℕ) : Type 0 where
 
 given_run : (c : Whole) (w : ℕ) (handed : Handed) → refusal c (Claim w) handed ≡ None → GivenRun c w
 given_run c w handed r =
-    let parts = or_none (no_worker c w) (unless (is_ready_on c w (worker_at c w)) 31) r in
-    let l = live_worker c w (unless_none (is_live_worker (worker_at c w)) 30 parts.0) in
-    let ready : is_ready_on c w (Some l.worker) ≡ true = ap (is_ready_on c w) (sym l.at) ∙ unless_none (is_ready_on c w (worker_at c w)) 31 parts.1 in
+    let parts = or_none (no_worker c w) (unless (is_ready_on c w (worker_at c w)) NotReady) r in
+    let l = live_worker c w (unless_none (is_live_worker (worker_at c w)) NoWorker parts.0) in
+    let ready : is_ready_on c w (Some l.worker) ≡ true = ap (is_ready_on c w) (sym l.at) ∙ unless_none (is_ready_on c w (worker_at c w)) NotReady parts.1 in
     let two = and_parts (l.worker.is_live && is_ready_run l.worker.run) (has_slot w (node_at c l.worker.node)) ready in
     let run = ready_run l.worker.run (and_parts l.worker.is_live (is_ready_run l.worker.run) two.0).1 in
     let number = length c.jobs + 1 in
@@ -115,9 +116,9 @@ module _ (s : Setting) (checks : ScriptChecks s.script s.script) (main : IsBirth
       let g = given_run c w handed r in
       subst (IsGoodIfGiven s.script) (sym g.given) (run_is_good (length c.jobs + 1) w g.worker g.run g.at g.lives g.runs)
 
-  gives_good : (w : ℕ) (handed : Handed) → (o : Option ℕ) → refusal c (Claim w) handed ≡ o → GivesGood s.script (decided c (Claim w) handed o)
+  gives_good : (w : ℕ) (handed : Handed) → (o : Option Refusal) → refusal c (Claim w) handed ≡ o → GivesGood s.script (decided c (Claim w) handed o)
   gives_good w handed (Some code) r = tt
-  gives_good w handed None r = at_test (λ i. GivesGood s.script (if i then takes (happens c (Claim w) handed) (given_out c (Claim w)) else Refuses 37)) (is_within_limits (happens c (Claim w) handed).whole)
+  gives_good w handed None r = at_test (λ i. GivesGood s.script (if i then takes (happens c (Claim w) handed) (given_out c (Claim w)) else Refuses Limit)) (is_within_limits (happens c (Claim w) handed).whole)
       (λ i. given_is_good w handed r) (λ i. tt)
 
 pub claims_give_good_jobs : ClaimsGiveGoodJobs
@@ -146,9 +147,9 @@ module _ (s : Setting) (log : List Entry) (c : Whole) (sound : IsSound s log c) 
       let g = given_run c w handed r in
       subst (IsOfLogIfGiven log) (sym g.given) (subst (IsFirst g.run.answers) (sym (has_answers w g.worker g.run g.at g.lives g.runs)) (begins_itself g.run.answers))
 
-  gives_of_log : (w : ℕ) (handed : Handed) → (o : Option ℕ) → refusal c (Claim w) handed ≡ o → GivesOfLog log (decided c (Claim w) handed o)
+  gives_of_log : (w : ℕ) (handed : Handed) → (o : Option Refusal) → refusal c (Claim w) handed ≡ o → GivesOfLog log (decided c (Claim w) handed o)
   gives_of_log w handed (Some code) r = tt
-  gives_of_log w handed None r = at_test (λ i. GivesOfLog log (if i then takes (happens c (Claim w) handed) (given_out c (Claim w)) else Refuses 37)) (is_within_limits (happens c (Claim w) handed).whole)
+  gives_of_log w handed None r = at_test (λ i. GivesOfLog log (if i then takes (happens c (Claim w) handed) (given_out c (Claim w)) else Refuses Limit)) (is_within_limits (happens c (Claim w) handed).whole)
       (λ i. given_of_log w handed r) (λ i. tt)
 
 pub claims_give_jobs_of_the_log : ClaimsGiveJobsOfTheLog

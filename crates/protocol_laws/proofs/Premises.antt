@@ -4,6 +4,7 @@ use Rattle.std.specs.Prelude.{◌||◌, slice_get}
 use Rattle.std.specs.List.{list_any}
 use Rattle.std.proofs.lemmas.Bool.{true≢false}
 use Rattle.event_log.specs.Entries.{Entry, Event, In, Refused}
+use Rattle.event_log.specs.Entries.{Refusal}
 use Rattle.event_log.specs.Words.{attempt, births, worker_of}
 use Rattle.event_log.specs.Events.{accepted_events, from_one, is_killed, kills, node_of, on_node}
 use Rattle.event_log.specs.Rules.{Setting}
@@ -44,7 +45,7 @@ pub births_in : (log : List Entry) (e : Event) (seat : ℕ) → births (log ++ I
 births_in log e seat = births_push log (In e seat) ∙ append-nil (births log)
 
 -- a refused event
-pub refused_true : (log : List Entry) (facts : List Fact) (c : Whole) (e : Event) (seat code : ℕ) → WholeTrue log facts c → WholeTrue (log ++ In e seat ∷ Refused code ∷ []) facts c
+pub refused_true : (log : List Entry) (facts : List Fact) (c : Whole) (e : Event) (seat : ℕ) (code : Refusal) → WholeTrue log facts c → WholeTrue (log ++ In e seat ∷ Refused code ∷ []) facts c
 refused_true log facts c e seat code t = record {
   joined = past_grows.refused log facts e seat code t.joined;
   workers = t.workers;

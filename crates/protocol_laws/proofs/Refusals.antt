@@ -10,6 +10,7 @@ use Rattle.event_log.specs.Breaks.{Among}
 use Rattle.event_log.specs.Causes.{IsRefusal, is_there, shown, unseen, worker_lives}
 use Rattle.event_log.specs.Causes as causes
 use Rattle.event_log.specs.Entries.{Event, Claim, Commit, Deliver, Tick, Notice, NoticeNode, Evict, Lose, Kill, KillNode, Join, Entry}
+use Rattle.event_log.specs.Entries.{Refusal, Pinned, NoCopy, NoWorker, NotReady, NoJob, Stale, NoMessage, NotDead, NoNode, Limit}
 use Rattle.event_log.specs.Events.{accepted_events, from_one, has_job_out, is_committed, is_killed, is_live, joins, kills, node_is_killed, node_lives, node_of, on_node, worker_of_job}
 use Rattle.event_log.specs.Rules.{Setting}
 use Rattle.event_log.proofs.CauseLaws.{as_shown, as_unseen, no_job, no_worker, not_ready}
@@ -22,7 +23,7 @@ use Rattle.protocol.specs.Tables.{Worker}
 use Rattle.protocol.specs.Whole.{Whole, node_at, worker_at}
 use Rattle.protocol.specs.Events.{is_live_node, is_live_worker}
 use Rattle.protocol.specs.Refusals as tables
-use Rattle.protocol.specs.Refusals.{commit_refusal, is_dead_node, is_dead_worker, is_of_job, is_out_by, is_ready, is_ready_on, or_code, refusal, store_refusal}
+use Rattle.protocol.specs.Refusals.{commit_refusal, is_dead_node, is_dead_worker, is_of_job, is_out_by, is_ready, is_ready_on, or_refusal, refusal, store_refusal}
 use Rattle.protocol_legal.specs.Whole.{Between, committed_in, setting_of}
 use Rattle.protocol_legal.proofs.FrameDeaths.{killed_if_dead}
 use Rattle.protocol_legal.proofs.FrameEnters.{node_lives_log}
@@ -154,97 +155,97 @@ module _ (s : Setting) (log : List Entry) (c : Whole) (b : Between s log c) wher
 
   -- ---- what an event shows, by the tables
 
-  shown_tick : (w : ℕ) (handed : Bool) → shown S log handed (Tick w) ≡ causes.unless (is_live_worker (worker_at c w)) 30 None
-  shown_tick w handed = ap (λ t. causes.unless t 30 None) (lives_as w)
+  shown_tick : (w : ℕ) (handed : Bool) → shown S log handed (Tick w) ≡ causes.unless (is_live_worker (worker_at c w)) NoWorker None
+  shown_tick w handed = ap (λ t. causes.unless t NoWorker None) (lives_as w)
 
   -- a refusal by a test, else none
-  first : (t : Bool) (code other : ℕ) (o : Option ℕ) → or_code (tables.unless t code) o ≡ Some other → ((t ≡ false) × (other ≡ code)) ⊎ ((t ≡ true) × (o ≡ Some other))
+  first : (t : Bool) (code other : Refusal) (o : Option Refusal) → or_refusal (tables.unless t code) o ≡ Some other → ((t ≡ false) × (other ≡ code)) ⊎ ((t ≡ true) × (o ≡ Some other))
   first true code other o h = inr (refl, h)
   first false code other o h = inl (refl, cc)
 
-  one : (t : Bool) (code other : ℕ) → tables.unless t code ≡ Some other → (t ≡ false) × (other ≡ code)
+  one : (t : Bool) (code other : Refusal) → tables.unless t code ≡ Some other → (t ≡ false) × (other ≡ code)
   one true code other h = absurd (cc)
   one false code other h = (refl, cc)
 
-  is_code : (e : Event) (code other : ℕ) → other ≡ code → IsRefusal S log e code → IsRefusal S log e other
+  is_code : (e : Event) (code other : Refusal) → other ≡ code → IsRefusal S log e code → IsRefusal S log e other
   is_code e code other h r = subst (IsRefusal S log e) (sym h) r
 
-  no_live : (e : Event) (w : ℕ) (rest : Option ℕ) → shown S log false e ≡ causes.unless (is_live w log) 30 rest → is_live_worker (worker_at c w) ≡ false → IsRefusal S log e 30
-  no_live e w rest h dead = as_shown S log e 30 false (h ∙ ap (λ t. causes.unless t 30 rest) (lives_as w ∙ dead))
+  no_live : (e : Event) (w : ℕ) (rest : Option Refusal) → shown S log false e ≡ causes.unless (is_live w log) NoWorker rest → is_live_worker (worker_at c w) ≡ false → IsRefusal S log e NoWorker
+  no_live e w rest h dead = as_shown S log e NoWorker false (h ∙ ap (λ t. causes.unless t NoWorker rest) (lives_as w ∙ dead))
 
-  then_shown : (w : ℕ) (rest : Option ℕ) → is_live_worker (worker_at c w) ≡ true → causes.unless (is_live w log) 30 rest ≡ rest
-  then_shown w rest live = ap (λ t. causes.unless t 30 rest) (lives_as w ∙ live)
+  then_shown : (w : ℕ) (rest : Option Refusal) → is_live_worker (worker_at c w) ≡ true → causes.unless (is_live w log) NoWorker rest ≡ rest
+  then_shown w rest live = ap (λ t. causes.unless t NoWorker rest) (lives_as w ∙ live)
 
-  claim_refused : (w code : ℕ) → or_code (tables.no_worker c w) (tables.unless (is_ready c w) 31) ≡ Some code → IsRefusal S log (Claim w) code
-  claim_refused w code h = elim (first (is_live_worker (worker_at c w)) 30 code (tables.unless (is_ready c w) 31) h) [
-    | inl k ↦ is_code (Claim w) 30 code k.1 (no_worker S log w (lives_as w ∙ k.0))
-    | inr k ↦ is_code (Claim w) 31 code (one (is_ready c w) 31 code k.1).1 (not_ready S log w (lives_as w ∙ k.0))
+  claim_refused : (w : ℕ) (code : Refusal) → or_refusal (tables.no_worker c w) (tables.unless (is_ready c w) NotReady) ≡ Some code → IsRefusal S log (Claim w) code
+  claim_refused w code h = elim (first (is_live_worker (worker_at c w)) NoWorker code (tables.unless (is_ready c w) NotReady) h) [
+    | inl k ↦ is_code (Claim w) NoWorker code k.1 (no_worker S log w (lives_as w ∙ k.0))
+    | inr k ↦ is_code (Claim w) NotReady code (one (is_ready c w) NotReady code k.1).1 (not_ready S log w (lives_as w ∙ k.0))
   ]
 
-  tick_refused : (w code : ℕ) → tables.no_worker c w ≡ Some code → IsRefusal S log (Tick w) code
-  tick_refused w code h = let k = one (is_live_worker (worker_at c w)) 30 code h in is_code (Tick w) 30 code k.1 (no_live (Tick w) w None refl k.0)
+  tick_refused : (w : ℕ) (code : Refusal) → tables.no_worker c w ≡ Some code → IsRefusal S log (Tick w) code
+  tick_refused w code h = let k = one (is_live_worker (worker_at c w)) NoWorker code h in is_code (Tick w) NoWorker code k.1 (no_live (Tick w) w None refl k.0)
 
-  kill_refused : (w code : ℕ) → tables.no_worker c w ≡ Some code → IsRefusal S log (Kill w) code
-  kill_refused w code h = let k = one (is_live_worker (worker_at c w)) 30 code h in is_code (Kill w) 30 code k.1 (no_live (Kill w) w None refl k.0)
+  kill_refused : (w : ℕ) (code : Refusal) → tables.no_worker c w ≡ Some code → IsRefusal S log (Kill w) code
+  kill_refused w code h = let k = one (is_live_worker (worker_at c w)) NoWorker code h in is_code (Kill w) NoWorker code k.1 (no_live (Kill w) w None refl k.0)
 
-  notice_refused : (w v code : ℕ) → or_code (tables.no_worker c w) (tables.unless (is_dead_worker (worker_at c v)) 35) ≡ Some code → IsRefusal S log (Notice w v) code
-  notice_refused w v code h = elim (first (is_live_worker (worker_at c w)) 30 code (tables.unless (is_dead_worker (worker_at c v)) 35) h) [
-    | inl k ↦ is_code (Notice w v) 30 code k.1 (no_live (Notice w v) w (causes.unless (is_killed v log) 35 None) refl k.0)
-    | inr k ↦ let r = one (is_dead_worker (worker_at c v)) 35 code k.1 in
-        is_code (Notice w v) 35 code r.1 (as_shown S log (Notice w v) 35 false (then_shown w (causes.unless (is_killed v log) 35 None) k.0 ∙ ap (λ t. causes.unless t 35 None) (killed_as v ∙ r.0)))
+  notice_refused : (w v : ℕ) (code : Refusal) → or_refusal (tables.no_worker c w) (tables.unless (is_dead_worker (worker_at c v)) NotDead) ≡ Some code → IsRefusal S log (Notice w v) code
+  notice_refused w v code h = elim (first (is_live_worker (worker_at c w)) NoWorker code (tables.unless (is_dead_worker (worker_at c v)) NotDead) h) [
+    | inl k ↦ is_code (Notice w v) NoWorker code k.1 (no_live (Notice w v) w (causes.unless (is_killed v log) NotDead None) refl k.0)
+    | inr k ↦ let r = one (is_dead_worker (worker_at c v)) NotDead code k.1 in
+        is_code (Notice w v) NotDead code r.1 (as_shown S log (Notice w v) NotDead false (then_shown w (causes.unless (is_killed v log) NotDead None) k.0 ∙ ap (λ t. causes.unless t NotDead None) (killed_as v ∙ r.0)))
   ]
 
-  node_notice_refused : (w n code : ℕ) → or_code (tables.no_worker c w) (tables.unless (is_dead_node (node_at c n)) 35) ≡ Some code → IsRefusal S log (NoticeNode w n) code
-  node_notice_refused w n code h = elim (first (is_live_worker (worker_at c w)) 30 code (tables.unless (is_dead_node (node_at c n)) 35) h) [
-    | inl k ↦ is_code (NoticeNode w n) 30 code k.1 (no_live (NoticeNode w n) w (causes.unless (node_is_killed n log) 35 None) refl k.0)
-    | inr k ↦ let r = one (is_dead_node (node_at c n)) 35 code k.1 in
-        is_code (NoticeNode w n) 35 code r.1 (as_shown S log (NoticeNode w n) 35 false (then_shown w (causes.unless (node_is_killed n log) 35 None) k.0 ∙ ap (λ t. causes.unless t 35 None) (node_killed_as n ∙ r.0)))
+  node_notice_refused : (w n : ℕ) (code : Refusal) → or_refusal (tables.no_worker c w) (tables.unless (is_dead_node (node_at c n)) NotDead) ≡ Some code → IsRefusal S log (NoticeNode w n) code
+  node_notice_refused w n code h = elim (first (is_live_worker (worker_at c w)) NoWorker code (tables.unless (is_dead_node (node_at c n)) NotDead) h) [
+    | inl k ↦ is_code (NoticeNode w n) NoWorker code k.1 (no_live (NoticeNode w n) w (causes.unless (node_is_killed n log) NotDead None) refl k.0)
+    | inr k ↦ let r = one (is_dead_node (node_at c n)) NotDead code k.1 in
+        is_code (NoticeNode w n) NotDead code r.1 (as_shown S log (NoticeNode w n) NotDead false (then_shown w (causes.unless (node_is_killed n log) NotDead None) k.0 ∙ ap (λ t. causes.unless t NotDead None) (node_killed_as n ∙ r.0)))
   ]
 
-  deliver_refused : (m code : ℕ) → tables.unless (is_some (item_at c.network m)) 34 ≡ Some code → IsRefusal S log (Deliver m) code
-  deliver_refused m code h = let k = one (is_some (item_at c.network m)) 34 code h in
-      is_code (Deliver m) 34 code k.1 (as_shown S log (Deliver m) 34 false (ap (λ t. causes.unless t 34 None) (none (item_at c.network m) k.0)))
+  deliver_refused : (m : ℕ) (code : Refusal) → tables.unless (is_some (item_at c.network m)) NoMessage ≡ Some code → IsRefusal S log (Deliver m) code
+  deliver_refused m code h = let k = one (is_some (item_at c.network m)) NoMessage code h in
+      is_code (Deliver m) NoMessage code k.1 (as_shown S log (Deliver m) NoMessage false (ap (λ t. causes.unless t NoMessage None) (none (item_at c.network m) k.0)))
     where
       none : (o : Option Letter) → is_some o ≡ false → is_there (goes_to_by o) ≡ false
       none None e = refl
       none (Some l) e = absurd (cc)
 
-  kill_node_refused : (n code : ℕ) → tables.unless (is_live_node (node_at c n)) 36 ≡ Some code → IsRefusal S log (KillNode n) code
-  kill_node_refused n code h = let k = one (is_live_node (node_at c n)) 36 code h in
-      is_code (KillNode n) 36 code k.1 (as_shown S log (KillNode n) 36 false (ap (λ t. causes.unless t 36 None) (node_lives_as n ∙ k.0)))
+  kill_node_refused : (n : ℕ) (code : Refusal) → tables.unless (is_live_node (node_at c n)) NoNode ≡ Some code → IsRefusal S log (KillNode n) code
+  kill_node_refused n code h = let k = one (is_live_node (node_at c n)) NoNode code h in
+      is_code (KillNode n) NoNode code k.1 (as_shown S log (KillNode n) NoNode false (ap (λ t. causes.unless t NoNode None) (node_lives_as n ∙ k.0)))
 
   -- ---- copies that are lost or evicted
 
-  evict_code : (o : Id) (st : Store) (code : ℕ) → evict_refusal o st ≡ Some code → Among code (20 ∷ 21 ∷ 37 ∷ [])
+  evict_code : (o : Id) (st : Store) (code : Refusal) → evict_refusal o st ≡ Some code → Among code (Pinned ∷ NoCopy ∷ Limit ∷ [])
   evict_code o st code h = by (list_any (is_of o) st.secondaries) (list_any (is_of o) st.primaries) h
     where
-      by : (t u : Bool) → (if t then None else if u then Some 20 else Some 21) ≡ Some code → Among code (20 ∷ 21 ∷ 37 ∷ [])
+      by : (t u : Bool) → (if t then None else if u then Some Pinned else Some NoCopy) ≡ Some code → Among code (Pinned ∷ NoCopy ∷ Limit ∷ [])
       by true u k = absurd (cc)
       by false true k = (0, k)
       by false false k = (1, k)
 
-  lose_code : (o : Id) (st : Store) (code : ℕ) → lose_refusal o st ≡ Some code → Among code (21 ∷ 37 ∷ [])
+  lose_code : (o : Id) (st : Store) (code : Refusal) → lose_refusal o st ≡ Some code → Among code (NoCopy ∷ Limit ∷ [])
   lose_code o st code h = by (list_any (is_of o) (st.primaries ++ st.secondaries)) h
     where
-      by : (t : Bool) → (if t then None else Some 21) ≡ Some code → Among code (21 ∷ 37 ∷ [])
+      by : (t : Bool) → (if t then None else Some NoCopy) ≡ Some code → Among code (NoCopy ∷ Limit ∷ [])
       by true k = absurd (cc)
       by false k = (0, k)
 
-  stores_refused : (e : Event) (n code : ℕ) (f : Store → Option ℕ) → shown S log false e ≡ causes.unless (node_lives s.nodes n log) 36 None → ((st : Store) → f st ≡ Some code → Among code (unseen e)) → store_refusal f (node_at c n) ≡ Some code → IsRefusal S log e code
+  stores_refused : (e : Event) (n : ℕ) (code : Refusal) (f : Store → Option Refusal) → shown S log false e ≡ causes.unless (node_lives s.nodes n log) NoNode None → ((st : Store) → f st ≡ Some code → Among code (unseen e)) → store_refusal f (node_at c n) ≡ Some code → IsRefusal S log e code
   stores_refused e n code f is codes h = go (node_at c n) refl h
     where
-      dead : is_live_node (node_at c n) ≡ false → IsRefusal S log e 36
-      dead d = as_shown S log e 36 false (is ∙ ap (λ t. causes.unless t 36 None) (node_lives_as n ∙ d))
+      dead : is_live_node (node_at c n) ≡ false → IsRefusal S log e NoNode
+      dead d = as_shown S log e NoNode false (is ∙ ap (λ t. causes.unless t NoNode None) (node_lives_as n ∙ d))
 
-      number : Some 36 ≡ Some code → code ≡ 36
+      number : Some NoNode ≡ Some code → code ≡ NoNode
       number i = cc
 
-      by_life : (x : Node) → node_at c n ≡ Some x → (t : Bool) → x.is_live ≡ t → (if t then f x.store else Some 36) ≡ Some code → IsRefusal S log e code
-      by_life x i true l k = as_unseen S log e code false (is ∙ ap (λ t. causes.unless t 36 None) (node_lives_as n ∙ ap is_live_node i ∙ l)) (codes x.store k)
-      by_life x i false l k = is_code e 36 code (number k) (dead (ap is_live_node i ∙ l))
+      by_life : (x : Node) → node_at c n ≡ Some x → (t : Bool) → x.is_live ≡ t → (if t then f x.store else Some NoNode) ≡ Some code → IsRefusal S log e code
+      by_life x i true l k = as_unseen S log e code false (is ∙ ap (λ t. causes.unless t NoNode None) (node_lives_as n ∙ ap is_live_node i ∙ l)) (codes x.store k)
+      by_life x i false l k = is_code e NoNode code (number k) (dead (ap is_live_node i ∙ l))
 
       go : (o : Option Node) → node_at c n ≡ o → store_refusal f o ≡ Some code → IsRefusal S log e code
-      go None i k = is_code e 36 code (number k) (dead (ap is_live_node i))
+      go None i k = is_code e NoNode code (number k) (dead (ap is_live_node i))
       go (Some x) i k = by_life x i x.is_live refl k
 
   -- ---- commits
@@ -253,30 +254,30 @@ module _ (s : Setting) (log : List Entry) (c : Whole) (b : Between s log c) wher
   pub claimed_as : (j : ℕ) (g : Given) → item_at c.jobs j ≡ Some g → worker_of_job j log ≡ Some g.worker
   claimed_as j g e = ap (λ (ws : List ℕ). from_one ws j) b.knows.claims ∙ from_one_of (λ (i : Given). i.worker) c.jobs j g e
 
-  shown_job : (j : ℕ) (g : Given) → item_at c.jobs j ≡ Some g → g.is_committed ≡ false → shown S log true (Commit j) ≡ causes.unless (is_live_worker (worker_at c g.worker)) 33 None
+  shown_job : (j : ℕ) (g : Given) → item_at c.jobs j ≡ Some g → g.is_committed ≡ false → shown S log true (Commit j) ≡ causes.unless (is_live_worker (worker_at c g.worker)) Stale None
   shown_job j g e fresh =
-      ap (λ o. causes.unless (is_there o) 32 (causes.unless (not (is_committed j log)) 32 (causes.unless (worker_lives o log) 33 None))) (claimed_as j g e)
-      ∙ ap (λ t. causes.unless (not t) 32 (causes.unless (is_live g.worker log) 33 None)) (b.knows.commits j ∙ ap committed_in e ∙ fresh)
-      ∙ ap (λ t. causes.unless t 33 None) (lives_as g.worker)
+      ap (λ o. causes.unless (is_there o) NoJob (causes.unless (not (is_committed j log)) NoJob (causes.unless (worker_lives o log) Stale None))) (claimed_as j g e)
+      ∙ ap (λ t. causes.unless (not t) NoJob (causes.unless (is_live g.worker log) Stale None)) (b.knows.commits j ∙ ap committed_in e ∙ fresh)
+      ∙ ap (λ t. causes.unless t Stale None) (lives_as g.worker)
 
-  commit_refused : (j code : ℕ) (handed : Handed) (o : Option Given) → item_at c.jobs j ≡ o → commit_refusal c j handed o ≡ Some code → IsRefusal S log (Commit j) code
-  commit_refused j code handed None e h = is_code (Commit j) 32 code (number h) (no_job S log j)
+  commit_refused : (j : ℕ) (code : Refusal) (handed : Handed) (o : Option Given) → item_at c.jobs j ≡ o → commit_refusal c j handed o ≡ Some code → IsRefusal S log (Commit j) code
+  commit_refused j code handed None e h = is_code (Commit j) NoJob code (number h) (no_job S log j)
     where
-      number : Some 32 ≡ Some code → code ≡ 32
+      number : Some NoJob ≡ Some code → code ≡ NoJob
       number i = cc
   commit_refused j code handed (Some g) e h =
-      elim (first (not g.is_committed && is_of_job handed && is_out_by (worker_at c g.worker) j) 32 code (tables.unless (is_live_worker (worker_at c g.worker)) 33) h) [
-        | inl k ↦ is_code (Commit j) 32 code k.1 (no_job S log j)
+      elim (first (not g.is_committed && is_of_job handed && is_out_by (worker_at c g.worker) j) NoJob code (tables.unless (is_live_worker (worker_at c g.worker)) Stale) h) [
+        | inl k ↦ is_code (Commit j) NoJob code k.1 (no_job S log j)
         | inr k ↦
             let a = and_parts (not g.is_committed && is_of_job handed) (is_out_by (worker_at c g.worker) j) k.0 in
             let fresh = not-true g.is_committed (and_parts (not g.is_committed) (is_of_job handed) a.0).0 in
-            let r = one (is_live_worker (worker_at c g.worker)) 33 code k.1 in
-            is_code (Commit j) 33 code r.1 (as_shown S log (Commit j) 33 true (shown_job j g e fresh ∙ ap (λ t. causes.unless t 33 None) r.0))
+            let r = one (is_live_worker (worker_at c g.worker)) Stale code k.1 in
+            is_code (Commit j) Stale code r.1 (as_shown S log (Commit j) Stale true (shown_job j g e fresh ∙ ap (λ t. causes.unless t Stale None) r.0))
       ]
 
   -- ---- any event
 
-  pub refused_for_cause : (e : Event) (handed : Handed) (code : ℕ) → refusal c e handed ≡ Some code → IsRefusal S log e code
+  pub refused_for_cause : (e : Event) (handed : Handed) (code : Refusal) → refusal c e handed ≡ Some code → IsRefusal S log e code
   refused_for_cause (Claim w) handed code h = claim_refused w code h
   refused_for_cause (Commit j) handed code h = commit_refused j code handed (item_at c.jobs j) refl h
   refused_for_cause (Deliver m) handed code h = deliver_refused m code h
@@ -292,20 +293,20 @@ module _ (s : Setting) (log : List Entry) (c : Whole) (b : Between s log c) wher
   -- ---- limits
 
   live_there : (w : ℕ) → tables.no_worker c w ≡ None → is_live w log ≡ true
-  live_there w h = lives_as w ∙ unless_none (is_live_worker (worker_at c w)) 30 h
+  live_there w h = lives_as w ∙ unless_none (is_live_worker (worker_at c w)) NoWorker h
 
-  commit_limited : (j : ℕ) (handed : Handed) (o : Option Given) → item_at c.jobs j ≡ o → commit_refusal c j handed o ≡ None → IsRefusal S log (Commit j) 37
+  commit_limited : (j : ℕ) (handed : Handed) (o : Option Given) → item_at c.jobs j ≡ o → commit_refusal c j handed o ≡ None → IsRefusal S log (Commit j) Limit
   commit_limited j handed None e h = absurd (cc)
   commit_limited j handed (Some g) e h =
-      let p = or_none (tables.unless (not g.is_committed && is_of_job handed && is_out_by (worker_at c g.worker) j) 32) (tables.unless (is_live_worker (worker_at c g.worker)) 33) h in
-      let a = and_parts (not g.is_committed && is_of_job handed) (is_out_by (worker_at c g.worker) j) (unless_none _ 32 p.0) in
+      let p = or_none (tables.unless (not g.is_committed && is_of_job handed && is_out_by (worker_at c g.worker) j) NoJob) (tables.unless (is_live_worker (worker_at c g.worker)) Stale) h in
+      let a = and_parts (not g.is_committed && is_of_job handed) (is_out_by (worker_at c g.worker) j) (unless_none _ NoJob p.0) in
       let fresh = not-true g.is_committed (and_parts (not g.is_committed) (is_of_job handed) a.0).0 in
-      as_unseen S log (Commit j) 37 true (shown_job j g e fresh ∙ ap (λ t. causes.unless t 33 None) (unless_none (is_live_worker (worker_at c g.worker)) 33 p.1)) (0, refl)
+      as_unseen S log (Commit j) Limit true (shown_job j g e fresh ∙ ap (λ t. causes.unless t Stale None) (unless_none (is_live_worker (worker_at c g.worker)) Stale p.1)) (0, refl)
 
-  store_lives : (n : ℕ) (f : Store → Option ℕ) → store_refusal f (node_at c n) ≡ None → is_live_node (node_at c n) ≡ true
+  store_lives : (n : ℕ) (f : Store → Option Refusal) → store_refusal f (node_at c n) ≡ None → is_live_node (node_at c n) ≡ true
   store_lives n f h = go (node_at c n) h
     where
-      by_life : (x : Node) (t : Bool) → x.is_live ≡ t → (if t then f x.store else Some 36) ≡ None → x.is_live ≡ true
+      by_life : (x : Node) (t : Bool) → x.is_live ≡ t → (if t then f x.store else Some NoNode) ≡ None → x.is_live ≡ true
       by_life x true l k = l
       by_life x false l k = absurd (cc)
 
@@ -313,29 +314,29 @@ module _ (s : Setting) (log : List Entry) (c : Whole) (b : Between s log c) wher
       go None k = absurd (cc)
       go (Some x) k = by_life x x.is_live refl k
 
-  pub store_node_lives : (n : ℕ) (f : Store → Option ℕ) → store_refusal f (node_at c n) ≡ None → node_lives s.nodes n log ≡ true
+  pub store_node_lives : (n : ℕ) (f : Store → Option Refusal) → store_refusal f (node_at c n) ≡ None → node_lives s.nodes n log ≡ true
   store_node_lives n f h = node_lives_as n ∙ store_lives n f h
 
   -- an event that nothing refuses, but that would pass a limit; a claimer has no job that is out
-  pub limited_for_cause : (e : Event) (handed : Handed) → refusal c e handed ≡ None → ((w : ℕ) → e ≡ Claim w → has_job_out w log ≡ false) → IsRefusal S log e 37
+  pub limited_for_cause : (e : Event) (handed : Handed) → refusal c e handed ≡ None → ((w : ℕ) → e ≡ Claim w → has_job_out w log ≡ false) → IsRefusal S log e Limit
   limited_for_cause (Claim w) handed h idle =
-      let p = or_none (tables.no_worker c w) (tables.unless (is_ready c w) 31) h in
-      as_unseen S log (Claim w) 37 false (ap (λ t. causes.unless t 30 (causes.unless (not (has_job_out w log)) 31 None)) (live_there w p.0) ∙ ap (λ t. causes.unless (not t) 31 None) (idle w refl)) (1, refl)
+      let p = or_none (tables.no_worker c w) (tables.unless (is_ready c w) NotReady) h in
+      as_unseen S log (Claim w) Limit false (ap (λ t. causes.unless t NoWorker (causes.unless (not (has_job_out w log)) NotReady None)) (live_there w p.0) ∙ ap (λ t. causes.unless (not t) NotReady None) (idle w refl)) (1, refl)
   limited_for_cause (Commit j) handed h idle = commit_limited j handed (item_at c.jobs j) refl h
-  limited_for_cause (Deliver m) handed h idle = as_unseen S log (Deliver m) 37 false (ap (λ t. causes.unless t 34 None) (some (item_at c.network m) (unless_none (is_some (item_at c.network m)) 34 h))) (1, refl)
+  limited_for_cause (Deliver m) handed h idle = as_unseen S log (Deliver m) Limit false (ap (λ t. causes.unless t NoMessage None) (some (item_at c.network m) (unless_none (is_some (item_at c.network m)) NoMessage h))) (1, refl)
     where
       some : (o : Option Letter) → is_some o ≡ true → is_there (goes_to_by o) ≡ true
       some None e = absurd (cc)
       some (Some l) e = refl
-  limited_for_cause (Tick w) handed h idle = as_unseen S log (Tick w) 37 false (ap (λ t. causes.unless t 30 None) (live_there w h)) (0, refl)
+  limited_for_cause (Tick w) handed h idle = as_unseen S log (Tick w) Limit false (ap (λ t. causes.unless t NoWorker None) (live_there w h)) (0, refl)
   limited_for_cause (Notice w v) handed h idle =
-      let p = or_none (tables.no_worker c w) (tables.unless (is_dead_worker (worker_at c v)) 35) h in
-      as_unseen S log (Notice w v) 37 false (ap (λ t. causes.unless t 30 (causes.unless (is_killed v log) 35 None)) (live_there w p.0) ∙ ap (λ t. causes.unless t 35 None) (killed_as v ∙ unless_none (is_dead_worker (worker_at c v)) 35 p.1)) (0, refl)
+      let p = or_none (tables.no_worker c w) (tables.unless (is_dead_worker (worker_at c v)) NotDead) h in
+      as_unseen S log (Notice w v) Limit false (ap (λ t. causes.unless t NoWorker (causes.unless (is_killed v log) NotDead None)) (live_there w p.0) ∙ ap (λ t. causes.unless t NotDead None) (killed_as v ∙ unless_none (is_dead_worker (worker_at c v)) NotDead p.1)) (0, refl)
   limited_for_cause (NoticeNode w n) handed h idle =
-      let p = or_none (tables.no_worker c w) (tables.unless (is_dead_node (node_at c n)) 35) h in
-      as_unseen S log (NoticeNode w n) 37 false (ap (λ t. causes.unless t 30 (causes.unless (node_is_killed n log) 35 None)) (live_there w p.0) ∙ ap (λ t. causes.unless t 35 None) (node_killed_as n ∙ unless_none (is_dead_node (node_at c n)) 35 p.1)) (0, refl)
-  limited_for_cause (Evict n o) handed h idle = as_unseen S log (Evict n o) 37 false (ap (λ t. causes.unless t 36 None) (store_node_lives n (evict_refusal o) h)) (2, refl)
-  limited_for_cause (Lose n o) handed h idle = as_unseen S log (Lose n o) 37 false (ap (λ t. causes.unless t 36 None) (store_node_lives n (lose_refusal o) h)) (1, refl)
-  limited_for_cause (Kill w) handed h idle = as_unseen S log (Kill w) 37 false (ap (λ t. causes.unless t 30 None) (live_there w h)) (0, refl)
-  limited_for_cause (KillNode n) handed h idle = as_unseen S log (KillNode n) 37 false (ap (λ t. causes.unless t 36 None) (node_lives_as n ∙ unless_none (is_live_node (node_at c n)) 36 h)) (0, refl)
-  limited_for_cause Join handed h idle = as_unseen S log Join 37 false refl (0, refl)
+      let p = or_none (tables.no_worker c w) (tables.unless (is_dead_node (node_at c n)) NotDead) h in
+      as_unseen S log (NoticeNode w n) Limit false (ap (λ t. causes.unless t NoWorker (causes.unless (node_is_killed n log) NotDead None)) (live_there w p.0) ∙ ap (λ t. causes.unless t NotDead None) (node_killed_as n ∙ unless_none (is_dead_node (node_at c n)) NotDead p.1)) (0, refl)
+  limited_for_cause (Evict n o) handed h idle = as_unseen S log (Evict n o) Limit false (ap (λ t. causes.unless t NoNode None) (store_node_lives n (evict_refusal o) h)) (2, refl)
+  limited_for_cause (Lose n o) handed h idle = as_unseen S log (Lose n o) Limit false (ap (λ t. causes.unless t NoNode None) (store_node_lives n (lose_refusal o) h)) (1, refl)
+  limited_for_cause (Kill w) handed h idle = as_unseen S log (Kill w) Limit false (ap (λ t. causes.unless t NoWorker None) (live_there w h)) (0, refl)
+  limited_for_cause (KillNode n) handed h idle = as_unseen S log (KillNode n) Limit false (ap (λ t. causes.unless t NoNode None) (node_lives_as n ∙ unless_none (is_live_node (node_at c n)) NoNode h)) (0, refl)
+  limited_for_cause Join handed h idle = as_unseen S log Join Limit false refl (0, refl)

@@ -5,13 +5,14 @@ use Rattle.protocol.specs.Nodes.{Node}
 use Rattle.protocol.specs.Tables.{Run, Worker, Ready, Out, Phase, Waits, HasEnded, HasFaulted}
 use Rattle.protocol.specs.Whole.{Whole, node_at, worker_at}
 use Rattle.protocol.specs.Events.{is_live_node, is_live_worker}
-use Rattle.protocol.specs.Refusals.{is_dead_node, is_dead_worker, is_job, is_ready_phase, is_ready_run, job_in_phase, job_in_run, or_code, unless}
+use Rattle.protocol.specs.Refusals.{is_dead_node, is_dead_worker, is_job, is_ready_phase, is_ready_run, job_in_phase, job_in_run, or_refusal, unless}
+use Rattle.event_log.specs.Entries.{Refusal}
 
-pub or_none : (a b : Option ℕ) → or_code a b ≡ None → (a ≡ None) × (b ≡ None)
+pub or_none : (a b : Option Refusal) → or_refusal a b ≡ None → (a ≡ None) × (b ≡ None)
 or_none None b h = (refl, h)
 or_none (Some a) b h = absurd (cc)
 
-pub unless_none : (t : Bool) (code : ℕ) → unless t code ≡ None → t ≡ true
+pub unless_none : (t : Bool) (code : Refusal) → unless t code ≡ None → t ≡ true
 unless_none true code h = refl
 unless_none false code h = absurd (cc)
 

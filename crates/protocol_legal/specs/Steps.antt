@@ -2,6 +2,7 @@
 use Rattle.std.specs.Prelude.{◌≡◌, ℕ, true, false, Bool, List, [], ◌∷◌, ◌++◌, Some}
 use Rattle.meaning.specs.Values.{Id}
 use Rattle.event_log.specs.Entries.{Claim, Commit, Deliver, Entry, Event, Evict, In, Join, Kill, KillNode, Lose, Notice, Refused, Released}
+use Rattle.event_log.specs.Entries.{Refusal}
 use Rattle.event_log.specs.Events.{claim_in, commit_in, is_committed, is_killed, node_is_killed, node_lives, tells, worker_of_job}
 use Rattle.event_log.specs.Holding.{IsHeld}
 use Rattle.event_log.specs.Legal.{Happens}
@@ -132,4 +133,4 @@ pub record EventsOfOthers (s : Setting) (log : List Entry) (c : Whole) : Type 0 
   pub evicted : (n seat : ℕ) (o : Id) → node_lives s.nodes n log ≡ true → Between s (log ++ In (Evict n o) seat ∷ []) (happens c (Evict n o) Nothing).whole
   pub joined : (seat : ℕ) → Between s (log ++ In Join seat ∷ []) (happens c Join Nothing).whole
   -- an event is refused for its cause
-  pub refused : (e : Event) (seat code : ℕ) → IsRefusal (setting_of s c) log e code → Between s (log ++ In e seat ∷ Refused code ∷ []) c
+  pub refused : (e : Event) (seat : ℕ) (code : Refusal) → IsRefusal (setting_of s c) log e code → Between s (log ++ In e seat ∷ Refused code ∷ []) c

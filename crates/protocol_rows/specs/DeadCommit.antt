@@ -4,6 +4,7 @@
 use Rattle.std.specs.Prelude.{List, [], codes, ◌∷◌}
 use Rattle.meaning.specs.Values.{Birth, Task, Val, main_birth}
 use Rattle.event_log.specs.Entries.{Begun, Born, Claim, Commit, Deliver, Faulted, In, Kill, Notice, Opened, Refused, Released, Resolved, RetriesUsed}
+use Rattle.event_log.specs.Entries.{NoWorker, Stale}
 use Rattle.protocol.specs.Sets.{fault}
 use Rattle.protocol.specs.Messages.{Ask, Give, Push, TheNode, TheWorker, letter}
 use Rattle.protocol.specs.Jobs.{AtEnd, AtGet}
@@ -47,7 +48,7 @@ dead_commit_run =
           Opened 1 1
           ∷ Begun a1_0_0 1
           ∷ In (Kill 2) 0
-          ∷ Refused 30
+          ∷ Refused NoWorker
           ∷ In (Claim 1) 0
           ∷ In (Commit 1) 0
           ∷ Born o1_1 a1_0_0 birth_1_1
@@ -59,7 +60,7 @@ dead_commit_run =
           ∷ In (Claim 2) 0
           ∷ In (Kill 2) 0
           ∷ In (Commit 2) 0
-          ∷ Refused 33
+          ∷ Refused Stale
           ∷ In (Notice 1 2) 0
           ∷ Resolved o1_1 (fault RetriesUsed o1_1)
           ∷ Faulted a1_0_0 o1_1 (fault RetriesUsed o1_1)

@@ -4,6 +4,7 @@
 use Rattle.std.specs.Prelude.{List, [], codes, ◌∷◌}
 use Rattle.meaning.specs.Values.{Birth, Task, main_birth}
 use Rattle.event_log.specs.Entries.{Begun, Born, Claim, Commit, Deliver, Evict, In, Kill, KillNode, Lose, Notice, NoticeNode, Opened, Refused, Tick}
+use Rattle.event_log.specs.Entries.{NoCopy, NoWorker, NotReady, NoJob, NoMessage, NotDead, NoNode}
 use Rattle.protocol.specs.Messages.{Ask, TheNode, TheWorker, letter}
 use Rattle.protocol.specs.Jobs.{AtGet}
 use Rattle.protocol.specs.Plays.{Doing, Line, Seen, does_all, doing}
@@ -36,68 +37,68 @@ each_refused_run =
           Opened 1 1
           ∷ Begun a1_0_0 1
           ∷ In (Claim 0) 0
-          ∷ Refused 30
+          ∷ Refused NoWorker
           ∷ In (Claim 2) 0
-          ∷ Refused 30
+          ∷ Refused NoWorker
           ∷ In (Commit 1) 0
-          ∷ Refused 32
+          ∷ Refused NoJob
           ∷ In (Claim 1) 0
           ∷ In (Claim 1) 0
-          ∷ Refused 31
+          ∷ Refused NotReady
           ∷ In (Commit 1) 0
           ∷ Born o1_1 a1_0_0 birth_1_1
           ∷ In (Commit 1) 0
-          ∷ Refused 32
+          ∷ Refused NoJob
           ∷ In (Commit 0) 0
-          ∷ Refused 32
+          ∷ Refused NoJob
           ∷ In (Deliver 0) 0
-          ∷ Refused 34
+          ∷ Refused NoMessage
           ∷ In (Deliver 2) 0
-          ∷ Refused 34
+          ∷ Refused NoMessage
           ∷ In (Tick 2) 0
-          ∷ Refused 30
+          ∷ Refused NoWorker
           ∷ In (Notice 2 2) 0
-          ∷ Refused 30
+          ∷ Refused NoWorker
           ∷ In (Notice 1 2) 0
-          ∷ Refused 35
+          ∷ Refused NotDead
           ∷ In (Notice 1 1) 0
-          ∷ Refused 35
+          ∷ Refused NotDead
           ∷ In (NoticeNode 2 2) 0
-          ∷ Refused 30
+          ∷ Refused NoWorker
           ∷ In (NoticeNode 1 2) 0
-          ∷ Refused 35
+          ∷ Refused NotDead
           ∷ In (NoticeNode 1 1) 0
-          ∷ Refused 35
+          ∷ Refused NotDead
           ∷ In (Evict 0 o1_1) 0
-          ∷ Refused 36
+          ∷ Refused NoNode
           ∷ In (Evict 2 o1_1) 0
-          ∷ Refused 36
+          ∷ Refused NoNode
           ∷ In (Evict 1 o1_1) 0
-          ∷ Refused 21
+          ∷ Refused NoCopy
           ∷ In (Lose 2 o1_1) 0
-          ∷ Refused 36
+          ∷ Refused NoNode
           ∷ In (Lose 1 o1_1) 0
-          ∷ Refused 21
+          ∷ Refused NoCopy
           ∷ In (Kill 2) 0
-          ∷ Refused 30
+          ∷ Refused NoWorker
           ∷ In (KillNode 2) 0
-          ∷ Refused 36
+          ∷ Refused NoNode
           ∷ In (KillNode 1) 0
           ∷ In (Kill 1) 0
-          ∷ Refused 30
+          ∷ Refused NoWorker
           ∷ In (KillNode 1) 0
-          ∷ Refused 36
+          ∷ Refused NoNode
           ∷ In (Lose 1 o1_1) 0
-          ∷ Refused 36
+          ∷ Refused NoNode
           ∷ In (Evict 1 o1_1) 0
-          ∷ Refused 36
+          ∷ Refused NoNode
           ∷ In (Tick 1) 0
-          ∷ Refused 30
+          ∷ Refused NoWorker
           ∷ In (NoticeNode 1 1) 0
-          ∷ Refused 30
+          ∷ Refused NoWorker
           ∷ In (Deliver 1) 0
           ∷ In (Commit 1) 0
-          ∷ Refused 32
+          ∷ Refused NoJob
           ∷ [];
       letters =
           letter (TheWorker 1) (TheNode 1) (Ask a1_1_0 0)

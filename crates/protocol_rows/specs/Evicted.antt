@@ -4,6 +4,7 @@
 use Rattle.std.specs.Prelude.{List, None, [], codes, ◌∷◌}
 use Rattle.meaning.specs.Values.{Birth, Task, Val, main_birth}
 use Rattle.event_log.specs.Entries.{Accepted, Begun, Born, Claim, Commit, Deliver, Ended, Evict, Got, In, Opened, Refused, Released}
+use Rattle.event_log.specs.Entries.{NoCopy}
 use Rattle.protocol.specs.Messages.{Ask, Back, CopyOf, Elsewhere, Fetch, Finished, FinishedAck, Give, Push, TheNode, TheWorker, Unhold, WasReleased, letter}
 use Rattle.protocol.specs.Jobs.{AtEnd, AtGet}
 use Rattle.protocol.specs.Plays.{Does, Doing, Line, Seen, Settles, does_all, doing}
@@ -90,7 +91,7 @@ evicted_run =
           ∷ Got a1_0_0 o1_2 (Val (nine (int 2)))
           ∷ In (Evict 1 o1_2) 0
           ∷ In (Evict 1 o1_2) 0
-          ∷ Refused 21
+          ∷ Refused NoCopy
           ∷ In (Claim 1) 0
           ∷ In (Commit 4) 0
           ∷ Got a1_0_0 o1_1 (Val (nine (int 1)))

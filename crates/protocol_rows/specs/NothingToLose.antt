@@ -4,6 +4,7 @@
 use Rattle.std.specs.Prelude.{List, Some, [], codes, ◌∷◌}
 use Rattle.meaning.specs.Values.{Birth, Task, Val, main_birth}
 use Rattle.event_log.specs.Entries.{Accepted, Begun, Born, Claim, Commit, Deliver, Ended, Got, In, Lose, Opened, Printed, Refused, Released}
+use Rattle.event_log.specs.Entries.{NoCopy}
 use Rattle.protocol.specs.Messages.{Ask, Back, Finished, FinishedAck, Give, Push, TheNode, TheWorker, letter}
 use Rattle.protocol.specs.Jobs.{AtEnd, AtGet}
 use Rattle.protocol.specs.Plays.{Does, Doing, Line, Seen, Settles, does_all, doing}
@@ -62,7 +63,7 @@ nothing_to_lose_run =
           ∷ In (Deliver 5) 0
           ∷ In (Deliver 6) 0
           ∷ In (Lose 1 o1_1) 0
-          ∷ Refused 21
+          ∷ Refused NoCopy
           ∷ In (Claim 1) 0
           ∷ In (Commit 3) 0
           ∷ Printed (int 49)

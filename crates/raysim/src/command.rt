@@ -2,17 +2,20 @@
 
 ghost use Rattle.raysim_options.specs.Reads.{AreThreads, IsCluster};
 
+use crate::faults::over_each_place;
+use crate::outputs::{Paths, are_fit};
 use crate::replays::{Replayed, migrate_events, over_events};
 use crate::scripts::{Command, over_script};
 use crate::threads::over_threads;
-use crate::told::{explain, fault};
+use crate::told::{explain, fault, no_memory};
 use crate::views::Views;
+use clap::error::ErrorKind;
 use ids::ObjectId;
 use raysim_commands::{Cluster, Form};
 use raysim_options::{
-    LogOptions, MigrateOptions, Request, RunOptions, ScriptOptions, SimOptions, WhyOptions, options,
+    FaultsOptions, LogOptions, MigrateOptions, Request, RunOptions, ScriptOptions, SimOptions,
+    WhyOptions, options,
 };
-use std::io;
 use std::process::ExitCode;
 use std::rt::{Clock, Files};
 use std::sync::Wait;
@@ -22,12 +25,13 @@ use std::thread::Threads;
 pub fn answer<R: Files + Print + Eprint + AllocGlobal + Threads + Wait + Clock + Sync>(
     rt: &R,
     words: &[String],
-) -> io::Result<ExitCode> {
+) -> ExitCode {
     let request = match options(rt.alloc(), words) {
         Ok(request) => request,
+        Err(error) if error.kind() == ErrorKind::OutOfMemory => return no_memory(rt),
         Err(error) => {
-            eprint!(rt; "{error}")?;
-            return Ok(ExitCode::from(1));
+            let _ = eprint!(rt; "{error}");
+            return ExitCode::FAILURE;
         }
     };
     match request {
@@ -37,6 +41,7 @@ pub fn answer<R: Files + Print + Eprint + AllocGlobal + Threads + Wait + Clock +
         Request::Run(options) => over_run(rt, &options),
         Request::Log(options) => over_log(rt, &options),
         Request::Why(options) => over_why(rt, &options),
+        Request::Faults(options) => over_faults(rt, &options),
         Request::Migrate(options) => over_migrate(rt, &options),
         Request::Explain(number) => explain(rt, number),
     }
@@ -77,10 +82,21 @@ fn log_form(messages: bool) -> Form {
 fn over_run<R: Files + Print + Eprint + AllocGlobal + Threads + Wait + Clock + Sync>(
     rt: &R,
     options: &RunOptions<'_>,
-) -> io::Result<ExitCode>
+) -> ExitCode
     requires cluster { IsCluster options.now.nodes options.now.slots }
     requires threads { AreThreads options.now.threads }
 {
+    let paths = Paths {
+        script: options.script,
+        beside: options.plan,
+        beside_name: "the plan",
+        history: options.history,
+        timeline: options.timeline,
+        lineage: options.lineage,
+    };
+    if !are_fit(rt, &paths) {
+        return ExitCode::FAILURE;
+    }
     let cluster = cluster_of(options.nodes, options.slots);
     let form = report_form(options.json);
     let views = Views {
@@ -97,12 +113,20 @@ fn over_run<R: Files + Print + Eprint + AllocGlobal + Threads + Wait + Clock + S
     over_script(rt, &Command::Run(cluster, form), &script, &views)
 }
 
-fn over_sim<R: Files + Print + Eprint + AllocGlobal>(
-    rt: &R,
-    options: &SimOptions<'_>,
-) -> io::Result<ExitCode>
+fn over_sim<R: Files + Print + Eprint + AllocGlobal>(rt: &R, options: &SimOptions<'_>) -> ExitCode
     requires { IsCluster options.now.nodes options.now.slots }
 {
+    let paths = Paths {
+        script: options.script,
+        beside: Some(options.events),
+        beside_name: "the list of events",
+        history: None,
+        timeline: options.timeline,
+        lineage: options.lineage,
+    };
+    if !are_fit(rt, &paths) {
+        return ExitCode::FAILURE;
+    }
     let replayed = Replayed {
         script: options.script,
         events: options.events,
@@ -115,10 +139,20 @@ fn over_sim<R: Files + Print + Eprint + AllocGlobal>(
     over_events(rt, &replayed, sim_form(options), &views)
 }
 
+fn over_faults<R: Files + Print + Eprint + AllocGlobal>(
+    rt: &R,
+    options: &FaultsOptions<'_>,
+) -> ExitCode
+    requires { IsCluster options.now.nodes options.now.slots }
+{
+    let cluster = cluster_of(options.nodes, options.slots);
+    over_each_place(rt, options, cluster)
+}
+
 fn over_migrate<R: Files + Print + Eprint + AllocGlobal>(
     rt: &R,
     options: &MigrateOptions<'_>,
-) -> io::Result<ExitCode>
+) -> ExitCode
     requires { IsCluster options.now.nodes options.now.slots }
 {
     let replayed = Replayed {
@@ -129,10 +163,7 @@ fn over_migrate<R: Files + Print + Eprint + AllocGlobal>(
     migrate_events(rt, &replayed)
 }
 
-fn over_log<R: Files + Print + Eprint + AllocGlobal>(
-    rt: &R,
-    options: &LogOptions<'_>,
-) -> io::Result<ExitCode>
+fn over_log<R: Files + Print + Eprint + AllocGlobal>(rt: &R, options: &LogOptions<'_>) -> ExitCode
     requires { IsCluster options.now.nodes options.now.slots }
 {
     let cluster = cluster_of(options.nodes, options.slots);
@@ -152,10 +183,7 @@ fn over_log<R: Files + Print + Eprint + AllocGlobal>(
     over_script(rt, &Command::Run(cluster, form), &script, &Views::none())
 }
 
-fn over_why<R: Files + Print + Eprint + AllocGlobal>(
-    rt: &R,
-    options: &WhyOptions<'_>,
-) -> io::Result<ExitCode>
+fn over_why<R: Files + Print + Eprint + AllocGlobal>(rt: &R, options: &WhyOptions<'_>) -> ExitCode
     requires { IsCluster options.now.nodes options.now.slots }
 {
     let replayed = Replayed {

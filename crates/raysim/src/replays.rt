@@ -1,15 +1,13 @@
 // Commands over a script and a list of events.
 
-use crate::told::tell;
-use crate::views::{OUTPUT, View, Views};
-use raysim_commands::{
-    Cluster, CommandRefusal, Failure, Form, Tracked, check, exit_status, migrate, read_at_most,
-    read_script, sim,
-};
-use raysim_options::ScriptOptions;
+use crate::inputs::{read_behind, read_script_file};
+use crate::told::{Printed, Stop, stopped, tell_beside};
+use crate::views::{View, Views, write_done};
+use raysim_commands::{Cluster, CommandRefusal, Form, Tracked, migrate, sim};
+use raysim_files::Noted;
+use std::io;
 use std::process::ExitCode;
 use std::rt::Files;
-use std::{fs, io};
 
 /// A script and a list of events, by their files, and the cluster.
 #[derive(Clone, Copy)]
@@ -26,157 +24,129 @@ pub struct Texts {
     pub events: Vec<u8>,
 }
 
-/// Replays a list of events and writes what is asked for, and other views behind it; the refusal, where there is one, is told on standard
-/// error.
+/// Replays a list of events and writes what is asked for, and other views behind it, also where that could not be written; why it stops, where it
+/// does, is told.
 pub fn over_events<R: Files + Print + Eprint + AllocGlobal>(
     rt: &R,
     replayed: &Replayed<'_>,
     form: Form,
     views: &Views<'_>,
-) -> io::Result<ExitCode> {
+) -> ExitCode {
     let texts = match read_texts(rt, replayed) {
         Ok(texts) => texts,
-        Err(refusal) => return refused(rt, refusal, replayed, OUTPUT),
+        Err(stop) => return stopped(rt, stop, replayed.script),
     };
-    let mut writer = Tracked::writer(io::writer(rt));
-    let mut script = Tracked::reader(texts.script.as_slice());
-    let mut events = Tracked::reader(texts.events.as_slice());
-    let done = sim(
-        rt.alloc(),
-        &mut script,
-        &mut events,
-        replayed.cluster,
-        form,
-        &mut writer,
-    );
-    if let Err(refusal) = &done {
-        return refused(rt, *refusal, replayed, OUTPUT);
+    let printed = print_replay(rt, replayed.cluster, &texts, form);
+    if let Some(stop) = printed.stop() {
+        stopped(rt, stop, replayed.script);
+        if !stop.is_of_writing() {
+            return printed.ending();
+        }
     }
-    let status = exit_status(&done);
-    with_views(rt, replayed, &texts, views, status)
+    if are_written(rt, replayed, &texts, views, &printed.done) {
+        return printed.ending();
+    }
+    ExitCode::FAILURE
 }
 
-/// Replays a list of events of format 1 and writes it as one of format 2; the refusal, where there is one, is told on standard error.
+/// Replays a list of events of format 1 and writes it as one of format 2; why it stops, where it does, is told.
 pub fn migrate_events<R: Files + Print + Eprint + AllocGlobal>(
     rt: &R,
     replayed: &Replayed<'_>,
-) -> io::Result<ExitCode> {
+) -> ExitCode {
     let texts = match read_texts(rt, replayed) {
         Ok(texts) => texts,
-        Err(refusal) => return refused(rt, refusal, replayed, OUTPUT),
+        Err(stop) => return stopped(rt, stop, replayed.script),
     };
-    let mut writer = Tracked::writer(io::writer(rt));
-    let mut script = Tracked::reader(texts.script.as_slice());
-    let mut events = Tracked::reader(texts.events.as_slice());
+    let printed = print_migrated(rt, replayed.cluster, &texts);
+    if let Some(stop) = printed.stop() {
+        stopped(rt, stop, replayed.script);
+    }
+    printed.ending()
+}
+
+/// Replays, and prints what is asked for.
+fn print_replay<R: Print + AllocGlobal>(
+    rt: &R,
+    cluster: Cluster,
+    texts: &Texts,
+    form: Form,
+) -> Printed {
+    let mut output = Noted::new(io::writer(rt));
+    let done = sim(
+        rt.alloc(),
+        &mut Tracked::reader(texts.script.as_slice()),
+        &mut Tracked::reader(texts.events.as_slice()),
+        cluster,
+        form,
+        &mut Tracked::writer(&mut output),
+    );
+    let error = output.error();
+    Printed { done, error }
+}
+
+/// Replays, and prints the events in format 2.
+fn print_migrated<R: Print + AllocGlobal>(rt: &R, cluster: Cluster, texts: &Texts) -> Printed {
+    let mut output = Noted::new(io::writer(rt));
     let done = migrate(
         rt.alloc(),
-        &mut script,
-        &mut events,
-        replayed.cluster,
-        &mut writer,
+        &mut Tracked::reader(texts.script.as_slice()),
+        &mut Tracked::reader(texts.events.as_slice()),
+        cluster,
+        &mut Tracked::writer(&mut output),
     );
-    if let Err(refusal) = &done {
-        return refused(rt, *refusal, replayed, OUTPUT);
-    }
-    Ok(ExitCode::from(exit_status(&done)))
-}
-
-/// Tells the refusal.
-fn refused<R: Eprint>(
-    rt: &R,
-    refusal: CommandRefusal,
-    replayed: &Replayed<'_>,
-    output: &str,
-) -> io::Result<ExitCode> {
-    let script = replayed.script;
-    if let CommandRefusal::Failed(Failure::Read) = refusal {
-        let events = replayed.events;
-        eprintln!(rt; "{refusal}\nreading {script} or {events} failed")?;
-        return Ok(ExitCode::from(1));
-    }
-    let explain = false;
-    tell(rt, refusal, &ScriptOptions { script, explain }, b"", output)?;
-    Ok(ExitCode::from(1))
-}
-
-/// Reads a file of any length.
-fn read_file<R: Files + AllocGlobal>(rt: &R, path: &str) -> Result<Vec<u8>, CommandRefusal> {
-    let Ok(file) = fs::open(rt, path) else {
-        return Err(CommandRefusal::Failed(Failure::Read));
-    };
-    read_at_most(rt.alloc(), &mut Tracked::reader(file), usize::MAX)
-}
-
-/// Reads a file beside a script. Where it can't be read, the script's refusal counts, if it has one.
-pub fn read_behind<R: Files + AllocGlobal>(
-    rt: &R,
-    script: &[u8],
-    path: &str,
-) -> Result<Vec<u8>, CommandRefusal> {
-    match read_file(rt, path) {
-        Ok(bytes) => Ok(bytes),
-        Err(refusal) => {
-            let mut unseen = Vec::new(rt.alloc());
-            let mut writer = Tracked::writer(&mut unseen);
-            check(rt.alloc(), &mut Tracked::reader(script), &mut writer)?;
-            Err(refusal)
-        }
-    }
+    let error = output.error();
+    Printed { done, error }
 }
 
 /// Reads both files.
-fn read_texts<R: Files + AllocGlobal>(
+fn read_texts<'a, R: Files + AllocGlobal>(
     rt: &R,
-    replayed: &Replayed<'_>,
-) -> Result<Texts, CommandRefusal> {
-    let Ok(file) = fs::open(rt, replayed.script) else {
-        return Err(CommandRefusal::Failed(Failure::Read));
-    };
-    let script = read_script(rt.alloc(), &mut Tracked::reader(file))?;
+    replayed: &Replayed<'a>,
+) -> Result<Texts, Stop<'a>> {
+    let script = read_script_file(rt, replayed.script)?;
     let events = read_behind(rt, script.as_slice(), replayed.events)?;
     Ok(Texts { script, events })
 }
 
-/// Writes the other views of a replay, and says with which status the program ends.
-pub fn with_views<R: Files + Eprint + AllocGlobal>(
+/// Writes the other views of a replay, and says whether all are out.
+pub fn are_written<R: Files + Eprint + AllocGlobal>(
     rt: &R,
     replayed: &Replayed<'_>,
     texts: &Texts,
     views: &Views<'_>,
-    status: u8,
-) -> io::Result<ExitCode> {
-    if let Some(view) = views.timeline() {
-        if let Err(refusal) = write_view(rt, replayed.cluster, texts, &view) {
-            return refused(rt, refusal, replayed, view.path);
-        }
-    }
-    if let Some(view) = views.lineage() {
-        if let Err(refusal) = write_view(rt, replayed.cluster, texts, &view) {
-            return refused(rt, refusal, replayed, view.path);
-        }
-    }
-    Ok(ExitCode::from(status))
+    report: &Result<u8, CommandRefusal>,
+) -> bool {
+    let timeline = is_written(rt, replayed, texts, &views.timeline(), report);
+    let lineage = is_written(rt, replayed, texts, &views.lineage(), report);
+    timeline && lineage
 }
 
-/// The replay once more, and its view to a file.
-fn write_view<R: Files + AllocGlobal>(
+/// Does the replay once more, and writes a view of it, if one is asked for; says whether it is out.
+fn is_written<R: Files + Eprint + AllocGlobal>(
     rt: &R,
-    cluster: Cluster,
+    replayed: &Replayed<'_>,
     texts: &Texts,
-    view: &View<'_>,
-) -> Result<u8, CommandRefusal> {
-    let Ok(file) = fs::create(rt, view.path) else {
-        return Err(CommandRefusal::Failed(Failure::Write));
+    view: &Option<View<'_>>,
+    report: &Result<u8, CommandRefusal>,
+) -> bool {
+    let Some(view) = view else {
+        return true;
     };
-    let mut script = Tracked::reader(texts.script.as_slice());
-    let mut events = Tracked::reader(texts.events.as_slice());
-    let mut writer = Tracked::writer(file);
-    sim(
+    let mut shown = Vec::new(rt.alloc());
+    let done = sim(
         rt.alloc(),
-        &mut script,
-        &mut events,
-        cluster,
+        &mut Tracked::reader(texts.script.as_slice()),
+        &mut Tracked::reader(texts.events.as_slice()),
+        replayed.cluster,
         view.form,
-        &mut writer,
-    )
+        &mut Tracked::writer(&mut shown),
+    );
+    match write_done(rt, view.path, done, shown.as_slice()) {
+        Ok(()) => true,
+        Err(stop) => {
+            tell_beside(rt, stop, view.path, replayed.script, report);
+            false
+        }
+    }
 }

@@ -2,18 +2,18 @@
 
 ghost use Rattle.raysim_options.specs.Reads.{AreThreads};
 
-use crate::replays::{Replayed, Texts, read_behind, with_views};
-use crate::told::tell;
-use crate::views::{OUTPUT, Views};
-use raysim_commands::{
-    Cluster, CommandRefusal, Failure, Form, OpenGate, Tracked, put_all, read_script, run_threaded,
-};
+use crate::inputs::{read_behind, read_script_file};
+use crate::replays::{Replayed, Texts, are_written};
+use crate::told::{Printed, Stop, stopped, tell, tell_beside};
+use crate::views::{Views, in_memory, write_done};
+use raysim_commands::{Cluster, CommandRefusal, Form, OpenGate, Tracked, put_all, run_threaded};
+use raysim_files::Noted;
 use raysim_options::{RunOptions, ScriptOptions};
+use std::io;
 use std::process::ExitCode;
 use std::rt::{Clock, Files};
 use std::sync::Wait;
 use std::thread::Threads;
-use std::{fs, io};
 
 /// What a run on threads gives, before anything is out.
 #[derive(Drop)]
@@ -24,49 +24,39 @@ struct Unwritten {
 }
 
 /// Runs a script on threads, beside a plan if there is one, and writes its history where that is asked for, its report, and other views behind
-/// it; the refusal, where there is one, is told on standard error. Where the run is given up, nothing is written.
+/// it, each also where another could not be written; why it stops, where it does, is told. Where the run is given up, nothing is written.
 pub fn over_threads<R: Files + Print + Eprint + AllocGlobal + Threads + Wait + Clock + Sync>(
     rt: &R,
     options: &RunOptions<'_>,
     cluster: Cluster,
     form: Form,
     views: &Views<'_>,
-) -> io::Result<ExitCode>
+) -> ExitCode
     requires { AreThreads options.now.threads }
 {
     let script = match read_script_file(rt, options.script) {
         Ok(script) => script,
-        Err(refusal) => return refused(rt, refusal, options, b"", OUTPUT),
+        Err(stop) => return stopped(rt, stop, options.script),
     };
-    let unwritten = match run_in_memory(rt, options, script.as_slice(), cluster, form) {
-        Ok(unwritten) => unwritten,
-        Err(refusal) => return refused(rt, refusal, options, script.as_slice(), OUTPUT),
-    };
-    if let Some(path) = options.history {
-        if let Err(refusal) = write_file(rt, path, unwritten.history.as_slice()) {
-            return refused(rt, refusal, options, b"", path);
+    match run_in_memory(rt, options, script.as_slice(), cluster, form) {
+        Ok(unwritten) => write_all(rt, options, script, unwritten, cluster, views),
+        Err(stop) => {
+            let shown = ScriptOptions {
+                script: options.script,
+                explain: options.explain,
+            };
+            tell(rt, stop, &shown, script.as_slice());
+            ExitCode::FAILURE
         }
     }
-    let mut writer = Tracked::writer(io::writer(rt));
-    if let Err(failure) = put_all(&mut writer, unwritten.report.as_slice()) {
-        return refused(rt, CommandRefusal::Failed(failure), options, b"", OUTPUT);
-    }
-    views_of(rt, options, script, unwritten, cluster, views)
-}
-
-fn read_script_file<R: Files + AllocGlobal>(rt: &R, path: &str) -> Result<Vec<u8>, CommandRefusal> {
-    let Ok(file) = fs::open(rt, path) else {
-        return Err(CommandRefusal::Failed(Failure::Read));
-    };
-    read_script(rt.alloc(), &mut Tracked::reader(file))
 }
 
 /// The plan's bytes, none where there is no plan. Where they can't be read, the script's refusal counts, if it has one.
-fn read_plan<R: Files + AllocGlobal>(
+fn read_plan<'a, R: Files + AllocGlobal>(
     rt: &R,
-    options: &RunOptions<'_>,
+    options: &RunOptions<'a>,
     script: &[u8],
-) -> Result<Vec<u8>, CommandRefusal> {
+) -> Result<Vec<u8>, Stop<'a>> {
     match options.plan {
         Some(path) => read_behind(rt, script, path),
         None => Ok(Vec::new(rt.alloc())),
@@ -74,13 +64,13 @@ fn read_plan<R: Files + AllocGlobal>(
 }
 
 /// Runs the script, in memory.
-fn run_in_memory<R: Files + AllocGlobal + Threads + Wait + Clock + Sync>(
+fn run_in_memory<'a, R: Files + AllocGlobal + Threads + Wait + Clock + Sync>(
     rt: &R,
-    options: &RunOptions<'_>,
+    options: &RunOptions<'a>,
     script: &[u8],
     cluster: Cluster,
     form: Form,
-) -> Result<Unwritten, CommandRefusal>
+) -> Result<Unwritten, Stop<'a>>
     requires { AreThreads options.now.threads }
 {
     let plan = read_plan(rt, options, script)?;
@@ -104,59 +94,60 @@ fn run_in_memory<R: Files + AllocGlobal + Threads + Wait + Clock + Sync>(
             report,
             status,
         }),
-        // In memory a write fails for want of memory alone.
-        Err(CommandRefusal::Failed(_)) => Err(CommandRefusal::NoMemory),
-        Err(refusal) => Err(refusal),
+        Err(refusal) => Err(Stop::Refused(in_memory(refusal))),
     }
 }
 
-fn write_file<R: Files>(rt: &R, path: &str, bytes: &[u8]) -> Result<(), CommandRefusal> {
-    let Ok(file) = fs::create(rt, path) else {
-        return Err(CommandRefusal::Failed(Failure::Write));
+/// Prints the report, whose status this is.
+fn print_report<R: Print>(rt: &R, report: &[u8], status: u8) -> Printed {
+    let mut output = Noted::new(io::writer(rt));
+    let done = match put_all(&mut Tracked::writer(&mut output), report) {
+        Ok(()) => Ok(status),
+        Err(failure) => Err(CommandRefusal::Failed(failure)),
     };
-    put_all(&mut Tracked::writer(file), bytes)?;
-    Ok(())
+    let error = output.error();
+    Printed { done, error }
 }
 
-/// Writes the other views of the run, from its history.
-fn views_of<R: Files + Eprint + AllocGlobal>(
+/// Writes history, report and views, and says with which status the program ends.
+fn write_all<R: Files + Print + Eprint + AllocGlobal>(
     rt: &R,
     options: &RunOptions<'_>,
     script: Vec<u8>,
     unwritten: Unwritten,
     cluster: Cluster,
     views: &Views<'_>,
-) -> io::Result<ExitCode> {
+) -> ExitCode {
+    let events = unwritten.history;
+    let history = keep_history(rt, options, events.as_slice());
+    let printed = print_report(rt, unwritten.report.as_slice(), unwritten.status);
+    if let Some(stop) = printed.stop() {
+        stopped(rt, stop, options.script);
+    }
+    if let Err(stop) = history {
+        let path = options.history.unwrap_or("");
+        tell_beside(rt, stop, path, options.script, &printed.done);
+    }
     let replayed = Replayed {
         script: options.script,
-        events: options.history.unwrap_or("its history"),
+        events: "its history",
         cluster,
     };
-    let status = unwritten.status;
-    let texts = Texts {
-        script,
-        events: unwritten.history,
-    };
-    with_views(rt, &replayed, &texts, views, status)
+    let texts = Texts { script, events };
+    if are_written(rt, &replayed, &texts, views, &printed.done) && history.is_ok() {
+        return printed.ending();
+    }
+    ExitCode::FAILURE
 }
 
-/// Tells the refusal.
-fn refused<R: Eprint>(
+/// Writes the history, if that is asked for.
+fn keep_history<'a, R: Files + AllocGlobal>(
     rt: &R,
-    refusal: CommandRefusal,
-    options: &RunOptions<'_>,
-    text: &[u8],
-    output: &str,
-) -> io::Result<ExitCode> {
-    if let (CommandRefusal::Failed(Failure::Read), Some(plan)) = (refusal, options.plan) {
-        let script = options.script;
-        eprintln!(rt; "{refusal}\nreading {script} or {plan} failed")?;
-        return Ok(ExitCode::from(1));
+    options: &RunOptions<'a>,
+    history: &[u8],
+) -> Result<(), Stop<'a>> {
+    match options.history {
+        Some(path) => write_done(rt, path, Ok(0), history),
+        None => Ok(()),
     }
-    let shown = ScriptOptions {
-        script: options.script,
-        explain: options.explain,
-    };
-    tell(rt, refusal, &shown, text, output)?;
-    Ok(ExitCode::from(1))
 }

@@ -1,9 +1,9 @@
 // Where other views of a run are written.
 
-use raysim_commands::Form;
-
-/// What the standard output is called.
-pub const OUTPUT: &str = "the standard output";
+use crate::told::Stop;
+use raysim_commands::{CommandRefusal, Form};
+use raysim_files::write_whole;
+use std::rt::Files;
 
 /// The files to which the timeline and the lineage are written.
 #[derive(Clone, Copy)]
@@ -40,5 +40,29 @@ impl<'a> Views<'a> {
         let path = self.lineage?;
         let form = Form::Lineage;
         Some(View { path, form })
+    }
+}
+
+/// Writes what a command gave in memory to a file, whole or not at all.
+pub fn write_done<'a, R: Files + AllocGlobal>(
+    rt: &R,
+    path: &'a str,
+    done: Result<u8, CommandRefusal>,
+    text: &[u8],
+) -> Result<(), Stop<'a>> {
+    if let Err(refusal) = done {
+        return Err(Stop::Refused(in_memory(refusal)));
+    }
+    match write_whole(rt, path, text) {
+        Ok(()) => Ok(()),
+        Err(error) => Err(Stop::writing(path, error)),
+    }
+}
+
+/// What a command refuses that writes in memory, where a write fails for want of memory alone.
+pub fn in_memory(refusal: CommandRefusal) -> CommandRefusal {
+    match refusal {
+        CommandRefusal::Failed(_) => CommandRefusal::NoMemory,
+        other => other,
     }
 }

@@ -10,10 +10,9 @@ use Rattle.books.specs.Lines.{book_lines}
 use Rattle.event_files.specs.declared.plan.PlanLine.{PlanLine}
 use Rattle.event_log.specs.Entries.{Entry}
 use Rattle.event_log.specs.Serial.{MainBegins}
-use Rattle.event_log.specs.Views.{log_of}
 use Rattle.history.specs.Main.{status_of}
 use Rattle.history.specs.Report.{report_text}
-use Rattle.protocol_board.specs.Cores.{RunState, Size, state_of}
+use Rattle.protocol_board.specs.Cores.{RunState, Size}
 use Rattle.protocol_board.specs.Cores.{IsSoundLog}
 use Rattle.protocol_board.specs.Reports.{json_text}
 use Rattle.report_laws.specs.Begins.{BeginsAsSerial, BeginsWith}
@@ -101,7 +100,7 @@ threads_written_so size threads form (Some t) (Some p) script lines report histo
   is_script = is;
   is_plan = has;
   run = run;
-  as_serial = as_serial t form script (state_of run.run) [] [] report status is run.outputs.meant run.outputs.reported run.outputs.ends;
+  as_serial = as_serial t form script run.run [] [] report status is run.outputs.meant run.outputs.reported run.outputs.ends;
   history_out = a;
   report_out = b;
 }

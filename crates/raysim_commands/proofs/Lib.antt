@@ -7,3 +7,4 @@ pub mod Reading
 pub mod Refused
 mod Replayed
 pub mod Simulated
+pub mod Trying

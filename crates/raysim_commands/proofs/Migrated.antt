@@ -4,8 +4,7 @@ use Rattle.std.specs.Prelude.{IfSome, ◌==◌}
 use Rattle.std.specs.Io.KnownBytes.{Appends}
 use Rattle.meaning.specs.Syntax.{Script}
 use Rattle.log_entries.specs.Texts.{event_text}
-use Rattle.event_log.specs.Views.{log_of}
-use Rattle.event_log.specs.declared.entry.Entry.{Entry as CodeEntry}
+use Rattle.event_log.specs.Entries.{Entry}
 use Rattle.log_entries.specs.declared.event.Event.{Event}
 use Rattle.log_entries.specs.declared.event.Event.TheVariants as events
 use Rattle.event_files.specs.Files.{IsBadAt, IsRow, Passed, Row, Said, is_passed, row_text}
@@ -98,8 +97,8 @@ first_is_bad one bytes n h rest e =
 -- ---- what is written
 
 -- the replay's history
-pub history_so : (script named : Script) (size : Size) (lines : List Line) (first after : Play) (log : List CodeEntry) (text : List ℕ) →
-    script ≡ named → first ≡ first_play size → Plays named lines first after → IsSoundLog named after.run → log_of log ≡ after.run.log →
+pub history_so : (script named : Script) (size : Size) (lines : List Line) (first after : Play) (log : List Entry) (text : List ℕ) →
+    script ≡ named → first ≡ first_play size → Plays named lines first after → IsSoundLog named after.run → log ≡ after.run.log →
     text ≡ recorded_file (recorded_in log) → IsHistoryOf script size lines text
 history_so script named size lines first after log text own begins plays meant of_log written =
     let played = subst (λ s. Plays s lines (first_play size) after) (sym own) (subst (λ p. Plays named lines p after) begins plays) in

@@ -71,6 +71,7 @@ of_text_check (faults.PrintOutsideMain span) = tt
 of_text_check (faults.MissingReturn span) = tt
 of_text_check (faults.BadRetries span) = tt
 of_text_check (faults.Duplicate span) = tt
+of_text_check (faults.WrongReturns span) = tt
 of_text_check faults.NoMemory = tt
 
 -- a text is refused by what is told of texts

@@ -3,9 +3,8 @@ use Rattle.std.proofs.Common.{◌≡◌, ◌≤◌, ℕ, List, refl, subst}
 use Rattle.meaning.specs.Syntax.{Script}
 use Rattle.script_check.specs.Scripts.{IsWellTyped}
 use Rattle.event_files.specs.declared.plan.PlanLine.{PlanLine}
-use Rattle.event_log.specs.Views.{log_of}
 use Rattle.histories.specs.Recorded.{recorded_in}
-use Rattle.protocol_board.specs.Cores.{RunData, Size, state_of}
+use Rattle.protocol_board.specs.Cores.{RunState, Size}
 use Rattle.replay_laws.specs.Replaying.{CameSo, IsFirst, RunsReplay, RunsReplayToThemselves}
 use Rattle.seats.specs.Ends.{IsEnd, IsOver}
 use Rattle.seats.specs.declared.end.Ended.{Ended}
@@ -15,21 +14,21 @@ use Rattle.raysim_commands.specs.declared.form.Form.{Form}
 use Rattle.raysim_commands.specs.SimReports.{first_play}
 use Rattle.raysim_commands.specs.ThreadReports.{AreOutputs, IsRunOn, MayBeReplayed, ReplaysTo}
 
-replays_so : RunsReplay → RunsReplayToThemselves → (script : Script) → IsWellTyped script → (plan : List PlanLine) (size : Size) → 1 ≤ size.nodes → (run : RunData) →
-    IsOver script plan size (state_of run) → MayBeReplayed (log_of run.log) (recorded_in run.log) → ReplaysTo script size run
+replays_so : RunsReplay → RunsReplayToThemselves → (script : Script) → IsWellTyped script → (plan : List PlanLine) (size : Size) → 1 ≤ size.nodes → (run : RunState) →
+    IsOver script plan size run → MayBeReplayed run.log (recorded_in run.log) → ReplaysTo script size run
 replays_so replays same script typed plan size some run over may =
-    let so : CameSo script size.nodes size.slots (state_of run) = record { some = some; comes = over.came; once = may.once } in
+    let so : CameSo script size.nodes size.slots run = record { some = some; comes = over.came; once = may.once } in
     let begins : IsFirst size.nodes size.slots (first_play size) = record { run = refl; jobs = refl; applied = refl } in
-    let k = replays script typed.main_apart size.nodes size.slots (state_of run) so over.goes_on run.log refl may.few (first_play size) begins in
+    let k = replays script typed.main_apart size.nodes size.slots run so over.goes_on run.log refl may.few (first_play size) begins in
     record {
       again = k.0;
       replays = k.1;
-      same = λ other p. same script typed.main_apart size.nodes size.slots (state_of run) so over.goes_on run.log refl may.few (first_play size) other begins p;
+      same = λ other p. same script typed.main_apart size.nodes size.slots run so over.goes_on run.log refl may.few (first_play size) other begins p;
     }
 
 pub run_on_so : RunsReplay → RunsReplayToThemselves → (script checked : Script) → checked ≡ script → IsWellTyped checked → (plan : List PlanLine) (size : Size)
-    (threads : ℕ) (form : Form) (run : RunData) (report history : List ℕ) (status : ℕ) → 1 ≤ size.nodes → IsOver script plan size (state_of run) →
-    AreFrom threads (log_of run.log) → AreOutputs script run form report history status → IsRunOn script plan size threads form report history status
+    (threads : ℕ) (form : Form) (run : RunState) (report history : List ℕ) (status : ℕ) → 1 ≤ size.nodes → IsOver script plan size run →
+    AreFrom threads run.log → AreOutputs script run form report history status → IsRunOn script plan size threads form report history status
 run_on_so replays same script checked own typed plan size threads form run report history status some over seated outputs = record {
   run = run;
   over = over;
@@ -39,8 +38,8 @@ run_on_so replays same script checked own typed plan size threads form run repor
 }
 
 -- a run on threads that is over, by how it ended
-pub over_so : {X : Type 0} (script : Script) (n : ℕ) (plan : List PlanLine) (first size : Size) (end : Ended X) (board : RunData) → first ≡ size →
-    end ≡ ends.Over board → IsEnd script n plan first end → IsOver script plan size (state_of board) × AreFrom n (log_of board.log)
+pub over_so : {X : Type 0} (script : Script) (n : ℕ) (plan : List PlanLine) (first size : Size) (end : Ended X) (board : RunState) → first ≡ size →
+    end ≡ ends.Over board → IsEnd script n plan first end → IsOver script plan size board × AreFrom n board.log
 over_so script n plan first size end board same is h =
     let k = subst (λ e. IsEnd script n plan first e) is h in
-    (subst (λ z. IsOver script plan z (state_of board)) same k.0, k.1)
+    (subst (λ z. IsOver script plan z board) same k.0, k.1)

@@ -5,3 +5,4 @@ pub mod Scripts
 pub mod SerialReports
 pub mod SimReports
 pub mod ThreadReports
+pub mod Faults

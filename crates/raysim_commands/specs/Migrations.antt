@@ -2,8 +2,7 @@
 use Rattle.std.specs.Prelude.{◌≡◌, ◌⊎◌, ◌++◌, ℕ, Bool, true, List, Option, take, IfSome}
 use Rattle.std.specs.Io.KnownBytes.{Appends}
 use Rattle.meaning.specs.Syntax.{Script}
-use Rattle.event_log.specs.Views.{log_of}
-use Rattle.event_log.specs.declared.entry.Entry.{Entry as CodeEntry}
+use Rattle.event_log.specs.Entries.{Entry}
 use Rattle.event_files.specs.Files.{IsBadAt, IsFile}
 use Rattle.event_files.specs.Lines.{IsLine, line_text}
 use Rattle.event_files.specs.Recorded.{header, recorded_file}
@@ -27,8 +26,8 @@ IsLinesFile bytes lines = IsFile IsLine line_text bytes lines
 pub record IsHistoryOf (script : Script) (size : Size) (lines : List Line) (text : List ℕ) : Type 0 where
   pub play : Play
   pub replayed : IsReplayed script size (files.Lines lines) play
-  pub log : List CodeEntry
-  pub of_log : log_of log ≡ play.run.log
+  pub log : List Entry
+  pub of_log : log ≡ play.run.log
   pub written : text ≡ recorded_file (recorded_in log)
   pub again : Play
   pub replays : PlaysFile script (files.Recorded (recorded_in log)) (first_play size) again

@@ -3,41 +3,42 @@ use Rattle.std.specs.Prelude.{◌≡◌, ℕ, List, ◌++◌, codes}
 use Rattle.meaning.specs.Syntax.{Script}
 use Rattle.serde_json.specs.Written.{compact_text}
 use Rattle.event_log.specs.Entries.{Entry}
-use Rattle.event_log.specs.Views.{log_of}
-use Rattle.event_log.specs.declared.entry.Entry.{Entry as CodeEntry}
 use Rattle.history.specs.Report.{report_text}
 use Rattle.books.specs.Lines.{book_lines}
 use Rattle.report_laws.specs.Begins.{BeginsAsSerial}
 use Rattle.report_laws.specs.Json.{SaysAsSerial}
 use Rattle.log_text.specs.Text.{log_text}
-use Rattle.why_text.specs.Text.{why_main_text, why_text}
+use Rattle.main_text.specs.Text.{main_text}
+use Rattle.why_text.specs.Text.{why_text}
 use Rattle.lineage_text.specs.Text.{lineage_text}
 use Rattle.message_text.specs.Text.{log_with_messages}
 use Rattle.timeline.specs.Text.{timeline_data}
 use Rattle.protocol.specs.Messages.{Letter}
+use Rattle.protocol.specs.Whole.{Whole}
 use Rattle.protocol_board.specs.Cores.{RunState}
 use Rattle.protocol_board.specs.Reports.{json_text}
 use Rattle.raysim_commands.specs.declared.form.Form.{Form}
 use Rattle.raysim_commands.specs.declared.form.Form.TheVariants as forms
 
--- what is told of a run: its log, the messages that were sent, behind each event how many had been, and the lines of the event file from which the
--- events came, as far as they came from one
+-- what is told of a run: its log, the messages that were sent, its tables with these, behind each event how many messages had been sent, and the lines
+-- of the event file from which the events came, as far as they came from one
 pub record Account : Type 0 where
   pub log : List Entry
   pub messages : List Letter
+  pub whole : Whole
   pub sent : List ℕ
   pub lines : List ℕ
 
 abbrev pub account_of : RunState → List ℕ → List ℕ → Account
-account_of c sent lines = record { log = c.log; messages = c.whole.network; sent = sent; lines = lines }
+account_of c sent lines = record { log = c.log; messages = c.whole.network; whole = c.whole; sent = sent; lines = lines }
 
 -- the timeline of a log with its messages, on one line
-abbrev pub timeline_text : List CodeEntry → List Letter → List ℕ → List ℕ
+abbrev pub timeline_text : List Entry → List Letter → List ℕ → List ℕ
 timeline_text log messages sent = compact_text (timeline_data log messages sent) ++ codes "\n"
 
 -- a timeline is made of entries as the code has them, and the log is what they stand for
 abbrev pub IsTimelineOf : Account → List ℕ → Type 0
-IsTimelineOf a text = (entries : List CodeEntry) × (log_of entries ≡ a.log) × (text ≡ timeline_text entries a.messages a.sent)
+IsTimelineOf a text = (entries : List Entry) × (entries ≡ a.log) × (text ≡ timeline_text entries a.messages a.sent)
 
 abbrev pub IsReportIn : Form → Account → List ℕ → Type 0
 IsReportIn forms.Text a text = text ≡ report_text a.log
@@ -46,7 +47,7 @@ IsReportIn forms.TextWithBooks a text = text ≡ report_text a.log ++ book_lines
 IsReportIn forms.Log a text = text ≡ log_text a.log
 IsReportIn forms.LogWithMessages a text = text ≡ log_with_messages a.log a.messages a.sent
 IsReportIn (forms.Why o) a text = text ≡ why_text a.log a.lines o
-IsReportIn forms.WhyMain a text = text ≡ why_main_text a.log a.lines
+IsReportIn forms.WhyMain a text = text ≡ main_text a.log a.lines a.whole
 IsReportIn forms.Timeline a text = IsTimelineOf a text
 IsReportIn forms.Lineage a text = text ≡ lineage_text a.log
 

@@ -38,6 +38,7 @@ check_refusal (faults.PrintOutsideMain span) = At 14 span
 check_refusal (faults.MissingReturn span) = At 15 span
 check_refusal (faults.BadRetries span) = At 16 span
 check_refusal (faults.Duplicate span) = At 17 span
+check_refusal (faults.WrongReturns span) = At 18 span
 check_refusal faults.NoMemory = NoMemory
 
 -- the parser's error at the text: it has its cause there, and a text that reads as a program is refused for want of memory alone

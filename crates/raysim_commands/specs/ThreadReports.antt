@@ -3,7 +3,6 @@ use Rattle.std.specs.Prelude.{◌≡◌, ◌≤◌, ◌⊎◌, ℕ, Bool, true, 
 use Rattle.std.specs.Io.KnownBytes.{Appends}
 use Rattle.meaning.specs.Syntax.{Script}
 use Rattle.event_log.specs.Entries.{Entry}
-use Rattle.event_log.specs.Views.{log_of}
 use Rattle.event_files.specs.declared.event_file.EventFile.TheVariants as files
 use Rattle.event_files.specs.declared.recorded.RecordedEvent.{RecordedEvent}
 use Rattle.event_files.specs.declared.plan.PlanLine.{PlanLine}
@@ -11,7 +10,7 @@ use Rattle.event_files.specs.Files.{IsBadAt, IsFile}
 use Rattle.event_files.specs.Plans.{IsPlanLine, plan_line_text}
 use Rattle.event_files.specs.Recorded.{recorded_file}
 use Rattle.history.specs.Main.{status_of}
-use Rattle.protocol_board.specs.Cores.{RunData, RunState, Size, state_of}
+use Rattle.protocol_board.specs.Cores.{RunState, Size}
 use Rattle.protocol_board.specs.Cores.{IsSoundLog}
 use Rattle.protocol_board.specs.Replays.{Play, PlaysFile}
 use Rattle.run_paths.specs.Handing.{HandsInOnce}
@@ -31,11 +30,11 @@ abbrev pub IsPlan : List ℕ → List PlanLine → Type 0
 IsPlan bytes lines = IsFile IsPlanLine plan_line_text bytes lines
 
 -- what is written of a run of the script in that form, its history and its status are those of its log, and what that means
-pub record AreOutputs (script : Script) (run : RunData) (form : Form) (report history : List ℕ) (status : ℕ) : Type 0 where
-  pub meant : IsSoundLog script (state_of run)
-  pub reported : IsReportIn form (account_of (state_of run) [] []) report
+pub record AreOutputs (script : Script) (run : RunState) (form : Form) (report history : List ℕ) (status : ℕ) : Type 0 where
+  pub meant : IsSoundLog script run
+  pub reported : IsReportIn form (account_of run [] []) report
   pub recorded : history ≡ recorded_file (recorded_in run.log)
-  pub ends : status ≡ status_of (log_of run.log)
+  pub ends : status ≡ status_of run.log
 
 -- by the log alone: what was handed in was of the job that it was handed in for, and once; and a replay may apply so many events
 pub record MayBeReplayed (log : List Entry) (events : List RecordedEvent) : Type 0 where
@@ -43,18 +42,18 @@ pub record MayBeReplayed (log : List Entry) (events : List RecordedEvent) : Type
   pub few : length events ≤ 100000
 
 -- `sim` of the history may replay it, on that cluster; and whatever comes of a replay is this run, with this log, and so this report
-pub record ReplaysTo (script : Script) (size : Size) (run : RunData) : Type 0 where
+pub record ReplaysTo (script : Script) (size : Size) (run : RunState) : Type 0 where
   pub again : Play
   pub replays : PlaysFile script (files.Recorded (recorded_in run.log)) (first_play size) again
-  pub same : (other : Play) → PlaysFile script (files.Recorded (recorded_in run.log)) (first_play size) other → other.run ≡ state_of run
+  pub same : (other : Play) → PlaysFile script (files.Recorded (recorded_in run.log)) (first_play size) other → other.run ≡ run
 
 -- these are written of a run of the script beside the plan, on such a cluster, which is over; each event of it came from one of so many threads, and its
 -- history replays to it
 pub record IsRunOn (script : Script) (plan : List PlanLine) (size : Size) (threads : ℕ) (form : Form) (report history : List ℕ) (status : ℕ) : Type 0 where
-  pub run : RunData
-  pub over : IsOver script plan size (state_of run)
-  pub seated : AreFrom threads (log_of run.log)
-  pub replays : MayBeReplayed (log_of run.log) (recorded_in run.log) → ReplaysTo script size run
+  pub run : RunState
+  pub over : IsOver script plan size run
+  pub seated : AreFrom threads run.log
+  pub replays : MayBeReplayed run.log (recorded_in run.log) → ReplaysTo script size run
   pub outputs : AreOutputs script run form report history status
 
 -- why a run of the script on so many nodes at first gives neither: there was no memory, or it is at a limit
@@ -80,7 +79,7 @@ pub record AreWritten (size : Size) (threads : ℕ) (form : Form) (text plan : L
   pub is_script : IsScript text script
   pub is_plan : IsPlan plan lines
   pub run : IsRunOn script lines size threads form report history status
-  pub as_serial : IsAsSerialIn form script (log_of run.run.log) report status
+  pub as_serial : IsAsSerialIn form script run.run.log report status
   pub history_out : Appends recorded recorded_now history
   pub report_out : Appends held held_now report
 

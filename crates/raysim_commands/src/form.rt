@@ -1,24 +1,23 @@
 // What is written of a run.
 
 ghost use Rattle.std.specs.Prelude.{◌≡◌, ◌++◌, IfOk, string_bytes};
-ghost use Rattle.event_log.specs.Views.{log_of};
 ghost use Rattle.books.specs.Lines.{book_lines};
 ghost use Rattle.history.specs.Report.{report_text};
 ghost use Rattle.protocol_board.specs.Cores.{IsSoundLog};
-ghost use Rattle.protocol_board.specs.Cores.{state_of};
 ghost use Rattle.raysim_commands.specs.Reports.{IsReportIn, account_of};
 
 use books::book_lines;
 use ids::ObjectId;
 use lineage_text::lineage_text;
 use log_text::log_text;
+use main_text::main_text;
 use message_text::log_with_messages;
 use protocol_board::Board;
 use segment::ScriptName;
 use sequence::Seq;
 use std::alloc::{AllocError, Global};
 use timeline::timeline_json;
-use why_text::{why_main_text, why_text};
+use why_text::why_text;
 
 /// What is written of a run. Those behind the second are of docs/reading-a-log.md.
 #[derive(Clone, Copy, PartialEq, Eq, Debug)]
@@ -35,7 +34,7 @@ pub enum Form {
     LogWithMessages,
     /// Why the object is as it is, in sentences.
     Why(ObjectId),
-    /// Why main ended with a fault, in sentences.
+    /// Why main ended as it did, or for what it waits, in sentences.
     WhyMain,
     /// Its timeline, as Chrome's trace events.
     Timeline,
@@ -45,8 +44,8 @@ pub enum Form {
 
 /// The report, and behind it the books of the seats.
 fn report_with_books<S: ScriptName>(alloc: Global, board: &Board<S>) -> Result<String, AllocError>
-    ensures text { IfOk result (λ text. string_bytes text ≡ report_text (log_of board.now.log) ++ book_lines (log_of board.now.log)) }
-    ensures meant { IsSoundLog S.script (state_of board.now) }
+    ensures text { IfOk result (λ text. string_bytes text ≡ report_text board.now.log ++ book_lines board.now.log) }
+    ensures meant { IsSoundLog S.script board.now }
 {
     let mut text = board.report(alloc)?;
     let books = book_lines(alloc, board.log())?;
@@ -63,8 +62,8 @@ pub fn report<S: ScriptName>(
     lines: &Seq<usize>,
     form: Form,
 ) -> Result<String, AllocError>
-    ensures text { IfOk result (λ text. IsReportIn form (account_of (state_of board.now) sent.now lines.now) (string_bytes text)) }
-    ensures meant { IsSoundLog S.script (state_of board.now) }
+    ensures text { IfOk result (λ text. IsReportIn form (account_of board.now sent.now lines.now) (string_bytes text)) }
+    ensures meant { IsSoundLog S.script board.now }
 {
     match form {
         Form::Text => board.report(alloc),
@@ -80,7 +79,7 @@ pub fn report<S: ScriptName>(
             )
         }
         Form::Why(object) => why_text(alloc, board.log(), lines.as_slice(), object),
-        Form::WhyMain => why_main_text(alloc, board.log(), lines.as_slice()),
+        Form::WhyMain => main_text(alloc, board.log(), lines.as_slice(), board.whole()),
         Form::Timeline => {
             timeline_json(
                 alloc,

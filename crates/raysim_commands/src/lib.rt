@@ -2,6 +2,7 @@
 #![tactic(auto)]
 
 mod checking;
+mod faults_command;
 mod form;
 mod migrate_command;
 mod open_gate;
@@ -16,6 +17,8 @@ mod thread_run;
 mod threads_command;
 
 pub use checking::check;
+pub use fault_lists::{EndKind, FaultChoice, RunEnd, Tried, first_of, list_file};
+pub use faults_command::{TriedFaults, faults};
 pub use form::{Form, report};
 pub use migrate_command::migrate;
 pub use open_gate::OpenGate;
@@ -27,3 +30,4 @@ pub use serial_command::serial;
 pub use sim_command::sim;
 pub use status::exit_status;
 pub use threads_command::run_threaded;
+pub use values::FaultKind;

@@ -25,12 +25,12 @@ struct SimReport {
 
 /// What an event file says, and the numbers of the lines that say it.
 #[derive(Drop)]
-struct EventLines {
-    says: EventFile,
-    numbers: Seq<usize>,
+pub(crate) struct EventLines {
+    pub(crate) says: EventFile,
+    pub(crate) numbers: Seq<usize>,
 }
 
-fn number_of(numbers: &Seq<usize>, line: usize) -> usize
+pub(crate) fn number_of(numbers: &Seq<usize>, line: usize) -> usize
     ensures { result ≡ number_of numbers.now line }
 {
     if line == 0 || line > numbers.len() {
@@ -55,7 +55,7 @@ fn lines_in_file(
 }
 
 /// Why a replay that stopped in that line gives no report.
-fn stop_refusal(stopped: ReplayStop, line: usize) -> CommandRefusal
+pub(crate) fn stop_refusal(stopped: ReplayStop, line: usize) -> CommandRefusal
     ensures { result ≡ stop_refusal stopped line }
 {
     match stopped {
@@ -114,7 +114,10 @@ fn sim_script<S: ScriptName>(
 }
 
 /// The lines of an event file.
-fn read_events<E: Source>(alloc: Global, reader: &mut E) -> Result<EventLines, CommandRefusal>
+pub(crate) fn read_events<E: Source>(
+    alloc: Global,
+    reader: &mut E,
+) -> Result<EventLines, CommandRefusal>
     ensures read { IfOk result (λ events. IfSome (E.left reader.old) (λ bytes. AreEvents bytes events.says events.numbers)) }
     ensures refused { IfErr result (λ refusal. ExplainsEvents (E.left reader.old) (E.has_failed reader.new) refusal) }
 {

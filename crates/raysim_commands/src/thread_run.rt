@@ -1,7 +1,6 @@
 // A script's run on threads.
 
 ghost use Rattle.std.specs.Prelude.{◌≡◌, ◌≤◌, IfOk, IfErr, string_bytes};
-ghost use Rattle.event_log.specs.Views.{log_of};
 ghost use Rattle.script_check.specs.Trees.{script_of};
 ghost use Rattle.seats.specs.Ends.{WasLimited};
 ghost use Rattle.raysim_commands.specs.ThreadReports.{AreOutputs, IsRunOn, IsStop};
@@ -50,7 +49,7 @@ fn outputs_of<S: ScriptName>(
 
 /// The refusal of a run that is at a limit.
 fn at_limit<S: ScriptName>(board: &Board<S>) -> CommandRefusal
-    requires { WasLimited (log_of board.now.log) }
+    requires { WasLimited board.now.log }
     ensures { IsStop S.script board.now.first_nodes result }
 {
     let _ = board.log();

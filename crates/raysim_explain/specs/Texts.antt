@@ -3,7 +3,7 @@ use Rattle.std.specs.Prelude.{ℕ, List, ◌++◌, codes}
 use Rattle.std.specs.Fmt.{decimal}
 use Rattle.raysim_explain.specs.declared.reason.RefusalCause.{RefusalCause}
 use Rattle.raysim_explain.specs.declared.reason.RefusalCause.TheVariants.{NotAscii, BadToken, Expected, TooLarge, UnknownName, WrongType, WrongCount, NoMain}
-use Rattle.raysim_explain.specs.declared.reason.RefusalCause.TheVariants.{PrintOutsideMain, MissingReturn, BadRetries, Duplicate, Pinned, NoCopy, NoWorker, NotReady, NoJob}
+use Rattle.raysim_explain.specs.declared.reason.RefusalCause.TheVariants.{PrintOutsideMain, MissingReturn, BadRetries, Duplicate, WrongReturns, Pinned, NoCopy, NoWorker, NotReady, NoJob}
 use Rattle.raysim_explain.specs.declared.reason.RefusalCause.TheVariants.{Stale, NoMessage, NotDead, NoNode, Limit, Halted, NoMemory, BadLine, TooLong, WrongJob, Failed}
 
 abbrev pub number_of : RefusalCause → ℕ
@@ -19,6 +19,7 @@ number_of PrintOutsideMain = 14
 number_of MissingReturn = 15
 number_of BadRetries = 16
 number_of Duplicate = 17
+number_of WrongReturns = 18
 number_of Pinned = 20
 number_of NoCopy = 21
 number_of NoWorker = 30
@@ -49,6 +50,7 @@ name_of PrintOutsideMain = codes "PrintOutsideMain"
 name_of MissingReturn = codes "MissingReturn"
 name_of BadRetries = codes "BadRetries"
 name_of Duplicate = codes "Duplicate"
+name_of WrongReturns = codes "WrongReturns"
 name_of Pinned = codes "Pinned"
 name_of NoCopy = codes "NoCopy"
 name_of NoWorker = codes "NoWorker"
@@ -79,6 +81,7 @@ cause_of PrintOutsideMain = codes "A function other than main prints. The place 
 cause_of MissingReturn = codes "A function's body may end without a return. The place is the function's name."
 cause_of BadRetries = codes "A remote call asks for more than 10 retries. The place is the number."
 cause_of Duplicate = codes "A name is given again while it is in scope. The place is the second name."
+cause_of WrongReturns = codes "A wrong number of results: several are read and printed, and not run yet. The place is the function's name or the word return."
 cause_of Pinned = codes "An evict of an object's primary copy: a node gives up secondary copies alone."
 cause_of NoCopy = codes "The node that an event names has no copy of the object."
 cause_of NoWorker = codes "The first worker that an event names does not live: it was never opened, or it is dead."
@@ -109,6 +112,7 @@ example_of PrintOutsideMain = codes "fn f() -> int { print 1; return 1; }"
 example_of MissingReturn = codes "fn main() -> int { if 1 { return 1; } }"
 example_of BadRetries = codes "let r = remote(11) f();"
 example_of Duplicate = codes "let x = 1; let x = 2;"
+example_of WrongReturns = codes "fn f() -> (int, int) { return 1, 2; }"
 example_of Pinned = codes "evict 1 o1.1 where node 1 keeps the primary copy"
 example_of NoCopy = codes "evict 2 o1.1 where node 2 never fetched o1.1"
 example_of NoWorker = codes "claim 7 in a run with two workers"

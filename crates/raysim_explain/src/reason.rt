@@ -20,6 +20,7 @@ pub enum RefusalCause {
     MissingReturn,
     BadRetries,
     Duplicate,
+    WrongReturns,
     Pinned,
     NoCopy,
     NoWorker,
@@ -57,6 +58,7 @@ impl RefusalCause {
             15 => Some(RefusalCause::MissingReturn),
             16 => Some(RefusalCause::BadRetries),
             17 => Some(RefusalCause::Duplicate),
+            18 => Some(RefusalCause::WrongReturns),
             20 => Some(RefusalCause::Pinned),
             21 => Some(RefusalCause::NoCopy),
             30 => Some(RefusalCause::NoWorker),
@@ -94,6 +96,7 @@ impl RefusalCause {
             RefusalCause::MissingReturn => 15,
             RefusalCause::BadRetries => 16,
             RefusalCause::Duplicate => 17,
+            RefusalCause::WrongReturns => 18,
             RefusalCause::Pinned => 20,
             RefusalCause::NoCopy => 21,
             RefusalCause::NoWorker => 30,
@@ -130,6 +133,7 @@ impl RefusalCause {
             RefusalCause::MissingReturn => "MissingReturn",
             RefusalCause::BadRetries => "BadRetries",
             RefusalCause::Duplicate => "Duplicate",
+            RefusalCause::WrongReturns => "WrongReturns",
             RefusalCause::Pinned => "Pinned",
             RefusalCause::NoCopy => "NoCopy",
             RefusalCause::NoWorker => "NoWorker",
@@ -177,6 +181,8 @@ impl RefusalCause {
                 "A remote call asks for more than 10 retries. The place is the number.",
             RefusalCause::Duplicate =>
                 "A name is given again while it is in scope. The place is the second name.",
+            RefusalCause::WrongReturns =>
+                "A wrong number of results: several are read and printed, and not run yet. The place is the function's name or the word return.",
             RefusalCause::Pinned =>
                 "An evict of an object's primary copy: a node gives up secondary copies alone.",
             RefusalCause::NoCopy => "The node that an event names has no copy of the object.",
@@ -227,6 +233,7 @@ impl RefusalCause {
             RefusalCause::MissingReturn => "fn main() -> int { if 1 { return 1; } }",
             RefusalCause::BadRetries => "let r = remote(11) f();",
             RefusalCause::Duplicate => "let x = 1; let x = 2;",
+            RefusalCause::WrongReturns => "fn f() -> (int, int) { return 1, 2; }",
             RefusalCause::Pinned => "evict 1 o1.1 where node 1 keeps the primary copy",
             RefusalCause::NoCopy => "evict 2 o1.1 where node 2 never fetched o1.1",
             RefusalCause::NoWorker => "claim 7 in a run with two workers",

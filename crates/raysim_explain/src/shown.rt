@@ -2,12 +2,14 @@
 
 ghost use Rattle.std.specs.Prelude.{◌≤◌};
 
+use crate::hint::Hint;
 use crate::place::{line_at, place_of};
 use std::fmt;
 
 /// A span of a script's text: its text is the file with the line and the column, both from 1, then that line of the script,
-/// and carets below the bytes of the span; then the name at fault, where the span of this refusal is a name. Each stands on a line
-/// of its own. Bytes that are no letter or sign of ASCII show as `?`.
+/// and carets below the bytes of the span; then the name at fault, where the span of this refusal is a name; then how it is said, where
+/// it looks like something that another language has (`Hint`). Each stands on a line of its own. Bytes that are no letter or sign of ASCII
+/// show as `?`.
 #[derive(Clone, Copy, Debug)]
 pub struct Shown<'a> {
     pub file: &'a str,
@@ -71,6 +73,9 @@ impl fmt::Display for Shown<'_> {
                 f.write_char(letter(*byte))?;
             }
         }
-        Ok(())
+        match Hint::of(self.code, self.text, self.start, self.end) {
+            Some(hint) => write!(f, "\n    hint: {hint}"),
+            None => Ok(()),
+        }
     }
 }

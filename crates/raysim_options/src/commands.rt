@@ -2,8 +2,8 @@
 
 ghost use Rattle.std.specs.Prelude.{◌≡◌, ◌≤ℤ◌, IfOk, codes, pos, false};
 ghost use Rattle.clap.specs.Words.{app_of, rule_of, with_rule, with_subcommand};
-ghost use Rattle.raysim_options.specs.App.{raysim_app, script_app, explained_app, explain_app, sim_app, run_app, log_app, why_app, migrate_app, by_events_app, needed};
-ghost use Rattle.raysim_options.specs.App.{optional, place, number, text, flag, first_app, second_app, third_app, with_cluster, with_files, with_views, HasNoGlobals};
+ghost use Rattle.raysim_options.specs.App.{raysim_app, script_app, explained_app, explain_app, faults_app, sim_app, run_app, log_app, why_app, migrate_app, by_events_app, needed};
+ghost use Rattle.raysim_options.specs.App.{optional, place, number, text, flag, first_app, second_app, third_app, fourth_app, with_cluster, with_files, with_trials, with_views, HasNoGlobals};
 
 use clap::{Arg, ArgAction, Command};
 use std::alloc::{AllocError, Global};
@@ -56,6 +56,17 @@ fn text<'a>(alloc: Global, name: &'a str, help: &'a str) -> Arg<'a>
     Arg::new(alloc, name)
         .long(name)
         .value_name("FILE")
+        .help(help)
+}
+
+/// An option with a text, which help calls `value`.
+fn worded<'a>(alloc: Global, name: &'a str, value: &'a str, help: &'a str) -> Arg<'a>
+    ensures rule { rule_of result ≡ text name.entry.now }
+    ensures local { result.global ≡ false }
+{
+    Arg::new(alloc, name)
+        .long(name)
+        .value_name(value)
         .help(help)
 }
 
@@ -219,9 +230,39 @@ fn why<'a>(alloc: Global) -> Result<Command<'a>, AllocError>
     let command = start(alloc, "why", about)?;
     let events = "The file of events, one in each line";
     let command = add(command, needed(alloc, "events", events))?;
-    let object = "The object, as o1.2 (if left out, the fault with which main ended is explained)";
+    let object = "The object, as o1.2 (if left out, why main ended or what it waits for is told)";
     let command = add(command, optional(alloc, "object", object))?;
     add_cluster(alloc, command)
+}
+
+/// The options that say which faults are tried, and what is written of them.
+fn add_trials<'a>(alloc: Global, command: Command<'a>) -> Result<Command<'a>, AllocError>
+    requires none { HasNoGlobals command }
+    ensures app { IfOk result (λ c. app_of c ≡ with_trials (app_of command.entry)) }
+    ensures local { IfOk result HasNoGlobals }
+{
+    let of =
+        "Which faults are tried, as kill,lose: of kill, notice (kill and tell main's worker), kill-node, lose, evict (if left out, all but evict)";
+    let command = add(command, worded(alloc, "of", "KINDS", of))?;
+    let most = "How many lists of events are tried at most (all if left out)";
+    let command = add(command, worded(alloc, "most", "K", most))?;
+    let out =
+        "The folder in which the first list for each different end is written, for sim, log and why to read (nowhere if left out)";
+    add(command, worded(alloc, "out", "DIR", out))
+}
+
+fn faults<'a>(alloc: Global) -> Result<Command<'a>, AllocError>
+    ensures app { IfOk result (λ c. app_of c ≡ faults_app) }
+    ensures local { IfOk result HasNoGlobals }
+{
+    let about =
+        "Tries a fault at every place of a script's run, and tells which of them main doesn't survive";
+    let command = start(alloc, "faults", about)?;
+    let events =
+        "The file of the run's events, one in each line (if left out, the run goes on to its end by itself)";
+    let command = add(command, optional(alloc, "events", events))?;
+    let command = add_cluster(alloc, command)?;
+    add_trials(alloc, command)
 }
 
 fn explain<'a>(alloc: Global) -> Result<Command<'a>, AllocError>
@@ -268,10 +309,16 @@ fn third<'a>(alloc: Global) -> Result<Command<'a>, AllocError>
     add_below(command, why(alloc)?)
 }
 
+fn fourth<'a>(alloc: Global) -> Result<Command<'a>, AllocError>
+    ensures { IfOk result (λ c. app_of c ≡ fourth_app) }
+{
+    let command = add_below(third(alloc)?, faults(alloc)?)?;
+    add_below(command, migrate(alloc)?)
+}
+
 /// The command `raysim` with its subcommands.
 pub fn raysim<'a>(alloc: Global) -> Result<Command<'a>, AllocError>
     ensures { IfOk result (λ c. app_of c ≡ raysim_app) }
 {
-    let command = add_below(third(alloc)?, migrate(alloc)?)?;
-    add_below(command, explain(alloc)?)
+    add_below(fourth(alloc)?, explain(alloc)?)
 }

@@ -30,6 +30,8 @@ pub enum Request<'a> {
     Log(LogOptions<'a>),
     /// Tell why an object of a run is as it is.
     Why(WhyOptions<'a>),
+    /// Try a fault at every place of a run.
+    Faults(FaultsOptions<'a>),
     /// Write a list of events as one of format 2.
     Migrate(MigrateOptions<'a>),
     /// Tell what the refusals of this number (from 1 to 50) are.
@@ -67,6 +69,19 @@ pub struct MigrateOptions<'a> {
     pub slots: u8,
 }
 
+/// The options of `faults`: the script, the list of events if the run isn't to go on to its end by itself, nodes and slots as for `sim`, and, as far as the
+/// words have them, which kinds of faults are tried, how many lists at most, and the folder in which lists are written.
+#[derive(Drop)]
+pub struct FaultsOptions<'a> {
+    pub script: &'a str,
+    pub events: Option<&'a str>,
+    pub nodes: u8,
+    pub slots: u8,
+    pub of: Option<&'a str>,
+    pub most: Option<&'a str>,
+    pub out: Option<&'a str>,
+}
+
 /// The options of `run`: the script; whether it is run on threads, which it is where a number of threads, a plan or a history is asked for;
 /// how many they are (from 1 to 8, by default 2); nodes and slots as for `sim`; a plan of events to apply; where the events applied are
 /// recorded; whether the report is JSON; where the timeline and the lineage are written; and whether a refusal's place is shown.
@@ -96,7 +111,7 @@ pub struct LogOptions<'a> {
     pub messages: bool,
 }
 
-/// The options of `why`: the script, the list of events, the object if it isn't main's fault that is asked for, and nodes and slots as for
+/// The options of `why`: the script, the list of events, the object if it isn't main that is asked about, and nodes and slots as for
 /// `sim`.
 #[derive(Drop)]
 pub struct WhyOptions<'a> {

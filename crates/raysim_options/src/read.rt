@@ -2,14 +2,15 @@
 
 ghost use Rattle.std.specs.Prelude.{◌≡◌, ◌≤◌, Some, codes, is_some, option_map};
 ghost use Rattle.clap.specs.Words.{first_of, found_of, rows_of};
-ghost use Rattle.raysim_options.specs.App.{log_app, raysim_app, run_app, sim_app, why_app, migrate_app};
+ghost use Rattle.raysim_options.specs.App.{faults_app, log_app, raysim_app, run_app, sim_app, why_app, migrate_app};
 ghost use Rattle.raysim_options.specs.Meets.{HasText, IsWithin, MeetsAll, MeetsOne};
-ghost use Rattle.raysim_options.specs.Reads.{IsFlag, IsLogOptions, IsNumber, IsRequest, IsRunOptions, IsScriptOptions, IsSimOptions, IsWhyOptions, IsMigrateOptions};
+ghost use Rattle.raysim_options.specs.Reads.{IsFaultsOptions, IsFlag, IsLogOptions, IsNumber, IsRequest, IsRunOptions, IsScriptOptions, IsSimOptions, IsWhyOptions, IsMigrateOptions};
 ghost use Rattle.raysim_options.specs.Reads.{asks_for_threads};
 
 use crate::commands::{MOST_NODES, MOST_REFUSAL, MOST_SLOTS, MOST_THREADS};
 use crate::{
-    LogOptions, MigrateOptions, Request, RunOptions, ScriptOptions, SimOptions, WhyOptions,
+    FaultsOptions, LogOptions, MigrateOptions, Request, RunOptions, ScriptOptions, SimOptions,
+    WhyOptions,
 };
 use clap::ArgMatches;
 
@@ -150,6 +151,21 @@ fn why<'a>(matches: &ArgMatches<'a>) -> WhyOptions<'a>
     }
 }
 
+fn faults<'a>(matches: &ArgMatches<'a>) -> FaultsOptions<'a>
+    requires { MeetsAll faults_app.top.rules (rows_of (found_of matches.now)) }
+    ensures { IsFaultsOptions (rows_of (found_of matches.now)) result }
+{
+    FaultsOptions {
+        script: needed(matches, "script"),
+        events: text(matches, "events"),
+        nodes: number(matches, "nodes", MOST_NODES, 1),
+        slots: number(matches, "slots", MOST_SLOTS, 4),
+        of: text(matches, "of"),
+        most: text(matches, "most"),
+        out: text(matches, "out"),
+    }
+}
+
 /// Reads the options of the subcommand `name`.
 pub(crate) fn read<'a>(name: &str, matches: &ArgMatches<'a>) -> Request<'a>
     requires { MeetsOne raysim_app.subs name.now (rows_of (found_of matches.now)) }
@@ -162,6 +178,7 @@ pub(crate) fn read<'a>(name: &str, matches: &ArgMatches<'a>) -> Request<'a>
         "run" => Request::Run(run(matches)),
         "log" => Request::Log(log(matches)),
         "why" => Request::Why(why(matches)),
+        "faults" => Request::Faults(faults(matches)),
         "migrate" => Request::Migrate(migrate(matches)),
         "explain" => Request::Explain(number(matches, "number", MOST_REFUSAL, 1)),
         _ => unreachable!(),

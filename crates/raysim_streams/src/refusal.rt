@@ -14,7 +14,7 @@ use thiserror::Error;
 /// and so is `From`, since the causes that clauses tell apart have to pass through `?`.
 #[derive(Clone, Copy, Debug, PartialEq, Eq, Drop, Error)]
 pub enum CommandRefusal {
-    /// The script is refused with this number (1 to 4 and 10 to 17), at these bytes: `refused 3 at 28..29`.
+    /// The script is refused with this number (1 to 4 and 10 to 18), at these bytes: `refused 3 at 28..29`.
     At { code: u16, span: Span },
     /// Want of memory: `refused 39`.
     NoMemory,

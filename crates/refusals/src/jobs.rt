@@ -7,6 +7,7 @@ ghost use Rattle.protocol.specs.Whole.{worker_at};
 
 use crate::living::is_live_worker;
 use ids::WorkerId;
+use log_entries::Refusal;
 use number_lists::item_at_number;
 use protocol_data::{Handed, Phase, Run, Whole, Worker};
 
@@ -54,23 +55,23 @@ fn is_of_job(handed: &Handed) -> bool
 }
 
 /// Why a commit is refused: there is no such job, or its worker is dead.
-pub fn commit_refusal(whole: &Whole, job: u64, handed: &Handed) -> Option<u8>
+pub fn commit_refusal(whole: &Whole, job: u64, handed: &Handed) -> Option<Refusal>
     ensures { result ≡ commit_refusal whole.now job handed.now (item_at whole.now.jobs job) }
 {
     let Some(given) = item_at_number(&whole.jobs, job) else {
-        return Some(32);
+        return Some(Refusal::NoJob);
     };
     if given.is_committed {
-        return Some(32);
+        return Some(Refusal::NoJob);
     }
     if !is_of_job(handed) {
-        return Some(32);
+        return Some(Refusal::NoJob);
     }
     if !is_out_by(whole, given.worker, job) {
-        return Some(32);
+        return Some(Refusal::NoJob);
     }
     if !is_live_worker(whole, given.worker) {
-        return Some(33);
+        return Some(Refusal::Stale);
     }
     None
 }

@@ -8,20 +8,21 @@ use Rattle.meaning.specs.Syntax.{Script}
 use Rattle.meaning.specs.Values as meant
 use Rattle.values.specs.Values.{value_of}
 use Rattle.task_spec.specs.Births.{birth_of}
-use Rattle.evaluation.specs.declared.piece.Stop.{Stop}
-use Rattle.evaluation.specs.declared.piece.Stop.TheVariants as stops
+use Rattle.evaluation.specs.declared.piece.PieceStop.{PieceStop}
+use Rattle.evaluation.specs.declared.piece.PieceStop.TheVariants as stops
 use Rattle.evaluation.specs.Pieces as pieces
-use Rattle.segment.specs.Jobs.{Done, IsTrueOf, JobData}
+use Rattle.segment.specs.Jobs.{Done, IsTrueOf, JobParts}
 use Rattle.event_log.specs.Entries.{Commit, Event}
+use Rattle.event_log.specs.Entries.{NoJob, Stale}
 use Rattle.event_log.specs.Rules.{Setting}
-use Rattle.exchange.specs.Jobs.{job_in, stopped_of, work_of}
+use Rattle.protocol_board.specs.Cores.{stopped_of, work_of}
 use Rattle.protocol.specs.Answers.{job_of}
 use Rattle.protocol.specs.Events.{is_live_worker}
 use Rattle.protocol.specs.Jobs.{Given, Handed, Job, Nothing, OfAnother, OfJob, Outcomes}
 use Rattle.protocol.specs.Jobs as jobs
-use Rattle.protocol.specs.Refusals.{commit_refusal, is_out_by, or_code, unless}
+use Rattle.protocol.specs.Refusals.{commit_refusal, is_out_by, or_refusal, unless}
 use Rattle.protocol.specs.Whole.{Whole, worker_at}
-use Rattle.protocol_core.specs.Steps.{IsHanded, IsHandedFor, IsOut}
+use Rattle.protocol_board.specs.Cores.{IsHanded, IsHandedFor, IsOut}
 use Rattle.protocol_laws.specs.Coming.{IsRight}
 use Rattle.protocol_board.specs.Replays.{IsDoneOn, job_at, job_for}
 use Rattle.run_paths.specs.Paths.{IsTrueDone}
@@ -29,7 +30,7 @@ use Rattle.job_laws.proofs.Standing.{one_is_out}
 
 -- ---- it goes on as the attempt's replay does
 
-same_stop : (stop : Stop) → jobs.stop_of (stopped_of stop) ≡ pieces.stop_of stop
+same_stop : (stop : PieceStop) → jobs.stop_of (stopped_of stop) ≡ pieces.stop_of stop
 same_stop (stops.Needs y) = refl
 same_stop (stops.Ends c) = refl
 
@@ -37,21 +38,21 @@ abbrev IsTrueOn : Script → Job → Outcomes → Type 0
 IsTrueOn script job d =
     replay script job.spec job.base job.answers ≡ record { births = job.births ++ d.births; prints = job.prints ++ d.prints; stop = jobs.stop_of d.stop }
 
-true_on : (script : Script) (d : Done) → IsTrueOf script d → IsTrueOn script (job_in d.job) (work_of d.births d.prints d.stop)
+true_on : (script : Script) (d : Done) → IsTrueOf script d → IsTrueOn script d.job (work_of d.births d.prints d.stop)
 true_on script d h =
     h
     ∙ ap (λ stop. record {
-      births = map birth_of d.job.births ++ map birth_of d.births;
-      prints = map value_of d.job.printed ++ map value_of d.prints;
+      births = d.job.births ++ map birth_of d.births;
+      prints = d.job.prints ++ map value_of d.prints;
       stop = stop;
     }) (sym (same_stop d.stop))
 
-right_job : (s : Setting) (c : Whole) (j : ℕ) (d : Done) → IsTrueOf s.script d → IsOut c j (job_in d.job) →
+right_job : (s : Setting) (c : Whole) (j : ℕ) (d : Done) → IsTrueOf s.script d → IsOut c j d.job →
     IsRight s c (Commit j) (OfJob (work_of d.births d.prints d.stop))
 right_job s c j d is_true out g x run given worker runs is_out =
     let there : IsOut c j (job_of j run) =
     (run, record { given = g; worker = x; was_given = given; of_worker = worker; runs = runs; is_out = is_out }, refl) in
-    subst (λ job. IsTrueOn s.script job (work_of d.births d.prints d.stop)) (one_is_out c j (job_in d.job) (job_of j run) out there)
+    subst (λ job. IsTrueOn s.script job (work_of d.births d.prints d.stop)) (one_is_out c j d.job (job_of j run) out there)
     (true_on s.script d is_true)
 
 right_for : (s : Setting) (c : Whole) (j : ℕ) (d : Option Done) (h : Handed) → IsHandedFor c j d h → IsTrueDone s.script d → IsRight s c (Commit j) h
@@ -66,13 +67,13 @@ right s c x d h e is_true = tt
 -- ---- it is handed in again
 
 -- what was given out of a job stands in the replay, and it is out as that
-pub record KeepsJob (jobs : List (Option JobData)) (c : Whole) (j : ℕ) : Type 0 where
-  pub job : JobData
+pub record KeepsJob (jobs : List (Option JobParts)) (c : Whole) (j : ℕ) : Type 0 where
+  pub job : JobParts
   pub there : job_at jobs j ≡ Some job
-  pub out : IsOut c j (job_in job)
+  pub out : IsOut c j job
 
 -- what the replay does on the jobs that it has comes to the same
-pub record HandsAgain (script : Script) (c : Whole) (e : Event) (jobs : List (Option JobData)) (h : Handed) : Type 0 where
+pub record HandsAgain (script : Script) (c : Whole) (e : Event) (jobs : List (Option JobParts)) (h : Handed) : Type 0 where
   pub done : Option Done
   pub is_done : IsDoneOn script (job_for e jobs) done
   pub is_handed : IsHanded c e done h
@@ -81,7 +82,7 @@ piece : List meant.Birth → List meant.Value → runs.Stop → Piece
 piece births prints stop = record { births = births; prints = prints; stop = stop }
 
 -- a job's meaning is all that counts of it
-true_again : (script : Script) (d : Done) (job : JobData) → job_in d.job ≡ job_in job → IsTrueOf script d → IsTrueOf script (record d { job = job })
+true_again : (script : Script) (d : Done) (job : JobParts) → d.job ≡ job → IsTrueOf script d → IsTrueOf script (record d { job = job })
 unfolding piece
 true_again script d job same is_true =
     ap (λ (j : Job). replay script j.spec j.base j.answers) (sym same) ∙ is_true
@@ -93,7 +94,7 @@ nothing_apart w e = cc
 another_apart : (w : Outcomes) → OfAnother ≡ OfJob w → ⊥
 another_apart w e = cc
 
-pub commit_again : (script : Script) (c : Whole) (j : ℕ) (jobs : List (Option JobData)) (d : Option Done) (h : Handed) (w : Outcomes) → h ≡ OfJob w →
+pub commit_again : (script : Script) (c : Whole) (j : ℕ) (jobs : List (Option JobParts)) (d : Option Done) (h : Handed) (w : Outcomes) → h ≡ OfJob w →
     IsTrueDone script d → IsHandedFor c j d h → KeepsJob jobs c j → HandsAgain script c (Commit j) jobs h
 commit_again script c j jobs None h w of is_true e k = absurd (nothing_apart w (sym e ∙ of))
 commit_again script c j jobs (Some d) h w of is_true (inr e) k = absurd (another_apart w (sym e.0 ∙ of))
@@ -102,7 +103,7 @@ commit_again script c j jobs (Some d) h w of is_true (inl e) k =
     record {
       done = Some again;
       is_done = subst (λ o. IsDoneOn script o (Some again)) (sym k.there)
-          (refl, true_again script d k.job (one_is_out c j (job_in d.job) (job_in k.job) e.1 k.out) is_true);
+          (refl, true_again script d k.job (one_is_out c j d.job k.job e.1 k.out) is_true);
       is_handed = inl (e.0, k.out);
     }
 
@@ -119,11 +120,11 @@ none_done true b = refl
 none_done false b = refl
 
 not_done : (c : Whole) (j : ℕ) (g : Given) →
-    or_code (unless (not g.is_committed && false && is_out_by (worker_at c g.worker) j) 32) (unless (is_live_worker (worker_at c g.worker)) 33) ≡ Some 32
+    or_refusal (unless (not g.is_committed && false && is_out_by (worker_at c g.worker) j) NoJob) (unless (is_live_worker (worker_at c g.worker)) Stale) ≡ Some NoJob
 not_done c j g =
-    ap (λ t. or_code (unless t 32) (unless (is_live_worker (worker_at c g.worker)) 33)) (none_done (not g.is_committed) (is_out_by (worker_at c g.worker) j))
+    ap (λ t. or_refusal (unless t NoJob) (unless (is_live_worker (worker_at c g.worker)) Stale)) (none_done (not g.is_committed) (is_out_by (worker_at c g.worker) j))
 
-pub of_job : (c : Whole) (j : ℕ) (h : Handed) (o : Option Given) → (commit_refusal c j h o ≡ Some 32 → ⊥) → IsOfJob h o
+pub of_job : (c : Whole) (j : ℕ) (h : Handed) (o : Option Given) → (commit_refusal c j h o ≡ Some NoJob → ⊥) → IsOfJob h o
 of_job c j h None known = absurd (known refl)
 of_job c j Nothing (Some g) known = absurd (known (not_done c j g))
 of_job c j OfAnother (Some g) known = absurd (known (not_done c j g))

@@ -7,6 +7,7 @@ use Rattle.meaning.specs.Mains.{KeepsMainApart}
 use Rattle.meaning.specs.Syntax.{Script}
 use Rattle.segment.specs.Jobs.{Done}
 use Rattle.event_log.specs.Entries.{Commit, Entry, Event, In, Refused}
+use Rattle.event_log.specs.Entries.{NoJob, Refusal}
 use Rattle.event_log.specs.Rules.{Setting}
 use Rattle.histories.specs.Recorded.{recorded_in}
 use Rattle.protocol.specs.Answers.{Answer, answer, decided, logged}
@@ -14,8 +15,8 @@ use Rattle.protocol.specs.Jobs.{Given, Handed}
 use Rattle.protocol.specs.Numbered.{item_at}
 use Rattle.protocol.specs.Refusals.{refusal}
 use Rattle.protocol.specs.Whole.{Whole}
-use Rattle.protocol_core.specs.States.{beside}
-use Rattle.protocol_core.specs.Steps.{Applies, IsApplied, IsHanded}
+use Rattle.protocol_board.specs.Cores.{beside}
+use Rattle.protocol_board.specs.Cores.{Applies, IsApplied, IsHanded}
 use Rattle.protocol_laws.specs.Sound.{IsSound}
 use Rattle.protocol_laws.proofs.Laws.{event_keeps_sound, opening_is_sound}
 use Rattle.protocol_board.specs.Cores.{Answers, Follows, Reply, RunState, first_state}
@@ -37,7 +38,7 @@ use Rattle.replay_laws.proofs.Steps.{keeps_behind, logged_first, long_behind, to
 begun_once : (log es : List Entry) → HandsInOnce (log ++ es) → HandsInOnce log
 begun_once log es h = record {
   out = λ before after j seat is.
-      h.out before (after ++ es) j seat (ap (λ l. l ++ es) is ∙ append_assoc before (In (Commit j) seat ∷ Refused 32 ∷ after) es);
+      h.out before (after ++ es) j seat (ap (λ l. l ++ es) is ∙ append_assoc before (In (Commit j) seat ∷ Refused NoJob ∷ after) es);
   once = λ before after j seat is.
       h.once before (after ++ es) j seat (ap (λ l. l ++ es) is ∙ append_assoc before (In (Commit j) seat ∷ after) es);
 }
@@ -124,13 +125,13 @@ module _ (script : Script) (apart : KeepsMainApart script) (nodes : ℕ) (first 
     again : HandsAgain script c e r.play.jobs handed
     again = by_event e made.0 made.1 is.log
       where
-        thirty_two : (j : ℕ) (hd : Handed) → now.log ≡ before.log ++ logged (Commit j) seat (answer c (Commit j) hd) → refusal c (Commit j) hd ≡ Some 32 → ⊥
-        thirty_two j hd log refused =
-            once.out before.log [] j seat (log ∙ ap (λ (o : Option ℕ). before.log ++ logged (Commit j) seat (decided c (Commit j) hd o)) refused)
+        not_out : (j : ℕ) (hd : Handed) → now.log ≡ before.log ++ logged (Commit j) seat (answer c (Commit j) hd) → refusal c (Commit j) hd ≡ Some NoJob → ⊥
+        not_out j hd log refused =
+            once.out before.log [] j seat (log ∙ ap (λ (o : Option Refusal). before.log ++ logged (Commit j) seat (decided c (Commit j) hd o)) refused)
 
         by_event : (x : Event) (hd : Handed) → IsHanded c x d hd → now.log ≡ before.log ++ logged x seat (answer c x hd) → HandsAgain script c x r.play.jobs hd
         by_event (Commit j) hd is_handed log =
-            let o : IsOfJob hd (item_at c.jobs j) = of_job c j hd (item_at c.jobs j) (thirty_two j hd log) in
+            let o : IsOfJob hd (item_at c.jobs j) = of_job c j hd (item_at c.jobs j) (not_out j hd log) in
             let f = logged_first (Commit j) seat (answer c (Commit j) hd) in
             let uncommitted : has_commit j before.log ≡ false = once.once before.log f.0 j seat (log ∙ ap (λ es. before.log ++ es) f.1) in
             commit_again script c j r.play.jobs d hd o.work o.handed is_true is_handed (r.jobs j o.given o.there uncommitted)

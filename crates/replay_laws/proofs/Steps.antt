@@ -4,14 +4,13 @@ use Rattle.std.proofs.Common.{ap, ◌∙◌, subst, arith, inl, inr, length-appe
 use Rattle.std.specs.Prelude.{if◌then◌else◌, nat_lt, slice_get}
 use Rattle.std.specs.Option.{option_flatten}
 use Rattle.meaning.proofs.BirthLaws.{at_test}
-use Rattle.segment.specs.Jobs.{JobData}
+use Rattle.segment.specs.Jobs.{JobParts}
 use Rattle.event_log.specs.Entries.{Claim, Commit, Entry, Event, In, Refused}
+use Rattle.event_log.specs.Entries.{Limit}
 use Rattle.event_log.specs.Events.{claim_in}
 use Rattle.event_log.specs.Rules.{Setting}
-use Rattle.log_entries.specs.Refusals.{code_of}
 use Rattle.log_entries.specs.declared.refusal.Refusal.{Refusal}
 use Rattle.log_entries.specs.declared.refusal.Refusal.TheVariants as refusals
-use Rattle.exchange.specs.Jobs.{job_in}
 use Rattle.numbered.proofs.Lists.{changed-length, item_within}
 use Rattle.protocol.specs.Answers.{Answer, Refuses, Step, Takes, answer, decided, given_out, logged, takes, whole_after}
 use Rattle.protocol.specs.Events.{happens}
@@ -19,11 +18,12 @@ use Rattle.protocol.specs.Jobs.{Given, Handed, Job}
 use Rattle.protocol.specs.Numbered.{item_at}
 use Rattle.protocol.specs.Refusals.{is_within_limits, refusal}
 use Rattle.protocol.specs.Whole.{Moved, Whole}
-use Rattle.protocol_core.specs.Steps as replies
-use Rattle.protocol_core.specs.Steps.{Accepts, GivesJob, GivesThat, IsOut, Reply, Tells}
+use Rattle.protocol_board.specs.Cores as replies
+use Rattle.protocol_board.specs.Cores.{Accepts, GivesJob, GivesThat, IsOut, Reply, Tells}
 use Rattle.protocol_laws.specs.Sound.{IsSound}
 use Rattle.protocol_board.specs.Replays.{found_no_memory, is_no_memory, job_at, left_by, with_given}
 use Rattle.lease_discipline.proofs.Heres.{changed_elsewhere}
+use Rattle.seats.specs.Counted.{is_logged}
 use Rattle.seats.proofs.Codes.{is_low, refusal_low}
 use Rattle.seats.proofs.Jobs.{claim_gives, happens-jobs}
 use Rattle.run_paths.specs.Handing.{has_commit}
@@ -35,7 +35,7 @@ use Rattle.replay_laws.proofs.Handing.{KeepsJob}
 -- ---- refused or taken
 
 abbrev IsRefused : Whole → Event → Handed → Type 0
-IsRefused c e h = (code : ℕ) × (answer c e h ≡ Refuses code) × (nat_lt code 38 ≡ true)
+IsRefused c e h = (code : Refusal) × (answer c e h ≡ Refuses code) × (is_logged code ≡ true)
 
 abbrev IsTaken : Whole → Event → Handed → Type 0
 IsTaken c e h = (refusal c e h ≡ None) × (answer c e h ≡ takes (happens c e h) (given_out c e))
@@ -46,28 +46,28 @@ answered c e h = go (refusal c e h) refl
     m : Moved
     m = happens c e h
 
-    go : (o : Option ℕ) → refusal c e h ≡ o → IsRefused c e h ⊎ IsTaken c e h
+    go : (o : Option Refusal) → refusal c e h ≡ o → IsRefused c e h ⊎ IsTaken c e h
     go (Some code) r = inl (code, ap (decided c e h) r, subst (λ o. is_low o ≡ true) r (refusal_low c e h))
     go None r = at_test (λ b. is_within_limits m.whole ≡ b → IsRefused c e h ⊎ IsTaken c e h) (is_within_limits m.whole)
-        (λ _ q. inr (r, ap (decided c e h) r ∙ ap (λ b. if b then takes m (given_out c e) else Refuses 37) q))
-        (λ _ q. inl (37, ap (decided c e h) r ∙ ap (λ b. if b then takes m (given_out c e) else Refuses 37) q, refl)) refl
+        (λ _ q. inr (r, ap (decided c e h) r ∙ ap (λ b. if b then takes m (given_out c e) else Refuses Limit) q))
+        (λ _ q. inl (Limit, ap (decided c e h) r ∙ ap (λ b. if b then takes m (given_out c e) else Refuses Limit) q, refl)) refl
 
 -- ---- memory
 
-low_memory : (r : Refusal) → nat_lt (code_of r) 38 ≡ true → is_no_memory r ≡ false
+low_memory : (r : Refusal) → is_logged r ≡ true → is_no_memory r ≡ false
 low_memory refusals.NoMemory e = absurd (cc)
 low_memory r e = refl
 
 given_memory : (o : Option Job) (told : Reply) → GivesThat o told → found_no_memory told ≡ false
 given_memory None told h = ap found_no_memory h
-given_memory (Some job) told h = ap found_no_memory h.1
+given_memory (Some job) told h = ap found_no_memory h
 
 -- what is told of an answer found memory
 pub told_memory : (c : Whole) (e : Event) (h : Handed) (told : Reply) → Tells (answer c e h) told → found_no_memory told ≡ false
 told_memory c e h told tells = elim (answered c e h) [
   | inl (code, is, low) ↦
       let t : Tells (Refuses code) told = subst (λ a. Tells a told) is tells in
-      ap found_no_memory t.1 ∙ low_memory t.0 (ap (λ k. nat_lt k 38) t.2 ∙ low)
+      ap found_no_memory t ∙ low_memory code low
   | inr (r, is) ↦ given_memory (given_out c e) told (subst (λ a. Tells a told) is tells)
 ]
 
@@ -80,22 +80,22 @@ logged_first e seat (Refuses code) = (Refused code ∷ [], refl)
 
 -- ---- the jobs of the replay
 
-flat_some : (o : Option (Option JobData)) (job : JobData) → option_flatten o ≡ Some job → o ≡ Some (Some job)
+flat_some : (o : Option (Option JobParts)) (job : JobParts) → option_flatten o ≡ Some job → o ≡ Some (Some job)
 flat_some None job e = absurd (cc)
 flat_some (Some o) job e = ap (λ k. Some k) e
 
-left_there : (e : Event) (jobs : List (Option JobData)) (j : ℕ) (job : JobData) → (e ≡ Commit j → ⊥) → job_at jobs j ≡ Some job →
+left_there : (e : Event) (jobs : List (Option JobParts)) (j : ℕ) (job : JobParts) → (e ≡ Commit j → ⊥) → job_at jobs j ≡ Some job →
     job_at (left_by e jobs) j ≡ Some job
 left_there (Commit i) jobs j job apart at =
     ap option_flatten (changed_elsewhere jobs i j (λ _. None) (Some job) (λ same. apart (ap Commit (sym same))) (flat_some (item_at jobs j) job at))
 left_there e jobs j job apart at = at
 
-given_there : (told : Reply) (jobs : List (Option JobData)) (j : ℕ) (job : JobData) → job_at jobs j ≡ Some job → job_at (with_given told jobs) j ≡ Some job
+given_there : (told : Reply) (jobs : List (Option JobParts)) (j : ℕ) (job : JobParts) → job_at jobs j ≡ Some job → job_at (with_given told jobs) j ≡ Some job
 given_there (GivesJob k) jobs j job at = ap option_flatten (item_before jobs (Some k ∷ []) j (Some job) (flat_some (item_at jobs j) job at))
 given_there Accepts jobs j job at = at
 given_there (replies.Refuses r) jobs j job at = at
 
-left_long : (e : Event) (jobs : List (Option JobData)) → length (left_by e jobs) ≡ length jobs
+left_long : (e : Event) (jobs : List (Option JobParts)) → length (left_by e jobs) ≡ length jobs
 left_long (Commit i) jobs = changed-length jobs i (λ _. None)
 left_long e jobs = refl
 
@@ -112,15 +112,14 @@ none_behind xs (suc k) h e = let i = beyond xs k e in omega (arith, i)
 none_is_some : {X : Type 0} (x : X) → None ≡ Some x → ⊥
 none_is_some x e = cc
 
-module _ (s : Setting) (log : List Entry) (c : Whole) (sound : IsSound s log c) (jobs : List (Option JobData))
+module _ (s : Setting) (log : List Entry) (c : Whole) (sound : IsSound s log c) (jobs : List (Option JobParts))
     (long : length jobs ≡ length c.jobs) (h : Handed) (told : Reply) where
   -- the job that is told of a claim that was taken
   told_job : (w : ℕ) → refusal c (Claim w) h ≡ None → GivesThat (given_out c (Claim w)) told →
-      (job : JobData) × (told ≡ GivesJob job) × (given_out c (Claim w) ≡ Some (job_in job))
+      (job : JobParts) × (told ≡ GivesJob job) × (given_out c (Claim w) ≡ Some job)
   told_job w r gives =
       let g = claim_gives c w h r in
-      let t : GivesThat (Some g.0) told = subst (λ o. GivesThat o told) g.1 gives in
-      (t.0, t.1, g.1 ∙ ap (λ k. Some k) (sym t.2))
+      (g.0, subst (λ o. GivesThat o told) g.1 gives, g.1)
 
   taken_long : (e : Event) → refusal c e h ≡ None → GivesThat (given_out c e) told →
       length (with_given told (left_by e jobs)) ≡ length jobs + length (claim_in e)
@@ -134,7 +133,7 @@ module _ (s : Setting) (log : List Entry) (c : Whole) (sound : IsSound s log c) 
   long_behind e tells = elim (answered c e h) [
     | inl (code, is, low) ↦
         let t : Tells (Refuses code) told = subst (λ a. Tells a told) is tells in
-        ap (λ u. length (with_given u (left_by e jobs))) t.1 ∙ left_long e jobs ∙ long ∙ sym (ap (λ a. length (whole_after c a).jobs) is)
+        ap (λ u. length (with_given u (left_by e jobs))) t ∙ left_long e jobs ∙ long ∙ sym (ap (λ a. length (whole_after c a).jobs) is)
     | inr (r, is) ↦
         let n = taken_long e r (subst (λ a. Tells a told) is tells) in
         n ∙ ap (λ k. k + length (claim_in e)) long ∙ sym (happens-jobs c e h) ∙ sym (ap (λ a. length (whole_after c a).jobs) is)
@@ -145,7 +144,7 @@ module _ (s : Setting) (log : List Entry) (c : Whole) (sound : IsSound s log c) 
   old_job e j apart k = record {
     job = k.job;
     there = given_there told (left_by e jobs) j k.job (left_there e jobs j k.job apart k.there);
-    out = jobs_stand s log c sound e h j (job_in k.job) apart k.out;
+    out = jobs_stand s log c sound e h j k.job apart k.out;
   }
 
   -- a job that the event gave out
@@ -160,7 +159,7 @@ module _ (s : Setting) (log : List Entry) (c : Whole) (sound : IsSound s log c) 
       record {
         job = t.0;
         there = subst (λ u. job_at (with_given u jobs) j ≡ Some t.0) (sym t.1) (ap option_flatten (item_last jobs (Some t.0) j last));
-        out = subst (λ n. IsOut m.whole n (job_in t.0)) (sym same) (claims_give_jobs_out c w h step (job_in t.0) is t.2);
+        out = subst (λ n. IsOut m.whole n t.0) (sym same) (claims_give_jobs_out c w h step t.0 is t.2);
       }
   new_job e j r is gives low high = absurd (omega (arith, low, high))
 

@@ -2,8 +2,7 @@
 use Rattle.std.specs.Prelude.{◌≡◌, ◌<◌, ◌≤◌, ℕ, false, List, [], length}
 use Rattle.meaning.specs.Mains.{KeepsMainApart}
 use Rattle.meaning.specs.Syntax.{Script}
-use Rattle.event_log.specs.Views.{log_of}
-use Rattle.event_log.specs.declared.entry.Entry.{Entry as CodeEntry}
+use Rattle.event_log.specs.Entries.{Entry}
 use Rattle.histories.specs.Recorded.{recorded_in}
 use Rattle.protocol_board.specs.Cores.{RunState, first_state}
 use Rattle.protocol_board.specs.Replays.{Play, PlaysHistory}
@@ -27,20 +26,20 @@ pub record CameSo (script : Script) (nodes slots : ℕ) (now : RunState) : Type 
 abbrev pub RunsReplay : Type 0
 RunsReplay =
     (script : Script) → KeepsMainApart script → (nodes slots : ℕ) (now : RunState) → CameSo script nodes slots now → now.is_halted ≡ false →
-    (log : List CodeEntry) → log_of log ≡ now.log → length (recorded_in log) ≤ 100000 → (first : Play) → IsFirst nodes slots first →
+    (log : List Entry) → log ≡ now.log → length (recorded_in log) ≤ 100000 → (first : Play) → IsFirst nodes slots first →
     (again : Play) × PlaysHistory script (recorded_in log) first again × (again.run ≡ now)
 
 -- and to no other
 abbrev pub RunsReplayToThemselves : Type 0
 RunsReplayToThemselves =
     (script : Script) → KeepsMainApart script → (nodes slots : ℕ) (now : RunState) → CameSo script nodes slots now → now.is_halted ≡ false →
-    (log : List CodeEntry) → log_of log ≡ now.log → length (recorded_in log) ≤ 100000 → (first again : Play) → IsFirst nodes slots first →
+    (log : List Entry) → log ≡ now.log → length (recorded_in log) ≤ 100000 → (first again : Play) → IsFirst nodes slots first →
     PlaysHistory script (recorded_in log) first again → again.run ≡ now
 
 -- also where an event found no memory the history replays, and whatever comes of it has the same log
 abbrev pub LogsReplay : Type 0
 LogsReplay =
     (script : Script) → KeepsMainApart script → (nodes slots : ℕ) (now : RunState) → CameSo script nodes slots now →
-    (log : List CodeEntry) → log_of log ≡ now.log → length (recorded_in log) ≤ 100000 → (first : Play) → IsFirst nodes slots first →
+    (log : List Entry) → log ≡ now.log → length (recorded_in log) ≤ 100000 → (first : Play) → IsFirst nodes slots first →
     ((again : Play) × PlaysHistory script (recorded_in log) first again)
     × ((again : Play) → PlaysHistory script (recorded_in log) first again → again.run.log ≡ now.log)

@@ -1,21 +1,20 @@
 -- No report has a float.
-use Rattle.std.proofs.Common.{◌≡◌, ℕ, Bool, true, false, List, [], ◌∷◌, ◌++◌, Option, Some, None, refl, sym, ap, ◌∙◌}
+use Rattle.std.proofs.Common.{◌≡◌, Bool, true, false, List, [], ◌∷◌, ◌++◌, Option, Some, None, refl, ap, ◌∙◌}
 use Rattle.std.specs.Prelude.{if◌then◌else◌, pos, negsuc, ◌||◌}
 use Rattle.std.specs.List.{flat_map}
-use Rattle.serde_json.specs.Data.{Data, Items}
-use Rattle.serde_json.specs.Find.{is_float, of_integer}
+use Rattle.serde_json.specs.Data.{Data}
 use Rattle.serde_json.specs.View.{items_of}
-use Rattle.serde_json.specs.Written.{has_float, items_have_float, members_have_float}
+use Rattle.serde_json.specs.Written.{has_float, items_have_float}
 use Rattle.meaning.specs.Values.{Value, Int, Items as AList, Named, Known, Values, none, more, Outcome, Val, Trapped}
-use Rattle.event_log.specs.Entries.{Fault, Event, Entry, Begun, Printed, Resolved, Released, Refused, Attempt, main_attempt}
+use Rattle.event_log.specs.Entries.{Fault, Event, Entry, Begun, Printed, Resolved, Released, Refused, main_attempt}
 use Rattle.event_log.specs.Words.{same_attempt}
 use Rattle.history.specs.Main.{main_end, main_fault}
 use Rattle.history.specs.Refusals.{last_in}
 use Rattle.report_json.specs.Values.{value_data, values_data}
-use Rattle.report_json.specs.Main.{end_data, unended_data, main_data}
+use Rattle.report_json.specs.Main.{main_data}
 use Rattle.report_json.specs.Attempts.{attempt_data, attempt_in}
 use Rattle.report_json.specs.Objects.{print_in, release_in, resolve_in}
-use Rattle.report_json.specs.Refusals.{refusal_data, refused_in, refused_data}
+use Rattle.report_json.specs.Refusals.{refused_in, refused_data}
 use Rattle.report_json.specs.Report.{report_data}
 
 mutual
@@ -67,8 +66,8 @@ resolve_plain (Resolved o f) = refl
 resolve_plain _ = refl
 
 refused_plain : (last : Option Event) (e : Entry) → items_have_float (items_of (refused_in last e)) ≡ false
-refused_plain (Some x) (Refused code) = refl
-refused_plain None (Refused code) = refl
+refused_plain (Some x) (Refused r) = refl
+refused_plain None (Refused r) = refl
 refused_plain _ _ = refl
 
 refusals_plain : (last : Option Event) (log : List Entry) → items_have_float (items_of (refused_data last log)) ≡ false

@@ -1,5 +1,5 @@
 -- How main ended, as JSON.
-use Rattle.std.specs.Prelude.{ℕ, Option, Some, None, codes}
+use Rattle.std.specs.Prelude.{Option, Some, None, codes}
 use Rattle.serde_json.specs.Data.{Data, string, object, member, no_members}
 use Rattle.meaning.specs.Values.{Outcome, Val, Trapped}
 use Rattle.event_log.specs.Entries.{Fault}

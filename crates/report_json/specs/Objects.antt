@@ -1,5 +1,5 @@
 -- Prints, and what became of objects, as JSON.
-use Rattle.std.specs.Prelude.{ℕ, List, [], ◌∷◌, codes}
+use Rattle.std.specs.Prelude.{List, [], ◌∷◌, codes}
 use Rattle.serde_json.specs.Data.{Data, string, object, member, no_members}
 use Rattle.meaning.specs.Values.{Id}
 use Rattle.event_log.specs.Entries.{Fault, Entry, Printed, Resolved, Released}

@@ -1,6 +1,7 @@
 -- The refused events, as JSON.
 use Rattle.std.specs.Prelude.{ℕ, List, [], ◌∷◌, ◌++◌, Option, Some, None, codes}
 use Rattle.serde_json.specs.Data.{Data, number, unsigned, string, object, member, no_members}
+use Rattle.log_entries.specs.Refusals.{code_of}
 use Rattle.event_log.specs.Entries.{Event, Entry, Refused}
 use Rattle.history.specs.Texts.{event_text}
 use Rattle.history.specs.Refusals.{last_in}
@@ -11,7 +12,7 @@ refusal_data code (Some e) = object (member (codes "code") (number (unsigned cod
 refusal_data code None = object (member (codes "code") (number (unsigned code)) no_members)
 
 abbrev pub refused_in : Option Event → Entry → List Data
-refused_in last (Refused code) = refusal_data code last ∷ []
+refused_in last (Refused r) = refusal_data (code_of r) last ∷ []
 refused_in last _ = []
 
 -- the refusals of a log, each with the last event before it; `last` is the last event before the log

@@ -1,5 +1,5 @@
 -- The report of a log as JSON.
-use Rattle.std.specs.Prelude.{ℕ, List, None, codes}
+use Rattle.std.specs.Prelude.{List, None, codes}
 use Rattle.std.specs.List.{flat_map}
 use Rattle.serde_json.specs.Data.{Data, array, object, member, no_members}
 use Rattle.serde_json.specs.View.{items_of}

@@ -1,5 +1,4 @@
 -- Values as JSON.
-use Rattle.std.specs.Prelude.{ℕ, List}
 use Rattle.serde_json.specs.Data.{Data, null, number, string, array, Items, no_items, item}
 use Rattle.serde_json.specs.Find.{of_integer}
 use Rattle.meaning.specs.Values.{Value, Int, Items as AList, Named, Known, Values, none, more, Id}

@@ -5,16 +5,15 @@ ghost use Rattle.serde_json.specs.Data.{array};
 ghost use Rattle.serde_json.specs.View.{view, items_of};
 ghost use Rattle.std.specs.List.{flat_map};
 ghost use Rattle.event_log.specs.Entries as logged;
-ghost use Rattle.event_log.specs.Views.{entry_of, log_of};
 ghost use Rattle.history.specs.Attempts.{AreStatesOf};
 ghost use Rattle.history.specs.Texts.{attempt_text};
 ghost use Rattle.report_json.specs.Attempts.{attempt_data, attempt_in};
 
 use crate::value::array_of;
-use event_log::Entry;
 use history::AttemptStates;
 use history::main_end::is_main;
 use ids::{AttemptId, WorkerId};
+use log_entries::Entry;
 use serde_json::{Value, json};
 use std::alloc::{AllocError, Global};
 
@@ -45,7 +44,7 @@ fn add_attempt(
     entry: &Entry,
 ) -> Result<(), AllocError>
     ensures { (log : List logged.Entry) → AreStatesOf states.now log → OnOk result
-        (map view all.new.items ≡ map view all.old.items ++ attempt_in log (entry_of entry.now)) }
+        (map view all.new.items ≡ map view all.old.items ++ attempt_in log entry.now) }
 {
     let Entry::Begun { attempt, worker } = entry else {
         return Ok(());
@@ -59,7 +58,7 @@ fn add_attempt(
 
 /// The attempts but main's, in the order of their beginnings.
 pub fn attempts_json(alloc: Global, log: &[Entry]) -> Result<Value, AllocError>
-    ensures { IfOk result (λ v. view v ≡ array (items_of (flat_map (attempt_in (log_of log.now)) (log_of log.now)))) }
+    ensures { IfOk result (λ v. view v ≡ array (items_of (flat_map (attempt_in log.now) log.now))) }
 {
     let states = AttemptStates::of(alloc, log)?;
     let mut all = Vec::new(alloc);

@@ -4,30 +4,29 @@ ghost use Rattle.std.specs.Prelude.{◌≡◌, ◌++◌, IfOk, OnOk, map};
 ghost use Rattle.serde_json.specs.Data.{array};
 ghost use Rattle.serde_json.specs.View.{view, items_of};
 ghost use Rattle.std.specs.List.{flat_map};
-ghost use Rattle.event_log.specs.Views.{entry_of, log_of};
 ghost use Rattle.report_json.specs.Objects.{print_in, release_in, resolve_data, resolve_in};
 
 use crate::value::{array_of, id_json, value_json};
-use event_log::Entry;
 use history::kind_name;
 use ids::ObjectId;
+use log_entries::Entry;
 use serde_json::{Value, json};
 use std::alloc::{AllocError, Global};
 use values::Fault;
 
 fn add_print(alloc: Global, all: &mut Vec<Value>, entry: &Entry) -> Result<(), AllocError>
-    ensures { OnOk result (map view all.new.items ≡ map view all.old.items ++ print_in (entry_of entry.now)) }
+    ensures { OnOk result (map view all.new.items ≡ map view all.old.items ++ print_in entry.now) }
 {
     let Entry::Printed(value) = entry else {
         return Ok(());
     };
-    all.push(value_json(alloc, value)?)?;
+    all.push(value_json(alloc, &value.inner)?)?;
     Ok(())
 }
 
 /// What main printed.
 pub fn prints_json(alloc: Global, log: &[Entry]) -> Result<Value, AllocError>
-    ensures { IfOk result (λ v. view v ≡ array (items_of (flat_map print_in (log_of log.now)))) }
+    ensures { IfOk result (λ v. view v ≡ array (items_of (flat_map print_in log.now))) }
 {
     let mut all = Vec::new(alloc);
     for entry in log {
@@ -37,7 +36,7 @@ pub fn prints_json(alloc: Global, log: &[Entry]) -> Result<Value, AllocError>
 }
 
 fn add_release(alloc: Global, all: &mut Vec<Value>, entry: &Entry) -> Result<(), AllocError>
-    ensures { OnOk result (map view all.new.items ≡ map view all.old.items ++ release_in (entry_of entry.now)) }
+    ensures { OnOk result (map view all.new.items ≡ map view all.old.items ++ release_in entry.now) }
 {
     let Entry::Released(object) = entry else {
         return Ok(());
@@ -48,7 +47,7 @@ fn add_release(alloc: Global, all: &mut Vec<Value>, entry: &Entry) -> Result<(),
 
 /// The objects that were released.
 pub fn releases_json(alloc: Global, log: &[Entry]) -> Result<Value, AllocError>
-    ensures { IfOk result (λ v. view v ≡ array (items_of (flat_map release_in (log_of log.now)))) }
+    ensures { IfOk result (λ v. view v ≡ array (items_of (flat_map release_in log.now))) }
 {
     let mut all = Vec::new(alloc);
     for entry in log {
@@ -67,7 +66,7 @@ fn resolve_json(alloc: Global, object: ObjectId, fault: Fault) -> Result<Value, 
 }
 
 fn add_resolve(alloc: Global, all: &mut Vec<Value>, entry: &Entry) -> Result<(), AllocError>
-    ensures { OnOk result (map view all.new.items ≡ map view all.old.items ++ resolve_in (entry_of entry.now)) }
+    ensures { OnOk result (map view all.new.items ≡ map view all.old.items ++ resolve_in entry.now) }
 {
     let Entry::Resolved { object, fault } = entry else {
         return Ok(());
@@ -78,7 +77,7 @@ fn add_resolve(alloc: Global, all: &mut Vec<Value>, entry: &Entry) -> Result<(),
 
 /// The objects that have a fault.
 pub fn resolves_json(alloc: Global, log: &[Entry]) -> Result<Value, AllocError>
-    ensures { IfOk result (λ v. view v ≡ array (items_of (flat_map resolve_in (log_of log.now)))) }
+    ensures { IfOk result (λ v. view v ≡ array (items_of (flat_map resolve_in log.now))) }
 {
     let mut all = Vec::new(alloc);
     for entry in log {

@@ -3,14 +3,13 @@
 ghost use Rattle.std.specs.Prelude.{◌≡◌, IfOk};
 ghost use Rattle.serde_json.specs.View.{view};
 ghost use Rattle.values.specs.Values.{content_of};
-ghost use Rattle.event_log.specs.Views.{log_of};
 ghost use Rattle.history.specs.Main.{main_end, main_fault};
 ghost use Rattle.report_json.specs.Main.{end_data, unended_data, main_data};
 
 use crate::value::{id_json, value_json};
-use event_log::Entry;
 use history::kind_name;
 use history::main_end::{main_end, main_fault};
+use log_entries::Entry;
 use report::trap_name;
 use serde_json::{Value, json};
 use std::alloc::{AllocError, Global};
@@ -44,10 +43,10 @@ fn unended_json(alloc: Global, fault: Option<Fault>) -> Result<Value, AllocError
 
 /// How main ended, or that it has a fault or is open.
 pub fn main_json(alloc: Global, log: &[Entry]) -> Result<Value, AllocError>
-    ensures { IfOk result (λ v. view v ≡ main_data (main_end (log_of log.now)) (main_fault (log_of log.now))) }
+    ensures { IfOk result (λ v. view v ≡ main_data (main_end log.now) (main_fault log.now)) }
 {
     match main_end(log) {
-        Some(content) => end_json(alloc, content),
+        Some(content) => end_json(alloc, &content.inner),
         None => unended_json(alloc, main_fault(log)),
     }
 }

@@ -4,14 +4,12 @@ ghost use Rattle.std.specs.Prelude.{◌≡◌, ◌++◌, IfOk, OnOk, None, map, 
 ghost use Rattle.serde_json.specs.Data.{array};
 ghost use Rattle.serde_json.specs.View.{view, items_of};
 ghost use Rattle.log_entries.specs.Refusals.{code_of};
-ghost use Rattle.event_log.specs.Views.{entry_of, log_of};
 ghost use Rattle.history.specs.Texts.{event_text};
 ghost use Rattle.report_json.specs.Refusals.{refusal_data, refused_in, refused_data};
 
 use crate::value::array_of;
-use event_log::Entry;
 use history::last_event;
-use log_entries::{Event, Refusal};
+use log_entries::{Entry, Event, Refusal};
 use serde_json::{Value, json};
 use std::alloc::{AllocError, Global};
 
@@ -39,7 +37,7 @@ fn add_refusal(
     last: &Option<Event>,
     entry: &Entry,
 ) -> Result<(), AllocError>
-    ensures { OnOk result (map view all.new.items ≡ map view all.old.items ++ refused_in last.now (entry_of entry.now)) }
+    ensures { OnOk result (map view all.new.items ≡ map view all.old.items ++ refused_in last.now entry.now) }
 {
     let Entry::Refused(refusal) = entry else {
         return Ok(());
@@ -50,7 +48,7 @@ fn add_refusal(
 
 /// The refused events.
 pub fn refusals_json(alloc: Global, log: &[Entry]) -> Result<Value, AllocError>
-    ensures { IfOk result (λ v. view v ≡ array (items_of (refused_data None (log_of log.now)))) }
+    ensures { IfOk result (λ v. view v ≡ array (items_of (refused_data None log.now))) }
 {
     let mut last = None;
     let mut all = Vec::new(alloc);

@@ -3,19 +3,18 @@
 ghost use Rattle.std.specs.Prelude.{◌≡◌, ◌++◌, IfOk, codes, string_bytes};
 ghost use Rattle.serde_json.specs.View.{view};
 ghost use Rattle.serde_json.specs.Written.{compact_text};
-ghost use Rattle.event_log.specs.Views.{log_of};
 ghost use Rattle.report_json.specs.Report.{report_data};
 
 use crate::attempts::attempts_json;
 use crate::entries::{prints_json, releases_json, resolves_json};
 use crate::main_end::main_json;
 use crate::refusals::refusals_json;
-use event_log::Entry;
+use log_entries::Entry;
 use serde_json::{Value, json};
 use std::alloc::{AllocError, Global};
 
 fn report_value(alloc: Global, log: &[Entry]) -> Result<Value, AllocError>
-    ensures { IfOk result (λ v. view v ≡ report_data (log_of log.now)) }
+    ensures { IfOk result (λ v. view v ≡ report_data log.now) }
 {
     let attempts = attempts_json(alloc, log)?;
     let main = main_json(alloc, log)?;
@@ -34,7 +33,7 @@ fn report_value(alloc: Global, log: &[Entry]) -> Result<Value, AllocError>
 }
 
 fn compact(alloc: Global, log: &[Entry]) -> Result<String, AllocError>
-    ensures { IfOk result (λ text. string_bytes text ≡ compact_text (report_data (log_of log.now))) }
+    ensures { IfOk result (λ text. string_bytes text ≡ compact_text (report_data log.now)) }
 {
     report_value(alloc, log)?.to_string(alloc)
 }
@@ -45,7 +44,7 @@ fn compact(alloc: Global, log: &[Entry]) -> Result<String, AllocError>
 /// values; `refused` has objects with `code` and `event`, `released` ids, and `resolved` objects with `fault`, `named` and `object`.
 /// Ids are strings, and lists arrays. It is made of any log, as `report_text` is.
 pub fn report_json(alloc: Global, log: &[Entry]) -> Result<String, AllocError>
-    ensures { IfOk result (λ text. string_bytes text ≡ compact_text (report_data (log_of log.now)) ++ codes "\n") }
+    ensures { IfOk result (λ text. string_bytes text ≡ compact_text (report_data log.now) ++ codes "\n") }
 {
     let mut text = compact(alloc, log)?;
     text.push_str("\n")?;

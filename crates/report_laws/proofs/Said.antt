@@ -15,7 +15,7 @@ pub lines_said : (log : List Entry) → flat_map print_in log ≡ print_lines (p
 unfolding same_attempt same_id
 lines_said [] = refl
 lines_said (In e seat ∷ log) = lines_said log
-lines_said (Refused code ∷ log) = lines_said log
+lines_said (Refused r ∷ log) = lines_said log
 lines_said (Opened w n ∷ log) = lines_said log
 lines_said (Begun a w ∷ log) = lines_said log
 lines_said (Born o a b ∷ log) = lines_said log
@@ -34,7 +34,7 @@ pub prints_said : (log : List Entry) → flat_map print_data_in log ≡ map valu
 unfolding same_attempt same_id
 prints_said [] = refl
 prints_said (In e seat ∷ log) = prints_said log
-prints_said (Refused code ∷ log) = prints_said log
+prints_said (Refused r ∷ log) = prints_said log
 prints_said (Opened w n ∷ log) = prints_said log
 prints_said (Begun a w ∷ log) = prints_said log
 prints_said (Born o a b ∷ log) = prints_said log

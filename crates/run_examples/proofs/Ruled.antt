@@ -5,6 +5,7 @@ use Rattle.std.proofs.lemmas.List.{append_cancel_left}
 use Rattle.meaning.specs.Syntax.{Script}
 use Rattle.script_check.specs.Scripts.{IsWellTyped}
 use Rattle.event_log.specs.Entries.{Claim, Entry, Event, In, Join, Refused, Tick}
+use Rattle.event_log.specs.Entries.{Refusal, Limit}
 use Rattle.event_log.specs.Events.{refused_next}
 use Rattle.event_log.specs.Legal.{opening}
 use Rattle.event_log.specs.Rules.{Setting}
@@ -16,13 +17,13 @@ use Rattle.protocol.specs.Settling.{next}
 use Rattle.protocol.specs.Whole.{Whole, first_whole}
 use Rattle.protocol_owed.specs.Runs.{Handing, Running, after_event, after_events, answer_to, opening_run}
 use Rattle.protocol_owed.proofs.Counting.{happens-counted, not_refused}
-use Rattle.owed_laws.specs.Law.{IsReached}
-use Rattle.owed_laws.proofs.Paid.{reached_goes_on}
+use Rattle.count_laws.specs.Law.{IsReached}
+use Rattle.count_laws.proofs.Reached.{reached_goes_on}
 use Rattle.count_laws.specs.Counts.{borne, counted}
 use Rattle.count_laws.specs.Law.{IsFull}
 use Rattle.count_laws.proofs.Laws.{events_are_limited}
-use Rattle.protocol_core.specs.Clusters.{Size}
-use Rattle.protocol_core.specs.States.{IsReachedRun, beside}
+use Rattle.protocol_board.specs.Cores.{Size}
+use Rattle.protocol_board.specs.Cores.{IsReachedRun, beside}
 use Rattle.run_examples.specs.Examples.{LimitsAreTrue, OpeningIsNotOver, SeatsAreTrue, early_limit}
 
 -- ---- what events add
@@ -86,32 +87,32 @@ taken_says_none c e handed step i = go (refusal c e handed) i
         let k : (happens c e handed).out.entries ≡ step.entries = cc in
         ap refused_next (sym k) ∙ not_refused (happens c e handed).out.entries (happens-counted c e handed).quiet
 
-    by_test : (t : Bool) → (if t then takes (happens c e handed) (given_out c e) else Refuses 37) ≡ Takes step → refused_next step.entries ≡ false
+    by_test : (t : Bool) → (if t then takes (happens c e handed) (given_out c e) else Refuses Limit) ≡ Takes step → refused_next step.entries ≡ false
     by_test true j = quiet j
     by_test false j = absurd (cc)
 
-    go : (o : Option ℕ) → decided c e handed o ≡ Takes step → refused_next step.entries ≡ false
+    go : (o : Option Refusal) → decided c e handed o ≡ Takes step → refused_next step.entries ≡ false
     go None j = by_test (is_within_limits (happens c e handed).whole) j
     go (Some code) j = absurd (cc)
 
 abbrev refused_tick : List Entry
-refused_tick = In (Tick 1) 1 ∷ Refused 37 ∷ []
+refused_tick = In (Tick 1) 1 ∷ Refused Limit ∷ []
 
 -- what one event adds is the refused tick only where it is that tick, and refused so
-was_refused : (c : Whole) (g : Handing) (a : Answer) → answer c g.event g.handed ≡ a → logged g.event g.seat a ≡ refused_tick → (g.event ≡ Tick 1) × (a ≡ Refuses 37)
+was_refused : (c : Whole) (g : Handing) (a : Answer) → answer c g.event g.handed ≡ a → logged g.event g.seat a ≡ refused_tick → (g.event ≡ Tick 1) × (a ≡ Refuses Limit)
 was_refused c g (Takes step) i e =
-    let k : step.entries ≡ Refused 37 ∷ [] = cc in
+    let k : step.entries ≡ Refused Limit ∷ [] = cc in
     let none : refused_next step.entries ≡ false = taken_says_none c g.event g.handed step i in
     let some : refused_next step.entries ≡ true = ap refused_next k in
     absurd (cc)
 was_refused c g (Refuses code) i e =
     let tick : g.event ≡ Tick 1 = cc in
-    let refused : Refused code ≡ Refused 37 = cc in
-    let number : code ≡ 37 = cc in
+    let refused : Refused code ≡ Refused Limit = cc in
+    let number : code ≡ Limit = cc in
     (tick, ap (λ n. Refuses n) number)
 
 -- behind an entry of its own no further event stands in it
-no_second : (es fs : List Entry) (e : Event) (seat : ℕ) → es ++ In e seat ∷ fs ≡ Refused 37 ∷ [] → ⊥
+no_second : (es fs : List Entry) (e : Event) (seat : ℕ) → es ++ In e seat ∷ fs ≡ Refused Limit ∷ [] → ⊥
 no_second [] fs e seat i = cc
 no_second (x ∷ []) fs e seat i =
     let j : In e seat ∷ fs ≡ [] = cc in

@@ -4,9 +4,10 @@ use Rattle.meaning.specs.Syntax.{Script}
 use Rattle.event_files.specs.declared.plan.PlanLine.{PlanLine}
 use Rattle.script_check.specs.Scripts.{IsWellTyped}
 use Rattle.event_log.specs.Entries.{Entry, In, Refused, Tick}
+use Rattle.event_log.specs.Entries.{Limit}
 use Rattle.event_log.specs.Legal.{opening}
-use Rattle.protocol_core.specs.Clusters.{IsCluster, Size}
-use Rattle.protocol_core.specs.States.{RunState}
+use Rattle.protocol_board.specs.Cores.{IsCluster, Size}
+use Rattle.protocol_board.specs.Cores.{RunState}
 use Rattle.protocol_board.specs.Cores.{IsSoundLog}
 use Rattle.seats.specs.Ends.{IsOverBeside, WasLimited}
 use Rattle.seats.specs.Seated.{AreFrom}
@@ -19,7 +20,7 @@ OpeningIsNotOver =
 
 -- worker 1 ticks as the run opens, and is refused for a limit
 abbrev pub early_limit : List Entry
-early_limit = opening ++ In (Tick 1) 1 ∷ Refused 37 ∷ []
+early_limit = opening ++ In (Tick 1) 1 ∷ Refused Limit ∷ []
 
 pub record LimitsAreTrue : Type 0 where
   -- an event of it was refused for that
@@ -30,7 +31,7 @@ pub record LimitsAreTrue : Type 0 where
 
 -- a tick from a third seat
 abbrev pub from_third : List Entry
-from_third = opening ++ In (Tick 1) 3 ∷ Refused 37 ∷ []
+from_third = opening ++ In (Tick 1) 3 ∷ Refused Limit ∷ []
 
 -- it stands in the log of no run on two threads
 abbrev pub SeatsAreTrue : Type 0

@@ -4,6 +4,7 @@ use Rattle.std.specs.Prelude.{◌&&◌, ◌||◌, ◌==◌, not}
 use Rattle.std.proofs.lemmas.Bool.{and_parts, eq-eqb, eqb-true, not-true, true≢false}
 use Rattle.meaning.proofs.BirthLaws.{at_test}
 use Rattle.event_log.specs.Entries.{Claim, Commit, Entry, Event, In, Kill, Refused}
+use Rattle.event_log.specs.Entries.{Pinned, NoCopy, NoWorker, NotReady, NoJob, Stale, NoMessage, NotDead, NoNode, Limit, Halted, NoMemory}
 use Rattle.run_paths.specs.Handing.{Examples, HandsInOnce, IsTested, hands_in_once, has_commit, refused_unknown}
 
 or_false : (a b : Bool) → (a || b) ≡ false → (a ≡ false) × (b ≡ false)
@@ -28,10 +29,10 @@ none_passes : (a b : Bool) → (a && false && b) ≡ true → ⊥
 none_passes true b e = true≢false (sym e)
 none_passes false b e = true≢false (sym e)
 
-passed_out : (before after : List Entry) (j seat : ℕ) → hands_in_once (before ++ In (Commit j) seat ∷ Refused 32 ∷ after) ≡ true → ⊥
+passed_out : (before after : List Entry) (j seat : ℕ) → hands_in_once (before ++ In (Commit j) seat ∷ Refused NoJob ∷ after) ≡ true → ⊥
 passed_out [] after j seat e = none_passes (not (has_commit j after)) (hands_in_once after) e
 passed_out (In (Commit i) s ∷ before) after j seat e =
-    let rest : List Entry = before ++ In (Commit j) seat ∷ Refused 32 ∷ after in
+    let rest : List Entry = before ++ In (Commit j) seat ∷ Refused NoJob ∷ after in
     passed_out before after j seat (and_parts (not (has_commit i rest) && not (refused_unknown rest)) (hands_in_once rest) e).1
 passed_out (x ∷ before) after j seat e = passed_out before after j seat e
 
@@ -96,9 +97,18 @@ none_later j seat log h = by_test (has_commit j log) refl
         absurd (true≢false (sym (ap (λ b. b || has_commit j f.before) (eq-eqb j j refl)) ∙ none))
 
 known : (j seat : ℕ) (log : List Entry) → HandsInOnce (In (Commit j) seat ∷ log) → refused_unknown log ≡ false
-known j seat (Refused code ∷ log) h =
-    at_test (λ b. (code == 32) ≡ b → b ≡ false) (code == 32)
-    (λ _ e. absurd (h.out [] log j seat (ap (λ n. In (Commit j) seat ∷ Refused n ∷ log) (eqb-true code 32 e)))) (λ _ e. refl) refl
+known j seat (Refused NoJob ∷ log) h = absurd (h.out [] log j seat refl)
+known j seat (Refused Pinned ∷ log) h = refl
+known j seat (Refused NoCopy ∷ log) h = refl
+known j seat (Refused NoWorker ∷ log) h = refl
+known j seat (Refused NotReady ∷ log) h = refl
+known j seat (Refused Stale ∷ log) h = refl
+known j seat (Refused NoMessage ∷ log) h = refl
+known j seat (Refused NotDead ∷ log) h = refl
+known j seat (Refused NoNode ∷ log) h = refl
+known j seat (Refused Limit ∷ log) h = refl
+known j seat (Refused Halted ∷ log) h = refl
+known j seat (Refused NoMemory ∷ log) h = refl
 known j seat [] h = refl
 known j seat (x ∷ log) h = refl
 
@@ -115,6 +125,6 @@ is_tested = record { once = once_of; passed = passed_by }
 pub examples : Examples
 examples = record {
   once = once_of _ refl;
-  twice = λ h. true≢false (h.once (In (Claim 2) 2 ∷ In (Kill 2) 0 ∷ In (Commit 1) 2 ∷ Refused 33 ∷ []) (Refused 33 ∷ []) 1 2 refl);
+  twice = λ h. true≢false (h.once (In (Claim 2) 2 ∷ In (Kill 2) 0 ∷ In (Commit 1) 2 ∷ Refused Stale ∷ []) (Refused Stale ∷ []) 1 2 refl);
   unknown = λ h. h.out (In (Claim 1) 1 ∷ []) [] 2 1 refl;
 }

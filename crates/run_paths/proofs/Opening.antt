@@ -7,8 +7,8 @@ use Rattle.event_log.specs.Legal.{opening}
 use Rattle.protocol.specs.Answers.{Answer, Refuses, Takes, logged}
 use Rattle.protocol.specs.Whole.{Whole, first_whole}
 use Rattle.protocol_owed.specs.Runs.{Handing, Running, after_event, after_events, answer_to, opening_run}
-use Rattle.owed_laws.specs.Law.{IsReached}
-use Rattle.protocol_core.specs.States.{IsReachedRun, RunState, beside, first_state}
+use Rattle.protocol_board.specs.Cores.{IsReached}
+use Rattle.protocol_board.specs.Cores.{IsReachedRun, RunState, beside, first_state}
 use Rattle.run_paths.specs.Paths.{NoneCame}
 
 -- an event adds itself first

@@ -1,6 +1,7 @@
 -- Logs of runs in which each job was handed in once.
 use Rattle.std.specs.Prelude.{◌≡◌, ◌||◌, ◌&&◌, ◌==◌, ◌++◌, ℕ, Bool, true, false, not, List, [], ◌∷◌}
 use Rattle.event_log.specs.Entries.{Claim, Commit, Entry, In, Kill, Refused}
+use Rattle.event_log.specs.Entries.{NoJob, Stale}
 
 -- an event of the log is a commit of the job, accepted or refused
 abbrev pub has_commit : ℕ → List Entry → Bool
@@ -11,7 +12,7 @@ has_commit j (x ∷ rest) = has_commit j rest
 -- by the log alone: what is handed in is of the job that it is handed in for, and once
 pub record HandsInOnce (log : List Entry) : Type 0 where
   -- no commit is refused as one of a job that isn't out
-  pub out : (before after : List Entry) (j seat : ℕ) → log ≡ before ++ In (Commit j) seat ∷ Refused 32 ∷ after → ⊥
+  pub out : (before after : List Entry) (j seat : ℕ) → log ≡ before ++ In (Commit j) seat ∷ Refused NoJob ∷ after → ⊥
   -- and none comes behind another commit of its job
   pub once : (before after : List Entry) (j seat : ℕ) → log ≡ before ++ In (Commit j) seat ∷ after → has_commit j before ≡ false
 
@@ -19,7 +20,7 @@ pub record HandsInOnce (log : List Entry) : Type 0 where
 
 -- what comes next is the refusal of a commit as one of a job that isn't out
 abbrev pub refused_unknown : List Entry → Bool
-refused_unknown (Refused code ∷ rest) = code == 32
+refused_unknown (Refused NoJob ∷ rest) = true
 refused_unknown es = false
 
 abbrev pub hands_in_once : List Entry → Bool
@@ -34,6 +35,6 @@ pub record IsTested : Type 0 where
 
 -- two jobs, each handed in once, the second when its worker was dead; a job that is handed in twice; and one that isn't out
 pub record Examples : Type 0 where
-  pub once : HandsInOnce (In (Claim 1) 1 ∷ In (Claim 2) 2 ∷ In (Commit 1) 1 ∷ In (Kill 2) 0 ∷ In (Commit 2) 2 ∷ Refused 33 ∷ [])
-  pub twice : HandsInOnce (In (Claim 2) 2 ∷ In (Kill 2) 0 ∷ In (Commit 1) 2 ∷ Refused 33 ∷ In (Commit 1) 2 ∷ Refused 33 ∷ []) → ⊥
-  pub unknown : HandsInOnce (In (Claim 1) 1 ∷ In (Commit 2) 1 ∷ Refused 32 ∷ []) → ⊥
+  pub once : HandsInOnce (In (Claim 1) 1 ∷ In (Claim 2) 2 ∷ In (Commit 1) 1 ∷ In (Kill 2) 0 ∷ In (Commit 2) 2 ∷ Refused Stale ∷ [])
+  pub twice : HandsInOnce (In (Claim 2) 2 ∷ In (Kill 2) 0 ∷ In (Commit 1) 2 ∷ Refused Stale ∷ In (Commit 1) 2 ∷ Refused Stale ∷ []) → ⊥
+  pub unknown : HandsInOnce (In (Claim 1) 1 ∷ In (Commit 2) 1 ∷ Refused NoJob ∷ []) → ⊥

@@ -1,14 +1,14 @@
 // The report of a log in which a fault spreads, objects are released, and an event is refused.
 
-use event_log::Entry;
+use held::{Origin, Printed, SharedContent};
 use history::{report_text, status_of};
 use ids::{AttemptId, NodeId, ObjectId, WorkerId};
-use log_entries::{Event, Refusal};
+use log_entries::{Entry, Event, Refusal};
 use std::alloc::{AllocError, Global};
 use std::rt::HostRuntime;
 use std::test::Fail;
 use task_spec::Birth;
-use values::{Content, Fault, FaultKind, RunValue, Trap};
+use values::{Fault, FaultKind, RunValue, Trap};
 
 fn object(owner: u32, serial: u64) -> ObjectId {
     ObjectId {
@@ -62,7 +62,11 @@ fn faults(alloc: Global) -> Result<Vec<Entry>, AllocError> {
         node: NodeId(1),
         object: cause,
     };
-    let printed = vec![in alloc; RunValue::Int(-3), RunValue::Id(object(1, 2))]?;
+    let items = vec![in alloc; RunValue::Int(-3), RunValue::Id(object(1, 2))]?;
+    let value = RunValue::List(items);
+    let birth = Birth::Put(RunValue::Int(6));
+    let content = SharedContent::new(alloc, values::Content::Trap(Trap::Loop))?;
+    let shared = content.copy(alloc)?;
     let log = vec![in alloc;
         Entry::Opened {
             worker: WorkerId(1),
@@ -74,21 +78,21 @@ fn faults(alloc: Global) -> Result<Vec<Entry>, AllocError> {
         Entry::Born {
             object: cause,
             attempt: attempt(1, 0),
-            birth: Birth::Put(RunValue::Int(6))
+            birth: Origin { inner: birth }
         },
-        Entry::Printed(RunValue::List(printed)),
+        Entry::Printed(Printed { inner: value }),
         begun(attempt(1, 2), 2),
         begun(attempt(1, 3), 3),
         begun(attempt(1, 4), 4),
         Entry::Ended {
             attempt: attempt(1, 4),
-            content: Content::Trap(Trap::Loop)
+            content
         },
         Entry::Accepted(attempt(1, 4)),
         Entry::Got {
             attempt: attempt(1, 3),
             object: object(1, 4),
-            content: Content::Trap(Trap::Loop)
+            content: shared
         },
         resolved(cause, FaultKind::PutLost, cause),
         faulted(attempt(1, 2), cause, FaultKind::PutLost, cause),
@@ -103,20 +107,10 @@ fn faults(alloc: Global) -> Result<Vec<Entry>, AllocError> {
     Ok(log)
 }
 
-/// A copy of each entry.
-fn copied(alloc: Global, log: &[Entry]) -> Result<Vec<Entry>, AllocError> {
-    let mut copies = Vec::new(alloc);
-    for entry in log {
-        copies.push(entry.copy(alloc)?)?;
-    }
-    Ok(copies)
-}
-
 #[test]
-fn copied_entries_give_the_whole_report(rt: HostRuntime) -> Result<(), Fail> {
+fn entries_of_each_kind_give_the_whole_report(rt: HostRuntime) -> Result<(), Fail> {
     let alloc = rt.alloc();
     let log = faults(alloc)?;
-    let log = copied(alloc, log.as_slice())?;
     let text = report_text(alloc, log.as_slice())?;
     let expected =
         "print [-3, o1.2]\nmain fault PutLost o1.1\nattempt a1.2#0 w2 faulted\nattempt a1.3#0 w3 faulted\n\

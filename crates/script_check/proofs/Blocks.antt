@@ -15,7 +15,7 @@ use Rattle.script_check.specs.Rules.{variable}
 use Rattle.script_check.specs.Trees.{kind_named, statement_of as checked_statement, statements_of as checked_statements}
 use Rattle.script_check.specs.Scopes.{typed_of, context_of}
 use Rattle.script_check.specs.Typings.{joined_steps, onto_steps}
-use Rattle.script_check.specs.Inference.{◌>>=◌, Typing, Stepped, Blocked, infer, infer_as, fresh, step_of, steps_of, block_from, else_from, let_step, returns, block_returns, else_returns}
+use Rattle.script_check.specs.Inference.{◌>>=◌, only, is_alone, Typing, Stepped, Blocked, infer, infer_as, fresh, step_of, steps_of, block_from, else_from, let_step, returns, block_returns, else_returns}
 use Rattle.script_check.specs.declared.scope.Variable.{Variable}
 use Rattle.script_check.specs.declared.tree.CheckedStatement.{CheckedStatement}
 use Rattle.script_check.proofs.Arms.{here, drop_end, both, neither}
@@ -110,6 +110,8 @@ module _ (program : parsed.Program) (function : parsed.Function) where
   step_extends (parsed.Let x e) before r h =
       let f = bind_some (fresh before x) _ r h in let i = bind_some (infer program before e) _ r f.2 in
       (variable x i.0.kind, sym (ap (λ (y : Stepped). y.after) (some_is _ _ i.2)))
+  step_extends (parsed.LetCall x others g args) before r h = absurd (cc)
+  step_extends (parsed.LetRemote x others k g args) before r h = absurd (cc)
   step_extends (parsed.Set x e) before r h =
       let k = bind_some (kind_in before x) _ r h in let i = bind_some (infer_as program before k.0 e) _ r k.2 in ends_as before _ r i.2
   step_extends (parsed.If e a) before r h =
@@ -120,7 +122,8 @@ module _ (program : parsed.Program) (function : parsed.Function) where
       let f = bind_some (fresh before x) _ r h in let c = bind_some (infer_as program before Number from) _ r f.2 in let d = bind_some (infer_as program before Number to) _ r c.2 in
       let b = bind_some (block_from program function body (before ++ variable x Number)) _ r d.2 in ends_as before _ r b.2
   step_extends (parsed.Print e) before r h = print_extends (same_name function.name main_name) before e r h
-  step_extends (parsed.Return e) before r h = let i = bind_some (infer_as program before (kind_named function.result) e) _ r h in ends_as before _ r i.2
+  step_extends (parsed.Return e others) before r h =
+      let o = bind_some (only (is_alone others)) _ r h in let i = bind_some (infer_as program before (kind_named function.result) e) _ r o.2 in ends_as before _ r i.2
 
   pub steps_extend : (ss : parsed.Block) (before : Context) (r : Blocked) → steps_of program function ss before ≡ Some r → Extends before r.after
   steps_extend parsed.no_stmt before r h = itself before r.after (sym (ap (λ (x : Blocked). x.after) (some_is _ _ h)))

@@ -47,13 +47,15 @@ module _ (program : parsed.Program) where
     mutual
       statement_apart : (s : parsed.Stmt) (before : Context) (c : Stmt) (after : Context) → StatementChecked program function s before c after → IsApart function.name c
       statement_apart (parsed.Let x e) before c after h = subst (IsApart function.name) (sym h.4) (expr_apart before e h.0 h.1 h.3)
+      statement_apart (parsed.LetCall x others g args) before c after h = absurd h
+      statement_apart (parsed.LetRemote x others k g args) before c after h = absurd h
       statement_apart (parsed.Set x e) before c after h = subst (IsApart function.name) (sym h.4) (expr_apart before e h.0 h.1 h.3)
       statement_apart (parsed.If e a) before c after h = subst (IsApart function.name) (sym h.4) (expr_apart before e h.0 Number h.2, block_apart a before h.1 h.3, tt)
       statement_apart (parsed.IfElse e a b) before c after h = subst (IsApart function.name) (sym h.6) (expr_apart before e h.0 Number h.3, block_apart a before h.1 h.4, block_apart b before h.2 h.5)
       statement_apart (parsed.For x from to body) before c after h =
           subst (IsApart function.name) (sym h.7) (expr_apart before from h.0 Number h.4, expr_apart before to h.1 Number h.5, block_apart body (before ++ variable x Number) h.2 h.6)
       statement_apart (parsed.Print e) before c after h = subst (IsApart function.name) (sym h.5) (h.2, expr_apart before e h.0 h.1 h.3)
-      statement_apart (parsed.Return e) before c after h = subst (IsApart function.name) (sym h.2) (expr_apart before e h.0 (kind_named function.result) h.1)
+      statement_apart (parsed.Return e others) before c after h = subst (IsApart function.name) (sym h.3) (expr_apart before e h.0 (kind_named function.result) h.2)
 
       block_apart : (b : parsed.Block) (before : Context) (c : Block) → BlockChecked program function b before c → BlockIsApart function.name c
       block_apart parsed.no_stmt before c h = subst (BlockIsApart function.name) (sym h) tt

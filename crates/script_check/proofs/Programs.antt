@@ -10,11 +10,11 @@ use Rattle.script_syntax.specs.Trees as parsed
 use Rattle.script_check.specs.Trees.{kind_named}
 use Rattle.script_check.specs.Rules.{function_in, variable, StatementChecked, BlockChecked, Returns, BlockReturns, ParametersChecked, FunctionChecked, FunctionsChecked, AreNamedApart, HasMain, IsCheckedOf}
 use Rattle.meaning.specs.Values.{main_name}
-use Rattle.script_check.specs.Inference.{◌>>=◌, when, same_kind, Typing, infer, infer_as, free, fresh, Stepped, Blocked, step_of, steps_of, block_from, block_alone, returns, block_returns, Declared, declared, function_from, functions_from, is_absent, are_apart, is_main_good}
+use Rattle.script_check.specs.Inference.{◌>>=◌, when, same_kind, Typing, infer, infer_as, free, fresh, Stepped, Blocked, step_of, steps_of, block_from, block_alone, returns, block_returns, Declared, declared, only, is_alone, is_single, function_from, functions_from, is_absent, are_apart, is_main_good}
 use Rattle.std.specs.Prelude.{IsTrue}
 use Rattle.script_check.specs.Refusals.{is_refusal}
 use Rattle.script_check.specs.declared.error.CheckError.{CheckError}
-use Rattle.script_check.specs.declared.error.CheckError.TheVariants.{UnknownName, WrongType, WrongCount, NoMain, PrintOutsideMain, MissingReturn, BadRetries, Duplicate, NoMemory}
+use Rattle.script_check.specs.declared.error.CheckError.TheVariants.{UnknownName, WrongType, WrongCount, NoMain, PrintOutsideMain, MissingReturn, BadRetries, Duplicate, WrongReturns, NoMemory}
 use Rattle.script_check.proofs.Binds.{bind_some, some_is, when_some}
 use Rattle.script_check.proofs.Arms.{both}
 use Rattle.script_check.proofs.Sound.{is_sound, is_sound_as, same_kind_is, eq_from}
@@ -47,12 +47,14 @@ or_second false b h = h
 mutual
   returns_from : (s : parsed.Stmt) → returns s ≡ true → Returns s
   returns_from (parsed.Let x e) h = absurd (cc)
+  returns_from (parsed.LetCall x others g args) h = absurd (cc)
+  returns_from (parsed.LetRemote x others k g args) h = absurd (cc)
   returns_from (parsed.Set x e) h = absurd (cc)
   returns_from (parsed.If e a) h = absurd (cc)
   returns_from (parsed.IfElse e a b) h = let w = and_true (block_returns a) (block_returns b) h in (block_returns_from a w.0, block_returns_from b w.1)
   returns_from (parsed.For x from to body) h = absurd (cc)
   returns_from (parsed.Print e) h = absurd (cc)
-  returns_from (parsed.Return e) h = tt
+  returns_from (parsed.Return e others) h = tt
 
   block_returns_from : (b : parsed.Block) → block_returns b ≡ true → BlockReturns b
   block_returns_from parsed.no_stmt h = absurd (cc)
@@ -62,17 +64,31 @@ mutual
 mutual
   returns_to : (s : parsed.Stmt) → Returns s → returns s ≡ true
   returns_to (parsed.Let x e) h = absurd h
+  returns_to (parsed.LetCall x others g args) h = absurd h
+  returns_to (parsed.LetRemote x others k g args) h = absurd h
   returns_to (parsed.Set x e) h = absurd h
   returns_to (parsed.If e a) h = absurd h
   returns_to (parsed.IfElse e a b) h = both_true (block_returns a) (block_returns b) (block_returns_to a h.0) (block_returns_to b h.1)
   returns_to (parsed.For x from to body) h = absurd h
   returns_to (parsed.Print e) h = absurd h
-  returns_to (parsed.Return e) h = refl
+  returns_to (parsed.Return e others) h = refl
 
   block_returns_to : (b : parsed.Block) → BlockReturns b → block_returns b ≡ true
   block_returns_to parsed.no_stmt h = absurd h
   block_returns_to (parsed.stmt s rest) (inl h) = ap (λ x. x || block_returns rest) (returns_to s h)
   block_returns_to (parsed.stmt s rest) (inr h) = or_second (returns s) (block_returns rest) (block_returns_to rest h)
+
+only_true : (b : Bool) (x : Unit) → only b ≡ Some x → b ≡ true
+only_true true x h = refl
+only_true false x h = absurd (cc)
+
+alone_from : (es : parsed.Exprs) → is_alone es ≡ true → es ≡ parsed.no_expr
+alone_from parsed.no_expr h = refl
+alone_from (parsed.also e es) h = absurd (cc)
+
+single_from : (ts : List parsed.Kind) → is_single ts ≡ true → ts ≡ []
+single_from [] h = refl
+single_from (t ∷ ts) h = absurd (cc)
 
 abbrev stepped : Stmt → Context → Stepped
 stepped s after = record { stmt = s; after = after }
@@ -103,6 +119,8 @@ module _ (program : parsed.Program) (function : parsed.Function) where
     step_sound (parsed.Let x e) before r h =
         let f = bind_some (fresh before x) _ r h in let i = bind_some (infer program before e) _ r f.2 in
         (i.0.expr, i.0.kind, free_from (kind_in before x) f.1, is_sound program before e i.0 i.1, stmt_eq _ r i.2, after_eq _ r i.2)
+    step_sound (parsed.LetCall x others g args) before r h = absurd (cc)
+    step_sound (parsed.LetRemote x others k g args) before r h = absurd (cc)
     step_sound (parsed.Set x e) before r h =
         let k = bind_some (kind_in before x) _ r h in let i = bind_some (infer_as program before k.0 e) _ r k.2 in
         (i.0, k.0, k.1, is_sound_as program before k.0 e i.0 i.1, stmt_eq _ r i.2, after_eq _ r i.2)
@@ -119,8 +137,9 @@ module _ (program : parsed.Program) (function : parsed.Function) where
         let b = bind_some (block_from program function body (before ++ variable x Number)) _ r d.2 in let y = bind_some (steps_of program function body (before ++ variable x Number)) block_alone b.0 b.1 in
         (c.0, d.0, b.0, free_from (kind_in before x) f.1, is_sound_as program before Number from c.0 c.1, is_sound_as program before Number to d.0 d.1, subst (λ z. BlockChecked program function body (before ++ variable x Number) z) (some_is _ _ y.2) (steps_sound body (before ++ variable x Number) y.0 y.1), stmt_eq _ r b.2, after_eq _ r b.2)
     step_sound (parsed.Print e) before r h = print_sound before e r h
-    step_sound (parsed.Return e) before r h =
-        let i = bind_some (infer_as program before (kind_named function.result) e) _ r h in (i.0, is_sound_as program before (kind_named function.result) e i.0 i.1, stmt_eq _ r i.2, after_eq _ r i.2)
+    step_sound (parsed.Return e others) before r h =
+        let o = bind_some (only (is_alone others)) _ r h in
+        let i = bind_some (infer_as program before (kind_named function.result) e) _ r o.2 in (i.0, alone_from others (only_true (is_alone others) o.0 o.1), is_sound_as program before (kind_named function.result) e i.0 i.1, stmt_eq _ r i.2, after_eq _ r i.2)
 
     steps_sound : (b : parsed.Block) (before : Context) (r : Blocked) → steps_of program function b before ≡ Some r → BlockChecked program function b before r.block
     steps_sound parsed.no_stmt before r h = sym (ap (λ (x : Blocked). x.block) (some_is _ r h))
@@ -138,6 +157,8 @@ module _ (program : parsed.Program) (function : parsed.Function) where
     step_complete : (s : parsed.Stmt) (before : Context) (c : Stmt) (after : Context) → StatementChecked program function s before c after → step_of program function s before ≡ Some (record { stmt = c; after = after })
     step_complete (parsed.Let x e) before c after h =
         both (fresh before x) tt _ _ (free_to (kind_in before x) h.2) (both (infer program before e) (record { expr = h.0; kind = h.1 }) _ _ (is_complete program before e h.0 h.1 h.3) (stepped_is _ _ c after h.4 h.5))
+    step_complete (parsed.LetCall x others g args) before c after h = absurd h
+    step_complete (parsed.LetRemote x others k g args) before c after h = absurd h
     step_complete (parsed.Set x e) before c after h =
         both (kind_in before x) h.1 _ _ h.2 (both (infer_as program before h.1 e) h.0 _ _ (is_complete_as program before e h.0 h.1 h.3) (stepped_is _ _ c after h.4 h.5))
     step_complete (parsed.If e a) before c after h =
@@ -152,8 +173,9 @@ module _ (program : parsed.Program) (function : parsed.Function) where
         let i = is_complete program before e h.0 h.1 h.3 in
         ap (λ b. if b then (infer program before e >>= λ y. if has_reference y.kind then None else Some (stepped (syntax.Print y.expr) before)) else None) (ap (λ n. same_name n main_name) h.2 ∙ same_name-refl main_name)
         ∙ both (infer program before e) (record { expr = h.0; kind = h.1 }) _ _ i (ap (λ b. if b then None else Some (stepped (syntax.Print h.0) before)) h.4 ∙ stepped_is _ _ c after h.5 h.6)
-    step_complete (parsed.Return e) before c after h =
-        both (infer_as program before (kind_named function.result) e) h.0 _ _ (is_complete_as program before e h.0 (kind_named function.result) h.1) (stepped_is _ _ c after h.2 h.3)
+    step_complete (parsed.Return e others) before c after h =
+        both (only (is_alone others)) tt _ _ (ap (λ es. only (is_alone es)) h.1)
+        (both (infer_as program before (kind_named function.result) e) h.0 _ _ (is_complete_as program before e h.0 (kind_named function.result) h.2) (stepped_is _ _ c after h.3 h.4))
 
     steps_complete : (b : parsed.Block) (before : Context) (c : Block) → BlockChecked program function b before c → Ends b before c
     steps_complete parsed.no_stmt before c h = (before, ap (λ x. Some (record { block = x; after = before })) (sym h))
@@ -176,10 +198,12 @@ declared_complete (p ∷ ps) before qs after h =
 
 function_sound : (program : parsed.Program) (f : parsed.Function) (g : Function) → function_from program f ≡ Some g → FunctionChecked program f g
 function_sound program f g h =
-    let d = bind_some (declared f.parameters []) _ g h in let b = bind_some (block_from program f f.body d.0.context) _ g d.2 in let w = when_some (block_returns f.body) _ g b.2 in
+    let o = bind_some (only (is_single f.others)) _ g h in
+    let d = bind_some (declared f.parameters []) _ g o.2 in let b = bind_some (block_from program f f.body d.0.context) _ g d.2 in let w = when_some (block_returns f.body) _ g b.2 in
     let y = bind_some (steps_of program f f.body d.0.context) block_alone b.0 b.1 in
     record {
       context = d.0.context;
+      single = single_from f.others (only_true (is_single f.others) o.0 o.1);
       name = sym (ap (λ (x : Function). x.name) w.1);
       parameters = subst (λ qs. ParametersChecked f.parameters [] qs d.0.context) (ap (λ (x : Function). x.parameters) w.1) (declared_sound f.parameters [] d.0 d.1);
       result = sym (ap (λ (x : Function). x.result) w.1);
@@ -189,10 +213,10 @@ function_sound program f g h =
 
 function_complete : (program : parsed.Program) (f : parsed.Function) (g : Function) → FunctionChecked program f g → function_from program f ≡ Some g
 function_complete program f g h =
-    both (declared f.parameters []) (record { parameters = g.parameters; context = h.context }) _ _ (declared_complete f.parameters [] g.parameters h.context h.parameters)
+    both (only (is_single f.others)) tt _ _ (ap (λ ts. only (is_single ts)) h.single) (both (declared f.parameters []) (record { parameters = g.parameters; context = h.context }) _ _ (declared_complete f.parameters [] g.parameters h.context h.parameters)
     (both (block_from program f f.body h.context) g.body _ _ (alone program f f.body h.context g.body (steps_complete program f f.body h.context g.body h.body))
     (ap (λ b. when b (record { name = f.name; parameters = g.parameters; result = kind_named f.result; body = g.body })) (block_returns_to f.body h.returns)
-    ∙ ap (λ n. Some (record { name = n; parameters = g.parameters; result = kind_named f.result; body = g.body })) (sym h.name) ∙ ap (λ k. Some (record { name = g.name; parameters = g.parameters; result = k; body = g.body })) (sym h.result)))
+    ∙ ap (λ n. Some (record { name = n; parameters = g.parameters; result = kind_named f.result; body = g.body })) (sym h.name) ∙ ap (λ k. Some (record { name = g.name; parameters = g.parameters; result = k; body = g.body })) (sym h.result))))
 
 functions_sound : (program fs : parsed.Program) (script : Script) → functions_from program fs ≡ Some script → FunctionsChecked program fs script
 functions_sound program [] script h = sym (some_is _ script h)
@@ -232,11 +256,15 @@ main_sound program h = go (function_in program main_name) refl h
   where
     go : (o : Option parsed.Function) → function_in program main_name ≡ o → is_main_good o ≡ true → HasMain program
     go None e k = absurd (cc)
-    go (Some f) e k = let w = and_true (nat_eq (length f.parameters) 0) (same_kind (kind_named f.result) Number) k in (f, e, none_left f.parameters (eq_from (length f.parameters) 0 w.0), int_is f.result (same_kind_is (kind_named f.result) Number w.1))
+    go (Some f) e k =
+        let v = and_true (nat_eq (length f.parameters) 0 && same_kind (kind_named f.result) Number) (is_single f.others) k in
+        let w = and_true (nat_eq (length f.parameters) 0) (same_kind (kind_named f.result) Number) v.0 in
+        (f, e, none_left f.parameters (eq_from (length f.parameters) 0 w.0), int_is f.result (same_kind_is (kind_named f.result) Number w.1), single_from f.others v.1)
 
 main_complete : (program : parsed.Program) → HasMain program → is_main_good (function_in program main_name) ≡ true
 main_complete program h =
-    ap is_main_good h.1 ∙ both_true (nat_eq (length h.0.parameters) 0) (same_kind (kind_named h.0.result) Number) (ap (λ ps. nat_eq (length ps) 0) h.2) (ap (λ t. same_kind (kind_named t) Number) h.3)
+    ap is_main_good h.1
+    ∙ both_true (nat_eq (length h.0.parameters) 0 && same_kind (kind_named h.0.result) Number) (is_single h.0.others) (both_true (nat_eq (length h.0.parameters) 0) (same_kind (kind_named h.0.result) Number) (ap (λ ps. nat_eq (length ps) 0) h.2) (ap (λ t. same_kind (kind_named t) Number) h.3)) (ap is_single h.4)
 
 pub program_sound : (program : parsed.Program) (script : Script) → are_apart [] program ≡ true → is_main_good (function_in program main_name) ≡ true → functions_from program program ≡ Some script → IsCheckedOf program script
 program_sound program script a m f = record { apart = apart_sound [] program a; main = main_sound program m; functions = functions_sound program program script f }
@@ -263,4 +291,5 @@ memory_only (PrintOutsideMain s) h = absurd (h refl)
 memory_only (MissingReturn s) h = absurd (h refl)
 memory_only (BadRetries s) h = absurd (h refl)
 memory_only (Duplicate s) h = absurd (h refl)
+memory_only (WrongReturns s) h = absurd (h refl)
 memory_only NoMemory h = refl

@@ -88,12 +88,14 @@ module _ (program : parsed.Program) (script : Script) (finds : Finds program scr
     mutual
       statement_safe : (s : parsed.Stmt) (before : Context) (c : Stmt) (after : Context) → StatementChecked program function s before c after → StmtChecks c script result before after
       statement_safe (parsed.Let x e) before c after h = subst (λ z. StmtChecks z script result before after) (sym h.4) (h.1, expr_safe before e h.0 h.1 h.3, h.5)
+      statement_safe (parsed.LetCall x others g args) before c after h = absurd h
+      statement_safe (parsed.LetRemote x others k g args) before c after h = absurd h
       statement_safe (parsed.Set x e) before c after h = subst (λ z. StmtChecks z script result before after) (sym h.4) (h.1, h.2, expr_safe before e h.0 h.1 h.3, h.5)
       statement_safe (parsed.If e a) before c after h = subst (λ z. StmtChecks z script result before after) (sym h.4) (expr_safe before e h.0 Number h.2, block_safe a before h.1 h.3, tt, h.5)
       statement_safe (parsed.IfElse e a b) before c after h = subst (λ z. StmtChecks z script result before after) (sym h.6) (expr_safe before e h.0 Number h.3, block_safe a before h.1 h.4, block_safe b before h.2 h.5, h.7)
       statement_safe (parsed.For x from to body) before c after h = subst (λ z. StmtChecks z script result before after) (sym h.7) (expr_safe before from h.0 Number h.4, expr_safe before to h.1 Number h.5, block_safe body (before ++ variable x Number) h.2 h.6, h.8)
       statement_safe (parsed.Print e) before c after h = subst (λ z. StmtChecks z script result before after) (sym h.5) (h.1, expr_safe before e h.0 h.1 h.3, h.4, h.6)
-      statement_safe (parsed.Return e) before c after h = subst (λ z. StmtChecks z script result before after) (sym h.2) (expr_safe before e h.0 result h.1, h.3)
+      statement_safe (parsed.Return e others) before c after h = subst (λ z. StmtChecks z script result before after) (sym h.3) (expr_safe before e h.0 result h.2, h.4)
 
       block_safe : (b : parsed.Block) (before : Context) (c : Block) → BlockChecked program function b before c → BlockChecks c script result before
       block_safe parsed.no_stmt before c h = subst (λ z. BlockChecks z script result before) (sym h) tt
@@ -102,12 +104,14 @@ module _ (program : parsed.Program) (script : Script) (finds : Finds program scr
     mutual
       statement_returns : (s : parsed.Stmt) (before : Context) (c : Stmt) (after : Context) → StatementChecked program function s before c after → Returns s → ReturnsChecked c
       statement_returns (parsed.Let x e) before c after h r = absurd r
+      statement_returns (parsed.LetCall x others g args) before c after h r = absurd r
+      statement_returns (parsed.LetRemote x others k g args) before c after h r = absurd r
       statement_returns (parsed.Set x e) before c after h r = absurd r
       statement_returns (parsed.If e a) before c after h r = absurd r
       statement_returns (parsed.IfElse e a b) before c after h r = subst ReturnsChecked (sym h.6) (block_returning a before h.1 h.4 r.0, block_returning b before h.2 h.5 r.1)
       statement_returns (parsed.For x from to body) before c after h r = absurd r
       statement_returns (parsed.Print e) before c after h r = absurd r
-      statement_returns (parsed.Return e) before c after h r = subst ReturnsChecked (sym h.2) tt
+      statement_returns (parsed.Return e others) before c after h r = subst ReturnsChecked (sym h.3) tt
 
       block_returning : (b : parsed.Block) (before : Context) (c : Block) → BlockChecked program function b before c → BlockReturns b → BlockReturnsChecked c
       block_returning parsed.no_stmt before c h r = absurd r

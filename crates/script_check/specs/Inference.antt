@@ -177,8 +177,18 @@ abbrev pub print_step : parsed.Program → Name → Context → parsed.Expr → 
 print_step program self before e = if same_name self main_name then (infer program before e >>= λ c. if has_reference c.kind then None
     else Some (record { stmt = syntax.Print c.expr; after = before })) else None
 
-abbrev pub return_step : parsed.Program → Kind → Context → parsed.Expr → Option Stepped
-return_step program result before e = infer program before e >>= of_kind result >>= λ c. Some (record { stmt = syntax.Return c; after = before })
+abbrev pub only : Bool → Option Unit
+only true = Some tt
+only false = None
+
+-- no value is there beside the first
+abbrev pub is_alone : parsed.Exprs → Bool
+is_alone parsed.no_expr = true
+is_alone (parsed.also e es) = false
+
+abbrev pub return_step : parsed.Program → Kind → Context → parsed.Expr → parsed.Exprs → Option Stepped
+return_step program result before e others = only (is_alone others) >>= λ _. infer program before e >>= of_kind result
+    >>= λ c. Some (record { stmt = syntax.Return c; after = before })
 
 abbrev pub block_alone : Blocked → Option Block
 block_alone x = Some x.block
@@ -187,6 +197,8 @@ module _ (program : parsed.Program) (function : parsed.Function) where
   abbrev mutual
     pub step_of : parsed.Stmt → Context → Option Stepped
     step_of (parsed.Let x e) before = let_step program before x e
+    step_of (parsed.LetCall x others g args) before = None
+    step_of (parsed.LetRemote x others r g args) before = None
     step_of (parsed.Set x e) before = set_step program before x e
     step_of (parsed.If e a) before = infer program before e >>= of_kind Number >>= λ c. steps_of a before >>= block_alone
         >>= λ x. Some (record { stmt = syntax.If c x done; after = before })
@@ -196,7 +208,7 @@ module _ (program : parsed.Program) (function : parsed.Function) where
         >>= of_kind Number >>= λ d. steps_of body (before ++ variable x Number) >>= block_alone
         >>= λ b. Some (record { stmt = syntax.For x c d b; after = before })
     step_of (parsed.Print e) before = print_step program function.name before e
-    step_of (parsed.Return e) before = return_step program (kind_named function.result) before e
+    step_of (parsed.Return e others) before = return_step program (kind_named function.result) before e others
 
     pub steps_of : parsed.Block → Context → Option Blocked
     steps_of parsed.no_stmt before = Some (record { block = done; after = before })
@@ -214,7 +226,7 @@ module _ (program : parsed.Program) (function : parsed.Function) where
 
 abbrev mutual
   pub returns : parsed.Stmt → Bool
-  returns (parsed.Return e) = true
+  returns (parsed.Return e others) = true
   returns (parsed.IfElse e a b) = block_returns a && block_returns b
   returns _ = false
 
@@ -235,9 +247,14 @@ declared [] before = Some (record { parameters = []; context = before })
 declared (p ∷ ps) before = fresh before p.name >>= λ _. declared ps (before
     ++ variable p.name (kind_named p.kind)) >>= λ d. Some (record { parameters = parameter_named p ∷ d.parameters; context = d.context })
 
+-- no result is there beside the first
+abbrev pub is_single : List parsed.Kind → Bool
+is_single [] = true
+is_single (t ∷ ts) = false
+
 abbrev pub function_from : parsed.Program → parsed.Function → Option Function
 function_from program f =
-    declared f.parameters [] >>= λ d. block_from program f f.body d.context >>= λ b.
+    only (is_single f.others) >>= λ _. declared f.parameters [] >>= λ d. block_from program f f.body d.context >>= λ b.
     when (block_returns f.body) (record { name = f.name; parameters = d.parameters; result = kind_named f.result; body = b })
 
 abbrev pub functions_from : parsed.Program → List parsed.Function → Option Script
@@ -254,7 +271,7 @@ are_apart before (f ∷ fs) = is_absent (function_in before f.name) && are_apart
 
 abbrev pub is_main_good : Option parsed.Function → Bool
 is_main_good None = false
-is_main_good (Some f) = nat_eq (length f.parameters) 0 && same_kind (kind_named f.result) Number
+is_main_good (Some f) = nat_eq (length f.parameters) 0 && same_kind (kind_named f.result) Number && is_single f.others
 
 abbrev pub script_from : parsed.Program → Option Script
 script_from program = if are_apart [] program && is_main_good (function_in program main_name) then functions_from program program else None

@@ -11,6 +11,7 @@ use Rattle.script_check.specs.declared.error.CheckError.TheVariants.{
   MissingReturn,
   BadRetries,
   Duplicate,
+  WrongReturns,
   NoMemory,
 }
 
@@ -23,6 +24,7 @@ number_of (PrintOutsideMain s) = 14
 number_of (MissingReturn s) = 15
 number_of (BadRetries s) = 16
 number_of (Duplicate s) = 17
+number_of (WrongReturns s) = 18
 number_of NoMemory = 39
 
 abbrev pub span_of : CheckError → Option Span
@@ -34,6 +36,7 @@ span_of (PrintOutsideMain s) = Some s
 span_of (MissingReturn s) = Some s
 span_of (BadRetries s) = Some s
 span_of (Duplicate s) = Some s
+span_of (WrongReturns s) = Some s
 span_of NoMemory = None
 
 -- all but want of memory

@@ -115,6 +115,9 @@ module _ (program : parsed.Program) (function : parsed.Function) where
     pub StatementChecked : parsed.Stmt → Context → Stmt → Context → Type 0
     StatementChecked (parsed.Let x e) before s after = (c : Expr) × (t : Kind) × (kind_in before x ≡ None) × IsChecked program before e c t
         × (s ≡ syntax.Let x c) × (after ≡ before ++ variable x t)
+    -- nothing of several results is allowed yet
+    StatementChecked (parsed.LetCall x others g args) before s after = ⊥
+    StatementChecked (parsed.LetRemote x others r g args) before s after = ⊥
     StatementChecked (parsed.Set x e) before s after = (c : Expr) × (t : Kind) × (kind_in before x ≡ Some t) × IsChecked program before e c t
         × (s ≡ syntax.Set x c) × (after ≡ before)
     StatementChecked (parsed.If e a) before s after = (c : Expr) × (x : Block) × IsChecked program before e c Number × BlockChecked a before x
@@ -126,8 +129,8 @@ module _ (program : parsed.Program) (function : parsed.Function) where
         × (s ≡ syntax.For x c d b) × (after ≡ before)
     StatementChecked (parsed.Print e) before s after = (c : Expr) × (t : Kind) × (function.name ≡ main_name) × IsChecked program before e c t
         × (has_reference t ≡ false) × (s ≡ syntax.Print c) × (after ≡ before)
-    StatementChecked (parsed.Return e) before s after = (c : Expr) × IsChecked program before e c (kind_named function.result) × (s ≡ syntax.Return c)
-        × (after ≡ before)
+    StatementChecked (parsed.Return e others) before s after = (c : Expr) × (others ≡ parsed.no_expr)
+        × IsChecked program before e c (kind_named function.result) × (s ≡ syntax.Return c) × (after ≡ before)
 
     -- its statements in order, each in the scope that the one before leaves
     pub BlockChecked : parsed.Block → Context → Block → Type 0
@@ -138,7 +141,7 @@ module _ (program : parsed.Program) (function : parsed.Function) where
 abbrev mutual
   -- no way through it passes by without a return
   pub Returns : parsed.Stmt → Type 0
-  Returns (parsed.Return e) = Unit {0}
+  Returns (parsed.Return e others) = Unit {0}
   Returns (parsed.IfElse e a b) = BlockReturns a × BlockReturns b
   Returns _ = ⊥
 
@@ -161,6 +164,7 @@ ParametersChecked (p ∷ rest) before ps after = (qs : List Parameter) × (kind_
 -- the function of the program is allowed, and becomes f
 pub record FunctionChecked (program : parsed.Program) (function : parsed.Function) (f : Function) : Type 0 where
   pub context : Context
+  pub single : function.others ≡ []
   pub name : f.name ≡ function.name
   pub parameters : ParametersChecked function.parameters [] f.parameters context
   pub result : f.result ≡ kind_named function.result
@@ -177,9 +181,9 @@ abbrev pub AreNamedApart : parsed.Program → parsed.Program → Type 0
 AreNamedApart before [] = Unit {0}
 AreNamedApart before (f ∷ fs) = (function_in before f.name ≡ None) × AreNamedApart (before ++ f ∷ []) fs
 
--- main is there, has no parameters and is of type int
+-- main is there, has no parameters and is of type int, with no other result
 abbrev pub HasMain : parsed.Program → Type 0
-HasMain program = (f : parsed.Function) × (function_in program main_name ≡ Some f) × (f.parameters ≡ []) × (f.result ≡ parsed.IntType)
+HasMain program = (f : parsed.Function) × (function_in program main_name ≡ Some f) × (f.parameters ≡ []) × (f.result ≡ parsed.IntType) × (f.others ≡ [])
 
 -- the program is allowed, and becomes the script
 pub record IsCheckedOf (program : parsed.Program) (script : Script) : Type 0 where

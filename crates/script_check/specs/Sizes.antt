@@ -18,6 +18,8 @@ use Rattle.script_syntax.specs.Trees.{
   also,
   Stmt,
   Let,
+  LetCall,
+  LetRemote,
   Set,
   If,
   IfElse,
@@ -50,12 +52,14 @@ abbrev mutual
 abbrev mutual
   pub stmt_size : Stmt → ℕ
   stmt_size (Let x e) = 6
+  stmt_size (LetCall x others g args) = 6
+  stmt_size (LetRemote x others r g args) = 6
   stmt_size (Set x e) = 6
   stmt_size (If e a) = block_size a + 6
   stmt_size (IfElse e a b) = block_size a + block_size b + 6
   stmt_size (For x from to body) = block_size body + 6
   stmt_size (Print e) = 6
-  stmt_size (Return e) = 6
+  stmt_size (Return e others) = 6
 
   pub block_size : Block → ℕ
   block_size no_stmt = 0

@@ -35,13 +35,17 @@ pub enum CheckError {
     /// 17: a name that is in scope already.
     #[error("refused 17 at {}..{}: a name that is in scope already", .0.start, .0.end)]
     Duplicate(Span),
+    /// 18: a wrong number of results. Functions of several results are read and printed, and not run yet: each is refused, at its name, and
+    /// so are a return of several values, at `return`, and a `let` of several names, at the called function's name.
+    #[error("refused 18 at {}..{}: a wrong number of results", .0.start, .0.end)]
+    WrongReturns(Span),
     /// 39: want of memory.
     #[error("refused 39: want of memory")]
     NoMemory,
 }
 
 impl CheckError {
-    /// The refusal's number: 10 to 17, or 39 for want of memory.
+    /// The refusal's number: 10 to 18, or 39 for want of memory.
     pub fn number(self) -> u16
         ensures { result ≡ number_of self }
     {
@@ -54,6 +58,7 @@ impl CheckError {
             CheckError::MissingReturn(_) => 15,
             CheckError::BadRetries(_) => 16,
             CheckError::Duplicate(_) => 17,
+            CheckError::WrongReturns(_) => 18,
             CheckError::NoMemory => 39,
         }
     }
@@ -70,7 +75,8 @@ impl CheckError {
             | CheckError::PrintOutsideMain(span)
             | CheckError::MissingReturn(span)
             | CheckError::BadRetries(span)
-            | CheckError::Duplicate(span) => Some(span),
+            | CheckError::Duplicate(span)
+            | CheckError::WrongReturns(span) => Some(span),
             CheckError::NoMain => Some(Span { start: 0, end: 0 }),
             CheckError::NoMemory => None,
         }

@@ -1,13 +1,13 @@
 // The checking of functions.
 
 ghost use Rattle.std.specs.Prelude.{◌≡◌, ◌++◌, IfOk, IfErr, IsTrue, None, Some, true, false, [], map};
-ghost use Rattle.script_syntax.specs.Views.{program_of, parameter_of as parsed_parameter, function_of as parsed_function};
+ghost use Rattle.script_syntax.specs.Views.{program_of, type_of, parameter_of as parsed_parameter, function_of as parsed_function};
 ghost use Rattle.script_check.specs.Refusals.{is_refusal};
 ghost use Rattle.script_check.specs.Trees.{parameter_of, function_of, script_of};
 ghost use Rattle.script_check.specs.Scopes.{context_of};
 ghost use Rattle.script_check.specs.Rules.{function_in};
 ghost use Rattle.meaning.specs.Values.{main_name};
-ghost use Rattle.script_check.specs.Inference.{declared, function_from, functions_from, are_apart, is_main_good};
+ghost use Rattle.script_check.specs.Inference.{declared, is_single, function_from, functions_from, are_apart, is_main_good};
 
 use crate::error::CheckError;
 use crate::scope::{Variable, check_fresh, declare, find};
@@ -39,6 +39,16 @@ fn check_parameters(
     Ok(checked)
 }
 
+/// No result is there beside the first.
+fn is_single(others: &[ValueType]) -> bool
+    ensures { result ≡ is_single (map type_of others.now) }
+{
+    let [_first, _others @ ..] = others else {
+        return true;
+    };
+    false
+}
+
 /// A function.
 fn check_function(
     alloc: Global,
@@ -48,6 +58,9 @@ fn check_function(
     ensures value { IfOk result (λ f. function_from (program_of functions.now) (parsed_function function.now) ≡ Some (function_of f)) }
     ensures refused { IfErr result (λ e. IsTrue (is_refusal e) → function_from (program_of functions.now) (parsed_function function.now) ≡ None) }
 {
+    if !is_single(&function.others) {
+        return Err(CheckError::WrongReturns(function.name.span));
+    }
     let mut scope = Vec::new(alloc);
     let parameters = check_parameters(alloc, &mut scope, &function.parameters)?;
     let statements = &function.body.statements;
@@ -94,7 +107,7 @@ pub(crate) fn check_names(functions: &[Function]) -> Result<(), CheckError>
     Ok(())
 }
 
-/// That main is there, has no parameters and is of type int.
+/// That main is there, has no parameters and is of type int, with no other result.
 pub(crate) fn check_main(functions: &[Function]) -> Result<(), CheckError>
     ensures value { IfOk result (λ _. is_main_good (function_in (program_of functions.now) main_name) ≡ true) }
     ensures refused { IfErr result (λ e. is_main_good (function_in (program_of functions.now) main_name) ≡ false) }
@@ -106,6 +119,9 @@ pub(crate) fn check_main(functions: &[Function]) -> Result<(), CheckError>
         return Err(CheckError::NoMain);
     };
     if main.parameters.len() != 0 {
+        return Err(CheckError::NoMain);
+    }
+    if !is_single(&main.others) {
         return Err(CheckError::NoMain);
     }
     Ok(())

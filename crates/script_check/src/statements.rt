@@ -5,6 +5,7 @@ ghost use Rattle.meaning.specs.Syntax.{Number as ANumber};
 ghost use Rattle.script_syntax.specs.Views.{
   program_of,
   tree_of,
+  trees_of,
   type_of,
   statement_of as parsed_statement,
   statements_of as parsed_statements,
@@ -18,6 +19,7 @@ ghost use Rattle.script_check.specs.Inference.{
   let_step,
   set_step,
   print_step,
+  is_alone,
   return_step,
   step_of,
   steps_of,
@@ -101,19 +103,36 @@ fn check_print(
     Ok(CheckedStatement::Print(typing.expr))
 }
 
+/// No value is there beside the first.
+fn is_alone(others: &[Expr]) -> bool
+    ensures { result ≡ is_alone (trees_of others.now) }
+{
+    let [_first, _others @ ..] = others else {
+        return true;
+    };
+    false
+}
+
 /// A return, of the function's type.
 fn check_return(
     alloc: Global,
     functions: &[Function],
     function: &Function,
     scope: &[Variable],
+    span: Span,
     expr: &Expr,
+    others: &[Expr],
 ) -> Result<CheckedStatement, CheckError>
-    ensures value { IfOk result (λ s. return_step (program_of functions.now) (kind_of function.now.result) (context_of scope.now) (tree_of expr.now)
+    ensures value { IfOk result (λ s.
+        return_step (program_of functions.now) (kind_of function.now.result) (context_of scope.now) (tree_of expr.now) (trees_of others.now)
         ≡ Some (record { stmt = statement_of s; after = context_of scope.now })) }
     ensures refused { IfErr result (λ e. IsTrue (is_refusal e) →
-        return_step (program_of functions.now) (kind_of function.now.result) (context_of scope.now) (tree_of expr.now) ≡ None) }
+        return_step (program_of functions.now) (kind_of function.now.result) (context_of scope.now) (tree_of expr.now) (trees_of others.now)
+        ≡ None) }
 {
+    if !is_alone(others) {
+        return Err(CheckError::WrongReturns(span));
+    }
     let typing = check_expr(alloc, functions, scope, expr)?;
     let value = typing.of_kind(&function.result, expr.span)?;
     Ok(CheckedStatement::Return(value))
@@ -136,6 +155,8 @@ fn check_statement(
 {
     match statement {
         Statement::Let(name, expr) => check_let(alloc, functions, scope, name, expr),
+        Statement::LetCall(_, _, called, _) => Err(CheckError::WrongReturns(called.span)),
+        Statement::LetRemote(_, _, _, called, _) => Err(CheckError::WrongReturns(called.span)),
         Statement::Set(name, expr) => check_set(alloc, functions, scope, name, expr),
         Statement::If(condition, first, second) => {
             let condition = check_number(alloc, functions, scope, condition)?;
@@ -153,7 +174,9 @@ fn check_statement(
         Statement::Print(span, expr) => {
             check_print(alloc, functions, function, scope, *span, expr)
         }
-        Statement::Return(expr) => check_return(alloc, functions, function, scope, expr),
+        Statement::Return(span, expr, others) => {
+            check_return(alloc, functions, function, scope, *span, expr, others)
+        }
     }
 }
 
@@ -258,7 +281,7 @@ fn returns(statement: &Statement) -> bool
     ensures { result ≡ returns (parsed_statement statement.now) }
 {
     match statement {
-        Statement::Return(_) => true,
+        Statement::Return(_, _, _) => true,
         Statement::If(_, first, second) => {
             if !block_returns(&first.statements) {
                 return false;

@@ -8,7 +8,7 @@ use Rattle.meaning.specs.Meaning.{run_birth, replay}
 use Rattle.meaning.specs.Births.{Bearing, numbered}
 use Rattle.meaning.specs.Ids.{ValueIn, ItemsIn, OutcomeIn, ArgumentsIn, BirthIn, OutcomesIn, ValuesIn, StopIn, ObjectsIn, StandsIn, StandsAmong, StandsInOutcome, StandsInArguments, StandsInBirth, StandsInOutcomes, IsObjectOf}
 use Rattle.meaning.specs.Law.{IsGiven, GivesOnlyGiven, LawOfIds}
-use Rattle.script_laws.proofs.Ids.{Keeps, births_keep}
+use Rattle.script_laws.proofs.Ids.{Keeps, needs_in, births_keep}
 
 none_longer : {X : Type 0} (xs : List X) (x : X) → IsFirst (xs ++ x ∷ []) [] → ⊥
 none_longer [] x h = h
@@ -31,7 +31,7 @@ module _ (P : Id → Type 0) where
   stop_by_piece (Ends c) base answers k h o = (k, tt)
   stop_by_piece (Prints v next) base answers k h o = let r = stop_by_piece next base answers k.1 h o in (r.0, (k.0, r.1))
   stop_by_piece (Bears b m next) base answers k h o = stop_by_piece (next (Named base)) (next_id base) answers (k.1 (Named base) o.0) h o.1
-  stop_by_piece (Gets t r next) base [] k h o = (k.0, tt)
+  stop_by_piece (Gets t r next) base [] k h o = (needs_in P r k.0, tt)
   stop_by_piece (Gets t r next) base (Val v ∷ answers) k h o = stop_by_piece (next v) base answers (k.1 v h.0) h.1 o
   stop_by_piece (Gets t r next) base (Trapped e ∷ answers) k h o = (tt, tt)
 

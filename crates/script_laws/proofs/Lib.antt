@@ -1,6 +1,7 @@
 pub mod Replay
 pub mod Safety
 pub mod KeptKinds
+pub mod Keeping
 pub mod Ids
 pub mod Mains
 pub mod Given

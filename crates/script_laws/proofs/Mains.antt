@@ -2,12 +2,13 @@
 use Rattle.std.proofs.Common.{◌≡◌, ℕ, zero, suc, ◌-◌, Bool, true, false, List, [], ◌∷◌, Some, refl, sym, ◌∙◌}
 use Rattle.std.specs.Prelude.{ℤ, pos, nat_lt, if◌then◌else◌, ◌+ℤ◌, ◌-ℤ◌}
 use Rattle.std.specs.List.{AllByRecursion}
-use Rattle.meaning.specs.Values.{Name, Loop, Value, Int, Items, Named, Known, Outcome, Val, Trapped, Argument, Birth, Put, Task, Id, main_name}
+use Rattle.meaning.specs.Values.{Name, Value, Int, Items, Named, Known, Outcome, Val, Trapped, Argument, Birth, Put, Task, Id, main_name}
 use Rattle.meaning.specs.Syntax.{Kind, Expr, Num, Var, Unary, Binary, ListOf, Empty, Call, Remote, PutOf, GetOf, Exprs, end, also, Stmt, Let, Set, Print, Return, If, For, Block, done, step, Parameter, Script}
 use Rattle.meaning.specs.Runs.{Run, Ends, Prints, Bears, Gets, piece, next_id}
-use Rattle.meaning.specs.Meaning.{broken, Scope, same_name, value_in, bind, bind_all, as_number, apply, apply_one, is_zero, turn_count, proceed, get_from, dereference, Calls, evaluate, evaluate_all, turns, turns_within, leave, execute, execute_all, find, parameters_of, enter, task_by, calls_below, call_at, run_birth}
+use Rattle.meaning.specs.Meaning.{broken, Scope, same_name, value_in, bind, bind_all, apply, apply_one, is_zero, turn_count, proceed, get_from, dereference, Calls, evaluate, evaluate_all, turns, turns_within, leave, execute, execute_all, find, parameters_of, enter, task_by, calls_below, call_at, run_birth}
 use Rattle.meaning.proofs.BirthLaws.{at_test}
 use Rattle.meaning.proofs.Names.{same_name-true}
+use Rattle.script_laws.proofs.Keeping.{either, by_number}
 use Rattle.meaning.specs.Mains.{CallsOthers, AllCallOthers, IsApart, BlockIsApart, KeepsMainApart, IsNotMains, MainStaysApart}
 
 -- whether prints are allowed
@@ -44,12 +45,6 @@ module _ (prints : Bool) where
   gets u (Named o) next l = l
   gets u (Known c) next l = l
 
-  number_runs : (v : Value) (f : ℤ → Run) → ((n : ℤ) → IsQuiet (f n)) → IsQuiet (as_number broken v f)
-  number_runs (Int n) f l = l n
-  number_runs (Items vs) f l = tt
-  number_runs (Named o) f l = tt
-  number_runs (Known c) f l = tt
-
   bound_all : (ps : List Parameter) (vs : List Value) (next : Scope → Run) → IsQuietAfter next → IsQuiet (bind_all broken ps vs next)
   bound_all [] [] next l = l []
   bound_all [] (v ∷ vs) next l = tt
@@ -61,9 +56,7 @@ module _ (prints : Bool) where
   dereferenced [] (a ∷ args) next l = tt
   dereferenced (p ∷ ps) (a ∷ args) next l =
       let rest = λ (v : Value). dereferenced ps args (λ vs. next (v ∷ vs)) (λ vs. l (v ∷ vs)) in
-      let got = gets p.kind a.value (λ v. dereference ps args (λ vs. next (v ∷ vs))) rest in
-      let here = rest a.value in
-      elim a.marked as (λ m. IsQuiet (if m then get_from p.kind a.value (λ v. dereference ps args (λ vs. next (v ∷ vs))) else dereference ps args (λ vs. next (a.value ∷ vs)))) [ true ↦ got | false ↦ here ]
+      either IsQuiet a.marked _ _ (gets p.kind a.value _ rest) (rest a.value)
 
   -- calls that may be made are quiet
   abbrev AreQuiet : (Name → List Value → (Value → Run) → Run) → Type 0
@@ -90,9 +83,6 @@ module _ (prints : Bool) where
     left : (before : Scope) (next : Scope → Run) → IsQuietAfter next → IsQuietAfter (leave calls before next)
     left before next l = λ scope. l _
 
-    choice : (n : ℤ) (a b : Run) → IsQuiet a → IsQuiet b → IsQuiet (if is_zero n then b else a)
-    choice n a b ha hb = elim (is_zero n) as (λ z. IsQuiet (if z then b else a)) [ true ↦ hb | false ↦ ha ]
-
     abbrev AreQuietTurns : (ℤ → Scope → (Scope → Run) → Run) → Type 0
     AreQuietTurns body = (i : ℤ) (scope : Scope) (next : Scope → Run) → IsQuietAfter next → IsQuiet (body i scope next)
 
@@ -103,8 +93,7 @@ module _ (prints : Bool) where
     loops : (from to : ℤ) (body : ℤ → Scope → (Scope → Run) → Run) (scope : Scope) (next : Scope → Run) → AreQuietTurns body → IsQuietAfter next → IsQuiet (turns_within calls from to body scope next)
     loops from to body scope next f l =
         let n = turn_count (to -ℤ from) in
-        let run = turn n from body scope next f l in
-        elim (nat_lt 10000 n) as (λ b. IsQuiet (if b then Ends (Trapped Loop) else turns calls n from body scope next)) [ true ↦ tt | false ↦ run ]
+        either IsQuiet (nat_lt 10000 n) _ _ tt (turn n from body scope next f l)
 
     -- in a function that may be run
     module _ (function : Name) (may : MayRun function) where
@@ -115,12 +104,12 @@ module _ (prints : Bool) where
         executes (Print e) scope next return h l r = evaluates e scope _ h.1 (λ v. (may h.0, l scope))
         executes (Return e) scope next return h l r = evaluates e scope return h r
         executes (If e a b) scope next return h l r =
-            evaluates e scope _ h.0 (λ v. number_runs v _ (λ n. choice n _ _
-            (executes_all a scope _ return h.1 (left scope next l) r)
-            (executes_all b scope _ return h.2 (left scope next l) r)))
+            evaluates e scope _ h.0 (λ v. by_number IsQuiet broken v _ tt (λ n. either IsQuiet (is_zero n) _ _
+            (executes_all b scope _ return h.2 (left scope next l) r)
+            (executes_all a scope _ return h.1 (left scope next l) r)))
         executes (For x from to body) scope next return h l r =
             evaluates from scope _ h.0 (λ v. evaluates to scope _ h.1 (λ w.
-            number_runs v _ (λ m. number_runs w _ (λ n. loops m n _ scope next
+            by_number IsQuiet broken v _ tt (λ m. by_number IsQuiet broken w _ tt (λ n. loops m n _ scope next
             (λ i before k lk. executes_all body (bind before x (Int i)) _ return h.2 (left before k lk) r)
             l))))
 

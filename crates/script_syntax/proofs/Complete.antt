@@ -52,7 +52,7 @@ ends_compared differs rest = (((refl, refl), refl), refl)
 ends_compared is_less rest = (((refl, refl), refl), refl)
 ends_compared is_at_most rest = (((refl, refl), refl), refl)
 
-ends_more : (others : MoreArguments) (rest : List Token) → EndsExpression rest → EndsExpression (more_before others rest)
+pub ends_more : (others : MoreArguments) (rest : List Token) → EndsExpression rest → EndsExpression (more_before others rest)
 ends_more last_argument rest h = h
 ends_more (argument e others) rest h = ((((refl, refl), refl), refl), refl)
 
@@ -194,7 +194,7 @@ mutual
       primary_push (kind_at (suc levels)) (deeper (suc levels)) (expression_tree a) (expression_tree b) (mark marks.OpenParenthesis ∷ expression_before a (mark marks.Comma ∷ second)) rest
       (pair_deep levels (expression_before a (mark marks.Comma ∷ second)) (expression_tree a) (expression_tree b) second rest (expression_reads a levels (mark marks.Comma ∷ second) w.0 ((((refl, refl), refl), refl), refl)) (expression_reads b levels (mark marks.CloseParenthesis ∷ rest) w.1 ((((refl, refl), refl), refl), refl)))
 
-  arguments_read : (a : Arguments) (levels : ℕ) (rest : List Token) → ArgumentsWithin a levels → arguments (deeper (suc levels)) (mark marks.OpenParenthesis ∷ arguments_before a (mark marks.CloseParenthesis ∷ rest)) ≡ Read (argument_trees a) rest
+  pub arguments_read : (a : Arguments) (levels : ℕ) (rest : List Token) → ArgumentsWithin a levels → arguments (deeper (suc levels)) (mark marks.OpenParenthesis ∷ arguments_before a (mark marks.CloseParenthesis ∷ rest)) ≡ Read (argument_trees a) rest
   arguments_read no_argument levels rest w = arguments_none levels rest
   arguments_read (ArgumentsOf e others) levels rest w =
       let more : List Token = more_before others (mark marks.CloseParenthesis ∷ rest) in

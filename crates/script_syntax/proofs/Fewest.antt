@@ -204,7 +204,7 @@ mutual
   indexes_fit (index e others) left (suc n) k h =
       indexes_fit others (Item left (expression_tree e)) (suc n) (item_fits (as_postfix (written left)) (expression_of (expression_tree e)) n k (expression_fits e n h.0)) h.1
 
-  primary_fits : (a : Primary) (n : ℕ) → PrimaryWithin a n → PrimaryWithin (as_primary (written (primary_tree a))) n
+  pub primary_fits : (a : Primary) (n : ℕ) → PrimaryWithin a n → PrimaryWithin (as_primary (written (primary_tree a))) n
   primary_fits (Int k) n h = tt
   primary_fits (Named x) n h = tt
   primary_fits (CallOf g args) zero h = absurd h

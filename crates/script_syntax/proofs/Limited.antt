@@ -4,7 +4,7 @@ use Rattle.script_tokens.specs.Tokens.{Token}
 use Rattle.script_tokens.specs.Spelling.{AllTokens, tokens_of_lines, text_of_lines}
 use Rattle.script_tokens.specs.Texts.{AreTokens}
 use Rattle.script_syntax.specs.Trees.{Expr, Number, Variable, Prefixed, Binary, Item, ListOf, Empty, Call, Remote, Len, Push, Exprs, no_expr, also}
-use Rattle.script_syntax.specs.Trees.{Stmt, Let, Set, If, IfElse, For, Print, Return, Block, no_stmt, stmt, Function, Program}
+use Rattle.script_syntax.specs.Trees.{Stmt, Let, LetCall, LetRemote, Set, If, IfElse, For, Print, Return, Block, no_stmt, stmt, Function, Program}
 use Rattle.script_syntax.specs.Expressions.{expression_tree, argument_trees, more_trees}
 use Rattle.script_syntax.specs.Grammar.{statement_tree, statements_tree, function_tree, functions_tree, FunctionsWithin, IsProgram, Reads}
 use Rattle.script_syntax.specs.Printing.{written, written_arguments, written_others, expression_of, written_statement, written_statements}
@@ -45,6 +45,8 @@ again e h = good_expression e (tree_good e h)
 mutual
   statement_again : (s : Stmt) → SpelledStmt s → statement_tree (written_statement s) ≡ s
   statement_again (Let x e) h = ap (Let x) (again e h.1)
+  statement_again (LetCall x xs g args) h = ap (LetCall x xs g) (arguments_again args h.3)
+  statement_again (LetRemote x xs r g args) h = ap (LetRemote x xs r g) (arguments_again args h.4)
   statement_again (Set x e) h = ap (Set x) (again e h.1)
   statement_again (If e a) h = ap (λ (t : Expr). If t (statements_tree (written_statements a))) (again e h.0) ∙ ap (If e) (block_again a h.1)
   statement_again (IfElse e a b) h =
@@ -54,14 +56,14 @@ mutual
       ap (λ (t : Expr). For x t (expression_tree (expression_of to)) (statements_tree (written_statements body))) (again from h.1)
       ∙ ap (λ (t : Expr). For x from t (statements_tree (written_statements body))) (again to h.2) ∙ ap (For x from to) (block_again body h.3)
   statement_again (Print e) h = ap Print (again e h)
-  statement_again (Return e) h = ap Return (again e h)
+  statement_again (Return e others) h = ap (λ (t : Expr). Return t (more_trees (written_others others))) (again e h.0) ∙ ap (Return e) (more_again others h.1)
 
   block_again : (b : Block) → SpelledBlock b → statements_tree (written_statements b) ≡ b
   block_again no_stmt h = refl
   block_again (stmt s others) h = ap (λ (t : Stmt). stmt t (statements_tree (written_statements others))) (statement_again s h.0) ∙ ap (stmt s) (block_again others h.1)
 
 function_again : (g : Function) → SpelledFunction g → function_tree (written_function g) ≡ g
-function_again g h = ap (λ (b : Block). let y : Function = record { name = g.name; parameters = g.parameters; result = g.result; body = b } in y) (block_again g.body h.2)
+function_again g h = ap (λ (b : Block). let y : Function = record { name = g.name; parameters = g.parameters; result = g.result; others = g.others; body = b } in y) (block_again g.body h.2)
 
 functions_again : (gs : Program) → SpelledProgram gs → functions_tree (written_functions gs) ≡ gs
 functions_again [] h = refl

@@ -1,14 +1,14 @@
 -- What is printed, line by line, is what is printed.
 use Rattle.std.proofs.Common.{◌≡◌, ℕ, List, [], ◌∷◌, ◌++◌, Option, Some, None, refl, sym, ap, ◌∙◌}
-use Rattle.script_tokens.specs.Tokens.{Token, name, mark}
+use Rattle.script_tokens.specs.Tokens.{Name, Token, name, mark}
 use Rattle.script_tokens.specs.declared.token.Mark.TheVariants as marks
 use Rattle.script_tokens.specs.Spelling.{tokens_of_lines}
 use Rattle.script_syntax.specs.Trees.{Kind, IntType, ListType, RefType, Parameter, Program}
 use Rattle.script_syntax.specs.Operators.{comparison_mark, additive_mark, multiplicative_mark, prefix_mark}
 use Rattle.script_syntax.specs.Expressions.{Expression, Single, Compared, Sum, SumOf, Addends, no_addend, addend, Product, ProductOf, Factors, no_factor, factor, Unary, PrefixOf, Plain, Postfix, PostfixOf, Indexes, no_index, index, Primary, Int, Named, CallOf, RemoteOf, Listed, EmptyOf, Enclosed, LenOf, PushOf, Arguments, no_argument, ArgumentsOf, MoreArguments, last_argument, argument}
 use Rattle.script_syntax.specs.Expressions.{kind_before, retries_before, expression_before, sum_before, addends_before, product_before, factors_before, unary_before, postfix_before, indexes_before, primary_before, arguments_before, more_before}
-use Rattle.script_syntax.specs.Grammar.{Statement, LetOf, SetOf, IfOf, IfElseOf, ForOf, PrintOf, ReturnOf, Statements, no_statement, statement, FunctionWord, FunctionOf}
-use Rattle.script_syntax.specs.Grammar.{statement_before, statements_before, block_before, parameter_before, more_parameters_before, parameters_before, function_before, functions_before}
+use Rattle.script_syntax.specs.Grammar.{Statement, LetOf, LetCallOf, LetRemoteOf, SetOf, IfOf, IfElseOf, ForOf, PrintOf, ReturnOf, Statements, no_statement, statement, FunctionWord, FunctionOf}
+use Rattle.script_syntax.specs.Grammar.{more_names_before, more_kinds_before, results_before, statement_before, statements_before, block_before, parameter_before, more_parameters_before, parameters_before, function_before, functions_before}
 use Rattle.script_syntax.specs.Printing.{written_function, written_functions, printed, printed_program}
 
 -- ---- what is written before a rest goes on where the rest does
@@ -83,9 +83,23 @@ mutual
 ended_joined : (e : Expression) (r s : List Token) → expression_before e (mark marks.Semicolon ∷ (r ++ s)) ≡ expression_before e (mark marks.Semicolon ∷ r) ++ s
 ended_joined e r s = expression_joined e (mark marks.Semicolon ∷ r) s
 
+names_joined : (xs : List Name) (r s : List Token) → more_names_before xs (r ++ s) ≡ more_names_before xs r ++ s
+names_joined [] r s = refl
+names_joined (x ∷ xs) r s = ap (λ (y : List Token). mark marks.Comma ∷ name x ∷ y) (names_joined xs r s)
+
+-- a `let` of several names, over a call
+let_joined : (x : Name) (xs : List Name) (call : Primary) (r s : List Token)
+    → mark marks.Let ∷ name x ∷ more_names_before xs (mark marks.Assign ∷ primary_before call (mark marks.Semicolon ∷ (r ++ s)))
+    ≡ (mark marks.Let ∷ name x ∷ more_names_before xs (mark marks.Assign ∷ primary_before call (mark marks.Semicolon ∷ r))) ++ s
+let_joined x xs call r s =
+    ap (λ (y : List Token). mark marks.Let ∷ name x ∷ more_names_before xs (mark marks.Assign ∷ y)) (primary_joined call (mark marks.Semicolon ∷ r) s)
+    ∙ ap (λ (y : List Token). mark marks.Let ∷ name x ∷ y) (names_joined xs (mark marks.Assign ∷ primary_before call (mark marks.Semicolon ∷ r)) s)
+
 mutual
   statement_joined : (a : Statement) (r s : List Token) → statement_before a (r ++ s) ≡ statement_before a r ++ s
   statement_joined (LetOf x e) r s = ap (λ (y : List Token). mark marks.Let ∷ name x ∷ mark marks.Assign ∷ y) (ended_joined e r s)
+  statement_joined (LetCallOf x xs g args) r s = let_joined x xs (CallOf g args) r s
+  statement_joined (LetRemoteOf x xs n g args) r s = let_joined x xs (RemoteOf n g args) r s
   statement_joined (SetOf x e) r s = ap (λ (y : List Token). mark marks.Set ∷ name x ∷ mark marks.Assign ∷ y) (ended_joined e r s)
   statement_joined (IfOf e a) r s =
       ap (λ (y : List Token). mark marks.If ∷ expression_before e y) (ap (λ (z : List Token). mark marks.OpenBrace ∷ z) (statements_joined a (mark marks.CloseBrace ∷ r) s))
@@ -99,7 +113,9 @@ mutual
       ∙ ap (λ (y : List Token). mark marks.For ∷ name x ∷ mark marks.In ∷ expression_before from (mark marks.Range ∷ y)) (expression_joined to (block_before body r) s)
       ∙ ap (λ (y : List Token). mark marks.For ∷ name x ∷ mark marks.In ∷ y) (expression_joined from (mark marks.Range ∷ expression_before to (block_before body r)) s)
   statement_joined (PrintOf e) r s = ap (λ (y : List Token). mark marks.Print ∷ y) (ended_joined e r s)
-  statement_joined (ReturnOf e) r s = ap (λ (y : List Token). mark marks.Return ∷ y) (ended_joined e r s)
+  statement_joined (ReturnOf e others) r s =
+      ap (λ (y : List Token). mark marks.Return ∷ expression_before e y) (more_joined others (mark marks.Semicolon ∷ r) s)
+      ∙ ap (λ (y : List Token). mark marks.Return ∷ y) (expression_joined e (more_before others (mark marks.Semicolon ∷ r)) s)
 
   statements_joined : (a : Statements) (r s : List Token) → statements_before a (r ++ s) ≡ statements_before a r ++ s
   statements_joined no_statement r s = refl
@@ -120,11 +136,21 @@ parameters_joined : (ps : List Parameter) (r s : List Token) → parameters_befo
 parameters_joined [] r s = refl
 parameters_joined (p ∷ ps) r s = ap (parameter_before p) (more_parameters_joined ps r s) ∙ parameter_joined p (more_parameters_before ps r) s
 
+kinds_joined : (ts : List Kind) (r s : List Token) → more_kinds_before ts (r ++ s) ≡ more_kinds_before ts r ++ s
+kinds_joined [] r s = refl
+kinds_joined (t ∷ ts) r s = ap (λ (y : List Token). mark marks.Comma ∷ kind_before t y) (kinds_joined ts r s) ∙ ap (λ (y : List Token). mark marks.Comma ∷ y) (kind_joined t (more_kinds_before ts r) s)
+
+results_joined : (t : Kind) (ts : List Kind) (r s : List Token) → results_before t ts (r ++ s) ≡ results_before t ts r ++ s
+results_joined t [] r s = kind_joined t r s
+results_joined t (u ∷ us) r s =
+    ap (λ (y : List Token). mark marks.OpenParenthesis ∷ kind_before t y) (kinds_joined (u ∷ us) (mark marks.CloseParenthesis ∷ r) s)
+    ∙ ap (λ (y : List Token). mark marks.OpenParenthesis ∷ y) (kind_joined t (more_kinds_before (u ∷ us) (mark marks.CloseParenthesis ∷ r)) s)
+
 function_joined : (g : FunctionWord) (r s : List Token) → function_before g (r ++ s) ≡ function_before g r ++ s
-function_joined (FunctionOf x ps t body) r s =
-    ap (λ (y : List Token). mark marks.Fn ∷ name x ∷ mark marks.OpenParenthesis ∷ parameters_before ps (mark marks.CloseParenthesis ∷ mark marks.Arrow ∷ kind_before t y)) (block_joined body r s)
-    ∙ ap (λ (y : List Token). mark marks.Fn ∷ name x ∷ mark marks.OpenParenthesis ∷ parameters_before ps (mark marks.CloseParenthesis ∷ mark marks.Arrow ∷ y)) (kind_joined t (block_before body r) s)
-    ∙ ap (λ (y : List Token). mark marks.Fn ∷ name x ∷ mark marks.OpenParenthesis ∷ y) (parameters_joined ps (mark marks.CloseParenthesis ∷ mark marks.Arrow ∷ kind_before t (block_before body r)) s)
+function_joined (FunctionOf x ps t ts body) r s =
+    ap (λ (y : List Token). mark marks.Fn ∷ name x ∷ mark marks.OpenParenthesis ∷ parameters_before ps (mark marks.CloseParenthesis ∷ mark marks.Arrow ∷ results_before t ts y)) (block_joined body r s)
+    ∙ ap (λ (y : List Token). mark marks.Fn ∷ name x ∷ mark marks.OpenParenthesis ∷ parameters_before ps (mark marks.CloseParenthesis ∷ mark marks.Arrow ∷ y)) (results_joined t ts (block_before body r) s)
+    ∙ ap (λ (y : List Token). mark marks.Fn ∷ name x ∷ mark marks.OpenParenthesis ∷ y) (parameters_joined ps (mark marks.CloseParenthesis ∷ mark marks.Arrow ∷ results_before t ts (block_before body r)) s)
 
 pub lines_are : (program : Program) → tokens_of_lines (printed_program program) ≡ printed program
 lines_are [] = refl

@@ -5,14 +5,16 @@ use Rattle.script_tokens.specs.declared.token.Placed.{Placed}
 use Rattle.script_tokens.specs.declared.token.Mark.TheVariants as marks
 use Rattle.script_syntax.specs.declared.refusal.Refusal.{Refusal}
 use Rattle.script_syntax.specs.declared.refusal.Refusal.TheVariants as refusals
-use Rattle.script_tokens.specs.Tokens.{Token}
+use Rattle.script_tokens.specs.Tokens.{Name, Token}
 use Rattle.script_tokens.specs.Views.{token_of, tokens_of}
 use Rattle.script_syntax.specs.declared.tree.Expr.{Expr}
 use Rattle.script_syntax.specs.Trees.{Expr as ATree, Binary, Item, Kind, Exprs, Stmt, Block, no_stmt, Parameter, Function}
+use Rattle.script_syntax.specs.declared.tree.Name.{Name as CodeName}
+use Rattle.script_syntax.specs.declared.tree.ValueType.{ValueType}
 use Rattle.script_syntax.specs.declared.tree.Parameter.{Parameter as CodeParameter}
 use Rattle.script_syntax.specs.declared.tree.Function.{Function as CodeFunction}
-use Rattle.script_syntax.specs.Views.{tree_of, trees_of, parameter_of, program_of}
-use Rattle.script_syntax.specs.Reading.{Reader, ◌>>=◌, Fails, after, before, adding, multiplying, chain, product, sum, expression, items, and_expr, primary, postfix, enclosed, unless, unless_end, statements, and_stmt, and_item, parameter, some_parameters, function, program}
+use Rattle.script_syntax.specs.Views.{name_of, type_of, tree_of, trees_of, parameter_of, program_of}
+use Rattle.script_syntax.specs.Reading.{Reader, ◌>>=◌, Fails, after, before, adding, multiplying, chain, product, sum, expression, items, and_expr, primary, postfix, enclosed, unless, unless_end, named, other_kinds, other_names, other_values, statements, and_stmt, and_item, parameter, some_parameters, function, program}
 
 pub record ChainSoFar {X A L : Type 0} (opens : Reader X) (item : Reader A) (join : X → L → A → L) (left : L) (rest : List Placed) (total : Option (L × List Token)) : Type 0 where
   pub fuel : ℕ
@@ -186,3 +188,26 @@ program_is tokens gs rest e = rw e refl
 pub program_fails : (tokens : List Token) (e : Refusal) → Fails e (all_functions tokens) → Fails e (program tokens)
 unfolding program
 program_fails tokens e h = bind_fails e (all_functions tokens) _ h
+
+-- ---- further names, types and values: three at most
+
+abbrev pub NamesSoFar : List CodeName → List Placed → Option (List Name × List Token) → Type 0
+NamesSoFar xs rest total = LimitedSoFar (after marks.Comma) named and_also (length xs) 3 (map name_of xs) (tokens_of rest) total
+
+pub names_begin : (tokens : List Placed) → NamesSoFar [] tokens (other_names (tokens_of tokens))
+unfolding other_names
+names_begin tokens = record { fuel = 3; counted = refl; same = refl }
+
+abbrev pub KindsSoFar : Reader Kind → List ValueType → List Placed → Option (List Kind × List Token) → Type 0
+KindsSoFar kind ts rest total = LimitedSoFar (after marks.Comma) kind and_also (length ts) 3 (map type_of ts) (tokens_of rest) total
+
+pub kinds_begin : (kind : Reader Kind) (tokens : List Placed) → KindsSoFar kind [] tokens (other_kinds kind (tokens_of tokens))
+unfolding other_kinds
+kinds_begin kind tokens = record { fuel = 3; counted = refl; same = refl }
+
+abbrev pub ValuesSoFar : Reader ATree → List Expr → List Placed → Option (Exprs × List Token) → Type 0
+ValuesSoFar outer es rest total = LimitedSoFar (after marks.Comma) outer and_next (length es) 3 (trees_of es) (tokens_of rest) total
+
+pub values_begin : (outer : Reader ATree) (tokens : List Placed) → ValuesSoFar outer [] tokens (other_values outer (tokens_of tokens))
+unfolding other_values
+values_begin outer tokens = record { fuel = 3; counted = refl; same = refl }

@@ -138,10 +138,10 @@ mutual
   primary_good (LenOf e) = ap Len (good_expression (expression_tree e) (expression_good e))
   primary_good (PushOf a b) = ap (λ (x : Expr). Push x (expression_tree (expression_of (expression_tree b)))) (good_expression (expression_tree a) (expression_good a)) ∙ ap (Push (expression_tree a)) (good_expression (expression_tree b) (expression_good b))
 
-  arguments_good : (a : Arguments) → argument_trees (written_arguments (argument_trees a)) ≡ argument_trees a
+  pub arguments_good : (a : Arguments) → argument_trees (written_arguments (argument_trees a)) ≡ argument_trees a
   arguments_good no_argument = refl
   arguments_good (ArgumentsOf e others) = ap (λ (x : Expr). also x (more_trees (written_others (more_trees others)))) (good_expression (expression_tree e) (expression_good e)) ∙ ap (also (expression_tree e)) (more_good others)
 
-  more_good : (a : MoreArguments) → more_trees (written_others (more_trees a)) ≡ more_trees a
+  pub more_good : (a : MoreArguments) → more_trees (written_others (more_trees a)) ≡ more_trees a
   more_good last_argument = refl
   more_good (argument e others) = ap (λ (x : Expr). also x (more_trees (written_others (more_trees others)))) (good_expression (expression_tree e) (expression_good e)) ∙ ap (also (expression_tree e)) (more_good others)

@@ -124,7 +124,7 @@ mutual
   indexes_short (index e others) left =
       omega (arith, indexes_short others (Item left (expression_tree e)), item_short (as_postfix (written left)) (expression_of (expression_tree e)), expression_short e)
 
-  primary_short : (a : Primary) → primary_count (as_primary (written (primary_tree a))) ≤ primary_count a
+  pub primary_short : (a : Primary) → primary_count (as_primary (written (primary_tree a))) ≤ primary_count a
   primary_short (Int k) = omega arith
   primary_short (Named x) = omega arith
   primary_short (CallOf g args) = omega (arith, arguments_short args)

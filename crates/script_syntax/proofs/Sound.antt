@@ -224,7 +224,7 @@ IsSoundBelow None (suc levels) = ⊥
 IsSoundBelow (Some u) zero = ⊥
 IsSoundBelow (Some u) (suc levels) = IsSound u levels
 
-abbrev call_before : Arguments → List Token → List Token
+abbrev pub call_before : Arguments → List Token → List Token
 call_before w rest = mark marks.OpenParenthesis ∷ arguments_before w (mark marks.CloseParenthesis ∷ rest)
 
 arguments_below : (d : Option (Reader Expr)) (levels : ℕ) → IsSoundBelow d levels → (more : List Token) (a : Exprs) (rest : List Token)
@@ -255,7 +255,7 @@ arguments_below (Some u) (suc levels) sound more a rest e =
           })
     ]
 
-arguments_found : (d : Option (Reader Expr)) (levels : ℕ) → IsSoundBelow d levels → (tokens : List Token) (a : Exprs) (rest : List Token) → arguments d tokens ≡ Some (a, rest)
+pub arguments_found : (d : Option (Reader Expr)) (levels : ℕ) → IsSoundBelow d levels → (tokens : List Token) (a : Exprs) (rest : List Token) → arguments d tokens ≡ Some (a, rest)
     → Derived call_before argument_trees (λ w. Deeper levels (ArgumentsWithin w)) tokens a rest
 unfolding arguments
 arguments_found d levels sound tokens a rest e =
@@ -317,7 +317,7 @@ retries_below (Some u) (suc levels) sound more r rest e =
     let all : mark marks.OpenParenthesis ∷ more ≡ retries_before n c.0.1 = ap (λ (q : List Token). mark marks.OpenParenthesis ∷ q) (numbered_is more b.0 b.1 ∙ ap (λ (q : List Token). number b.0.0 ∷ q) (after_is marks.CloseParenthesis b.0.1 c.0 c.1)) in
     (all ∙ ap (λ (x : Option ℕ × List Token). retries_before x.0 x.1) p, subst (λ (x : Option ℕ × List Token). RetriesWithin x.0 (suc levels)) p tt)
 
-retries_found : (d : Option (Reader Expr)) (levels : ℕ) → IsSoundBelow d levels → (tokens : List Token) (r : Option ℕ) (rest : List Token) → retries d tokens ≡ Some (r, rest) → (tokens ≡ retries_before r rest) × RetriesWithin r levels
+pub retries_found : (d : Option (Reader Expr)) (levels : ℕ) → IsSoundBelow d levels → (tokens : List Token) (r : Option ℕ) (rest : List Token) → retries d tokens ≡ Some (r, rest) → (tokens ≡ retries_before r rest) × RetriesWithin r levels
 unfolding retries
 retries_found d levels sound tokens r rest e =
     elim (choose_some (after marks.OpenParenthesis tokens) (Some (None, tokens)) (λ r. d >>= λ _. numbered r.1 >>= λ n. after marks.CloseParenthesis n.1 >>= λ q. Some (Some n.0, q.1)) (Some (r, rest)) e) [
@@ -495,7 +495,7 @@ unary_found k d levels kinds sound tokens a rest e =
     ]
 
 -- what is read with that many levels left
-deeper_found : (levels : ℕ) → IsSoundBelow (deeper levels) levels
+pub deeper_found : (levels : ℕ) → IsSoundBelow (deeper levels) levels
 unfolding deeper
 deeper_found zero = tt
 deeper_found (suc levels) = unary_found (kind_at levels) (deeper levels) levels (kind_at_found levels) (deeper_found levels)

@@ -1,17 +1,17 @@
 -- What is printed for a program that some text is can be written: its names are names, its numbers are in range.
 use Rattle.std.proofs.Common.{ℕ, List, [], ◌∷◌, Option, Some, None, sym, subst}
 use Rattle.script_tokens.specs.declared.token.Mark.TheVariants as marks
-use Rattle.script_tokens.specs.Tokens.{Token, name, mark}
+use Rattle.script_tokens.specs.Tokens.{Name, Token, name, mark}
 use Rattle.script_tokens.specs.Spelling.{IsName, AllTokens, tokens_of_lines}
 use Rattle.script_syntax.specs.Operators.{comparison_mark, additive, multiplicative}
 use Rattle.script_syntax.specs.Trees.{Kind, IntType, ListType, RefType, Expr, Binary, Item, Parameter, Program}
 use Rattle.script_syntax.specs.Expressions.{Expression, Single, Compared, Sum, SumOf, Addends, no_addend, addend, Product, ProductOf, Factors, no_factor, factor, Unary, PrefixOf, Plain, Postfix, PostfixOf, Indexes, no_index, index, Primary, Int, Named, CallOf, RemoteOf, Listed, EmptyOf, Enclosed, LenOf, PushOf, Arguments, no_argument, ArgumentsOf, MoreArguments, last_argument, argument}
 use Rattle.script_syntax.specs.Expressions.{kind_before, retries_before, expression_before, sum_before, addends_before, product_before, factors_before, unary_before, postfix_before, indexes_before, primary_before, arguments_before, more_before}
 use Rattle.script_syntax.specs.Expressions.{expression_tree, sum_tree, addends_tree, product_tree, factors_tree, unary_tree, postfix_tree, indexes_tree, primary_tree, argument_trees, more_trees}
-use Rattle.script_syntax.specs.Grammar.{Statement, LetOf, SetOf, IfOf, IfElseOf, ForOf, PrintOf, ReturnOf, Statements, no_statement, statement, FunctionWord, FunctionOf, Functions, no_function, function}
-use Rattle.script_syntax.specs.Grammar.{statement_before, statements_before, block_before, parameter_before, more_parameters_before, parameters_before, function_before, functions_before}
+use Rattle.script_syntax.specs.Grammar.{Statement, LetOf, LetCallOf, LetRemoteOf, SetOf, IfOf, IfElseOf, ForOf, PrintOf, ReturnOf, Statements, no_statement, statement, FunctionWord, FunctionOf, Functions, no_function, function}
+use Rattle.script_syntax.specs.Grammar.{more_names_before, statement_before, statements_before, block_before, parameter_before, more_parameters_before, parameters_before, more_kinds_before, results_before, function_before, functions_before}
 use Rattle.script_syntax.specs.Grammar.{statement_tree, statements_tree, function_tree, functions_tree, IsProgram}
-use Rattle.script_syntax.specs.Limits.{SpelledRetries, SpelledExpr, SpelledExprs, SpelledStmt, SpelledBlock, SpelledParameters, SpelledFunction, SpelledProgram}
+use Rattle.script_syntax.specs.Limits.{SpelledRetries, SpelledExpr, SpelledExprs, SpelledNames, SpelledStmt, SpelledBlock, SpelledParameters, SpelledFunction, SpelledProgram}
 use Rattle.script_syntax.specs.Printing.{printed, printed_program}
 use Rattle.script_syntax.proofs.Again.{printed_again}
 use Rattle.script_syntax.proofs.Lines.{lines_are}
@@ -112,11 +112,25 @@ mutual
       let r = more_passed others rest l.1 in
       ((l.0, r.0), r.1)
 
+names_passed : (xs : List Name) (rest : List Token) → AllTokens (more_names_before xs rest) → SpelledNames xs × AllTokens rest
+names_passed [] rest h = (tt, h)
+names_passed (x ∷ xs) rest h =
+    let r = names_passed xs rest h.1.1 in
+    ((h.1.0, r.0), r.1)
+
 mutual
   statement_passed : (a : Statement) (rest : List Token) → AllTokens (statement_before a rest) → SpelledStmt (statement_tree a) × AllTokens rest
   statement_passed (LetOf x e) rest h =
       let l = expression_passed e (mark marks.Semicolon ∷ rest) h.1.1.1 in
       ((h.1.0, l.0), l.1.1)
+  statement_passed (LetCallOf x xs g args) rest h =
+      let ns = names_passed xs (mark marks.Assign ∷ primary_before (CallOf g args) (mark marks.Semicolon ∷ rest)) h.1.1 in
+      let l = primary_passed (CallOf g args) (mark marks.Semicolon ∷ rest) ns.1.1 in
+      ((h.1.0, ns.0, l.0.0, l.0.1), l.1.1)
+  statement_passed (LetRemoteOf x xs r g args) rest h =
+      let ns = names_passed xs (mark marks.Assign ∷ primary_before (RemoteOf r g args) (mark marks.Semicolon ∷ rest)) h.1.1 in
+      let l = primary_passed (RemoteOf r g args) (mark marks.Semicolon ∷ rest) ns.1.1 in
+      ((h.1.0, ns.0, l.0.0, l.0.1, l.0.2), l.1.1)
   statement_passed (SetOf x e) rest h =
       let l = expression_passed e (mark marks.Semicolon ∷ rest) h.1.1.1 in
       ((h.1.0, l.0), l.1.1)
@@ -137,9 +151,10 @@ mutual
   statement_passed (PrintOf e) rest h =
       let l = expression_passed e (mark marks.Semicolon ∷ rest) h.1 in
       (l.0, l.1.1)
-  statement_passed (ReturnOf e) rest h =
-      let l = expression_passed e (mark marks.Semicolon ∷ rest) h.1 in
-      (l.0, l.1.1)
+  statement_passed (ReturnOf e others) rest h =
+      let l = expression_passed e (more_before others (mark marks.Semicolon ∷ rest)) h.1 in
+      let r = more_passed others (mark marks.Semicolon ∷ rest) l.1 in
+      ((l.0, r.0), r.1.1)
 
   statements_passed : (a : Statements) (rest : List Token) → AllTokens (statements_before a rest) → SpelledBlock (statements_tree a) × AllTokens rest
   statements_passed no_statement rest h = (tt, h)
@@ -170,10 +185,18 @@ parameters_passed (p ∷ ps) rest h =
     let r = more_parameters_passed ps rest l.1 in
     ((l.0, r.0), r.1)
 
+kinds_passed : (ts : List Kind) (rest : List Token) → AllTokens (more_kinds_before ts rest) → AllTokens rest
+kinds_passed [] rest h = h
+kinds_passed (t ∷ ts) rest h = kinds_passed ts rest (kind_passed t (more_kinds_before ts rest) h.1)
+
+results_passed : (t : Kind) (ts : List Kind) (rest : List Token) → AllTokens (results_before t ts rest) → AllTokens rest
+results_passed t [] rest h = kind_passed t rest h
+results_passed t (u ∷ us) rest h = (kinds_passed (u ∷ us) (mark marks.CloseParenthesis ∷ rest) (kind_passed t (more_kinds_before (u ∷ us) (mark marks.CloseParenthesis ∷ rest)) h.1)).1
+
 function_passed : (g : FunctionWord) (rest : List Token) → AllTokens (function_before g rest) → SpelledFunction (function_tree g) × AllTokens rest
-function_passed (FunctionOf x ps t body) rest h =
-    let l = parameters_passed ps (mark marks.CloseParenthesis ∷ mark marks.Arrow ∷ kind_before t (block_before body rest)) h.1.1.1 in
-    let r = block_passed body rest (kind_passed t (block_before body rest) l.1.1.1) in
+function_passed (FunctionOf x ps t ts body) rest h =
+    let l = parameters_passed ps (mark marks.CloseParenthesis ∷ mark marks.Arrow ∷ results_before t ts (block_before body rest)) h.1.1.1 in
+    let r = block_passed body rest (results_passed t ts (block_before body rest) l.1.1.1) in
     ((h.1.0, l.0, r.0), r.1)
 
 functions_passed : (d : Functions) → AllTokens (functions_before d []) → SpelledProgram (functions_tree d)
@@ -270,9 +293,17 @@ mutual
 ended_spelled : (e : Expression) (rest : List Token) → SpelledExpr (expression_tree e) → AllTokens rest → AllTokens (expression_before e (mark marks.Semicolon ∷ rest))
 ended_spelled e rest k h = expression_spelled e (mark marks.Semicolon ∷ rest) k (tt, h)
 
+names_spelled : (xs : List Name) (rest : List Token) → SpelledNames xs → AllTokens rest → AllTokens (more_names_before xs rest)
+names_spelled [] rest k h = h
+names_spelled (x ∷ xs) rest k h = (tt, (k.0, names_spelled xs rest k.1 h))
+
 mutual
   statement_spelled : (a : Statement) (rest : List Token) → SpelledStmt (statement_tree a) → AllTokens rest → AllTokens (statement_before a rest)
   statement_spelled (LetOf x e) rest k h = (tt, (k.0, (tt, ended_spelled e rest k.1 h)))
+  statement_spelled (LetCallOf x xs g args) rest k h =
+      (tt, (k.0, names_spelled xs (mark marks.Assign ∷ primary_before (CallOf g args) (mark marks.Semicolon ∷ rest)) k.1 (tt, primary_spelled (CallOf g args) (mark marks.Semicolon ∷ rest) (k.2, k.3) (tt, h))))
+  statement_spelled (LetRemoteOf x xs r g args) rest k h =
+      (tt, (k.0, names_spelled xs (mark marks.Assign ∷ primary_before (RemoteOf r g args) (mark marks.Semicolon ∷ rest)) k.1 (tt, primary_spelled (RemoteOf r g args) (mark marks.Semicolon ∷ rest) (k.2, k.3, k.4) (tt, h))))
   statement_spelled (SetOf x e) rest k h = (tt, (k.0, (tt, ended_spelled e rest k.1 h)))
   statement_spelled (IfOf e a) rest k h = (tt, expression_spelled e (block_before a rest) k.0 (tt, statements_spelled a (mark marks.CloseBrace ∷ rest) k.1 (tt, h)))
   statement_spelled (IfElseOf e a b) rest k h =
@@ -289,7 +320,7 @@ mutual
     ),
   )
   statement_spelled (PrintOf e) rest k h = (tt, ended_spelled e rest k h)
-  statement_spelled (ReturnOf e) rest k h = (tt, ended_spelled e rest k h)
+  statement_spelled (ReturnOf e others) rest k h = (tt, expression_spelled e (more_before others (mark marks.Semicolon ∷ rest)) k.0 (more_spelled others (mark marks.Semicolon ∷ rest) k.1 (tt, h)))
 
   statements_spelled : (a : Statements) (rest : List Token) → SpelledBlock (statements_tree a) → AllTokens rest → AllTokens (statements_before a rest)
   statements_spelled no_statement rest k h = h
@@ -309,15 +340,23 @@ parameters_spelled : (ps : List Parameter) (rest : List Token) → SpelledParame
 parameters_spelled [] rest k h = h
 parameters_spelled (p ∷ ps) rest k h = parameter_spelled p (more_parameters_before ps rest) k.0 (more_parameters_spelled ps rest k.1 h)
 
+kinds_spelled : (ts : List Kind) (rest : List Token) → AllTokens rest → AllTokens (more_kinds_before ts rest)
+kinds_spelled [] rest h = h
+kinds_spelled (t ∷ ts) rest h = (tt, kind_spelled t (more_kinds_before ts rest) (kinds_spelled ts rest h))
+
+results_spelled : (t : Kind) (ts : List Kind) (rest : List Token) → AllTokens rest → AllTokens (results_before t ts rest)
+results_spelled t [] rest h = kind_spelled t rest h
+results_spelled t (u ∷ us) rest h = (tt, kind_spelled t (more_kinds_before (u ∷ us) (mark marks.CloseParenthesis ∷ rest)) (kinds_spelled (u ∷ us) (mark marks.CloseParenthesis ∷ rest) (tt, h)))
+
 function_spelled : (g : FunctionWord) (rest : List Token) → SpelledFunction (function_tree g) → AllTokens rest → AllTokens (function_before g rest)
-function_spelled (FunctionOf x ps t body) rest k h = (
+function_spelled (FunctionOf x ps t ts body) rest k h = (
   tt,
   (
     k.0,
     (
       tt,
-      parameters_spelled ps (mark marks.CloseParenthesis ∷ mark marks.Arrow ∷ kind_before t (block_before body rest)) k.1
-          (tt, (tt, kind_spelled t (block_before body rest) (block_spelled body rest k.2 h))),
+      parameters_spelled ps (mark marks.CloseParenthesis ∷ mark marks.Arrow ∷ results_before t ts (block_before body rest)) k.1
+          (tt, (tt, results_spelled t ts (block_before body rest) (block_spelled body rest k.2 h))),
     ),
   ),
 )

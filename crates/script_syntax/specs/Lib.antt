@@ -4,6 +4,7 @@ pub mod Operators
 pub mod Expressions
 pub mod Grammar
 pub mod Reading
+pub mod Calls
 pub mod Refusals
 pub mod Printing
 pub mod Limits

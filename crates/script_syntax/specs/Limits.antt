@@ -1,5 +1,6 @@
 -- The limits of a program, said of its tree: what is written for such a program is read as that program.
 use Rattle.std.specs.Prelude.{ℕ, ◌≤◌, List, [], ◌∷◌, length, Option, None, Some}
+use Rattle.script_tokens.specs.Tokens.{Name}
 use Rattle.script_tokens.specs.Spelling.{IsName}
 use Rattle.script_syntax.specs.Trees.{
   Expr,
@@ -19,6 +20,8 @@ use Rattle.script_syntax.specs.Trees.{
   also,
   Stmt,
   Let,
+  LetCall,
+  LetRemote,
   Set,
   If,
   IfElse,
@@ -67,15 +70,21 @@ abbrev mutual
   SpelledExprs no_expr = Unit {0}
   SpelledExprs (also a others) = SpelledExpr a × SpelledExprs others
 
+abbrev pub SpelledNames : List Name → Type 0
+SpelledNames [] = Unit {0}
+SpelledNames (x ∷ xs) = IsName x × SpelledNames xs
+
 abbrev mutual
   pub SpelledStmt : Stmt → Type 0
   SpelledStmt (Let x e) = IsName x × SpelledExpr e
+  SpelledStmt (LetCall x xs g args) = IsName x × SpelledNames xs × IsName g × SpelledExprs args
+  SpelledStmt (LetRemote x xs r g args) = IsName x × SpelledNames xs × SpelledRetries r × IsName g × SpelledExprs args
   SpelledStmt (Set x e) = IsName x × SpelledExpr e
   SpelledStmt (If e a) = SpelledExpr e × SpelledBlock a
   SpelledStmt (IfElse e a b) = SpelledExpr e × SpelledBlock a × SpelledBlock b
   SpelledStmt (For x from to body) = IsName x × SpelledExpr from × SpelledExpr to × SpelledBlock body
   SpelledStmt (Print e) = SpelledExpr e
-  SpelledStmt (Return e) = SpelledExpr e
+  SpelledStmt (Return e others) = SpelledExpr e × SpelledExprs others
 
   pub SpelledBlock : Block → Type 0
   SpelledBlock no_stmt = Unit {0}
@@ -95,7 +104,8 @@ SpelledProgram (g ∷ gs) = SpelledFunction g × SpelledProgram gs
 -- ---- the limits
 
 -- a program that has a text, but for the text's length: with the fewest parentheses at most 32 brackets and prefixes are open at one place and
--- an outermost expression has at most 512 tokens; a function has at most 16 parameters; and at most 64 functions are there
+-- an outermost expression has at most 512 tokens; a function has at most 16 parameters and at most 4 results; a return has at most 4 values, and a
+-- `let` over a call 2 names to 4; and at most 64 functions are there
 pub record IsWithinLimits (program : Program) : Type 0 where
   pub spelled : SpelledProgram program
   pub nesting : FunctionsWithin (written_functions program) 32

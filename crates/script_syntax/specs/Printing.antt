@@ -22,6 +22,8 @@ use Rattle.script_syntax.specs.Trees.{
   also,
   Stmt,
   Let,
+  LetCall,
+  LetRemote,
   Set,
   If,
   IfElse,
@@ -77,6 +79,8 @@ use Rattle.script_syntax.specs.Expressions.{
 use Rattle.script_syntax.specs.Grammar.{
   Statement,
   LetOf,
+  LetCallOf,
+  LetRemoteOf,
   SetOf,
   IfOf,
   IfElseOf,
@@ -198,19 +202,21 @@ expression_of e = as_expression (written e)
 abbrev mutual
   pub written_statement : Stmt → Statement
   written_statement (Let x e) = LetOf x (expression_of e)
+  written_statement (LetCall x xs g args) = LetCallOf x xs g (written_arguments args)
+  written_statement (LetRemote x xs r g args) = LetRemoteOf x xs r g (written_arguments args)
   written_statement (Set x e) = SetOf x (expression_of e)
   written_statement (If e a) = IfOf (expression_of e) (written_statements a)
   written_statement (IfElse e a b) = IfElseOf (expression_of e) (written_statements a) (written_statements b)
   written_statement (For x from to body) = ForOf x (expression_of from) (expression_of to) (written_statements body)
   written_statement (Print e) = PrintOf (expression_of e)
-  written_statement (Return e) = ReturnOf (expression_of e)
+  written_statement (Return e others) = ReturnOf (expression_of e) (written_others others)
 
   pub written_statements : Block → Statements
   written_statements no_stmt = no_statement
   written_statements (stmt s ss) = statement (written_statement s) (written_statements ss)
 
 abbrev pub written_function : Function → FunctionWord
-written_function g = FunctionOf g.name g.parameters g.result (written_statements g.body)
+written_function g = FunctionOf g.name g.parameters g.result g.others (written_statements g.body)
 
 abbrev pub written_functions : Program → Functions
 written_functions [] = no_function

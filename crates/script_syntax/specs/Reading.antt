@@ -17,6 +17,9 @@ use Rattle.std.specs.Prelude.{
   Ok,
   Err,
   nat_lt,
+  Bool,
+  true,
+  false,
   ◌==◌,
   if◌then◌else◌,
 }
@@ -51,6 +54,8 @@ use Rattle.script_syntax.specs.Trees.{
   also,
   Stmt,
   Let,
+  LetCall,
+  LetRemote,
   Set,
   If,
   IfElse,
@@ -187,6 +192,33 @@ deeper_kind (suc levels) = Some (kind (deeper_kind levels))
 abbrev pub kind_at : ℕ → Reader Kind
 kind_at levels = kind (deeper_kind levels)
 
+-- one more at the end
+abbrev pub and_item : {A : Type 0} → List A → A → List A
+and_item xs x = xs ++ x ∷ []
+
+abbrev pub no_others : {A : Type 0} → List A → Bool
+no_others [] = true
+no_others (x ∷ xs) = false
+
+-- three types at most, each after a comma
+unfoldable pub other_kinds : Reader Kind → Reader (List Kind)
+other_kinds kind tokens = chain (after marks.Comma) kind (λ _. and_item) 3 [] tokens
+
+-- two types to four, up to the parenthesis that closes
+unfoldable pub some_results : Reader Kind → Reader (Kind × List Kind)
+some_results kind tokens = kind tokens >>= λ t. other_kinds kind t.1
+    >>= λ ts. if no_others ts.0 then None else after marks.CloseParenthesis ts.1 >>= λ q. Some ((t.0, ts.0), q.1)
+
+-- one type, or several in parentheses
+unfoldable pub results : Reader Kind → Option (Reader Kind) → Reader (Kind × List Kind)
+results kind deeper tokens = choose (after marks.OpenParenthesis tokens) (kind tokens >>= λ t. Some (
+  (t.0, []),
+  t.1,
+)) (λ r. deeper >>= λ inner. some_results inner r.1)
+
+abbrev pub results_at : ℕ → Reader (Kind × List Kind)
+results_at levels = results (kind_at levels) (deeper_kind levels)
+
 -- ---- expressions, given how what is unary is read
 
 unfoldable pub product : Reader Expr → Reader Expr
@@ -263,13 +295,54 @@ expression_at levels = expression (unary_at levels)
 unfoldable pub outermost : ℕ → Reader Expr
 outermost levels tokens = expression_at levels tokens >>= λ x. if nat_lt (length x.1 + 512) (length tokens) then None else Some x
 
--- ---- statements, given how outermost expressions and blocks are read
+-- what a `let` of several names calls
+pub data Callee : Type 0 where
+  AsPart : (g : Name) (args : Exprs) → Callee
+  -- as a task, with its retries where they are written
+  AsTask : (retries : Option ℕ) (g : Name) (args : Exprs) → Callee
+
+unfoldable pub called : Option (Reader Expr) → Reader Callee
+called deeper tokens = choose (after marks.Remote tokens) (named tokens >>= λ g. arguments deeper g.1 >>= λ args. Some (
+  AsPart g.0 args.0,
+  args.1,
+)) (λ t. retries deeper t.1 >>= λ r. named r.1 >>= λ g. arguments deeper g.1 >>= λ args. Some (AsTask r.0 g.0 args.0, args.1))
+
+-- such a call, which counts as an outermost expression
+unfoldable pub outermost_call : ℕ → Reader Callee
+outermost_call levels tokens = called (deeper levels) tokens >>= λ x. if nat_lt (length x.1 + 512) (length tokens) then None else Some x
+
+abbrev pub let_called : Name → List Name → Callee → Stmt
+let_called x xs (AsPart g args) = LetCall x xs g args
+let_called x xs (AsTask r g args) = LetRemote x xs r g args
+
+-- ---- statements, given how outermost expressions, calls and blocks are read
 
 unfoldable pub ended : Reader Expr → Reader Expr
 ended outer tokens = outer tokens >>= λ e. after marks.Semicolon e.1 >>= λ q. Some (e.0, q.1)
 
 unfoldable pub assigned : Reader Expr → Reader (Name × Expr)
 assigned outer tokens = named tokens >>= λ x. after marks.Assign x.1 >>= λ r. ended outer r.1 >>= λ e. Some ((x.0, e.0), e.1)
+
+-- three names at most, each after a comma
+unfoldable pub other_names : Reader (List Name)
+other_names tokens = chain (after marks.Comma) named (λ _. and_item) 3 [] tokens
+
+-- what follows the names of a `let`
+unfoldable pub valued : Reader Expr → Reader Callee → Name → List Name → Reader Stmt
+valued outer call x xs tokens = if no_others xs then (ended outer tokens >>= λ e. Some (Let x e.0, e.1))
+    else (call tokens >>= λ c. after marks.Semicolon c.1 >>= λ q. Some (let_called x xs c.0, q.1))
+
+-- what follows `let`
+unfoldable pub declared : Reader Expr → Reader Callee → Reader Stmt
+declared outer call tokens = named tokens >>= λ x. other_names x.1 >>= λ xs. after marks.Assign xs.1 >>= λ r. valued outer call x.0 xs.0 r.1
+
+-- three outermost expressions at most, each after a comma
+unfoldable pub other_values : Reader Expr → Reader Exprs
+other_values outer tokens = chain (after marks.Comma) outer (λ _. and_expr) 3 no_expr tokens
+
+-- what follows `return`
+unfoldable pub returned : Reader Expr → Reader Stmt
+returned outer tokens = outer tokens >>= λ e. other_values outer e.1 >>= λ es. after marks.Semicolon es.1 >>= λ q. Some (Return e.0 es.0, q.1)
 
 unfoldable pub branches : Reader Expr → Reader Block → Reader Stmt
 branches outer block tokens = outer tokens >>= λ e. block e.1 >>= λ a.
@@ -279,14 +352,14 @@ unfoldable pub repeated : Reader Expr → Reader Block → Reader Stmt
 repeated outer block tokens = named tokens >>= λ x. after marks.In x.1 >>= λ i. outer i.1 >>= λ first. after marks.Range first.1 >>= λ r. outer r.1
     >>= λ last. block last.1 >>= λ body. Some (For x.0 first.0 last.0 body.0, body.1)
 
-unfoldable pub statement : Reader Expr → Reader Block → Reader Stmt
-statement outer block (mark marks.Let ∷ rest) = assigned outer rest >>= λ x. Some (Let x.0.0 x.0.1, x.1)
-statement outer block (mark marks.Set ∷ rest) = assigned outer rest >>= λ x. Some (Set x.0.0 x.0.1, x.1)
-statement outer block (mark marks.If ∷ rest) = branches outer block rest
-statement outer block (mark marks.For ∷ rest) = repeated outer block rest
-statement outer block (mark marks.Print ∷ rest) = ended outer rest >>= λ e. Some (Print e.0, e.1)
-statement outer block (mark marks.Return ∷ rest) = ended outer rest >>= λ e. Some (Return e.0, e.1)
-statement outer block _ = None
+unfoldable pub statement : Reader Expr → Reader Callee → Reader Block → Reader Stmt
+statement outer call block (mark marks.Let ∷ rest) = declared outer call rest
+statement outer call block (mark marks.Set ∷ rest) = assigned outer rest >>= λ x. Some (Set x.0.0 x.0.1, x.1)
+statement outer call block (mark marks.If ∷ rest) = branches outer block rest
+statement outer call block (mark marks.For ∷ rest) = repeated outer block rest
+statement outer call block (mark marks.Print ∷ rest) = ended outer rest >>= λ e. Some (Print e.0, e.1)
+statement outer call block (mark marks.Return ∷ rest) = returned outer rest
+statement outer call block _ = None
 
 -- one more at the end
 abbrev pub and_stmt : Block → Stmt → Block
@@ -304,21 +377,18 @@ block deeper tokens = after marks.OpenBrace tokens >>= λ r. deeper >>= λ state
 
 unfoldable pub deeper_statement : ℕ → Option (Reader Stmt)
 deeper_statement zero = None
-deeper_statement (suc levels) = Some (statement (outermost levels) (block (deeper_statement levels)))
+deeper_statement (suc levels) = Some (statement (outermost levels) (outermost_call levels) (block (deeper_statement levels)))
 
 abbrev pub block_at : ℕ → Reader Block
 block_at levels = block (deeper_statement levels)
 
 abbrev pub statement_at : ℕ → Reader Stmt
-statement_at levels = statement (outermost levels) (block_at levels)
+statement_at levels = statement (outermost levels) (outermost_call levels) (block_at levels)
 
 -- ---- functions and programs
 
 unfoldable pub parameter : Reader Kind → Reader Parameter
 parameter kind tokens = named tokens >>= λ x. after marks.Colon x.1 >>= λ r. kind r.1 >>= λ t. Some (record { name = x.0; kind = t.0 }, t.1)
-
-abbrev pub and_item : {A : Type 0} → List A → A → List A
-and_item xs x = xs ++ x ∷ []
 
 -- one parameter to 16, with commas between
 unfoldable pub some_parameters : Reader Kind → Reader (List Parameter)
@@ -333,8 +403,8 @@ parameters deeper tokens = after marks.OpenParenthesis tokens >>= λ r. deeper >
 
 unfoldable pub function : Reader Function
 function tokens = after marks.Fn tokens >>= λ f. named f.1 >>= λ x. parameters (deeper_kind 32) x.1 >>= λ ps. after marks.Arrow ps.1
-    >>= λ r. kind_at 32 r.1 >>= λ t. block_at 32 t.1 >>= λ b.
-    Some (record { name = x.0; parameters = ps.0; result = t.0; body = b.0 }, b.1)
+    >>= λ r. results_at 32 r.1 >>= λ t. block_at 32 t.1 >>= λ b.
+    Some (record { name = x.0; parameters = ps.0; result = t.0.0; others = t.0.1; body = b.0 }, b.1)
 
 abbrev pub unless_end : Reader (Unit {0})
 unless_end [] = None

@@ -32,12 +32,17 @@ mutual
 mutual
   pub data Stmt : Type 0 where
     Let : (x : Name) (e : Expr) → Stmt
+    -- a name and others, for the results of a call
+    LetCall : (x : Name) (others : List Name) (g : Name) (args : Exprs) → Stmt
+    -- the same of a call as a task, with its retries where they are written
+    LetRemote : (x : Name) (others : List Name) (retries : Option ℕ) (g : Name) (args : Exprs) → Stmt
     Set : (x : Name) (e : Expr) → Stmt
     If : (e : Expr) (a : Block) → Stmt
     IfElse : (e : Expr) (a b : Block) → Stmt
     For : (x : Name) (from to : Expr) (body : Block) → Stmt
     Print : (e : Expr) → Stmt
-    Return : (e : Expr) → Stmt
+    -- a value and others, one for each result
+    Return : (e : Expr) (others : Exprs) → Stmt
 
   pub data Block : Type 0 where
     no_stmt : Block
@@ -50,7 +55,9 @@ pub record Parameter : Type 0 where
 pub record Function : Type 0 where
   pub name : Name
   pub parameters : List Parameter
+  -- what it gives: a result and others
   pub result : Kind
+  pub others : List Kind
   pub body : Block
 
 abbrev pub Program : Type 0

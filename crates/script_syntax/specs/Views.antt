@@ -1,6 +1,7 @@
 -- What the code's trees stand for.
 use Rattle.std.specs.Prelude.{ℕ, List, [], ◌∷◌, map, Option, Some, None}
 use Rattle.std.specs.String.{string_bytes}
+use Rattle.script_tokens.specs.Tokens.{Name as AName}
 use Rattle.script_syntax.specs.Trees.{
   Kind,
   IntType,
@@ -23,6 +24,8 @@ use Rattle.script_syntax.specs.Trees.{
   also,
   Stmt,
   Let,
+  LetCall,
+  LetRemote,
   Set,
   If,
   IfElse,
@@ -36,6 +39,7 @@ use Rattle.script_syntax.specs.Trees.{
   Function as AFunction,
   Program as AProgram,
 }
+use Rattle.script_syntax.specs.declared.tree.Name.{Name}
 use Rattle.script_syntax.specs.declared.tree.ValueType.{ValueType}
 use Rattle.script_syntax.specs.declared.tree.ValueType as types
 use Rattle.script_syntax.specs.declared.tree.Expr.{Expr}
@@ -45,6 +49,9 @@ use Rattle.script_syntax.specs.declared.tree.Statement.{Statement}
 use Rattle.script_syntax.specs.declared.tree.Statement as statements
 use Rattle.script_syntax.specs.declared.tree.Parameter.{Parameter}
 use Rattle.script_syntax.specs.declared.tree.Function.{Function}
+
+abbrev pub name_of : Name → AName
+name_of x = string_bytes x.text
 
 abbrev pub type_of : ValueType → Kind
 type_of types.Int = IntType
@@ -83,11 +90,14 @@ trees_of (e ∷ es) = also (tree_of e) (trees_of es)
 abbrev mutual
   pub statement_of : Statement → Stmt
   statement_of (statements.Let x e) = Let (string_bytes x.text) (tree_of e)
+  statement_of (statements.LetCall x xs g args) = LetCall (name_of x) (map name_of xs.items) (name_of g) (trees_of args.items)
+  statement_of (statements.LetRemote x xs r g args) =
+      LetRemote (name_of x) (map name_of xs.items) (retries_of r) (name_of g) (trees_of args.items)
   statement_of (statements.Set x e) = Set (string_bytes x.text) (tree_of e)
   statement_of (statements.If' e shape a other) = branch_of (tree_of e) (row_statements a) other
   statement_of (statements.For' x from to shape body) = For (string_bytes x.text) (tree_of from) (tree_of to) (row_statements body)
   statement_of (statements.Print s e) = Print (tree_of e)
-  statement_of (statements.Return e) = Return (tree_of e)
+  statement_of (statements.Return s e others) = Return (tree_of e) (trees_of others.items)
 
   pub branch_of : ATree → ABlock → statements.Held-Statement-If-2 → Stmt
   branch_of e a statements.None' = If e a
@@ -110,6 +120,7 @@ function_of f =
       name = string_bytes f.name.text;
       parameters = map parameter_of f.parameters.items;
       result = type_of f.result;
+      others = map type_of f.others.items;
       body = statements_of f.body.statements.items;
     }
 

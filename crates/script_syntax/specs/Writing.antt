@@ -9,9 +9,26 @@ use Rattle.script_syntax.specs.declared.tree.BinaryOperator.{BinaryOperator}
 use Rattle.script_syntax.specs.declared.tree.BinaryOperator.TheVariants as operators
 use Rattle.script_syntax.specs.declared.writer.Word.{Word}
 use Rattle.script_syntax.specs.declared.writer.Word.TheVariants as words
-use Rattle.script_syntax.specs.Expressions.{expression_before, sum_before, product_before, unary_before, postfix_before, primary_before}
+use Rattle.script_syntax.specs.declared.tree.Name.{Name}
+use Rattle.script_syntax.specs.declared.tree.Expr.{Expr}
+use Rattle.script_syntax.specs.Expressions.{CallOf, expression_before, sum_before, product_before, unary_before, postfix_before, primary_before}
 use Rattle.script_syntax.specs.Trees.{Exprs, no_expr, also}
-use Rattle.script_syntax.specs.Printing.{Written, loose, summed, multiplied, prefixed, indexed, tight, as_postfix, as_unary, as_product, as_sum, as_expression}
+use Rattle.script_syntax.specs.Views.{name_of, trees_of}
+use Rattle.script_syntax.specs.Printing.{
+  Written,
+  loose,
+  summed,
+  multiplied,
+  prefixed,
+  indexed,
+  tight,
+  as_postfix,
+  as_unary,
+  as_product,
+  as_sum,
+  as_expression,
+  written_arguments,
+}
 
 -- What was added is what is written before any rest.
 abbrev pub Writes : List CodeToken → List CodeToken → (List Token → List Token) → Type 0
@@ -86,6 +103,10 @@ wanted_before words.Sum w rest = sum_before (as_sum w) rest
 wanted_before words.Product w rest = product_before (as_product w) rest
 wanted_before words.Unary w rest = unary_before (as_unary w) rest
 wanted_before words.Postfix w rest = postfix_before (as_postfix w) rest
+
+-- a call's tokens
+abbrev pub call_before : Name → List Expr → List Token → List Token
+call_before g args rest = primary_before (CallOf (name_of g) (written_arguments (trees_of args))) rest
 
 abbrev pub has_items : Exprs → Bool
 has_items no_expr = false

@@ -21,8 +21,10 @@ ghost use Rattle.script_syntax.specs.Reading.{
   kind_at,
   deeper,
   expression_at,
+  called,
 };
 ghost use Rattle.script_syntax.specs.Views.{tree_of, trees_of, kind_tree, retries_of};
+ghost use Rattle.script_syntax.specs.Calls.{callee_of};
 
 use crate::cursor::{
     Context, adding, after, before, comparing, deeper, expect, expected, first, multiplying, name,
@@ -33,6 +35,15 @@ use crate::tree::{BinaryOperator, Expr, ExprKind, Name, Retries};
 use crate::types::value_type;
 use script_tokens::{Mark, Placed, Span, Token};
 use std::alloc::{AllocError, Global};
+
+/// What a `let` of several names calls.
+#[derive(Drop)]
+pub(crate) enum Callee {
+    /// The name of a function, and what it is called with.
+    AsPart(Name, Vec<Expr>),
+    /// The same as a task.
+    AsTask(Option<Retries>, Name, Vec<Expr>),
+}
 
 /// What stands from the first of the tokens up to those that are left, as an expression.
 fn over(kind: ExprKind, tokens: &[Placed], rest: &[Placed]) -> Expr
@@ -353,4 +364,25 @@ fn items<'t, 'a>(
         rest = after;
     }
     Ok((items, rest))
+}
+
+/// A call, maybe as a task, with nothing round it.
+#[tactic(auto, unfolding(crate::specs::Reading::called))]
+pub(crate) fn called<'t, 'a>(
+    context: Context,
+    levels: u32,
+    tokens: &'t [Placed<'a>],
+) -> Result<(Callee, &'t [Placed<'a>]), Refusal>
+    ensures exact { Gives (λ x. (callee_of x.0, tokens_of x.1.now)) result (called (deeper levels) (tokens_of tokens.now)) }
+    ensures shorter { IfOk result (λ x. length x.1.now < length tokens.now) }
+{
+    let Some(more) = after(tokens, Mark::Remote) else {
+        let (function, rest) = name(context, tokens)?;
+        let (arguments, rest) = arguments(context, levels, rest)?;
+        return Ok((Callee::AsPart(function, arguments), rest));
+    };
+    let (retries, rest) = retries(context, levels, more)?;
+    let (function, rest) = name(context, rest)?;
+    let (arguments, rest) = arguments(context, levels, rest)?;
+    Ok((Callee::AsTask(retries, function, arguments), rest))
 }

@@ -11,7 +11,7 @@ use crate::cursor::{
 use crate::refusal::Refusal;
 use crate::statements::block;
 use crate::tree::{Function, Parameter};
-use crate::types::value_type;
+use crate::types::{results, value_type};
 use script_tokens::{Mark, Placed, Token};
 
 /// How many brackets and prefixes may be open at one place.
@@ -102,12 +102,13 @@ fn function<'t, 'a>(
     let (name, rest) = name(context, rest)?;
     let (parameters, rest) = parameters(context, MOST_OPEN, rest)?;
     let rest = expect(context, rest, Mark::Arrow)?;
-    let (result, rest) = value_type(context, MOST_OPEN, rest)?;
+    let (result, others, rest) = results(context, MOST_OPEN, rest)?;
     let (body, rest) = block(context, MOST_OPEN, rest)?;
     let function = Function {
         name,
         parameters,
         result,
+        others,
         body,
     };
     Ok((function, rest))

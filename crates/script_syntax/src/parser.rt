@@ -43,8 +43,8 @@ fn program(context: Context, tokens: &[Placed]) -> Result<Program, SyntaxError>
 /// Refusals, as `script_tokens::tokens_in` says where the text has no tokens: `TooLarge` at 0..0, `NotAscii` and
 /// `BadToken`. Else `Expected` at the first token that the grammar does not allow there, or with the text's length twice
 /// where the text ends too early; and `TooLarge` at the first token past a limit: the `fn` of function 65, the name of
-/// parameter 17, token 513 of an outermost expression, or what opens nesting 33. `NoMemory` may come in place of any
-/// answer but the first `TooLarge`.
+/// parameter 17, token 513 of an outermost expression (the call of a `let` of several names is one), or what opens
+/// nesting 33. `NoMemory` may come in place of any answer but the first `TooLarge`.
 pub fn parse(alloc: Global, text: &[u8]) -> Result<Program, SyntaxError>
     // What is answered is the text's program.
     ensures found { IfOk result (λ p. Reads text.now (program_of p.functions.items)) }

@@ -6,13 +6,25 @@ ghost use Rattle.script_tokens.specs.Tokens.{name, mark};
 ghost use Rattle.script_tokens.specs.declared.token.Mark.TheVariants as marks;
 ghost use Rattle.script_tokens.specs.Spelling.{line_text, text_of_lines};
 ghost use Rattle.script_syntax.specs.Expressions.{expression_before};
-ghost use Rattle.script_syntax.specs.Grammar.{statement_before, statements_before, block_before, parameter_before, parameters_before, function_before};
-ghost use Rattle.script_syntax.specs.Views.{tree_of, statement_of, statements_of, parameter_of, function_of, program_of};
+ghost use Rattle.script_syntax.specs.Grammar.{
+  more_names_before,
+  statement_before,
+  statements_before,
+  block_before,
+  parameter_before,
+  parameters_before,
+  more_kinds_before,
+  results_before,
+  function_before,
+};
+ghost use Rattle.script_syntax.specs.Views.{name_of, type_of, tree_of, statement_of, statements_of, parameter_of, function_of, program_of};
 ghost use Rattle.script_syntax.specs.Printing.{expression_of, written_statement, written_statements, written_function, printed_program};
 ghost use Rattle.script_syntax.specs.Writing.{Writes};
 
-use crate::tree::{Block, Expr, Function, Name, Parameter, Program, Statement};
-use crate::writer::{add_expression, add_mark, add_name, add_type};
+use crate::tree::{Block, Expr, Function, Name, Parameter, Program, Statement, ValueType};
+use crate::writer::{
+    add_call, add_expression, add_mark, add_name, add_others, add_retries, add_type,
+};
 use script_tokens::{Mark, Token, write_line};
 use std::alloc::{AllocError, Global};
 
@@ -34,6 +46,33 @@ fn add_assignment<'p>(
     Ok(())
 }
 
+/// Further names, each after a comma.
+fn add_more_names<'p>(tokens: &mut Vec<Token<'p>>, others: &'p [Name]) -> Result<(), AllocError>
+    ensures { OnOk result (Writes tokens.old.items tokens.new.items (λ rest. more_names_before (map name_of others.entry.now) rest)) }
+{
+    for other in others {
+        add_mark(tokens, Mark::Comma)?;
+        add_name(tokens, other)?;
+    }
+    Ok(())
+}
+
+/// `let`, names with commas between, and `=`.
+fn add_names<'p>(
+    tokens: &mut Vec<Token<'p>>,
+    first: &'p Name,
+    others: &'p [Name],
+) -> Result<(), AllocError>
+    ensures { OnOk result (Writes tokens.old.items tokens.new.items (λ rest. mark marks.Let ∷ name (string_bytes first.entry.now.text)
+        ∷ more_names_before (map name_of others.entry.now) (mark marks.Assign ∷ rest))) }
+{
+    add_mark(tokens, Mark::Let)?;
+    add_name(tokens, first)?;
+    add_more_names(tokens, others)?;
+    add_mark(tokens, Mark::Assign)?;
+    Ok(())
+}
+
 #[cycle(writing)]
 fn add_statement<'p>(
     tokens: &mut Vec<Token<'p>>,
@@ -44,6 +83,20 @@ fn add_statement<'p>(
     match statement {
         Statement::Let(name, value) => {
             add_assignment(tokens, Mark::Let, name, value)?;
+            Ok(())
+        }
+        Statement::LetCall(first, others, function, arguments) => {
+            add_names(tokens, first, others)?;
+            add_call(tokens, function, arguments)?;
+            add_mark(tokens, Mark::Semicolon)?;
+            Ok(())
+        }
+        Statement::LetRemote(first, others, retries, function, arguments) => {
+            add_names(tokens, first, others)?;
+            add_mark(tokens, Mark::Remote)?;
+            add_retries(tokens, retries)?;
+            add_call(tokens, function, arguments)?;
+            add_mark(tokens, Mark::Semicolon)?;
             Ok(())
         }
         Statement::Set(name, value) => {
@@ -77,9 +130,10 @@ fn add_statement<'p>(
             add_mark(tokens, Mark::Semicolon)?;
             Ok(())
         }
-        Statement::Return(value) => {
+        Statement::Return(_, first, others) => {
             add_mark(tokens, Mark::Return)?;
-            add_expression(tokens, value)?;
+            add_expression(tokens, first)?;
+            add_others(tokens, others)?;
             add_mark(tokens, Mark::Semicolon)?;
             Ok(())
         }
@@ -141,6 +195,39 @@ fn add_parameters<'p>(
     Ok(())
 }
 
+/// Further types, each after a comma.
+fn add_more_types<'p>(
+    tokens: &mut Vec<Token<'p>>,
+    others: &'p [ValueType],
+) -> Result<(), AllocError>
+    ensures { OnOk result (Writes tokens.old.items tokens.new.items (λ rest. more_kinds_before (map type_of others.entry.now) rest)) }
+{
+    for other in others {
+        add_mark(tokens, Mark::Comma)?;
+        add_type(tokens, other)?;
+    }
+    Ok(())
+}
+
+/// The types of a function's results: in parentheses where there are several.
+fn add_results<'p>(
+    tokens: &mut Vec<Token<'p>>,
+    first: &'p ValueType,
+    others: &'p [ValueType],
+) -> Result<(), AllocError>
+    ensures { OnOk result (Writes tokens.old.items tokens.new.items (λ rest. results_before (type_of first.entry.now) (map type_of others.entry.now) rest)) }
+{
+    let [_second, _others @ ..] = others else {
+        add_type(tokens, first)?;
+        return Ok(());
+    };
+    add_mark(tokens, Mark::OpenParenthesis)?;
+    add_type(tokens, first)?;
+    add_more_types(tokens, others)?;
+    add_mark(tokens, Mark::CloseParenthesis)?;
+    Ok(())
+}
+
 fn add_function<'p>(tokens: &mut Vec<Token<'p>>, function: &'p Function) -> Result<(), AllocError>
     ensures { OnOk result (Writes tokens.old.items tokens.new.items (λ rest. function_before (written_function (function_of function.entry.now)) rest)) }
 {
@@ -150,7 +237,7 @@ fn add_function<'p>(tokens: &mut Vec<Token<'p>>, function: &'p Function) -> Resu
     add_parameters(tokens, &function.parameters)?;
     add_mark(tokens, Mark::CloseParenthesis)?;
     add_mark(tokens, Mark::Arrow)?;
-    add_type(tokens, &function.result)?;
+    add_results(tokens, &function.result, &function.others)?;
     add_block(tokens, &function.body)?;
     Ok(())
 }

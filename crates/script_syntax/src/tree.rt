@@ -81,13 +81,18 @@ pub enum ExprKind {
 #[cycle(statement)]
 pub enum Statement {
     Let(Name, Expr),
+    /// Two names or more, the first apart, for the results of a call: the function's name, and what it is called with.
+    LetCall(Name, Vec<Name>, Name, Vec<Expr>),
+    /// The same of a call as a task; 3 new runs where no number is written.
+    LetRemote(Name, Vec<Name>, Option<Retries>, Name, Vec<Expr>),
     Set(Name, Expr),
     If(Expr, Block, Option<Block>),
     /// A loop's name, its bounds and its body.
     For(Name, Expr, Expr, Block),
     /// Where `print` stands, and what is printed.
     Print(Span, Expr),
-    Return(Expr),
+    /// Where `return` stands, the first value, and those of further results.
+    Return(Span, Expr, Vec<Expr>),
 }
 
 /// Statements in braces.
@@ -109,7 +114,10 @@ pub struct Parameter {
 pub struct Function {
     pub name: Name,
     pub parameters: Vec<Parameter>,
+    /// The type of its first result.
     pub result: ValueType,
+    /// The types of its further results: three at most.
+    pub others: Vec<ValueType>,
     pub body: Block,
 }
 

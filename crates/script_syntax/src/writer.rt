@@ -4,9 +4,9 @@ ghost use Rattle.std.specs.Prelude.{◌≡◌, OnOk, nat_lt, ◌∷◌};
 ghost use Rattle.std.specs.String.{string_bytes};
 ghost use Rattle.script_tokens.specs.Tokens.{number, name, mark};
 ghost use Rattle.script_syntax.specs.Operators.{prefix_mark};
-ghost use Rattle.script_syntax.specs.Expressions.{kind_before, retries_before, expression_before, arguments_before};
+ghost use Rattle.script_syntax.specs.Expressions.{kind_before, retries_before, expression_before, arguments_before, more_before};
 ghost use Rattle.script_syntax.specs.Views.{type_of, retries_of, kind_tree, tree_of, trees_of};
-ghost use Rattle.script_syntax.specs.Printing.{written, written_arguments, expression_of};
+ghost use Rattle.script_syntax.specs.Printing.{written, written_arguments, written_others, expression_of};
 ghost use Rattle.script_syntax.specs.Writing.{
   Writes,
   tightness,
@@ -18,6 +18,7 @@ ghost use Rattle.script_syntax.specs.Writing.{
   bare_before,
   wanted_before,
   has_items,
+  call_before,
 };
 
 use crate::tree::{BinaryOperator, Expr, ExprKind, Name, Prefix, Retries, ValueType};
@@ -172,7 +173,7 @@ pub(crate) fn add_type<'p>(
     }
 }
 
-fn add_retries<'p>(
+pub(crate) fn add_retries<'p>(
     tokens: &mut Vec<Token<'p>>,
     retries: &'p Option<Retries>,
 ) -> Result<(), AllocError>
@@ -265,19 +266,13 @@ fn add_bare<'p>(tokens: &mut Vec<Token<'p>>, expression: &'p Expr) -> Result<(),
             Ok(())
         }
         ExprKind::Call(name, arguments) => {
-            add_name(tokens, name)?;
-            add_mark(tokens, Mark::OpenParenthesis)?;
-            add_items(tokens, arguments)?;
-            add_mark(tokens, Mark::CloseParenthesis)?;
+            add_call(tokens, name, arguments)?;
             Ok(())
         }
         ExprKind::Remote(retries, name, arguments) => {
             add_mark(tokens, Mark::Remote)?;
             add_retries(tokens, retries)?;
-            add_name(tokens, name)?;
-            add_mark(tokens, Mark::OpenParenthesis)?;
-            add_items(tokens, arguments)?;
-            add_mark(tokens, Mark::CloseParenthesis)?;
+            add_call(tokens, name, arguments)?;
             Ok(())
         }
         ExprKind::Len(list) => {
@@ -315,6 +310,22 @@ fn add_items<'p>(tokens: &mut Vec<Token<'p>>, items: &'p [Expr]) -> Result<(), A
     Ok(())
 }
 
+/// A function's name, and what it is called with in parentheses.
+#[cycle(writing)]
+pub(crate) fn add_call<'p>(
+    tokens: &mut Vec<Token<'p>>,
+    function: &'p Name,
+    arguments: &'p [Expr],
+) -> Result<(), AllocError>
+    ensures { OnOk result (Writes tokens.old.items tokens.new.items (λ rest. call_before function.entry.now arguments.entry.now rest)) }
+{
+    add_name(tokens, function)?;
+    add_mark(tokens, Mark::OpenParenthesis)?;
+    add_items(tokens, arguments)?;
+    add_mark(tokens, Mark::CloseParenthesis)?;
+    Ok(())
+}
+
 pub(crate) fn add_expression<'p>(
     tokens: &mut Vec<Token<'p>>,
     expression: &'p Expr,
@@ -322,5 +333,19 @@ pub(crate) fn add_expression<'p>(
     ensures { OnOk result (Writes tokens.old.items tokens.new.items (λ rest. expression_before (expression_of (tree_of expression.entry.now)) rest)) }
 {
     add_as(tokens, expression, Word::Expression)?;
+    Ok(())
+}
+
+/// Further expressions, each after a comma.
+pub(crate) fn add_others<'p>(
+    tokens: &mut Vec<Token<'p>>,
+    others: &'p [Expr],
+) -> Result<(), AllocError>
+    ensures { OnOk result (Writes tokens.old.items tokens.new.items (λ rest. more_before (written_others (trees_of others.entry.now)) rest)) }
+{
+    for item in others {
+        add_mark(tokens, Mark::Comma)?;
+        add_expression(tokens, item)?;
+    }
     Ok(())
 }

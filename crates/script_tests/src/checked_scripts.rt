@@ -46,7 +46,9 @@ fn gives_the_checked_script_and_its_copy(rt: HostRuntime) -> Result<(), Fail> {
 fn returning(alloc: Global, kind: ExprKind) -> Result<Program, AllocError> {
     let span = Span { start: 26, end: 31 };
     let mut statements = Vec::new(alloc);
-    statements.push(Statement::Return(Expr { kind, span }))?;
+    let place = Span { start: 19, end: 25 };
+    let others = Vec::new(alloc);
+    statements.push(Statement::Return(place, Expr { kind, span }, others))?;
     let text = String::from_str(alloc, "main")?;
     let name = Name {
         text,
@@ -57,6 +59,7 @@ fn returning(alloc: Global, kind: ExprKind) -> Result<Program, AllocError> {
         name,
         parameters: Vec::new(alloc),
         result: ValueType::Int,
+        others: Vec::new(alloc),
         body: Block { statements },
     })?;
     Ok(Program { functions })

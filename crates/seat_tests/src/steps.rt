@@ -1,7 +1,6 @@
 // A run whose events come from two seats, one by one.
 
 ghost use Rattle.std.specs.Prelude.{◌≡◌, [], true};
-ghost use Rattle.protocol_core.specs.Views.{state_of};
 ghost use Rattle.script_check.specs.Trees.{script_of};
 ghost use Rattle.seat_books.specs.Holdings.{SameParts};
 ghost use Rattle.seat_books.specs.Seats.{AreParts};

@@ -5,6 +5,7 @@ use Rattle.std.specs.Prelude.{nat_lt, ◌==◌, if◌then◌else◌}
 use Rattle.std.specs.List.{flat_map}
 use Rattle.segment.specs.Jobs.{Done}
 use Rattle.event_log.specs.Entries.{Entry, In, Refused, Event, Claim, Commit, Deliver, Tick, Notice, NoticeNode, Evict, Lose, Kill, KillNode, Join}
+use Rattle.event_log.specs.Entries.{Refusal, Limit}
 use Rattle.event_log.specs.Events.{accepted_events, claims, claim_in}
 use Rattle.event_log.specs.Legal.{opening}
 use Rattle.event_log.specs.Books.{Totals, totals_of}
@@ -21,7 +22,7 @@ use Rattle.protocol_board.specs.Cores.{RunState, GivesThat, Reply, Tells, Answer
 use Rattle.books.specs.SeatTotals.{seat_totals}
 use Rattle.books.specs.Laws.{from_seat}
 use Rattle.books.proofs.SeatLaws.{seat_totals-event, no_totals as no_seat_totals}
-use Rattle.seats.specs.Counted.{ClaimsGaveJobs, IsFresh, counted, one_event, refused_totals}
+use Rattle.seats.specs.Counted.{ClaimsGaveJobs, IsFresh, counted, is_logged, one_event}
 use Rattle.seats.proofs.Jobs.{claim_gives, happens-jobs}
 use Rattle.seats.proofs.Codes.{is_low, refusal_low}
 
@@ -33,7 +34,7 @@ taken_by n e = record (accepted_totals n e) { events = 1 }
 
 told_job : (w n : ℕ) (job : Job) (told : Reply) → job.number ≡ n + 1 → GivesThat (Some job) told → counted (Claim w) told ≡ taken_by n (Claim w)
 told_job w n job told number h =
-    ap (counted (Claim w)) h.1 ∙ ap (λ k. record one_event { given = k }) (ap (λ (j : Job). j.number) h.2 ∙ number)
+    ap (counted (Claim w)) h ∙ ap (λ k. record one_event { given = k }) number
 
 told_claim : (c : Whole) (w : ℕ) (handed : Handed) (told : Reply) (n : ℕ) → n ≡ length c.jobs → refusal c (Claim w) handed ≡ None →
     GivesThat (given_out c (Claim w)) told →
@@ -67,11 +68,11 @@ Counts log c e seat a told =
     (totals_of (log ++ logged e seat a) ≡ plus (totals_of log) (counted e told)) × (length (claims (log ++ logged e seat a)) ≡ length (whole_after c a).jobs)
     × ((w : ℕ) → CountsFrom w log e seat a told)
 
-refused_counts : (log : List Entry) (c : Whole) (e : Event) (seat code : ℕ) (told : Reply) → length (claims log) ≡ length c.jobs → nat_lt code 38 ≡ true →
+refused_counts : (log : List Entry) (c : Whole) (e : Event) (seat : ℕ) (code : Refusal) (told : Reply) → length (claims log) ≡ length c.jobs → is_logged code ≡ true →
     Tells (Refuses code) told →
     Counts log c e seat (Refuses code) told
 refused_counts log c e seat code told same low h =
-    let f : counted e told ≡ one_event = ap (counted e) h.1 ∙ ap refused_totals h.2 ∙ ap (λ b. if b then one_event else nothing) low in (
+    let f : counted e told ≡ one_event = ap (counted e) h ∙ ap (λ b. if b then one_event else nothing) low in (
       totals-event log e seat (Refused code ∷ []) refl ∙ ap (plus (totals_of log)) (sym f),
       ap (λ es. length (flat_map claim_in es)) (accepted-refused log e seat code) ∙ same,
       λ w. seat_totals-event w log e seat (Refused code ∷ []) refl ∙ ap (λ t. plus (seat_totals w log) (from_seat w seat t)) (sym f),
@@ -100,13 +101,13 @@ taken_counts log c e seat handed told same r h =
 
 limited_counts : (log : List Entry) (c : Whole) (e : Event) (seat : ℕ) (handed : Handed) (told : Reply) → length (claims log) ≡ length c.jobs →
     refusal c e handed ≡ None →
-    (b : Bool) → Tells (if b then takes (happens c e handed) (given_out c e) else Refuses 37) told →
-    Counts log c e seat (if b then takes (happens c e handed) (given_out c e) else Refuses 37) told
+    (b : Bool) → Tells (if b then takes (happens c e handed) (given_out c e) else Refuses Limit) told →
+    Counts log c e seat (if b then takes (happens c e handed) (given_out c e) else Refuses Limit) told
 limited_counts log c e seat handed told same r true h = taken_counts log c e seat handed told same r h
-limited_counts log c e seat handed told same r false h = refused_counts log c e seat 37 told same refl h
+limited_counts log c e seat handed told same r false h = refused_counts log c e seat Limit told same refl h
 
 decided_counts : (log : List Entry) (c : Whole) (e : Event) (seat : ℕ) (handed : Handed) (told : Reply) → length (claims log) ≡ length c.jobs →
-    (o : Option ℕ) → refusal c e handed ≡ o → is_low o ≡ true → Tells (decided c e handed o) told → Counts log c e seat (decided c e handed o) told
+    (o : Option Refusal) → refusal c e handed ≡ o → is_low o ≡ true → Tells (decided c e handed o) told → Counts log c e seat (decided c e handed o) told
 decided_counts log c e seat handed told same None r low h = limited_counts log c e seat handed told same r (is_within_limits (happens c e handed).whole) h
 decided_counts log c e seat handed told same (Some code) r low h = refused_counts log c e seat code told same low h
 

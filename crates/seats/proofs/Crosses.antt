@@ -9,8 +9,9 @@ use Rattle.std.proofs.marker.PhantomData.TheSendSync as phantom
 use Rattle.std.specs.declared.sync.ledger.Ledger as ledger
 use Rattle.sequence.specs.contracts.Seq as Seq
 use Rattle.values.proofs.value.RunValue.TheLaws.TheKnot as value
-use Rattle.held.specs.contracts.content.Content as Content
+use Rattle.held.specs.contracts.content.SharedContent as SharedContent
 use Rattle.held.specs.contracts.origin.Origin as Origin
+use Rattle.held.specs.contracts.printed.Printed as Printed
 use Rattle.ids.specs.contracts.node.NodeId as NodeId
 use Rattle.ids.specs.contracts.object.ObjectId as ObjectId
 use Rattle.ids.proofs.attempt.AttemptId.TheSendSync as attempt
@@ -18,7 +19,7 @@ use Rattle.ids.proofs.node.NodeId.TheSendSync as node
 use Rattle.ids.proofs.object.ObjectId.TheSendSync as object
 use Rattle.ids.proofs.worker.WorkerId.TheSendSync as worker
 use Rattle.values.proofs.fault.Fault.TheSendSync as fault
-use Rattle.event_log.specs.contracts.entry.Entry as Entry
+use Rattle.log_entries.specs.contracts.entry.Entry as Entry
 use Rattle.event_files.specs.contracts.plan.PlanLine as PlanLine
 use Rattle.script_syntax.proofs.tree.ValueType.TheLaws.TheKnot as kinds
 use Rattle.script_check.proofs.tree.CheckedExpr.TheLaws.TheKnot as exprs
@@ -63,11 +64,14 @@ code_sync = search (instruction_sync, crosses, sendable) depth 60 fits 20000
 pub compiled_sync : IsSync Compiled.the_row
 compiled_sync = search (checked_sync, code_sync, crosses, sendable) depth 60 fits 20000
 
-content_send : IsSend Content.the_row
+content_send : IsSend SharedContent.the_row
 content_send = search (value.crosses, crosses, sendable) depth 60 fits 20000
 
 origin_send : IsSend Origin.the_row
 origin_send = search (value.crosses, crosses, sendable) depth 60 fits 20000
+
+printed_send : IsSend Printed.the_row
+printed_send = search (value.crosses, crosses, sendable) depth 60 fits 20000
 
 key_send : IsSend CopyKey.the_row
 key_send = search (object.the_send, crosses, sendable) depth 60 fits 20000
@@ -129,7 +133,18 @@ whole_send : IsSend Whole.the_field.row
 whole_send = search (node_send, worker_send, letter_send, crosses, sendable) depth 60 fits 20000
 
 entry_send : IsSend Entry.the_field.row
-entry_send = search (value.crosses, crosses, sendable) depth 60 fits 20000
+entry_send = search (
+  content_send,
+  origin_send,
+  printed_send,
+  object.the_send,
+  node.the_send,
+  worker.the_send,
+  attempt.the_send,
+  fault.the_send,
+  crosses,
+  sendable,
+) depth 60 fits 20000
 
 lines_send : IsSend (Seq.the_row PlanLine.the_row)
 lines_send = search (crosses, sendable) depth 60 fits 20000

@@ -2,12 +2,10 @@
 use Rattle.std.proofs.Common.{◌≡◌, ℕ, suc, ◌+◌, ◌≤◌, Bool, true, false, List, [], ◌∷◌, ◌++◌, length, refl, ap, arith, length-append}
 use Rattle.std.specs.Prelude.{if◌then◌else◌}
 use Rattle.std.specs.List.{flat_map}
-use Rattle.event_log.specs.declared.entry.Entry as coded
 use Rattle.event_log.specs.Entries.{Entry, In, Event, Claim, Commit, Deliver, Tick, Notice, NoticeNode, Evict, Lose, Kill, KillNode, Join}
 use Rattle.event_log.specs.Events.{accepted_events, commit_in, refused_next}
 use Rattle.event_log.specs.Books.{Totals, totals_of}
 use Rattle.event_log.specs.Laws.{plus}
-use Rattle.event_log.specs.Views.{log_of}
 
 one_at_most : (e : Event) → length (commit_in e) ≤ 1
 one_at_most (Claim w) = omega arith
@@ -36,24 +34,20 @@ few_accepted [] = omega arith
 few_accepted (In e seat ∷ rest) = taken_or_not (refused_next rest) e (accepted_events rest) (length rest) (few_accepted rest)
 few_accepted (x ∷ rest) = let h = few_accepted rest in omega (arith, h)
 
-same_length : (log : List coded.Entry) → length (log_of log) ≡ length log
-same_length [] = refl
-same_length (x ∷ log) = ap suc (same_length log)
-
-few_commits : (log : List coded.Entry) → (totals_of (log_of log)).commits ≤ length log
-few_commits log = let a = few_in (accepted_events (log_of log)) in let b = few_accepted (log_of log) in let c = same_length log in omega (arith, a, b, c)
+few_commits : (log : List Entry) → (totals_of log).commits ≤ length log
+few_commits log = let a = few_in (accepted_events log) in let b = few_accepted log in omega (arith, a, b)
 
 -- behind one event more
-pub few_behind : (before : Totals) (more : Totals) (log : List coded.Entry) (commits : ℕ) → totals_of (log_of log) ≡ plus before more →
+pub few_behind : (before : Totals) (more : Totals) (log : List Entry) (commits : ℕ) → totals_of log ≡ plus before more →
     commits ≡ before.commits → commits + more.commits ≤ length log
 few_behind before more log commits e same =
-    let f : (totals_of (log_of log)).commits ≡ before.commits + more.commits = ap (λ (t : Totals). t.commits) e in
+    let f : (totals_of log).commits ≡ before.commits + more.commits = ap (λ (t : Totals). t.commits) e in
     let g = few_commits log in
     omega (arith, f, g, same)
 
 -- how many there are behind it
-pub commits_now : (before : Totals) (more : Totals) (log : List coded.Entry) (commits now : ℕ) → totals_of (log_of log) ≡ plus before more →
-    commits ≡ before.commits → now ≡ commits + more.commits → now ≡ (totals_of (log_of log)).commits
+pub commits_now : (before : Totals) (more : Totals) (log : List Entry) (commits now : ℕ) → totals_of log ≡ plus before more →
+    commits ≡ before.commits → now ≡ commits + more.commits → now ≡ (totals_of log).commits
 commits_now before more log commits now e same is =
-    let f : (totals_of (log_of log)).commits ≡ before.commits + more.commits = ap (λ (t : Totals). t.commits) e in
+    let f : (totals_of log).commits ≡ before.commits + more.commits = ap (λ (t : Totals). t.commits) e in
     omega (arith, f, same, is)

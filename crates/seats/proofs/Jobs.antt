@@ -3,6 +3,7 @@ use Rattle.std.proofs.Common.{◌≡◌, ℕ, ◌+◌, true, false, Bool, [], �
 use Rattle.std.specs.Prelude.{if◌then◌else◌, ◌&&◌}
 use Rattle.sequence.proofs.Places.{and_left, and_right}
 use Rattle.event_log.specs.Entries.{Event, Claim, Commit, Deliver, Tick, Notice, NoticeNode, Evict, Lose, Kill, KillNode, Join}
+use Rattle.event_log.specs.Entries.{NoWorker, NotReady}
 use Rattle.event_log.specs.Events.{claim_in}
 use Rattle.protocol.specs.Numbered.{changed_at, item_at}
 use Rattle.protocol.specs.Messages.{Letter, Party, TheWorker, TheNode}
@@ -18,7 +19,7 @@ use Rattle.protocol.specs.Deliveries.{reached}
 use Rattle.protocol.specs.Whole.{Whole, Moved, moved, node_at, worker_at, node_does, node_does_by, worker_does, worker_does_by, worker_does_at}
 use Rattle.protocol.specs.Events.{as_committed, committed_by, with_committed, delivered_by, delivered_to}
 use Rattle.protocol.specs.Events.{with_delivered, is_live_worker, is_live_node, killed_by, dead, happens}
-use Rattle.protocol.specs.Refusals.{has_slot, is_ready, is_ready_on, is_ready_run, or_code, refusal, unless}
+use Rattle.protocol.specs.Refusals.{has_slot, is_ready, is_ready_on, is_ready_run, or_refusal, refusal, unless}
 use Rattle.protocol.specs.Answers.{given_out, job_at, job_by, job_of}
 use Rattle.protocol_owed.proofs.FullNodes.{changed-length}
 
@@ -101,7 +102,7 @@ at_ready c w n None e = absurd (cc)
 at_ready c w n (Some x) e = by_ready n x.run (and_right x.is_live (is_ready_run x.run)
     (and_left (x.is_live && is_ready_run x.run) (has_slot w (node_at c x.node)) e))
 
-ready_if_none : (l r : Bool) → or_code (unless l 30) (unless r 31) ≡ None → r ≡ true
+ready_if_none : (l r : Bool) → or_refusal (unless l NoWorker) (unless r NotReady) ≡ None → r ≡ true
 ready_if_none true true e = refl
 ready_if_none true false e = absurd (cc)
 ready_if_none false r e = absurd (cc)

@@ -8,6 +8,7 @@ use Rattle.segment.specs.Jobs.{Done}
 use Rattle.event_files.specs.declared.plan.PlanLine.{PlanLine}
 use Rattle.event_log.specs.Books.{totals_of}
 use Rattle.event_log.specs.Entries.{Entry, Event, Claim, Commit, Deliver, In, Refused}
+use Rattle.event_log.specs.Entries.{Limit}
 use Rattle.event_log.specs.Legal.{has_event, opening}
 use Rattle.event_log.specs.Words.{came_in, events}
 use Rattle.log_entries.specs.declared.refusal.Refusal.{Refusal}
@@ -38,12 +39,12 @@ one_more : (log : List Entry) (e : Event) (seat : ℕ) (es : List Entry) → has
 one_more log e seat es h = flat_map-append came_in log (In e seat ∷ es) ∙ ap (λ xs. events log ++ (e ∷ xs)) (no_events es h)
 
 limited_more : (log : List Entry) (c : Whole) (e : Event) (seat : ℕ) (handed : Handed) (b : Bool) →
-    events (log ++ logged e seat (if b then takes (happens c e handed) (given_out c e) else answers.Refuses 37)) ≡ events log ++ e ∷ []
+    events (log ++ logged e seat (if b then takes (happens c e handed) (given_out c e) else answers.Refuses Limit)) ≡ events log ++ e ∷ []
 limited_more log c e seat handed true =
     one_more log e seat (happens c e handed).out.entries (no_event (happens c e handed).out.entries (happens-counted c e handed).quiet)
-limited_more log c e seat handed false = one_more log e seat (Refused 37 ∷ []) refl
+limited_more log c e seat handed false = one_more log e seat (Refused Limit ∷ []) refl
 
-decided_more : (log : List Entry) (c : Whole) (e : Event) (seat : ℕ) (handed : Handed) (o : Option ℕ) →
+decided_more : (log : List Entry) (c : Whole) (e : Event) (seat : ℕ) (handed : Handed) (o : Option Refusal) →
     events (log ++ logged e seat (decided c e handed o)) ≡ events log ++ e ∷ []
 decided_more log c e seat handed None = limited_more log c e seat handed (is_within_limits (happens c e handed).whole)
 decided_more log c e seat handed (Some code) = one_more log e seat (Refused code ∷ []) refl

@@ -6,7 +6,6 @@ use Rattle.segment.specs.Jobs.{Done}
 use Rattle.event_files.specs.declared.plan.PlanLine.{PlanLine}
 use Rattle.event_log.specs.Books.{totals_of}
 use Rattle.event_log.specs.Entries.{Entry, Event, Claim, Commit, Deliver, In, Refused}
-use Rattle.log_entries.specs.Refusals.{code_of}
 use Rattle.log_entries.specs.declared.refusal.Refusal.{Refusal}
 use Rattle.log_entries.specs.declared.refusal.Refusal.TheVariants as refusals
 use Rattle.protocol.specs.Answers.{Answer, answer, logged}
@@ -105,11 +104,11 @@ past_events plan k e (line, found, same) =
 -- ---- the log behind it
 
 refused_in : (es : List Event) (log : List Entry) (e : Event) (seat : ℕ) (refusal : Refusal) → AreIn es log →
-    Stands (es ++ e ∷ []) (log ++ In e seat ∷ Refused (code_of refusal) ∷ []) (given_up_by (Refuses refusal) None)
+    Stands (es ++ e ∷ []) (log ++ In e seat ∷ Refused refusal ∷ []) (given_up_by (Refuses refusal) None)
 refused_in es log e seat refusals.Limit h = limited_now log e seat
 refused_in es log e seat refusals.Halted h = tt
 refused_in es log e seat refusals.NoMemory h = tt
-refused_in es log e seat refusal h = in_last es log e seat (Refused (code_of refusal) ∷ []) h
+refused_in es log e seat refusal h = in_last es log e seat (Refused refusal ∷ []) h
 
 taken_in : (es : List Event) (log : List Entry) (e : Event) (seat : ℕ) (more : List Entry) (given : Option Job) (told : Reply) → GivesThat given told →
     AreIn es log →
@@ -117,15 +116,13 @@ taken_in : (es : List Event) (log : List Entry) (e : Event) (seat : ℕ) (more :
 taken_in es log e seat more None told tells h =
     subst (λ t. Stands (es ++ e ∷ []) (log ++ In e seat ∷ more) (given_up_by t None)) (sym tells) (in_last es log e seat more h)
 taken_in es log e seat more (Some job) told tells h =
-    subst (λ t. Stands (es ++ e ∷ []) (log ++ In e seat ∷ more) (given_up_by t None)) (sym tells.1) (in_last es log e seat more h)
+    subst (λ t. Stands (es ++ e ∷ []) (log ++ In e seat ∷ more) (given_up_by t None)) (sym tells) (in_last es log e seat more h)
 
 answered_in : (es : List Event) (log : List Entry) (e : Event) (seat : ℕ) (a : Answer) (told : Reply) → Tells a told → AreIn es log →
     Stands (es ++ e ∷ []) (log ++ logged e seat a) (given_up_by told None)
 answered_in es log e seat (answers.Takes s) told tells h = taken_in es log e seat s.entries s.given told tells h
-answered_in es log e seat (answers.Refuses code) told (refusal, told_so, same) h =
-    subst (λ c. Stands (es ++ e ∷ []) (log ++ In e seat ∷ Refused c ∷ []) (given_up_by told None)) same
-    (subst (λ t. Stands (es ++ e ∷ []) (log ++ In e seat ∷ Refused (code_of refusal) ∷ []) (given_up_by t None)) (sym told_so)
-    (refused_in es log e seat refusal h))
+answered_in es log e seat (answers.Refuses refusal) told told_so h =
+    subst (λ t. Stands (es ++ e ∷ []) (log ++ In e seat ∷ Refused refusal ∷ []) (given_up_by t None)) (sym told_so) (refused_in es log e seat refusal h)
 
 event_in : (es : List Event) (before after : RunState) (e : Event) (seat : ℕ) (done : Option Done) (told : Reply) → Answers before e seat done after told →
     AreIn es before.log →

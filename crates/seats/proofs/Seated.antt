@@ -3,6 +3,7 @@ use Rattle.std.proofs.Common.{◌≡◌, ◌⊎◌, ℕ, zero, suc, true, false,
 use Rattle.std.specs.Prelude.{if◌then◌else◌, slice_get}
 use Rattle.segment.specs.Jobs.{Done}
 use Rattle.event_log.specs.Entries.{Entry, Event, In, Refused}
+use Rattle.event_log.specs.Entries.{Limit, Refusal}
 use Rattle.event_log.specs.Legal.{has_event, opening}
 use Rattle.protocol.specs.Answers.{answer, decided, given_out, logged, takes}
 use Rattle.protocol.specs.Answers as answers
@@ -43,12 +44,12 @@ one_from n e seat es h none zero f from at = subst (IsSeat n) (ap seat_in at) h
 one_from n e seat es h none (suc k) f from at = none_from n es none k f from at
 
 limited : (n : ℕ) (c : Whole) (e : Event) (seat : ℕ) (handed : Handed) → IsSeat n seat → (b : Bool) →
-    AreFrom n (logged e seat (if b then takes (happens c e handed) (given_out c e) else answers.Refuses 37))
+    AreFrom n (logged e seat (if b then takes (happens c e handed) (given_out c e) else answers.Refuses Limit))
 limited n c e seat handed h true =
     one_from n e seat (happens c e handed).out.entries h (no_event (happens c e handed).out.entries (happens-counted c e handed).quiet)
-limited n c e seat handed h false = one_from n e seat (Refused 37 ∷ []) h refl
+limited n c e seat handed h false = one_from n e seat (Refused Limit ∷ []) h refl
 
-by_refusal : (n : ℕ) (c : Whole) (e : Event) (seat : ℕ) (handed : Handed) → IsSeat n seat → (o : Option ℕ) → AreFrom n (logged e seat (decided c e handed o))
+by_refusal : (n : ℕ) (c : Whole) (e : Event) (seat : ℕ) (handed : Handed) → IsSeat n seat → (o : Option Refusal) → AreFrom n (logged e seat (decided c e handed o))
 by_refusal n c e seat handed h None = limited n c e seat handed h (is_within_limits (happens c e handed).whole)
 by_refusal n c e seat handed h (Some code) = one_from n e seat (Refused code ∷ []) h refl
 

@@ -3,6 +3,7 @@ use Rattle.std.proofs.Common.{◌≡◌, ◌+◌, ℕ, true, false, Bool, [], �
 use Rattle.std.specs.Prelude.{if◌then◌else◌}
 use Rattle.segment.specs.Jobs.{Done}
 use Rattle.event_log.specs.Entries.{Event, Claim, Commit, Deliver, Tick, Notice, NoticeNode, Evict, Lose, Kill, KillNode, Join}
+use Rattle.event_log.specs.Entries.{Limit}
 use Rattle.protocol.specs.Numbered.{changed_at, item_at}
 use Rattle.protocol.specs.Messages.{Letter, Party, TheWorker, TheNode}
 use Rattle.protocol.specs.Jobs.{Given, Handed, Nothing, OfAnother, OfJob}
@@ -87,11 +88,11 @@ happens-slots c (KillNode n) handed = refl
 happens-slots c Join handed = refl
 
 limited-slots : (c : Whole) (e : Event) (handed : Handed) (b : Bool) →
-    (whole_after c (if b then takes (happens c e handed) (given_out c e) else answers.Refuses 37)).slots ≡ c.slots
+    (whole_after c (if b then takes (happens c e handed) (given_out c e) else answers.Refuses Limit)).slots ≡ c.slots
 limited-slots c e handed true = happens-slots c e handed
 limited-slots c e handed false = refl
 
-decided-slots : (c : Whole) (e : Event) (handed : Handed) (o : Option ℕ) → (whole_after c (decided c e handed o)).slots ≡ c.slots
+decided-slots : (c : Whole) (e : Event) (handed : Handed) (o : Option Refusal) → (whole_after c (decided c e handed o)).slots ≡ c.slots
 decided-slots c e handed None = limited-slots c e handed (is_within_limits (happens c e handed).whole)
 decided-slots c e handed (Some code) = refl
 

@@ -3,7 +3,6 @@ use Rattle.std.proofs.Common.{◌≡◌, ℕ, suc, true, false, Bool, List, [], 
 use Rattle.std.proofs.lemmas.List.{append_assoc}
 use Rattle.segment.specs.Jobs.{Done}
 use Rattle.event_log.specs.Entries.{Entry, Event, In, Refused}
-use Rattle.log_entries.specs.Refusals.{code_of}
 use Rattle.log_entries.specs.declared.refusal.Refusal.{Refusal}
 use Rattle.log_entries.specs.declared.refusal.Refusal.TheVariants as refusals
 use Rattle.protocol.specs.Jobs.{Job}
@@ -41,9 +40,9 @@ in_last (x ∷ es) log e seat more (before, from, after, same, rest) = (
 -- ---- events that were refused at a limit
 
 limited_more : (log more : List Entry) → WasLimited log → WasLimited (log ++ more)
-limited_more log more h = (h.0, slice_get-append log more h.0 (Refused 37) h.1)
+limited_more log more h = (h.0, slice_get-append log more h.0 (Refused refusals.Limit) h.1)
 
-pub limited_now : (log : List Entry) (e : Event) (seat : ℕ) → WasLimited (log ++ In e seat ∷ Refused 37 ∷ [])
+pub limited_now : (log : List Entry) (e : Event) (seat : ℕ) → WasLimited (log ++ In e seat ∷ Refused refusals.Limit ∷ [])
 limited_now [] e seat = (1, refl)
 limited_now (x ∷ log) e seat = let h = limited_now log e seat in (suc h.0, h.1)
 
@@ -69,27 +68,25 @@ at_limit es log None limited h = limited
 at_limit es log (Some refusal) limited h = h
 
 refused_stands : (es : List Event) (log : List Entry) (e : Event) (seat : ℕ) (refusal : Refusal) (g : Option Refusal) → Stands es log g →
-    Stands es (log ++ In e seat ∷ Refused (code_of refusal) ∷ []) (given_up_by (Refuses refusal) g)
+    Stands es (log ++ In e seat ∷ Refused refusal ∷ []) (given_up_by (Refuses refusal) g)
 refused_stands es log e seat refusals.Limit g h =
-    at_limit es (log ++ In e seat ∷ Refused 37 ∷ []) g (limited_now log e seat) (stands_more es log (In e seat ∷ Refused 37 ∷ []) g h)
+    at_limit es (log ++ In e seat ∷ Refused refusals.Limit ∷ []) g (limited_now log e seat) (stands_more es log (In e seat ∷ Refused refusals.Limit ∷ []) g h)
 refused_stands es log e seat refusals.Halted g h =
-    halted es (log ++ In e seat ∷ Refused 38 ∷ []) g (stands_more es log (In e seat ∷ Refused 38 ∷ []) g h)
+    halted es (log ++ In e seat ∷ Refused refusals.Halted ∷ []) g (stands_more es log (In e seat ∷ Refused refusals.Halted ∷ []) g h)
 refused_stands es log e seat refusals.NoMemory g h =
-    no_memory es (log ++ In e seat ∷ Refused 39 ∷ []) g (stands_more es log (In e seat ∷ Refused 39 ∷ []) g h)
-refused_stands es log e seat refusal g h = stands_more es log (In e seat ∷ Refused (code_of refusal) ∷ []) g h
+    no_memory es (log ++ In e seat ∷ Refused refusals.NoMemory ∷ []) g (stands_more es log (In e seat ∷ Refused refusals.NoMemory ∷ []) g h)
+refused_stands es log e seat refusal g h = stands_more es log (In e seat ∷ Refused refusal ∷ []) g h
 
 taken_stands : (es : List Event) (log more : List Entry) (given : Option Job) (told : Reply) (g : Option Refusal) → GivesThat given told → Stands es log g →
     Stands es (log ++ more) (given_up_by told g)
 taken_stands es log more None told g tells h = subst (λ t. Stands es (log ++ more) (given_up_by t g)) (sym tells) (stands_more es log more g h)
-taken_stands es log more (Some job) told g tells h = subst (λ t. Stands es (log ++ more) (given_up_by t g)) (sym tells.1) (stands_more es log more g h)
+taken_stands es log more (Some job) told g tells h = subst (λ t. Stands es (log ++ more) (given_up_by t g)) (sym tells) (stands_more es log more g h)
 
 answered_stands : (es : List Event) (log : List Entry) (e : Event) (seat : ℕ) (a : Answer) (told : Reply) (g : Option Refusal) → Tells a told → Stands es log g →
     Stands es (log ++ logged e seat a) (given_up_by told g)
 answered_stands es log e seat (answers.Takes s) told g tells h = taken_stands es log (In e seat ∷ s.entries) s.given told g tells h
-answered_stands es log e seat (answers.Refuses code) told g (refusal, told_so, same) h =
-    subst (λ c. Stands es (log ++ In e seat ∷ Refused c ∷ []) (given_up_by told g)) same
-    (subst (λ t. Stands es (log ++ In e seat ∷ Refused (code_of refusal) ∷ []) (given_up_by t g)) (sym told_so)
-    (refused_stands es log e seat refusal g h))
+answered_stands es log e seat (answers.Refuses refusal) told g told_so h =
+    subst (λ t. Stands es (log ++ In e seat ∷ Refused refusal ∷ []) (given_up_by t g)) (sym told_so) (refused_stands es log e seat refusal g h)
 
 -- by its answer
 pub stands_behind : (es : List Event) (before after : RunState) (e : Event) (seat : ℕ) (done : Option Done) (told : Reply) (g : Option Refusal) →

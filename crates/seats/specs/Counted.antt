@@ -1,9 +1,8 @@
 -- What an event adds to the totals of the log, by its answer.
-use Rattle.std.specs.Prelude.{◌≡◌, ℕ, List, [], nat_lt, false, if◌then◌else◌, length}
-use Rattle.event_log.specs.Entries.{Commit, Entry, Event}
+use Rattle.std.specs.Prelude.{◌≡◌, ℕ, Bool, List, [], true, false, if◌then◌else◌, length}
+use Rattle.event_log.specs.Entries.{Commit, Entry, Event, Halted, NoMemory, Refusal}
 use Rattle.event_log.specs.Events.{claims}
 use Rattle.event_log.specs.Legal.{opening}
-use Rattle.log_entries.specs.Refusals.{code_of}
 use Rattle.event_log.specs.Books.{Totals}
 use Rattle.event_log.specs.Laws.{nothing, plus}
 use Rattle.books.specs.SeatTotals.{seat_totals}
@@ -13,9 +12,14 @@ use Rattle.protocol_board.specs.Cores.{RunState, Reply, GivesJob, Accepts, Refus
 abbrev pub one_event : Totals
 one_event = record nothing { events = 1 }
 
--- one that is refused 38 or 39 isn't logged
-abbrev pub refused_totals : ℕ → Totals
-refused_totals code = if nat_lt code 38 then one_event else nothing
+-- an event so refused stands in the log: any but one behind, or at, want of memory
+abbrev pub is_logged : Refusal → Bool
+is_logged Halted = false
+is_logged NoMemory = false
+is_logged _ = true
+
+abbrev pub refused_totals : Refusal → Totals
+refused_totals refusal = if is_logged refusal then one_event else nothing
 
 -- an accepted commit also counts as that, with the number of its job
 abbrev pub taken_totals : Event → Totals
@@ -26,7 +30,7 @@ taken_totals _ = one_event
 abbrev pub counted : Event → Reply → Totals
 counted e (GivesJob job) = record one_event { given = job.number }
 counted e Accepts = taken_totals e
-counted e (Refuses refusal) = refused_totals (code_of refusal)
+counted e (Refuses refusal) = refused_totals refusal
 
 -- what came from the seat adds so much to the log's totals of the watched one, if it is that seat
 abbrev pub AddsFrom : ℕ → ℕ → Totals → List Entry → List Entry → Type 0

@@ -4,12 +4,12 @@ use Rattle.event_files.specs.declared.plan.PlanLine.{PlanLine}
 use Rattle.event_log.specs.Books.{totals_of}
 use Rattle.event_log.specs.Breaks.{Among}
 use Rattle.event_log.specs.Entries.{Entry, Event, In, Refused}
-use Rattle.event_log.specs.Views.{log_of}
+use Rattle.event_log.specs.Entries.{Limit}
 use Rattle.log_entries.specs.declared.refusal.Refusal.{Refusal}
 use Rattle.log_entries.specs.declared.refusal.Refusal.TheVariants as refusals
 use Rattle.protocol.specs.Settling.{next}
 use Rattle.meaning.specs.Syntax.{Script}
-use Rattle.protocol_board.specs.Cores.{RunState, Size, first_state, state_of}
+use Rattle.protocol_board.specs.Cores.{RunState, Size, first_state}
 use Rattle.run_paths.specs.Paths.{Comes}
 use Rattle.books.specs.SeatTotals.{seat_totals}
 use Rattle.seat_books.specs.Seats.{SeatOf, book_of, sums}
@@ -24,7 +24,7 @@ AddUp watched seats log = (totals_of log ≡ sums seats) × (book_of watched sea
 
 -- an event of the log was refused since it would have made an object, worker or node past its limit
 abbrev pub WasLimited : List Entry → Type 0
-WasLimited log = Among (Refused 37) log
+WasLimited log = Among (Refused Limit) log
 
 -- the events stand in the log in their order, whatever stands between them
 unfoldable pub AreIn : List Event → List Entry → Type 0
@@ -65,14 +65,14 @@ pub record IsAtLimit (nodes : ℕ) (r : RunState) : Type 0 where
 
 -- how a run of the script beside the plan on such a cluster ends
 abbrev pub HasEnded : {X : Type 0} → Script → Bool → List PlanLine → Size → Ended X → Type 0
-HasEnded script is_open plan size (ends.Over board) = IsOverBeside script is_open plan size (state_of board)
-HasEnded script is_open plan size (ends.AtLimit board) = IsAtLimit size.nodes (state_of board)
+HasEnded script is_open plan size (ends.Over board) = IsOverBeside script is_open plan size board
+HasEnded script is_open plan size (ends.AtLimit board) = IsAtLimit size.nodes board
 HasEnded script is_open plan size ends.NoMemory = Unit {0}
 
 -- the log of a run that ended, unless there was no memory
 abbrev pub log_at : {X : Type 0} → Ended X → Option (List Entry)
-log_at (ends.Over board) = Some (log_of board.log)
-log_at (ends.AtLimit board) = Some (log_of board.log)
+log_at (ends.Over board) = Some board.log
+log_at (ends.AtLimit board) = Some board.log
 log_at ends.NoMemory = None
 
 -- and the books of these seats, which are all, so many, add up; and each event came from one of so many

@@ -5,12 +5,11 @@ use Rattle.std.specs.List.{filter}
 use Rattle.event_log.specs.Entries.{Event, Claim, Commit, Deliver}
 use Rattle.event_log.specs.Books.{Totals, totals_of}
 use Rattle.event_log.specs.Laws.{nothing}
-use Rattle.log_entries.specs.Refusals.{code_of}
 use Rattle.log_entries.specs.declared.refusal.Refusal.{Refusal}
 use Rattle.log_entries.specs.declared.refusal.Refusal.TheVariants as refusals
 use Rattle.event_files.specs.declared.plan.PlanLine.{PlanLine}
 use Rattle.protocol.specs.Settling.{next}
-use Rattle.segment.specs.Jobs.{JobData}
+use Rattle.segment.specs.Jobs.{JobParts}
 use Rattle.protocol_board.specs.Cores.{RunState, Answers, Reply, GivesJob, Accepts, Refuses}
 use Rattle.seats.specs.Counted.{one_event, refused_totals}
 use Rattle.seats.specs.declared.outs.JobOut.{JobOut}
@@ -77,7 +76,7 @@ out_behind e told out = out
 
 -- what a turn comes to: the job that it gives out, an event, its refusal, a wait, or the end
 pub data Told : Type 0 where
-  GaveJob : (job : JobData) → Told
+  GaveJob : (job : JobParts) → Told
   Did : Told
   WasRefused : (refusal : Refusal) → Told
   MustWait : Told
@@ -92,7 +91,7 @@ told_by (Refuses refusal) = WasRefused refusal
 abbrev pub turn_counted : Told → Totals
 turn_counted (GaveJob job) = record one_event { given = job.number }
 turn_counted Did = one_event
-turn_counted (WasRefused refusal) = refused_totals (code_of refusal)
+turn_counted (WasRefused refusal) = refused_totals refusal
 turn_counted MustWait = nothing
 turn_counted IsOver = nothing
 

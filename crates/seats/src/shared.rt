@@ -5,8 +5,7 @@ ghost use Rattle.books.specs.SeatTotals.{seat_totals};
 ghost use Rattle.event_log.specs.Books.{totals_of};
 ghost use Rattle.event_log.specs.Entries.{Claim, Commit};
 ghost use Rattle.event_log.specs.Laws.{nothing};
-ghost use Rattle.event_log.specs.Views.{log_of};
-ghost use Rattle.protocol_board.specs.Cores.{reply_of, state_of};
+ghost use Rattle.protocol_board.specs.Cores.{reply_of};
 ghost use Rattle.seat_books.specs.Holdings.{SameParts};
 ghost use Rattle.seat_books.specs.Seats.{AreParts, book_of, new_seats, sums, with_more};
 ghost use Rattle.seats.specs.Counted.{IsFresh, counted};
@@ -88,9 +87,9 @@ struct Locked<
 > {
     turning: Turning<S, P>,
     ledgers: Ledgers<P, E, G, C, J, V, H, D, M>,
-    ghost all_add_up: { totals_of (log_of turning.run.log) ≡ ledgers.all },
-    ghost watched_add_up: { seat_totals P.watched (log_of turning.run.log) ≡ ledgers.watched },
-    ghost seated: { AreFrom P.seats (log_of turning.run.log) },
+    ghost all_add_up: { totals_of turning.run.log ≡ ledgers.all },
+    ghost watched_add_up: { seat_totals P.watched turning.run.log ≡ ledgers.watched },
+    ghost seated: { AreFrom P.seats turning.run.log },
 }
 
 impl<
@@ -143,9 +142,9 @@ impl<
         requires some { 0 < length seats.items }
         requires all { AreParts (length seats.items) E.parts }
         ensures same { result ≡ self.turning }
-        ensures adds_up { totals_of (log_of result.run.log) ≡ sums seats.items }
-        ensures watched { book_of P.watched seats.items ≡ Some (seat_totals P.watched (log_of result.run.log)) }
-        ensures seated { AreFrom P.seats (log_of result.run.log) }
+        ensures adds_up { totals_of result.run.log ≡ sums seats.items }
+        ensures watched { book_of P.watched seats.items ≡ Some (seat_totals P.watched result.run.log) }
+        ensures seated { AreFrom P.seats result.run.log }
     {
         let Locked { turning, ledgers } = self;
         ledgers.close(seats);
@@ -171,8 +170,8 @@ fn begin<
     board: Board<S>,
     plan: RunPlan,
 ) -> Locked<S, P, E, G, C, J, V, H, D, M>
-    requires fresh { IsFresh (state_of board) }
-    requires named { (plan.lines ≡ P.plan) × (size_of (state_of board) ≡ P.size) }
+    requires fresh { IsFresh board }
+    requires named { (plan.lines ≡ P.plan) × (size_of board ≡ P.size) }
     requires empty { (ledgers.all ≡ nothing) × (ledgers.watched ≡ nothing) }
 {
     Locked {
@@ -207,8 +206,8 @@ impl<
         requires few { n ≤ 8 }
         requires seats { n ≡ P.seats }
         requires watched { (watched ≡ P.watched) × (1 ≤ watched) × (watched ≤ n) }
-        requires fresh { IsFresh (state_of board) }
-        requires named { (plan.lines ≡ P.plan) × (size_of (state_of board) ≡ P.size) }
+        requires fresh { IsFresh board }
+        requires named { (plan.lines ≡ P.plan) × (size_of board ≡ P.size) }
         requires parts { AreParts n E.parts × SameParts E.parts G.parts C.parts J.parts }
         requires further_parts { (V.parts ≡ 1) × SameParts V.parts H.parts D.parts M.parts }
         requires events { (blanks.events.name ≡ E.name) × (blanks.events.parts ≡ E.parts) }
@@ -239,9 +238,9 @@ impl<
         self,
         seats: Vec<Seat<P, E, G, C, J, V, H, D, M>>,
     ) -> Result<Board<S>, (Self, Vec<Seat<P, E, G, C, J, V, H, D, M>>)>
-        ensures adds_up { IfOk result (λ b. totals_of (log_of b.log) ≡ sums seats.items) }
-        ensures watched { IfOk result (λ b. book_of P.watched seats.items ≡ Some (seat_totals P.watched (log_of b.log))) }
-        ensures seated { IfOk result (λ b. AreFrom self (log_of b.log)) }
+        ensures adds_up { IfOk result (λ b. totals_of b.log ≡ sums seats.items) }
+        ensures watched { IfOk result (λ b. book_of P.watched seats.items ≡ Some (seat_totals P.watched b.log)) }
+        ensures seated { IfOk result (λ b. AreFrom self b.log) }
         ensures all { length seats.items ≡ self → IsOk result }
         ensures back { IfErr result (λ e. (e.0 ≡ self) × (e.1 ≡ seats)) }
     {

@@ -1,7 +1,6 @@
 // What an event counts in a book.
 
 ghost use Rattle.std.specs.Prelude.{◌≡◌};
-ghost use Rattle.log_entries.specs.Refusals.{code_of};
 ghost use Rattle.protocol_board.specs.Cores.{reply_of};
 ghost use Rattle.seat_books.specs.Tallies.{totals_in};
 ghost use Rattle.seats.specs.Counted.{counted, refused_totals, taken_totals};
@@ -39,7 +38,7 @@ fn one_event(job: u64) -> Tally
 
 /// An event that is refused 38 or 39 isn't logged.
 fn of_refused(refusal: Refusal) -> Tally
-    ensures { totals_in result ≡ refused_totals (code_of refusal) }
+    ensures { totals_in result ≡ refused_totals refusal }
 {
     match refusal {
         Refusal::Halted | Refusal::NoMemory => nothing(),

@@ -1,7 +1,6 @@
 // A run on threads.
 
 ghost use Rattle.std.specs.Prelude.{◌≡◌, ◌≤◌, IfOk};
-ghost use Rattle.protocol_board.specs.Cores.{state_of};
 ghost use Rattle.script_check.specs.Trees.{script_of};
 ghost use Rattle.seats.specs.Ends.{IsEnd, IsEndAt, size_of};
 ghost use Rattle.seats.specs.Counted.{IsFresh};
@@ -83,8 +82,8 @@ fn run_shared<
     gate: &K,
 ) -> Result<Ended<S>, AllocError>
     requires some { (1 ≤ n) × (n ≤ 8) }
-    requires fresh { IsFresh (state_of board) }
-    requires named { (plan.lines ≡ P.plan) × (size_of (state_of board) ≡ P.size) }
+    requires fresh { IsFresh board }
+    requires named { (plan.lines ≡ P.plan) × (size_of board ≡ P.size) }
     requires script { script_of script.now ≡ S.script }
     requires seats { n ≡ P.seats }
     requires watched { P.watched ≡ 1 }
@@ -134,9 +133,9 @@ pub fn run_on_threads<
     gate: &K,
 ) -> Result<Ended<S>, AllocError>
     requires some { (1 ≤ n) × (n ≤ 8) }
-    requires fresh { IsFresh (state_of board) }
+    requires fresh { IsFresh board }
     requires script { script_of script.now ≡ S.script }
-    ensures { IfOk result (IsEnd S.script n plan.lines (size_of (state_of board))) }
+    ensures { IfOk result (IsEnd S.script n plan.lines (size_of board)) }
 {
     let blanks = Blanks::new(2 * u64::from(n) - 1);
     let further = Blanks::new(1);

@@ -3,9 +3,8 @@
 ghost use Rattle.std.specs.Prelude.{◌≡◌, ◌+◌, ◌≤◌, ℕ, [], None, true, IfOk, IfSome, length, slice_get};
 ghost use Rattle.event_log.specs.Books.{totals_of};
 ghost use Rattle.event_log.specs.Laws.{nothing, plus};
-ghost use Rattle.event_log.specs.Views.{log_of};
 ghost use Rattle.log_entries.specs.declared.refusal.Refusal.TheVariants.{NoMemory};
-ghost use Rattle.protocol_board.specs.Cores.{Answers, reply_of, state_of};
+ghost use Rattle.protocol_board.specs.Cores.{Answers, reply_of};
 ghost use Rattle.protocol_board.specs.Cores.{IsSoundLog};
 ghost use Rattle.books.specs.SeatTotals.{seat_totals};
 ghost use Rattle.run_paths.specs.Paths.{IsTrueDone};
@@ -14,7 +13,7 @@ ghost use Rattle.seats.specs.Ends.{HasEnded, IsOverBeside, log_at, size_of};
 ghost use Rattle.seats.specs.Outside.{MayApply, Passes};
 ghost use Rattle.seats.specs.Seated.{AreFrom, StaysFrom};
 ghost use Rattle.seats.specs.Turns.{Follows, Plans, Takes, Turned, choice, due, is_at_end, or_first, past_line, turn_counted};
-ghost use Rattle.seats.specs.Views.{choice_of, told_of, turn_of};
+ghost use Rattle.seats.specs.Views.{choice_of, told_of};
 
 use crate::choice::{Choice, behind_plan, due};
 use crate::end::Ended;
@@ -22,8 +21,7 @@ use crate::outs::{JobOut, busy, first_refusal, keep_or_give_up};
 use crate::run_name::RunName;
 use crate::turn::Turn;
 use event_files::{PlanLine, RunPlan};
-use event_log::Entry;
-use log_entries::{Event, Refusal};
+use log_entries::{Entry, Event, Refusal};
 use protocol_board::{Board, Reply};
 use run_paths::law::{none_came, paths_go_on};
 use segment::{Done, ScriptName};
@@ -54,25 +52,24 @@ impl<S: ScriptName, P: RunName> Model for Turning<S, P> {
     ghost use Rattle.values.specs.FaultCodes.{fault_code};
     ghost use Rattle.values.specs.contracts.value.RunValue as run_values;
     ghost use Rattle.event_log.specs.Books.{totals_of};
-    ghost use Rattle.event_log.specs.Views.{log_of};
-    ghost use Rattle.protocol_board.specs.Cores.{first_state, state_of};
+    ghost use Rattle.protocol_board.specs.Cores.{first_state};
     ghost use Rattle.run_paths.specs.Paths.{Comes};
     ghost use Rattle.seats.specs.Counted.{ClaimsGaveJobs};
     ghost use Rattle.seats.specs.Ends.{GoesOn, Stands, first_events};
     ghost use Rattle.seats.specs.Outside.{KeepsToThem};
-    ghost use Rattle.seats.specs.Views.{TurnData};
+    ghost use Rattle.seats.specs.Turns.{TurnState};
 
-    ghost Value = { TurnData };
+    ghost Value = { TurnState };
 
     ghost coded = { Prim.hlevel (codes, run_values.the_row.coded, value_code, outcome_code, birth_code, id_code, attempt_code, fault_code) };
 
     ghost view = { λ t. record { run = t.board; plan = t.plan; taken = t.taken; out = t.out; given_up = t.given_up } };
 
-    ghost invariant = { λ t. ClaimsGaveJobs (state_of t.board) × (t.commits ≡ (totals_of (log_of t.board.log)).commits)
-        × (t.plan ≡ P.plan) × (t.board.first_nodes ≡ P.size.nodes) × GoesOn P.size.slots (state_of t.board) t.given_up
-        × Stands (first_events t.taken t.plan) (log_of t.board.log) t.given_up
-        × KeepsToThem P.is_open (first_events t.taken t.plan) (log_of t.board.log) t.given_up
-        × Comes S.script (first_state P.size.nodes P.size.slots) (state_of t.board) };
+    ghost invariant = { λ t. ClaimsGaveJobs t.board × (t.commits ≡ (totals_of t.board.log).commits)
+        × (t.plan ≡ P.plan) × (t.board.first_nodes ≡ P.size.nodes) × GoesOn P.size.slots t.board t.given_up
+        × Stands (first_events t.taken t.plan) t.board.log t.given_up
+        × KeepsToThem P.is_open (first_events t.taken t.plan) t.board.log t.given_up
+        × Comes S.script (first_state P.size.nodes P.size.slots) t.board };
 }
 
 /// How many commits were accepted, behind one event more; no more than the log has entries.
@@ -105,12 +102,12 @@ fn attest<S: ScriptName>(done: &Option<Done<S>>)
 impl<S: ScriptName, P: RunName> Turning<S, P> {
     /// A run that begins, beside the plan.
     pub fn new(alloc: Global, board: Board<S>, plan: RunPlan) -> Turning<S, P>
-        requires fresh { IsFresh (state_of board) }
-        requires named { (plan.lines ≡ P.plan) × (size_of (state_of board) ≡ P.size) }
+        requires fresh { IsFresh board }
+        requires named { (plan.lines ≡ P.plan) × (size_of board ≡ P.size) }
         ensures begins { result ≡ record { run = board; plan = plan.lines; taken = 0; out = []; given_up = None } }
-        ensures totals { totals_of (log_of result.run.log) ≡ nothing }
-        ensures watched { seat_totals P.watched (log_of result.run.log) ≡ nothing }
-        ensures seated { (seats : ℕ) → AreFrom seats (log_of result.run.log) }
+        ensures totals { totals_of result.run.log ≡ nothing }
+        ensures watched { seat_totals P.watched result.run.log ≡ nothing }
+        ensures seated { (seats : ℕ) → AreFrom seats result.run.log }
     {
         paths_go_on();
         none_came();
@@ -135,12 +132,12 @@ impl<S: ScriptName, P: RunName> Turning<S, P> {
         done: Option<Done<S>>,
         taken: usize,
     ) -> Reply<S>
-        requires { Passes P.is_open (turn_of self.old) event taken }
-        ensures answers { Answers (state_of self.old.run) event seat done (state_of self.new.run) (reply_of result) }
-        ensures counted { totals_of (log_of self.new.run.log) ≡ plus (totals_of (log_of self.old.run.log)) (counted event (reply_of result)) }
-        ensures watched { AddsFrom P.watched seat (counted event (reply_of result)) (log_of self.old.run.log) (log_of self.new.run.log) }
-        ensures seated { StaysFrom seat (log_of self.old.run.log) (log_of self.new.run.log) }
-        ensures follows { Follows (record (turn_of self.old) { taken = taken }) event (reply_of result) (turn_of self.new) }
+        requires { Passes P.is_open self.old event taken }
+        ensures answers { Answers self.old.run event seat done self.new.run (reply_of result) }
+        ensures counted { totals_of self.new.run.log ≡ plus (totals_of self.old.run.log) (counted event (reply_of result)) }
+        ensures watched { AddsFrom P.watched seat (counted event (reply_of result)) self.old.run.log self.new.run.log }
+        ensures seated { StaysFrom seat self.old.run.log self.new.run.log }
+        ensures follows { Follows (record self.old { taken = taken }) event (reply_of result) self.new }
     {
         paths_go_on();
         attest(&done);
@@ -162,11 +159,11 @@ impl<S: ScriptName, P: RunName> Turning<S, P> {
         done: Option<Done<S>>,
     ) -> Reply<S>
         requires { MayApply P.is_open event }
-        ensures answers { Answers (state_of self.old.run) event seat done (state_of self.new.run) (reply_of result) }
-        ensures counted { totals_of (log_of self.new.run.log) ≡ plus (totals_of (log_of self.old.run.log)) (counted event (reply_of result)) }
-        ensures watched { AddsFrom P.watched seat (counted event (reply_of result)) (log_of self.old.run.log) (log_of self.new.run.log) }
-        ensures seated { StaysFrom seat (log_of self.old.run.log) (log_of self.new.run.log) }
-        ensures follows { Follows (turn_of self.old) event (reply_of result) (turn_of self.new) }
+        ensures answers { Answers self.old.run event seat done self.new.run (reply_of result) }
+        ensures counted { totals_of self.new.run.log ≡ plus (totals_of self.old.run.log) (counted event (reply_of result)) }
+        ensures watched { AddsFrom P.watched seat (counted event (reply_of result)) self.old.run.log self.new.run.log }
+        ensures seated { StaysFrom seat self.old.run.log self.new.run.log }
+        ensures follows { Follows self.old event (reply_of result) self.new }
     {
         let taken = self.taken;
         self.apply_past(alloc, event, seat, done, taken)
@@ -194,14 +191,14 @@ impl<S: ScriptName, P: RunName> Turning<S, P> {
 
     /// The plan's next line, if so many commits were accepted.
     fn line_due(&self) -> Option<PlanLine>
-        ensures { result ≡ due (totals_of (log_of self.now.run.log)).commits (slice_get self.now.plan self.now.taken) }
+        ensures { result ≡ due (totals_of self.now.run.log).commits (slice_get self.now.plan self.now.taken) }
     {
         due(self.commits, self.line())
     }
 
     /// What a turn is to do.
     fn choose(&self, alloc: Global) -> Result<Choice, AllocError>
-        ensures { IfOk result (λ c. choice_of c ≡ choice (turn_of self.now)) }
+        ensures { IfOk result (λ c. choice_of c ≡ choice self.now) }
     {
         let nobody = Seq::new(alloc);
         let first = self.board.next(&nobody);
@@ -219,10 +216,10 @@ impl<S: ScriptName, P: RunName> Turning<S, P> {
     /// The event of the run's own that was chosen.
     fn take(&mut self, alloc: Global, seat: u8, event: Event) -> Turn<S>
         requires { MayApply P.is_open event }
-        ensures takes { Takes (turn_of self.old) event seat (turn_of self.new) (told_of result) }
-        ensures counted { totals_of (log_of self.new.run.log) ≡ plus (totals_of (log_of self.old.run.log)) (turn_counted (told_of result)) }
-        ensures watched { AddsFrom P.watched seat (turn_counted (told_of result)) (log_of self.old.run.log) (log_of self.new.run.log) }
-        ensures seated { StaysFrom seat (log_of self.old.run.log) (log_of self.new.run.log) }
+        ensures takes { Takes self.old event seat self.new (told_of result) }
+        ensures counted { totals_of self.new.run.log ≡ plus (totals_of self.old.run.log) (turn_counted (told_of result)) }
+        ensures watched { AddsFrom P.watched seat (turn_counted (told_of result)) self.old.run.log self.new.run.log }
+        ensures seated { StaysFrom seat self.old.run.log self.new.run.log }
     {
         match self.apply(alloc, event, seat, None) {
             Reply::Job(job) => Turn::Job(job),
@@ -233,13 +230,13 @@ impl<S: ScriptName, P: RunName> Turning<S, P> {
 
     /// The event of the plan's next line, which was chosen.
     fn take_line(&mut self, alloc: Global, seat: u8, event: Event) -> Turn<S>
-        requires chosen { choice (turn_of self.old) ≡ Plans event }
+        requires chosen { choice self.old ≡ Plans event }
         requires goes_on { self.old.given_up ≡ None }
-        ensures takes { Takes (record (turn_of self.old) { taken = past_line self.old.plan self.old.taken }) event seat
-            (turn_of self.new) (told_of result) }
-        ensures counted { totals_of (log_of self.new.run.log) ≡ plus (totals_of (log_of self.old.run.log)) (turn_counted (told_of result)) }
-        ensures watched { AddsFrom P.watched seat (turn_counted (told_of result)) (log_of self.old.run.log) (log_of self.new.run.log) }
-        ensures seated { StaysFrom seat (log_of self.old.run.log) (log_of self.new.run.log) }
+        ensures takes { Takes (record self.old { taken = past_line self.old.plan self.old.taken }) event seat
+            self.new (told_of result) }
+        ensures counted { totals_of self.new.run.log ≡ plus (totals_of self.old.run.log) (turn_counted (told_of result)) }
+        ensures watched { AddsFrom P.watched seat (turn_counted (told_of result)) self.old.run.log self.new.run.log }
+        ensures seated { StaysFrom seat self.old.run.log self.new.run.log }
     {
         let past = self.past_line();
         match self.apply_past(alloc, event, seat, None, past) {
@@ -255,10 +252,10 @@ impl<S: ScriptName, P: RunName> Turning<S, P> {
     ///
     /// Once the run is given up it is at its end too: behind an event that was refused 37, 38 or 39, or where there was no memory.
     pub fn turn(&mut self, alloc: Global, seat: u8) -> Turn<S>
-        ensures turned { Turned (turn_of self.old) seat (turn_of self.new) (told_of result) }
-        ensures counted { totals_of (log_of self.new.run.log) ≡ plus (totals_of (log_of self.old.run.log)) (turn_counted (told_of result)) }
-        ensures watched { AddsFrom P.watched seat (turn_counted (told_of result)) (log_of self.old.run.log) (log_of self.new.run.log) }
-        ensures seated { StaysFrom seat (log_of self.old.run.log) (log_of self.new.run.log) }
+        ensures turned { Turned self.old seat self.new (told_of result) }
+        ensures counted { totals_of self.new.run.log ≡ plus (totals_of self.old.run.log) (turn_counted (told_of result)) }
+        ensures watched { AddsFrom P.watched seat (turn_counted (told_of result)) self.old.run.log self.new.run.log }
+        ensures seated { StaysFrom seat self.old.run.log self.new.run.log }
     {
         if self.given_up.is_some() {
             return Turn::End;
@@ -291,8 +288,8 @@ impl<S: ScriptName, P: RunName> Turning<S, P> {
 
     /// Whether the run is at its end: it was given up, or nothing is left to do, nor of the plan.
     pub fn is_at_end(&self, alloc: Global) -> bool
-        ensures at_end { result ≡ is_at_end (turn_of self.now) }
-        ensures over { result ≡ true → self.now.given_up ≡ None → IsOverBeside S.script P.is_open P.plan P.size (state_of self.now.run) }
+        ensures at_end { result ≡ is_at_end self.now }
+        ensures over { result ≡ true → self.now.given_up ≡ None → IsOverBeside S.script P.is_open P.plan P.size self.now.run }
     {
         if self.given_up.is_some() {
             return true;
@@ -306,9 +303,9 @@ impl<S: ScriptName, P: RunName> Turning<S, P> {
 
     /// How the run ended.
     pub fn into_end(self) -> Ended<S>
-        requires { self.given_up ≡ None → IsOverBeside S.script P.is_open P.plan P.size (state_of self.run) }
+        requires { self.given_up ≡ None → IsOverBeside S.script P.is_open P.plan P.size self.run }
         ensures ended { HasEnded S.script P.is_open P.plan P.size result }
-        ensures log { IfSome (log_at result) (λ log. log ≡ log_of self.run.log) }
+        ensures log { IfSome (log_at result) (λ log. log ≡ self.run.log) }
     {
         let given_up = self.given_up;
         let board = self.into_board();
@@ -322,7 +319,7 @@ impl<S: ScriptName, P: RunName> Turning<S, P> {
     /// The entries so far, oldest first.
     pub fn log(&self) -> &[Entry]
         ensures log { result.now ≡ self.now.run.log }
-        ensures meant { IsSoundLog S.script (state_of self.now.run) }
+        ensures meant { IsSoundLog S.script self.now.run }
     {
         self.board.log()
     }

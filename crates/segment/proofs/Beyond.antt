@@ -1,7 +1,8 @@
 -- A piece, and the piece without what a job has already.
-use Rattle.std.proofs.Common.{◌≡◌, List, [], ◌∷◌, ◌++◌, map, length, drop, sym, ap, ◌∙◌, refl, subst}
-use Rattle.std.proofs.lemmas.List.{drop-map, length-map}
+use Rattle.std.proofs.Common.{◌≡◌, List, [], ◌∷◌, ◌++◌, map, length, drop, sym, ap, ◌∙◌, refl}
+use Rattle.std.proofs.lemmas.List.{drop-map}
 use Rattle.meaning.specs.Lists.{IsFirst}
+use Rattle.meaning.specs.Meaning.{replay}
 use Rattle.meaning.specs.Syntax.{Script}
 use Rattle.meaning.specs.Runs as runs
 use Rattle.meaning.specs.Values as meant
@@ -11,7 +12,7 @@ use Rattle.task_spec.specs.declared.birth.Birth.{Birth}
 use Rattle.task_spec.specs.Births.{birth_of}
 use Rattle.evaluation.specs.declared.piece.Piece.{Piece}
 use Rattle.evaluation.specs.Pieces.{piece_of, stop_of}
-use Rattle.segment.specs.Jobs.{JobData, IsBegun, IsTrueOf, replay_of, beyond, whole_of}
+use Rattle.segment.specs.Jobs.{JobParts, replay_of, beyond, whole_of}
 use Rattle.segment.specs.Pieces.{done_of}
 
 abbrev pub made : List meant.Birth → List meant.Value → runs.Stop → runs.Piece
@@ -20,13 +21,18 @@ made bs vs s = record { births = bs; prints = vs; stop = s }
 parts_equal : (bs cs : List meant.Birth) (vs ws : List meant.Value) (s t : runs.Stop) → bs ≡ cs → vs ≡ ws → s ≡ t → made bs vs s ≡ made cs ws t
 parts_equal bs cs vs ws s t eb ev es = ap (λ x. made x vs s) eb ∙ ap (λ x. made cs x s) ev ∙ ap (λ x. made cs ws x) es
 
-pub beyond_made : (j : JobData) (p : Piece) (r : runs.Piece) (bs : List Birth) (vs : List RunValue) → piece_of p ≡ r → bs ≡ drop (length j.births) p.births.items → vs ≡ drop (length j.printed) p.prints.items → made (map birth_of bs) (map value_of vs) (stop_of p.stop) ≡ beyond j r
+pub beyond_made : (j : JobParts) (p : Piece) (r : runs.Piece) (bs : List Birth) (vs : List RunValue) → piece_of p ≡ r → bs ≡ drop (length j.births) p.births.items → vs ≡ drop (length j.prints) p.prints.items → made (map birth_of bs) (map value_of vs) (stop_of p.stop) ≡ beyond j r
 beyond_made j p r bs vs e eb ev =
-    parts_equal (map birth_of bs) (drop (length j.births) (map birth_of p.births.items)) (map value_of vs) (drop (length j.printed) (map value_of p.prints.items)) (stop_of p.stop) (stop_of p.stop)
+    parts_equal (map birth_of bs) (drop (length j.births) (map birth_of p.births.items)) (map value_of vs) (drop (length j.prints) (map value_of p.prints.items)) (stop_of p.stop) (stop_of p.stop)
     (ap (map birth_of) eb ∙ sym (drop-map birth_of (length j.births) p.births.items))
-    (ap (map value_of) ev ∙ sym (drop-map value_of (length j.printed) p.prints.items))
+    (ap (map value_of) ev ∙ sym (drop-map value_of (length j.prints) p.prints.items))
     refl
     ∙ ap (beyond j) e
+
+-- a replay on what a job has is the job's
+pub replayed_as : (script : Script) (k j : JobParts) (p : runs.Piece) (cs : List meant.Outcome) → k ≡ j → cs ≡ k.answers →
+    p ≡ replay script k.spec k.base cs → p ≡ replay_of script j
+replayed_as script k j p cs same answers e = e ∙ ap (replay script k.spec k.base) answers ∙ ap (replay_of script) same
 
 -- a beginning, and what comes after it
 beginning_and_rest : {X : Type 0} (xs ys : List X) → IsFirst xs ys → ys ≡ xs ++ drop (length xs) ys
@@ -35,18 +41,13 @@ beginning_and_rest (x ∷ xs) [] h = absurd h
 beginning_and_rest (x ∷ xs) (y ∷ ys) h = ap (λ z. z ∷ ys) h.0 ∙ ap (λ zs. x ∷ zs) (beginning_and_rest xs ys h.1)
 
 -- with what the job had, what is beyond it is the whole
-pub whole_made : (j : JobData) (p : Piece) (r : runs.Piece) → IsFirst (map birth_of j.births) r.births → IsFirst (map value_of j.printed) r.prints → piece_of p ≡ beyond j r → r ≡ whole_of (done_of j p)
+pub whole_made : (j : JobParts) (p : Piece) (r : runs.Piece) → IsFirst j.births r.births → IsFirst j.prints r.prints → piece_of p ≡ beyond j r → r ≡ whole_of (done_of j p)
 whole_made j p r fb fv e =
-    let bs = map birth_of j.births in
-    let vs = map value_of j.printed in
-    let nb : drop (length bs) r.births ≡ map birth_of p.births.items = ap (λ n. drop n r.births) (length-map j.births birth_of) ∙ sym (ap (λ q. q.births) e) in
-    let nv : drop (length vs) r.prints ≡ map value_of p.prints.items = ap (λ n. drop n r.prints) (length-map j.printed value_of) ∙ sym (ap (λ q. q.prints) e) in
+    let bs = j.births in
+    let vs = j.prints in
+    let nb : drop (length bs) r.births ≡ map birth_of p.births.items = sym (ap (λ q. q.births) e) in
+    let nv : drop (length vs) r.prints ≡ map value_of p.prints.items = sym (ap (λ q. q.prints) e) in
     parts_equal r.births (bs ++ map birth_of p.births.items) r.prints (vs ++ map value_of p.prints.items) r.stop (stop_of p.stop)
     (beginning_and_rest bs r.births fb ∙ ap (λ x. bs ++ x) nb)
     (beginning_and_rest vs r.prints fv ∙ ap (λ x. vs ++ x) nv)
     (sym (ap (λ q. q.stop) e))
-
-pub true_made : (script named : Script) (j k : JobData) (p : Piece) → script ≡ named → j ≡ k → IsBegun named j → piece_of p ≡ beyond j (replay_of script j) → IsTrueOf named (done_of k p)
-true_made script named j k p es ej begun e =
-    let True : JobData → Type 0 = λ x. IsTrueOf named (done_of x p) in
-    subst True ej (whole_made j p (replay_of named j) begun.births begun.printed (e ∙ ap (λ s. beyond j (replay_of s j)) es))

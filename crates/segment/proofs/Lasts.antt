@@ -1,5 +1,11 @@
--- The last of a list.
-use Rattle.std.proofs.Common.{◌≡◌, List, [], ◌∷◌, ◌++◌, map, refl, sym, ap, ◌∙◌}
+-- The last of a list, and of a job's answers.
+use Rattle.std.proofs.Common.{◌≡◌, List, [], ◌∷◌, ◌++◌, map, refl, sym, ap, ◌∙◌, subst}
+use Rattle.meaning.specs.Syntax.{Script}
+use Rattle.meaning.specs.Values.{Outcome}
+use Rattle.frames.specs.Frames.{IsWaiting}
+use Rattle.frames.specs.declared.frame.Frame.{Frame}
+use Rattle.segment.specs.Frames.{Fits, before_of}
+use Rattle.segment.specs.Jobs.{JobParts}
 
 head_same : {X : Type 0} (x y : X) (xs ys : List X) → x ∷ xs ≡ y ∷ ys → x ≡ y
 head_same x y xs ys e = cc
@@ -23,3 +29,9 @@ rest_same (w ∷ xs) (z ∷ ys) x y e =
 pub map_last : {A B : Type 0} (f : A → B) (xs : List A) (x : A) → map f (xs ++ x ∷ []) ≡ map f xs ++ f x ∷ []
 map_last f [] x = refl
 map_last f (y ∷ xs) x = ap (λ zs. f y ∷ zs) (map_last f xs x)
+
+-- the job's task waits at the frame for the last of the job's answers
+pub waits_last : (script : Script) (j : JobParts) (f : Frame) (rest : List Outcome) (answer : Outcome) → j.answers ≡ rest ++ answer ∷ [] → Fits script j f →
+    IsWaiting script j.spec j.base (before_of j rest) f
+waits_last script j f rest answer last fits =
+    subst (λ cs. IsWaiting script j.spec j.base (before_of j cs) f) (rest_same fits.earlier rest fits.answer answer (sym fits.answers ∙ last)) fits.waits

@@ -1,74 +1,63 @@
 -- What a job is, and what is done on it.
 use Rattle.std.specs.Prelude.{◌≡◌, ℕ, List, ◌++◌, map, length, drop, Some}
 use Rattle.meaning.specs.Lists.{IsFirst}
-use Rattle.meaning.specs.Values as meant
+use Rattle.meaning.specs.Values.{Birth as AnyBirth, Put, Task}
 use Rattle.meaning.specs.Syntax.{Function, Script}
 use Rattle.meaning.specs.Runs.{Piece}
 use Rattle.meaning.specs.Meaning.{find, run_birth, replay}
 use Rattle.meaning.specs.Kinds.{MarkedOf, AnswersFit}
-use Rattle.ids.specs.Attempts.{Attempt}
-use Rattle.meaning.specs.Values.{Id}
 use Rattle.values.specs.declared.value.RunValue.{RunValue}
-use Rattle.values.specs.declared.content.Content.{Content}
-use Rattle.values.specs.Values.{value_of, content_of}
+use Rattle.values.specs.Values.{value_of}
 use Rattle.task_spec.specs.declared.birth.Birth.{Birth}
 use Rattle.task_spec.specs.Births.{birth_of}
 use Rattle.frame_laws.specs.Steps.{HasSteps}
-use Rattle.evaluation.specs.declared.piece.Stop.{Stop}
+use Rattle.evaluation.specs.declared.piece.PieceStop.{PieceStop}
 use Rattle.evaluation.specs.Pieces.{stop_of}
-
 -- a job: its number, the attempt and its task, the id of its first birth, what it did so far, and its answers so far
-pub record JobData : Type 0 where
-  pub number : ℕ
-  pub attempt : Attempt
-  pub spec : Birth
-  pub base : Id
-  pub births : List Birth
-  pub printed : List RunValue
-  pub answers : List Content
+pub use Rattle.held.specs.declared.job.JobParts.{JobParts}
 
 -- a job that was run: what it bore and printed beyond what the job had, and where it stopped
 pub record Done : Type 0 where
-  pub job : JobData
+  pub job : JobParts
   pub births : List Birth
   pub prints : List RunValue
-  pub stop : Stop
+  pub stop : PieceStop
 
 -- what the job's task does on the job's answers
-abbrev pub replay_of : Script → JobData → Piece
-replay_of script j = replay script (birth_of j.spec) j.base (map content_of j.answers)
+abbrev pub replay_of : Script → JobParts → Piece
+replay_of script j = replay script j.spec j.base j.answers
 
 -- a piece without the births and prints that the job has already
-abbrev pub beyond : JobData → Piece → Piece
-beyond j p = record { births = drop (length j.births) p.births; prints = drop (length j.printed) p.prints; stop = p.stop }
+abbrev pub beyond : JobParts → Piece → Piece
+beyond j p = record { births = drop (length j.births) p.births; prints = drop (length j.prints) p.prints; stop = p.stop }
 
 -- all that was born and printed up to the stop: what the job had, and then what was done
 abbrev pub whole_of : Done → Piece
 whole_of d =
     record {
-      births = map birth_of d.job.births ++ map birth_of d.births;
-      prints = map value_of d.job.printed ++ map value_of d.prints;
+      births = d.job.births ++ map birth_of d.births;
+      prints = d.job.prints ++ map value_of d.prints;
       stop = stop_of d.stop;
     }
 
 -- a task of one of the script's functions, with arguments of its parameters' kinds
-abbrev pub IsTaskOf : Script → meant.Birth → Type 0
-IsTaskOf script (meant.Put v) = ⊥
-IsTaskOf script (meant.Task g args depth retries) = (f : Function) × (find script g ≡ Some f) × MarkedOf args f.parameters
+abbrev pub IsTaskOf : Script → AnyBirth → Type 0
+IsTaskOf script (Put v) = ⊥
+IsTaskOf script (Task g args depth retries) = (f : Function) × (find script g ≡ Some f) × MarkedOf args f.parameters
 
 -- what is kept of each job of the script
-pub record IsBegun (script : Script) (j : JobData) : Type 0 where
-  pub task : IsTaskOf script (birth_of j.spec)
+pub record IsBegun (script : Script) (j : JobParts) : Type 0 where
+  pub task : IsTaskOf script j.spec
   -- the answers are of the kinds asked for
-  pub answers : AnswersFit (run_birth script (birth_of j.spec)) j.base (map content_of j.answers)
+  pub answers : AnswersFit (run_birth script j.spec) j.base j.answers
   -- births and prints so far begin those that the task's replay has
-  pub births : IsFirst (map birth_of j.births) (replay_of script j).births
-  pub printed : IsFirst (map value_of j.printed) (replay_of script j).prints
+  pub births : IsFirst j.births (replay_of script j).births
+  pub prints : IsFirst j.prints (replay_of script j).prints
 
 -- what was done is true of its job: with what the job had, it is the whole replay
 abbrev pub IsTrueOf : Script → Done → Type 0
 IsTrueOf script d = replay_of script d.job ≡ whole_of d
 
 -- the job's task began so many steps from its last stop, which was at the get of the last of the job's answers, up to where it stops
-abbrev pub HasStepsOf : Script → JobData → ℕ → Type 0
-HasStepsOf script j steps = HasSteps script (birth_of j.spec) j.base (map content_of j.answers) steps
+abbrev pub HasStepsOf : Script → JobParts → ℕ → Type 0
+HasStepsOf script j steps = HasSteps script j.spec j.base j.answers steps

@@ -1,5 +1,4 @@
 pub mod Growth
 pub mod Frames
 pub mod Jobs
-pub mod Parts
 pub mod Pieces

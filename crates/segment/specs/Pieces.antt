@@ -1,7 +1,7 @@
 -- What was done on a job, as contracts see it.
 use Rattle.evaluation.specs.declared.piece.Piece.{Piece}
-use Rattle.segment.specs.Jobs.{JobData, Done}
+use Rattle.segment.specs.Jobs.{JobParts, Done}
 
 -- a job with what was done on it
-abbrev pub done_of : JobData → Piece → Done
+abbrev pub done_of : JobParts → Piece → Done
 done_of j p = record { job = j; births = p.births.items; prints = p.prints.items; stop = p.stop }

@@ -4,13 +4,12 @@ ghost use Rattle.std.specs.Prelude.{◌≡◌, IfSome};
 ghost use Rattle.evaluation.specs.Pieces.{piece_of};
 ghost use Rattle.segment.specs.Jobs.{IsTrueOf, HasStepsOf};
 ghost use Rattle.segment.specs.Frames.{WaitsAfter};
-ghost use Rattle.segment.specs.Parts.{data_of};
 ghost use Rattle.segment.specs.Pieces.{done_of};
 
 use crate::job::Job;
-use crate::parts::JobParts;
 use crate::script_name::ScriptName;
-use evaluation::{Frame, Piece, Stop};
+use evaluation::{Frame, Piece, PieceStop};
+use held::JobParts;
 use std::marker::Model;
 use task_spec::Birth;
 use values::RunValue;
@@ -23,7 +22,7 @@ pub struct DoneParts {
     pub births: Vec<Birth>,
     /// What the attempt printed beyond what the job had.
     pub prints: Vec<RunValue>,
-    pub stop: Stop,
+    pub stop: PieceStop,
 }
 
 /// A job of the script `S` that was run, and what was done on it. It is true of its job: the job's births and prints
@@ -37,6 +36,7 @@ pub struct Done<S: ScriptName> {
 
 impl<S: ScriptName> Model for Done<S> {
     ghost use Rattle.std.specs.Coded.{codes};
+    ghost use Rattle.held.specs.Codes.{birth_code, outcome_code, value_code};
     ghost use Rattle.values.specs.contracts.value.RunValue as run_values;
     ghost use Rattle.std.specs.Prelude.{IfSome};
     ghost use Rattle.segment.specs.Jobs.{Done, IsTrueOf, HasStepsOf};
@@ -45,7 +45,7 @@ impl<S: ScriptName> Model for Done<S> {
 
     ghost Value = { Done };
 
-    ghost coded = { Prim.hlevel (codes, run_values.the_row.coded) };
+    ghost coded = { Prim.hlevel (codes, birth_code, value_code, outcome_code, run_values.the_row.coded) };
 
     ghost view = { λ d. done_of d.job d.piece };
 
@@ -87,7 +87,7 @@ impl<S: ScriptName> Done<S> {
     }
 
     /// Where the job stopped: at a get of an object for which there was no answer left, or at the task's end.
-    pub fn stop(&self) -> &Stop
+    pub fn stop(&self) -> &PieceStop
         ensures { result.now ≡ self.now.stop }
     {
         &self.piece.stop
@@ -111,7 +111,7 @@ impl<S: ScriptName> Done<S> {
 
     /// The job's parts, and what was done on it.
     pub fn into_parts(self) -> DoneParts
-        ensures job { data_of result.job ≡ self.job }
+        ensures job { result.job ≡ self.job }
         ensures births { result.births.items ≡ self.births }
         ensures prints { result.prints.items ≡ self.prints }
         ensures stop { result.stop ≡ self.stop }

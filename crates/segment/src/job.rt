@@ -4,19 +4,16 @@ ghost use Rattle.std.specs.Prelude.{◌≡◌, IfOk};
 ghost use Rattle.script_check.specs.Trees.{script_of};
 ghost use Rattle.segment.specs.Jobs.{IsBegun, IsTrueOf};
 ghost use Rattle.segment.specs.Frames.{Fits};
-ghost use Rattle.segment.specs.Parts.{data_of};
 
 use crate::done::Done;
-use crate::parts::JobParts;
+use crate::runs::run_on;
 use crate::script_name::ScriptName;
 use evaluation::{Compiled, Frame, NoMemory, PieceError};
+use held::{Answers, Births, JobParts, Origin, Prints};
 use ids::{AttemptId, ObjectId};
 use script_laws::law::checked_scripts_are_safe;
 use std::alloc::Global;
 use std::marker::{Model, PhantomData};
-use task_spec::Birth;
-use trail::Trail;
-use values::{Content, RunValue};
 
 /// An attempt of a task of the script `S`, to be run up to the next answer that it needs. Its births and prints so far
 /// begin what its task does on its answers so far, and arguments and answers are of the kinds that the script asks for. Its frame, if it
@@ -30,26 +27,25 @@ pub struct Job<S: ScriptName> {
 
 impl<S: ScriptName> Model for Job<S> {
     ghost use Rattle.std.specs.Coded.{codes};
-    ghost use Rattle.values.specs.contracts.value.RunValue as run_values;
+    ghost use Rattle.held.specs.Codes.{birth_code, outcome_code, value_code};
     ghost use Rattle.std.specs.Prelude.{IfSome};
-    ghost use Rattle.segment.specs.Jobs.{JobData, IsBegun};
+    ghost use Rattle.segment.specs.Jobs.{JobParts, IsBegun};
     ghost use Rattle.segment.specs.Frames.{Fits};
-    ghost use Rattle.segment.specs.Parts.{data_of};
 
-    ghost Value = { JobData };
+    ghost Value = { JobParts };
 
-    ghost coded = { Prim.hlevel (codes, run_values.the_row.coded) };
+    ghost coded = { Prim.hlevel (codes, birth_code, value_code, outcome_code) };
 
-    ghost view = { λ j. data_of j.parts };
+    ghost view = { λ j. j.parts };
 
-    ghost invariant = { λ j. IsBegun S.script (data_of j.parts) × IfSome j.frame (Fits S.script (data_of j.parts)) };
+    ghost invariant = { λ j. IsBegun S.script j.parts × IfSome j.frame (Fits S.script j.parts) };
 }
 
 impl<S: ScriptName> Job<S> {
     /// The job with these parts.
     pub fn new(parts: JobParts) -> Job<S>
-        requires { IsBegun S.script (data_of parts) }
-        ensures { result ≡ data_of parts }
+        requires { IsBegun S.script parts }
+        ensures { result ≡ parts }
     {
         Job {
             parts,
@@ -90,7 +86,7 @@ impl<S: ScriptName> Job<S> {
     }
 
     /// The attempt's task.
-    pub fn spec(&self) -> &Birth
+    pub fn spec(&self) -> &Origin
         ensures { result.now ≡ self.now.spec }
     {
         &self.parts.spec
@@ -104,21 +100,21 @@ impl<S: ScriptName> Job<S> {
     }
 
     /// What the attempt bore so far.
-    pub fn births(&self) -> &Trail<Birth>
+    pub fn births(&self) -> &Births
         ensures { result.now ≡ self.now.births }
     {
         &self.parts.births
     }
 
     /// What the attempt printed so far.
-    pub fn printed(&self) -> &Trail<RunValue>
-        ensures { result.now ≡ self.now.printed }
+    pub fn printed(&self) -> &Prints
+        ensures { result.now ≡ self.now.prints }
     {
-        &self.parts.printed
+        &self.parts.prints
     }
 
     /// The contents that the attempt was answered so far, those of its dereferenced arguments first.
-    pub fn answers(&self) -> &[Content]
+    pub fn answers(&self) -> &Answers
         ensures { result.now ≡ self.now.answers }
     {
         &self.parts.answers
@@ -139,7 +135,7 @@ impl<S: ScriptName> Job<S> {
 
     /// The job's parts.
     pub fn into_parts(self) -> JobParts
-        ensures value { data_of result ≡ self }
+        ensures value { result ≡ self }
         ensures begun { IsBegun S.script self }
     {
         let Job {
@@ -164,7 +160,7 @@ impl<S: ScriptName> Job<S> {
             frame,
             script: name,
         } = self;
-        let piece = match parts.run_on(alloc, script, frame) {
+        let piece = match run_on(alloc, script, &parts, frame) {
             Ok(piece) => piece,
             Err(PieceError::Broken) => unreachable!(),
             Err(PieceError::NoMemory) => return Err(NoMemory),

@@ -4,11 +4,10 @@
 mod done;
 pub mod growth;
 mod job;
-mod parts;
+mod runs;
 mod script_name;
 
 pub use done::{Done, DoneParts};
-pub use evaluation::{Compiled, Frame, NoMemory, Stop};
+pub use evaluation::{Compiled, Frame, NoMemory, PieceStop};
 pub use job::Job;
-pub use parts::JobParts;
 pub use script_name::ScriptName;

@@ -20,6 +20,16 @@ impl<T> Model for Seq<T> {
     ghost view = { λ s. s.items.items };
 }
 
+/// The error of a growth that is refused, since no memory has room for so many bytes. It is answered where a number runs out that only a longer list
+/// than memory holds could reach, so that want of memory is told of growths alone.
+pub fn refused_growth(alloc: Global) -> AllocError {
+    let mut bytes: Vec<u8> = Vec::new(alloc);
+    match bytes.reserve(usize::MAX) {
+        Ok(()) => unreachable!(),
+        Err(error) => error,
+    }
+}
+
 impl<T> Seq<T> {
     /// The empty list.
     pub fn new(alloc: Global) -> Self

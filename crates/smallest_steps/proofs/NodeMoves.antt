@@ -5,14 +5,14 @@ use Rattle.event_log.specs.Entries.{Opened}
 use Rattle.protocol.specs.Messages.{Message, Party, TheWorker, TheNode, Ask, Give, Elsewhere, Wait, Back, Push, Finished, FinishedAck, Failed, Where, At}
 use Rattle.protocol.specs.Messages.{Gone, Fetch, CopyOf, Missing, Hold, HoldAck, Unhold}
 use Rattle.protocol.specs.Stores.{Store, copy_in}
-use Rattle.protocol.specs.Nodes.{AskKey, Reply, Scheduler, There, with_scheduler, with_store_there, node_logs, node_says}
+use Rattle.protocol.specs.Nodes.{AskKey, AskReply, Scheduler, There, with_scheduler, with_store_there, node_logs, node_says}
 use Rattle.protocol.specs.Slots.{ask_key, asks_slot, fetched, forgets, frees, node_reached, node_reached_from, replies, reply_to}
 use Rattle.smallest_steps.proofs.SlotMoves.{KeepsSlots}
 use Rattle.smallest_steps.proofs.SlotMoves as S
 
 pub record KeepsThere (Q : There → Type 0) : Type 0 where
   pub opens : (h : There) (w : ℕ) → Q h → Q (node_logs (record h { opened = h.opened + 1 }) (Opened w h.number ∷ []))
-  pub answers : (h : There) (k : AskKey) (x : Reply) → Q h → Q (replies h k x)
+  pub answers : (h : There) (k : AskKey) (x : AskReply) → Q h → Q (replies h k x)
   pub copies : (h : There) (w : ℕ) (o : Id) (number : ℕ) (c : Outcome) → Q h → Q (node_says h w (CopyOf o number c))
   pub lacks : (h : There) (w : ℕ) (o : Id) (number : ℕ) → Q h → Q (node_says h w (Missing o number h.number))
   pub scheduler : (h : There) (s : Scheduler) → Q h → Q (with_scheduler h s)

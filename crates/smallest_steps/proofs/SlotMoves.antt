@@ -2,14 +2,14 @@
 use Rattle.std.specs.Prelude.{ℕ, ◌+◌, Bool, true, false, if◌then◌else◌, [], ◌∷◌, Option, Some, None, ◌||◌, nat_lt}
 use Rattle.event_log.specs.Entries.{Attempt, Opened}
 use Rattle.protocol.specs.Sets.{first_item, has, least, rest_of}
-use Rattle.protocol.specs.Nodes.{AskKey, Leased, Queued, Reply, Scheduler, SentOn, There, node_logs, with_scheduler}
+use Rattle.protocol.specs.Nodes.{AskKey, AskReply, Leased, Queued, Scheduler, SentOn, There, node_logs, with_scheduler}
 use Rattle.protocol.specs.Slots.{asked_by, asks_slot, forgets, frees, gives_worker, grants, grants_next, grants_queued, has_free_slot, has_no_slot_for, is_back}
 use Rattle.protocol.specs.Slots.{leases_idle, may_be_idle, next_in_circle, next_worker, queues, replies, replies_anew, with_answered, with_idle}
 use Rattle.protocol.specs.Slots.{without_slot, without_worker}
 
 pub record KeepsSlots (Q : There → Type 0) : Type 0 where
   pub opens : (h : There) (w : ℕ) → Q h → Q (node_logs (record h { opened = h.opened + 1 }) (Opened w h.number ∷ []))
-  pub replies : (h : There) (k : AskKey) (x : Reply) → Q h → Q (replies h k x)
+  pub replies : (h : There) (k : AskKey) (x : AskReply) → Q h → Q (replies h k x)
   pub scheduler : (h : There) (s : Scheduler) → Q h → Q (with_scheduler h s)
 
 module _ (Q : There → Type 0) (kept : KeepsSlots Q) where
@@ -21,7 +21,7 @@ module _ (Q : There → Type 0) (kept : KeepsSlots Q) where
   leases_idle-kept h k None p = kept.replies _ k (Leased (next_worker h)) (kept.scheduler _ _ (kept.opens h _ p))
   leases_idle-kept h k (Some w) p = kept.replies _ k (Leased w) (kept.scheduler h _ p)
 
-  pub asked_by-kept : (h : There) (k : AskKey) (x : Option Reply) → Q h → Q (asked_by h k x)
+  pub asked_by-kept : (h : There) (k : AskKey) (x : Option AskReply) → Q h → Q (asked_by h k x)
   asked_by-kept h k None p =
       either (has_free_slot h.node.scheduler) (gives_worker h k) (has_no_slot_for h k) (leases_idle-kept h k (least h.node.scheduler.idle) p)
       (either (nat_lt (k.t + 1) h.nodes) (replies_anew h k (SentOn (next_in_circle h.nodes h.number))) (queues h k)

@@ -1,21 +1,19 @@
 // What is said of an object.
 
 ghost use Rattle.std.specs.Prelude.{◌≡◌, IfOk};
-ghost use Rattle.event_log.specs.Views.{entry_of, log_of};
 ghost use Rattle.story_text.specs.About.{befalls, is_about, is_ahead, is_event_shown, is_shown, seen_of};
 
 use crate::mentions::{is_in_birth, is_in_content};
 use crate::runners::{Subject, is_one};
-use event_log::Entry;
 use ids::ObjectId;
-use log_entries::Event;
+use log_entries::{Entry, Event};
 use log_words::is_refusal_at;
 use std::alloc::{AllocError, Global};
 
 /// Whether the entry names the object, or an attempt of its task.
 #[tactic(auto, unfolding(crate::specs::About::is_about))]
 fn is_about(alloc: Global, object: ObjectId, entry: &Entry) -> Result<bool, AllocError>
-    ensures { IfOk result (λ b. b ≡ is_about object (entry_of entry.now)) }
+    ensures { IfOk result (λ b. b ≡ is_about object entry.now) }
 {
     match entry {
         Entry::Begun { attempt, .. } | Entry::Accepted(attempt) => { Ok(attempt.object.is(object)) }
@@ -27,7 +25,7 @@ fn is_about(alloc: Global, object: ObjectId, entry: &Entry) -> Result<bool, Allo
             if born.is(object) {
                 return Ok(true);
             }
-            is_in_birth(alloc, object, birth)
+            is_in_birth(alloc, object, &birth.inner)
         }
         Entry::Got {
             attempt,
@@ -40,13 +38,13 @@ fn is_about(alloc: Global, object: ObjectId, entry: &Entry) -> Result<bool, Allo
             if got.is(object) {
                 return Ok(true);
             }
-            is_in_content(alloc, object, content)
+            is_in_content(alloc, object, &content.inner)
         }
         Entry::Ended { attempt, content } => {
             if attempt.object.is(object) {
                 return Ok(true);
             }
-            is_in_content(alloc, object, content)
+            is_in_content(alloc, object, &content.inner)
         }
         Entry::Faulted {
             attempt,
@@ -92,7 +90,7 @@ fn befalls(subject: &Subject, event: &Event) -> bool
 
 /// Whether something about the object came of the event to which these entries belong.
 fn is_ahead(alloc: Global, object: ObjectId, rest: &[Entry]) -> Result<bool, AllocError>
-    ensures { IfOk result (λ b. b ≡ is_ahead object (log_of rest.now)) }
+    ensures { IfOk result (λ b. b ≡ is_ahead object rest.now) }
 {
     for entry in rest {
         if let Entry::In { .. } = entry {
@@ -111,7 +109,7 @@ fn is_event_shown(
     event: &Event,
     rest: &[Entry],
 ) -> Result<bool, AllocError>
-    ensures { IfOk result (λ b. b ≡ is_event_shown (seen_of subject.now) event.now (log_of rest.now)) }
+    ensures { IfOk result (λ b. b ≡ is_event_shown (seen_of subject.now) event.now rest.now) }
 {
     if is_refusal_at(rest, 0) {
         return is_ahead(alloc, subject.object, rest);
@@ -129,7 +127,7 @@ pub fn is_shown(
     entry: &Entry,
     rest: &[Entry],
 ) -> Result<bool, AllocError>
-    ensures { IfOk result (λ b. b ≡ is_shown (seen_of subject.now) (entry_of entry.now) (log_of rest.now)) }
+    ensures { IfOk result (λ b. b ≡ is_shown (seen_of subject.now) entry.now rest.now) }
 {
     match entry {
         Entry::In { event, .. } => is_event_shown(alloc, subject, event, rest),

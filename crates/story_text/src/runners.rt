@@ -4,12 +4,11 @@ ghost use Rattle.std.specs.Prelude.{◌≡◌, ◌++◌, ◌==◌, IfOk, OnOk};
 ghost use Rattle.std.specs.List.{list_any};
 ghost use Rattle.event_log.specs.Events.{from_one};
 ghost use Rattle.event_log.specs.Words.{opened, opened_in, run_in, runs_of};
-ghost use Rattle.event_log.specs.Views.{entry_of, log_of};
 ghost use Rattle.story_text.specs.Runners.{nodes_in, one, subject_of};
 ghost use Rattle.story_text.specs.About.{seen_of};
 
-use event_log::Entry;
 use ids::ObjectId;
+use log_entries::Entry;
 use std::alloc::{AllocError, Global};
 
 /// An object, and the numbers of the workers and nodes on which attempts of its task ran.
@@ -21,7 +20,7 @@ pub struct Subject {
 }
 
 fn add_run(workers: &mut Vec<u32>, object: ObjectId, entry: &Entry) -> Result<(), AllocError>
-    ensures { OnOk result (workers.new.items ≡ workers.old.items ++ run_in object (entry_of entry.now)) }
+    ensures { OnOk result (workers.new.items ≡ workers.old.items ++ run_in object entry.now) }
 {
     let Entry::Begun { attempt, worker } = entry else {
         return Ok(());
@@ -33,7 +32,7 @@ fn add_run(workers: &mut Vec<u32>, object: ObjectId, entry: &Entry) -> Result<()
 }
 
 fn workers_of(alloc: Global, object: ObjectId, log: &[Entry]) -> Result<Vec<u32>, AllocError>
-    ensures { IfOk result (λ workers. workers.items ≡ runs_of object (log_of log.now)) }
+    ensures { IfOk result (λ workers. workers.items ≡ runs_of object log.now) }
 {
     let mut workers = Vec::new(alloc);
     for entry in log {
@@ -43,7 +42,7 @@ fn workers_of(alloc: Global, object: ObjectId, log: &[Entry]) -> Result<Vec<u32>
 }
 
 fn add_opened(nodes: &mut Vec<u32>, entry: &Entry) -> Result<(), AllocError>
-    ensures { OnOk result (nodes.new.items ≡ nodes.old.items ++ opened_in (entry_of entry.now)) }
+    ensures { OnOk result (nodes.new.items ≡ nodes.old.items ++ opened_in entry.now) }
 {
     match entry {
         Entry::Opened { node, .. } => Ok(nodes.push(node.0)?),
@@ -53,7 +52,7 @@ fn add_opened(nodes: &mut Vec<u32>, entry: &Entry) -> Result<(), AllocError>
 
 /// The numbers of the nodes of all workers, by the workers' numbers.
 pub fn opened(alloc: Global, log: &[Entry]) -> Result<Vec<u32>, AllocError>
-    ensures { IfOk result (λ nodes. nodes.items ≡ opened (log_of log.now)) }
+    ensures { IfOk result (λ nodes. nodes.items ≡ opened log.now) }
 {
     let mut nodes = Vec::new(alloc);
     for entry in log {
@@ -98,7 +97,7 @@ fn nodes_in(alloc: Global, nodes: &[u32], workers: &[u32]) -> Result<Vec<u32>, A
 impl Subject {
     /// The object with what the log says of its attempts.
     pub fn of(alloc: Global, object: ObjectId, log: &[Entry]) -> Result<Subject, AllocError>
-        ensures { IfOk result (λ subject. seen_of subject ≡ subject_of object (log_of log.now)) }
+        ensures { IfOk result (λ subject. seen_of subject ≡ subject_of object log.now) }
     {
         let workers = workers_of(alloc, object, log)?;
         let opened = opened(alloc, log)?;

@@ -2,15 +2,14 @@
 
 ghost use Rattle.std.specs.Prelude.{◌≡◌, ◌+◌, ◌++◌, ◌<◌, ◌^◌, IfOk, OnOk, string_bytes};
 ghost use Rattle.event_log.specs.Words.{births};
-ghost use Rattle.event_log.specs.Views.{entry_of, log_of};
 ghost use Rattle.log_words.specs.Index.{IsIndexOf};
 ghost use Rattle.log_words.specs.Told.{told_of};
 ghost use Rattle.story_text.specs.Text.{line_if, story_text};
 
 use crate::about::is_shown;
 use crate::runners::Subject;
-use event_log::Entry;
 use ids::ObjectId;
+use log_entries::Entry;
 use log_text::write_line;
 use log_words::{BirthIndex, Told, is_refusal_at};
 use std::alloc::{AllocError, Global};
@@ -27,7 +26,7 @@ fn write_line_if(
 ) -> Result<(), AllocError>
     requires { told.now.events + 1 < 2 ^ 64 }
     ensures { IsIndexOf index.now log.now → OnOk result (string_bytes text.new
-        ≡ string_bytes text.old ++ line_if shown (births (log_of log.now)) (told_of told.now) (entry_of entry.now) is_refused) }
+        ≡ string_bytes text.old ++ line_if shown (births log.now) (told_of told.now) entry.now is_refused) }
 {
     if !shown {
         return Ok(());
@@ -41,7 +40,7 @@ fn write_line_if(
 ///
 /// It is made of any log, a legal one or not; an object that the log does not name has no lines.
 pub fn story_text(alloc: Global, log: &[Entry], object: ObjectId) -> Result<String, AllocError>
-    ensures { IfOk result (λ text. string_bytes text ≡ story_text object (log_of log.now)) }
+    ensures { IfOk result (λ text. string_bytes text ≡ story_text object log.now) }
 {
     let mut text = String::new(alloc);
     let index = BirthIndex::of(alloc, log)?;

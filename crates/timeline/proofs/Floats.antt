@@ -6,16 +6,13 @@ use Rattle.serde_json.specs.Data.{Data}
 use Rattle.serde_json.specs.View.{items_of}
 use Rattle.serde_json.specs.Written.{has_float, items_have_float}
 use Rattle.meaning.specs.Births.{Bearing}
-use Rattle.values.specs.Values.{content_of}
-use Rattle.event_log.specs.Entries as logged
 use Rattle.event_log.specs.Events.{refused_next}
 use Rattle.event_log.specs.Words.{births}
 use Rattle.log_entries.specs.Texts.{event_text}
-use Rattle.event_log.specs.Views.{log_of}
 use Rattle.log_entries.specs.declared.event.Event.{Event}
 use Rattle.log_entries.specs.declared.event.Event.TheVariants as events
-use Rattle.event_log.specs.declared.entry.Entry.{Entry}
-use Rattle.event_log.specs.declared.entry.Entry.TheVariants as entries
+use Rattle.event_log.specs.Entries.{Attempt, Entry}
+use Rattle.event_log.specs.Entries as entries
 use Rattle.history.specs.Texts.{fault_text}
 use Rattle.log_words.specs.Contents.{content_text}
 use Rattle.log_words.specs.Told.{Told, nothing_told}
@@ -61,7 +58,7 @@ running_plain : (births : List Bearing) (clock : ℕ) (ending : List ℕ) (r : R
 running_plain births clock ending r None = refl
 running_plain births clock ending r (Some x) = refl
 
-waiting_plain : (clock : ℕ) (name ending : List ℕ) (r : Row) (a : logged.Attempt) (w : Option ℕ) → ArePlain (waiting_spans clock name ending r a w)
+waiting_plain : (clock : ℕ) (name ending : List ℕ) (r : Row) (a : Attempt) (w : Option ℕ) → ArePlain (waiting_spans clock name ending r a w)
 waiting_plain clock name ending r a None = refl
 waiting_plain clock name ending r a (Some since) = chosen (since == clock) _ _ refl refl
 
@@ -91,8 +88,8 @@ event_plain births clock _ r = refl
 
 row_plain : (births : List Bearing) (clock : ℕ) (x : Entry) (refused : Bool) (r : Row) → ArePlain (row_data births clock x refused r)
 row_plain births clock (entries.Got a y c) refused r =
-    chosen (runs a r) _ _ (wait_plain clock (get_name y) (content_text (content_of c)) r) refl
-row_plain births clock (entries.Ended a c) refused r = chosen (runs a r) _ _ (attempt_plain births clock (content_text (content_of c)) r) refl
+    chosen (runs a r) _ _ (wait_plain clock (get_name y) (content_text c) r) refl
+row_plain births clock (entries.Ended a c) refused r = chosen (runs a r) _ _ (attempt_plain births clock (content_text c) r) refl
 row_plain births clock (entries.Faulted a y f) refused r =
     chosen (runs a r) _ _ (both_plain births clock (get_name y) (fault_text f) r) refl
 row_plain births clock (entries.In e seat) refused r = chosen refused [] (event_data births clock e r) refl (event_plain births clock e r)
@@ -166,7 +163,7 @@ entries_plain : (births : List Bearing) (letters : List Letter) (sent arrivals :
 entries_plain births letters sent arrivals told rows [] = all_plain (open_data births told.events) (open_plain births told.events) rows
 entries_plain births letters sent arrivals told rows (x ∷ rest) =
     let now : Told = told_with told x rest in
-    let refused : Bool = refused_next (log_of rest) in
+    let refused : Bool = refused_next rest in
     let next : List Row = rows_after now rows x refused in
     appended (whole_data births letters sent arrivals now.events rows x refused) (entries_data births letters sent arrivals now next rest)
     (whole_plain births letters sent arrivals now.events rows x refused) (entries_plain births letters sent arrivals now next rest)
@@ -184,6 +181,6 @@ pub timeline_plain : (log : List Entry) (letters : List Letter) (sent : List ℕ
 timeline_plain log letters sent =
     let arrivals : List ℕ = arrivals_in letters sent log in
     let names : List Data = names_of (greatest_node letters log) in
-    let added : List Data = entries_data (births (log_of log)) letters sent arrivals nothing_told [] log in
+    let added : List Data = entries_data (births log) letters sent arrivals nothing_told [] log in
     beside_nothing _ (appended names added (names_plain (greatest_node letters log))
-    (entries_plain (births (log_of log)) letters sent arrivals nothing_told [] log))
+    (entries_plain (births log) letters sent arrivals nothing_told [] log))

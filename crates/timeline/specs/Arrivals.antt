@@ -1,11 +1,9 @@
 -- In which event each message was delivered first.
-use Rattle.std.specs.Prelude.{ℕ, ◌-◌, ◌==◌, Bool, true, false, if◌then◌else◌, nat_lt, List, [], ◌∷◌, Option, Some, None, map, slice_get, slice_set}
+use Rattle.std.specs.Prelude.{ℕ, ◌-◌, ◌==◌, Bool, false, if◌then◌else◌, nat_lt, List, [], ◌∷◌, Option, Some, None, map, slice_get, slice_set}
 use Rattle.event_log.specs.Events.{refused_next}
-use Rattle.event_log.specs.Views.{log_of}
 use Rattle.log_entries.specs.declared.event.Event.{Event}
 use Rattle.log_entries.specs.declared.event.Event.TheVariants.{Deliver}
-use Rattle.event_log.specs.declared.entry.Entry.{Entry}
-use Rattle.event_log.specs.declared.entry.Entry.TheVariants.{In}
+use Rattle.event_log.specs.Entries.{Entry, In}
 use Rattle.log_words.specs.Told.{Told, nothing_told}
 use Rattle.message_text.specs.Sent.{sent_behind}
 use Rattle.protocol_data.specs.declared.message.Letter.{Letter}
@@ -31,7 +29,7 @@ arrivals_after sent arrivals clock _ refused = arrivals
 abbrev pub arrivals_from : List ℕ → List ℕ → Told → List Entry → List ℕ
 arrivals_from sent arrivals told [] = arrivals
 arrivals_from sent arrivals told (x ∷ rest) =
-    arrivals_from sent (arrivals_after sent arrivals (told_with told x rest).events x (refused_next (log_of rest))) (told_with told x rest) rest
+    arrivals_from sent (arrivals_after sent arrivals (told_with told x rest).events x (refused_next rest)) (told_with told x rest) rest
 
 -- for each message the number of the event; 0 where there is none
 abbrev pub arrivals_in : List Letter → List ℕ → List Entry → List ℕ

@@ -4,8 +4,7 @@ use Rattle.serde_json.specs.Data.{Data, number, unsigned, string, object, member
 use Rattle.log_entries.specs.Texts.{event_text}
 use Rattle.log_entries.specs.declared.event.Event.{Event}
 use Rattle.log_entries.specs.declared.event.Event.TheVariants.{Deliver}
-use Rattle.event_log.specs.declared.entry.Entry.{Entry}
-use Rattle.event_log.specs.declared.entry.Entry.TheVariants.{In}
+use Rattle.event_log.specs.Entries.{Entry, In}
 use Rattle.message_text.specs.Messages.{kind_text}
 use Rattle.message_text.specs.Sent.{or_none, sent_behind, letters_between}
 use Rattle.protocol_data.specs.declared.message.Letter.{Letter}

@@ -1,14 +1,12 @@
 -- The spans that end with an entry.
 use Rattle.std.specs.Prelude.{ℕ, Bool, if◌then◌else◌, List, [], ◌∷◌, ◌++◌, ◌==◌, codes}
 use Rattle.serde_json.specs.Data.{Data}
-use Rattle.values.specs.Values.{content_of}
 use Rattle.meaning.specs.Values.{Id}
 use Rattle.meaning.specs.Births.{Bearing}
 use Rattle.report.specs.Values.{id_text}
 use Rattle.log_entries.specs.declared.event.Event.{Event}
 use Rattle.log_entries.specs.declared.event.Event.TheVariants.{Kill, KillNode}
-use Rattle.event_log.specs.declared.entry.Entry.{Entry}
-use Rattle.event_log.specs.declared.entry.Entry.TheVariants.{In, Got, Ended, Faulted}
+use Rattle.event_log.specs.Entries.{Entry, In, Got, Ended, Faulted}
 use Rattle.history.specs.Texts.{fault_text}
 use Rattle.log_words.specs.Contents.{content_text}
 use Rattle.timeline.specs.declared.rows.Row.{Row}
@@ -35,8 +33,8 @@ event_data births clock _ r = []
 
 -- what an entry adds in a row; `refused` says of an event that it is refused
 abbrev pub row_data : List Bearing → ℕ → Entry → Bool → Row → List Data
-row_data births clock (Got a y c) refused r = if runs a r then wait_spans clock (get_name y) (content_text (content_of c)) r else []
-row_data births clock (Ended a c) refused r = if runs a r then attempt_spans births clock (content_text (content_of c)) r else []
+row_data births clock (Got a y c) refused r = if runs a r then wait_spans clock (get_name y) (content_text c) r else []
+row_data births clock (Ended a c) refused r = if runs a r then attempt_spans births clock (content_text c) r else []
 row_data births clock (Faulted a y f) refused r =
     if runs a r then both_spans births clock (get_name y) (fault_text f) r else []
 row_data births clock (In e seat) refused r = if refused then [] else event_data births clock e r

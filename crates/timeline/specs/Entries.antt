@@ -4,8 +4,7 @@ use Rattle.std.specs.List.{flat_map}
 use Rattle.serde_json.specs.Data.{Data}
 use Rattle.meaning.specs.Births.{Bearing}
 use Rattle.event_log.specs.Events.{refused_next}
-use Rattle.event_log.specs.Views.{log_of}
-use Rattle.event_log.specs.declared.entry.Entry.{Entry}
+use Rattle.event_log.specs.Entries.{Entry}
 use Rattle.log_words.specs.Told.{Told}
 use Rattle.protocol_data.specs.declared.message.Letter.{Letter}
 use Rattle.timeline.specs.declared.rows.Row.{Row}
@@ -31,6 +30,6 @@ whole_data births letters sent arrivals clock rows x refused =
 abbrev pub entries_data : List Bearing → List Letter → List ℕ → List ℕ → Told → List Row → List Entry → List Data
 entries_data births letters sent arrivals told rows [] = flat_map (open_data births told.events) rows
 entries_data births letters sent arrivals told rows (x ∷ rest) =
-    whole_data births letters sent arrivals (told_with told x rest).events rows x (refused_next (log_of rest))
+    whole_data births letters sent arrivals (told_with told x rest).events rows x (refused_next rest)
     ++ entries_data births letters sent arrivals (told_with told x rest)
-    (rows_after (told_with told x rest) rows x (refused_next (log_of rest))) rest
+    (rows_after (told_with told x rest) rows x (refused_next rest)) rest

@@ -5,8 +5,7 @@ use Rattle.report.specs.Values.{id_text}
 use Rattle.ids.specs.Texts.{worker_text}
 use Rattle.log_entries.specs.declared.event.Event.{Event}
 use Rattle.log_entries.specs.declared.event.Event.TheVariants.{Lose, KillNode}
-use Rattle.event_log.specs.declared.entry.Entry.{Entry}
-use Rattle.event_log.specs.declared.entry.Entry.TheVariants.{In, Opened}
+use Rattle.event_log.specs.Entries.{Entry, In, Opened}
 
 -- the name of a node, or of a row
 abbrev pub name_data : List ℕ → List ℕ → ℕ → ℕ → Data

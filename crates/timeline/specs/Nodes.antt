@@ -3,11 +3,9 @@ use Rattle.std.specs.Prelude.{ℕ, zero, suc, Bool, nat_lt, if◌then◌else◌,
 use Rattle.std.specs.Fmt.{decimal}
 use Rattle.serde_json.specs.Data.{Data}
 use Rattle.event_log.specs.Events.{refused_next}
-use Rattle.event_log.specs.Views.{log_of}
 use Rattle.log_entries.specs.declared.event.Event.{Event}
 use Rattle.log_entries.specs.declared.event.Event.TheVariants.{Lose, KillNode}
-use Rattle.event_log.specs.declared.entry.Entry.{Entry}
-use Rattle.event_log.specs.declared.entry.Entry.TheVariants.{In, Opened}
+use Rattle.event_log.specs.Entries.{Entry, In, Opened}
 use Rattle.protocol_data.specs.declared.message.Letter.{Letter}
 use Rattle.protocol_data.specs.declared.message.Party.{Party}
 use Rattle.protocol_data.specs.declared.message.Party.TheVariants.{TheWorker, TheNode}
@@ -35,7 +33,7 @@ node_in_entry _ refused = 0
 
 abbrev pub greatest_in_log : ℕ → List Entry → ℕ
 greatest_in_log n [] = n
-greatest_in_log n (x ∷ rest) = greatest_in_log (greater n (node_in_entry x (refused_next (log_of rest)))) rest
+greatest_in_log n (x ∷ rest) = greatest_in_log (greater n (node_in_entry x (refused_next rest))) rest
 
 abbrev pub greatest_in_letters : ℕ → List Letter → ℕ
 greatest_in_letters n [] = n

@@ -2,23 +2,21 @@
 use Rattle.std.specs.Prelude.{ℕ, Bool, false, if◌then◌else◌, ◌==◌, List, [], ◌∷◌, Option, Some, None}
 use Rattle.std.specs.Option.{option_map}
 use Rattle.ids.specs.Attempts.{Attempt}
-use Rattle.event_log.specs.Entries as logged
 use Rattle.event_log.specs.Words.{same_attempt}
 use Rattle.event_log.specs.Events.{from_one}
 use Rattle.log_entries.specs.declared.event.Event.{Event}
 use Rattle.log_entries.specs.declared.event.Event.TheVariants.{Commit, Kill, KillNode}
-use Rattle.event_log.specs.declared.entry.Entry.{Entry}
-use Rattle.event_log.specs.declared.entry.Entry.TheVariants.{In, Opened, Begun, Got, Ended, Faulted}
+use Rattle.event_log.specs.Entries.{Entry, In, Opened, Begun, Got, Ended, Faulted}
 use Rattle.log_words.specs.Told.{Told}
 use Rattle.timeline.specs.declared.rows.Row.{Row}
 use Rattle.timeline.specs.declared.rows.Running.{Running}
 
-abbrev pub is_attempt : logged.Attempt → Option Running → Bool
+abbrev pub is_attempt : Attempt → Option Running → Bool
 is_attempt a None = false
 is_attempt a (Some x) = same_attempt x.attempt a
 
 -- the row's worker runs the attempt
-abbrev pub runs : logged.Attempt → Row → Bool
+abbrev pub runs : Attempt → Row → Bool
 runs a r = is_attempt a r.running
 
 -- what the row's worker runs waits since the event, or no longer

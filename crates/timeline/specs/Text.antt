@@ -3,8 +3,7 @@ use Rattle.std.specs.Prelude.{ℕ, List, [], ◌++◌, codes}
 use Rattle.serde_json.specs.Data.{Data, string, array, object, member, no_members}
 use Rattle.serde_json.specs.View.{items_of}
 use Rattle.event_log.specs.Words.{births}
-use Rattle.event_log.specs.Views.{log_of}
-use Rattle.event_log.specs.declared.entry.Entry.{Entry}
+use Rattle.event_log.specs.Entries.{Entry}
 use Rattle.log_words.specs.Told.{nothing_told}
 use Rattle.protocol_data.specs.declared.message.Letter.{Letter}
 use Rattle.timeline.specs.Arrivals.{arrivals_in}
@@ -15,7 +14,7 @@ use Rattle.timeline.specs.Entries.{entries_data}
 abbrev pub trace_data : List Entry → List Letter → List ℕ → List Data
 trace_data log letters sent =
     names_of (greatest_node letters log)
-    ++ entries_data (births (log_of log)) letters sent (arrivals_in letters sent log) nothing_told [] log
+    ++ entries_data (births log) letters sent (arrivals_in letters sent log) nothing_told [] log
 
 -- the clock is the number of the event: the viewers show it as microseconds; `sent` is how many messages had been sent behind each event
 abbrev pub timeline_data : List Entry → List Letter → List ℕ → Data

@@ -4,8 +4,7 @@ ghost use Rattle.std.specs.Prelude.{◌≡◌, ◌<◌, ◌^◌, IfOk, OnOk, len
 ghost use Rattle.log_words.specs.Told.{told_of};
 ghost use Rattle.timeline.specs.Arrivals.{after_event, arrivals_after, arrivals_in, delivered, is_still_none};
 
-use event_log::Entry;
-use log_entries::Event;
+use log_entries::{Entry, Event};
 use log_words::{Told, is_refusal_at};
 use message_text::sent_behind;
 use protocol_data::Letter;

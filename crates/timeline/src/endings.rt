@@ -4,7 +4,6 @@ ghost use Rattle.std.specs.Prelude.{◌≡◌, ◌++◌, ◌==◌, [], IfOk, OnO
 ghost use Rattle.serde_json.specs.View.{view};
 ghost use Rattle.values.specs.Values.{content_of};
 ghost use Rattle.event_log.specs.Words.{births};
-ghost use Rattle.event_log.specs.Views.{log_of};
 ghost use Rattle.history.specs.Texts.{fault_text};
 ghost use Rattle.log_words.specs.Index.{IsIndexOf};
 ghost use Rattle.log_words.specs.Contents.{content_text};
@@ -13,10 +12,9 @@ ghost use Rattle.timeline.specs.Endings.{both_spans, death_data, event_data, get
 use crate::marks::mark_json;
 use crate::rows::{Row, runs};
 use crate::spans::{add_attempt, add_wait};
-use event_log::Entry;
 use history::kind_name;
 use ids::ObjectId;
-use log_entries::Event;
+use log_entries::{Entry, Event};
 use log_words::{BirthIndex, write_content};
 use serde_json::Value;
 use std::alloc::{AllocError, Global};
@@ -56,7 +54,7 @@ fn add_both(
     row: &Row,
 ) -> Result<(), AllocError>
     ensures { IsIndexOf index.now log.now → OnOk result
-        (map view all.new.items ≡ map view all.old.items ++ both_spans (births (log_of log.now)) clock name.now ending.now row.now) }
+        (map view all.new.items ≡ map view all.old.items ++ both_spans (births log.now) clock name.now ending.now row.now) }
 {
     add_wait(alloc, all, clock, name, ending, row)?;
     add_attempt(alloc, all, index, log, clock, ending, row)
@@ -72,7 +70,7 @@ fn add_death(
     row: &Row,
 ) -> Result<(), AllocError>
     ensures { IsIndexOf index.now log.now → OnOk result
-        (map view all.new.items ≡ map view all.old.items ++ death_data (births (log_of log.now)) clock row.now) }
+        (map view all.new.items ≡ map view all.old.items ++ death_data (births log.now) clock row.now) }
 {
     add_both(alloc, all, index, log, clock, "get", "killed", row)?;
     all.push(mark_json(alloc, "dies", "t", row.node, row.worker.0, clock)?)?;
@@ -89,7 +87,7 @@ fn add_event(
     row: &Row,
 ) -> Result<(), AllocError>
     ensures { IsIndexOf index.now log.now → OnOk result
-        (map view all.new.items ≡ map view all.old.items ++ event_data (births (log_of log.now)) clock event.now row.now) }
+        (map view all.new.items ≡ map view all.old.items ++ event_data (births log.now) clock event.now row.now) }
 {
     match event {
         Event::Kill(worker) => {
@@ -120,7 +118,7 @@ pub fn add_row(
     row: &Row,
 ) -> Result<(), AllocError>
     ensures { IsIndexOf index.now log.now → OnOk result
-        (map view all.new.items ≡ map view all.old.items ++ row_data (births (log_of log.now)) clock entry.now is_refused row.now) }
+        (map view all.new.items ≡ map view all.old.items ++ row_data (births log.now) clock entry.now is_refused row.now) }
 {
     match entry {
         Entry::Got {
@@ -132,14 +130,14 @@ pub fn add_row(
                 return Ok(());
             }
             let name = get_name(alloc, *object)?;
-            let ending = content_name(alloc, content)?;
+            let ending = content_name(alloc, &content.inner)?;
             add_wait(alloc, all, clock, name.as_str(), ending.as_str(), row)
         }
         Entry::Ended { attempt, content } => {
             if !runs(*attempt, row) {
                 return Ok(());
             }
-            let ending = content_name(alloc, content)?;
+            let ending = content_name(alloc, &content.inner)?;
             add_attempt(alloc, all, index, log, clock, ending.as_str(), row)
         }
         Entry::Faulted {
@@ -183,7 +181,7 @@ pub fn add_open(
     row: &Row,
 ) -> Result<(), AllocError>
     ensures { IsIndexOf index.now log.now → OnOk result
-        (map view all.new.items ≡ map view all.old.items ++ open_data (births (log_of log.now)) clock row.now) }
+        (map view all.new.items ≡ map view all.old.items ++ open_data (births log.now) clock row.now) }
 {
     add_both(alloc, all, index, log, clock, "get", "open", row)
 }

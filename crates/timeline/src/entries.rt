@@ -4,7 +4,6 @@ ghost use Rattle.std.specs.Prelude.{◌≡◌, ◌++◌, [], IfOk, OnOk, map};
 ghost use Rattle.std.specs.List.{flat_map};
 ghost use Rattle.serde_json.specs.View.{view};
 ghost use Rattle.event_log.specs.Words.{births};
-ghost use Rattle.event_log.specs.Views.{log_of};
 ghost use Rattle.log_words.specs.Index.{IsIndexOf};
 ghost use Rattle.log_words.specs.Told.{nothing_told, told_of};
 ghost use Rattle.timeline.specs.Endings.{open_data, row_data};
@@ -14,7 +13,7 @@ use crate::arrows::add_arrows;
 use crate::endings::{add_open, add_row};
 use crate::marks::add_marks;
 use crate::rows::{Row, rows_after};
-use event_log::Entry;
+use log_entries::Entry;
 use log_words::{BirthIndex, Told, is_refusal_at};
 use protocol_data::Letter;
 use serde_json::Value;
@@ -31,7 +30,7 @@ fn add_rows(
     is_refused: bool,
 ) -> Result<(), AllocError>
     ensures { IsIndexOf index.now log.now → OnOk result (map view all.new.items
-        ≡ map view all.old.items ++ flat_map (row_data (births (log_of log.now)) clock entry.now is_refused) rows.now) }
+        ≡ map view all.old.items ++ flat_map (row_data (births log.now) clock entry.now is_refused) rows.now) }
 {
     for row in rows {
         add_row(alloc, all, index, log, clock, entry, is_refused, row)?;
@@ -51,7 +50,7 @@ fn add_entry(
     is_refused: bool,
 ) -> Result<(), AllocError>
     ensures { IsIndexOf index.now log.now → OnOk result (map view all.new.items
-        ≡ map view all.old.items ++ entry_data (births (log_of log.now)) clock rows.now entry.now is_refused) }
+        ≡ map view all.old.items ++ entry_data (births log.now) clock rows.now entry.now is_refused) }
 {
     add_rows(alloc, all, index, log, clock, rows, entry, is_refused)?;
     add_marks(alloc, all, clock, entry, is_refused)
@@ -73,7 +72,7 @@ fn add_whole(
     is_refused: bool,
 ) -> Result<(), AllocError>
     ensures { IsIndexOf index.now log.now → OnOk result (map view all.new.items ≡ map view all.old.items
-        ++ whole_data (births (log_of log.now)) letters.now sent.now arrivals.now clock rows.now entry.now is_refused) }
+        ++ whole_data (births log.now) letters.now sent.now arrivals.now clock rows.now entry.now is_refused) }
 {
     add_entry(alloc, all, index, log, clock, rows, entry, is_refused)?;
     add_arrows(
@@ -90,7 +89,7 @@ fn add_all_open(
     rows: &[Row],
 ) -> Result<(), AllocError>
     ensures { IsIndexOf index.now log.now → OnOk result
-        (map view all.new.items ≡ map view all.old.items ++ flat_map (open_data (births (log_of log.now)) clock) rows.now) }
+        (map view all.new.items ≡ map view all.old.items ++ flat_map (open_data (births log.now) clock) rows.now) }
 {
     for row in rows {
         add_open(alloc, all, index, log, clock, row)?;
@@ -108,7 +107,7 @@ pub fn add_entries(
     arrivals: &[usize],
 ) -> Result<(), AllocError>
     ensures { OnOk result (map view all.new.items ≡ map view all.old.items
-        ++ entries_data (births (log_of log.now)) letters.now sent.now arrivals.now nothing_told [] log.now) }
+        ++ entries_data (births log.now) letters.now sent.now arrivals.now nothing_told [] log.now) }
 {
     let index = BirthIndex::of(alloc, log)?;
     let mut told = Told::new(alloc);

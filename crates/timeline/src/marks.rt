@@ -6,9 +6,8 @@ ghost use Rattle.ids.specs.Texts.{worker_text};
 ghost use Rattle.report.specs.Values.{id_text};
 ghost use Rattle.timeline.specs.Marks.{entry_marks, event_marks, mark_data, name_data};
 
-use event_log::Entry;
 use ids::{NodeId, ObjectId, WorkerId};
-use log_entries::Event;
+use log_entries::{Entry, Event};
 use serde_json::{Value, json};
 use std::alloc::{AllocError, Global};
 

@@ -6,8 +6,7 @@ ghost use Rattle.timeline.specs.Nodes.{greater, greatest_in_letters, greatest_in
 ghost use Rattle.timeline.specs.Nodes.{node_in_party, node_name, node_names};
 
 use crate::marks::name_json;
-use event_log::Entry;
-use log_entries::Event;
+use log_entries::{Entry, Event};
 use log_words::is_refusal_at;
 use protocol_data::{Letter, Party};
 use serde_json::Value;

@@ -5,9 +5,8 @@ ghost use Rattle.log_words.specs.Told.{told_of};
 ghost use Rattle.timeline.specs.Rows.{after_event, begins, is_worker, row_after, runs, stopped, with_waits};
 ghost use Rattle.timeline.specs.Entries.{rows_after};
 
-use event_log::Entry;
 use ids::{AttemptId, NodeId, WorkerId};
-use log_entries::Event;
+use log_entries::{Entry, Event};
 use log_words::{Told, worker_of_job};
 use std::alloc::{AllocError, Global};
 

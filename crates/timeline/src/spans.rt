@@ -5,14 +5,13 @@ ghost use Rattle.std.specs.Option.{option_map};
 ghost use Rattle.serde_json.specs.View.{view};
 ghost use Rattle.task_spec.specs.Births.{birth_of};
 ghost use Rattle.event_log.specs.Words.{births};
-ghost use Rattle.event_log.specs.Views.{log_of};
 ghost use Rattle.history.specs.Texts.{attempt_text};
 ghost use Rattle.log_words.specs.Index.{IsIndexOf};
 ghost use Rattle.timeline.specs.Spans.{args_data, attempt_spans, called, span_data, wait_spans};
 
 use crate::rows::Row;
-use event_log::Entry;
 use ids::AttemptId;
+use log_entries::Entry;
 use log_words::{BirthIndex, write_call};
 use serde_json::{Value, json};
 use std::alloc::{AllocError, Global};
@@ -87,7 +86,7 @@ pub fn add_attempt(
     row: &Row,
 ) -> Result<(), AllocError>
     ensures { IsIndexOf index.now log.now → OnOk result
-        (map view all.new.items ≡ map view all.old.items ++ attempt_spans (births (log_of log.now)) clock ending.now row.now) }
+        (map view all.new.items ≡ map view all.old.items ++ attempt_spans (births log.now) clock ending.now row.now) }
 {
     let Some(running) = &row.running else {
         return Ok(());

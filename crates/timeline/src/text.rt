@@ -8,7 +8,7 @@ ghost use Rattle.timeline.specs.Text.{timeline_data, trace_data};
 use crate::arrivals::arrivals_in;
 use crate::entries::add_entries;
 use crate::nodes::{greatest_node, node_names};
-use event_log::Entry;
+use log_entries::Entry;
 use protocol_data::Letter;
 use serde_json::{Value, json};
 use std::alloc::{AllocError, Global};

@@ -9,7 +9,8 @@ ghost use Rattle.whole_events.specs.Kept.{IsKept, IsLeft, put_into};
 
 use crate::counting::{fits, nothing};
 use ids::{NodeId, WorkerId};
-use protocol_data::{Here, LogEntry, Node, Whole, Worker};
+use log_entries::Entry;
+use protocol_data::{Here, Node, Whole, Worker};
 use sequence::Seq;
 use std::alloc::{AllocError, Global};
 use whole_steps::{node_place, put_worker, take_worker, worker_place};
@@ -21,7 +22,7 @@ pub fn act(
     whole: &mut Whole,
     number: WorkerId,
     what: &Act,
-) -> Result<Seq<LogEntry>, AllocError>
+) -> Result<Seq<Entry>, AllocError>
     ensures whole { OnOk result (whole.new ≡ (worker_does whole.old number (act_step what.now)).whole) }
     ensures entries { IfOk result (λ entries. entries ≡ (worker_does whole.old number (act_step what.now)).out.entries) }
 {
@@ -76,7 +77,7 @@ fn put_within(
     here: Here,
     kept: Kept,
     made: u64,
-) -> Result<Option<Seq<LogEntry>>, AllocError>
+) -> Result<Option<Seq<Entry>>, AllocError>
     requires place_in { place < length whole.old.workers }
     requires number { number ≡ 1 + place }
     requires node_place_in { node_place < length whole.old.nodes }
@@ -100,7 +101,7 @@ pub fn act_or_restore(
     number: WorkerId,
     what: &Act,
     made: u64,
-) -> Result<Option<Seq<LogEntry>>, AllocError>
+) -> Result<Option<Seq<Entry>>, AllocError>
     ensures whole { OnOk result (whole.new ≡ whole_within made whole.old (worker_does whole.old number (act_step what.now))) }
     ensures entries { IfOk result (λ given. given ≡ entries_within made (worker_does whole.old number (act_step what.now))) }
 {

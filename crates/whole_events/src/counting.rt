@@ -8,8 +8,9 @@ ghost use Rattle.limit_laws.specs.Opens.{asked_opens, death_opens, fits, opened_
 
 use ids::{NodeId, WorkerId};
 use lease::{has_free_slot, reply_to};
+use log_entries::Entry;
 use number_lists::{has_worker, item_at_number, remove_worker};
-use protocol_data::{AskKey, LogEntry, Message, Party, Scheduler, Whole};
+use protocol_data::{AskKey, Message, Party, Scheduler, Whole};
 use sequence::Seq;
 use std::alloc::{AllocError, Global};
 
@@ -115,7 +116,7 @@ pub fn fits(whole: &Whole, opened: u64, made: u64) -> bool
 }
 
 /// Nothing happens, and nothing is logged.
-pub fn nothing(alloc: Global, whole: &Whole, made: u64) -> Option<Seq<LogEntry>>
+pub fn nothing(alloc: Global, whole: &Whole, made: u64) -> Option<Seq<Entry>>
     ensures { result ≡ entries_within made (moved whole.now) }
 {
     if fits(whole, 0, made) {

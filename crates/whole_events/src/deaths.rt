@@ -7,7 +7,8 @@ ghost use Rattle.protocol.specs.Numbered.{changed_at};
 
 use crate::counting::{fits, nothing, opened_by_death};
 use ids::{NodeId, WorkerId};
-use protocol_data::{LogEntry, Whole, Worker};
+use log_entries::Entry;
+use protocol_data::{Whole, Worker};
 use sequence::Seq;
 use std::alloc::{AllocError, Global};
 use std::mem;
@@ -29,7 +30,7 @@ pub fn kill(
     alloc: Global,
     whole: &mut Whole,
     number: WorkerId,
-) -> Result<Option<Seq<LogEntry>>, AllocError>
+) -> Result<Option<Seq<Entry>>, AllocError>
     ensures whole { OnOk result (whole.new ≡ whole_limited whole.old (killed whole.old number)) }
     ensures entries { IfOk result (λ given. given ≡ entries_limited (killed whole.old number)) }
 {
@@ -107,7 +108,7 @@ pub fn kill_node(
     alloc: Global,
     whole: &mut Whole,
     number: NodeId,
-) -> Result<Option<Seq<LogEntry>>, AllocError>
+) -> Result<Option<Seq<Entry>>, AllocError>
     ensures whole { OnOk result (whole.new ≡ whole_limited whole.old (node_killed whole.old number)) }
     ensures entries { IfOk result (λ given. given ≡ entries_limited (node_killed whole.old number)) }
 {
@@ -120,7 +121,7 @@ pub fn kill_node(
 }
 
 /// A node with the next number comes.
-pub fn join(alloc: Global, whole: &mut Whole) -> Result<Option<Seq<LogEntry>>, AllocError>
+pub fn join(alloc: Global, whole: &mut Whole) -> Result<Option<Seq<Entry>>, AllocError>
     ensures whole { OnOk result (whole.new ≡ whole_limited whole.old (joined whole.old)) }
     ensures entries { IfOk result (λ given. given ≡ entries_limited (joined whole.old)) }
 {

@@ -8,8 +8,9 @@ ghost use Rattle.protocol.specs.Events.{delivered, delivered_to};
 use crate::counting::nothing;
 use crate::node_events::deliver_to_node_within;
 use crate::within_limits::let_act;
+use log_entries::Entry;
 use number_lists::{item_at_number, place_of};
-use protocol_data::{Letter, LogEntry, Message, Party, Whole};
+use protocol_data::{Letter, Message, Party, Whole};
 use refusals::{is_live_node, is_live_worker};
 use sequence::Seq;
 use std::alloc::{AllocError, Global};
@@ -43,7 +44,7 @@ fn hand_over(
     alloc: Global,
     whole: &mut Whole,
     letter: Letter,
-) -> Result<Option<Seq<LogEntry>>, AllocError>
+) -> Result<Option<Seq<Entry>>, AllocError>
     ensures whole { OnOk result (whole.new ≡ whole_limited whole.old (delivered_to whole.old letter letter.receiver)) }
     ensures entries { IfOk result (λ given. given ≡ entries_limited (delivered_to whole.old letter letter.receiver)) }
 {
@@ -84,7 +85,7 @@ pub fn deliver(
     alloc: Global,
     whole: &mut Whole,
     number: u64,
-) -> Result<Option<Seq<LogEntry>>, AllocError>
+) -> Result<Option<Seq<Entry>>, AllocError>
     ensures whole { OnOk result (whole.new ≡ whole_limited whole.old (delivered whole.old number)) }
     ensures entries { IfOk result (λ given. given ≡ entries_limited (delivered whole.old number)) }
 {

@@ -9,8 +9,8 @@ use crate::deliveries::deliver;
 use crate::jobs::{claim, commit};
 use crate::stores::{Loss, lose_at};
 use crate::within_limits::let_worker_act;
-use log_entries::Event;
-use protocol_data::{Handed, LogEntry, Whole};
+use log_entries::{Entry, Event};
+use protocol_data::{Handed, Whole};
 use sequence::Seq;
 use std::alloc::{AllocError, Global};
 use worker_acts::Act;
@@ -22,7 +22,7 @@ pub fn happen(
     whole: &mut Whole,
     event: &Event,
     handed: Handed,
-) -> Result<Option<Seq<LogEntry>>, AllocError>
+) -> Result<Option<Seq<Entry>>, AllocError>
     ensures whole { OnOk result (whole.new ≡ whole_limited whole.old (happens whole.old event.now handed)) }
     ensures entries { IfOk result (λ given. given ≡ entries_limited (happens whole.old event.now handed)) }
 {

@@ -10,8 +10,9 @@ ghost use Rattle.protocol.specs.Whole.{moved};
 use crate::counting::nothing;
 use crate::within_limits::let_act;
 use ids::WorkerId;
+use log_entries::Entry;
 use number_lists::place_of;
-use protocol_data::{Given, Handed, LogEntry, Outcomes, Whole};
+use protocol_data::{Given, Handed, Outcomes, Whole};
 use sequence::Seq;
 use std::alloc::{AllocError, Global};
 use worker_acts::Act;
@@ -39,7 +40,7 @@ pub fn claim(
     alloc: Global,
     whole: &mut Whole,
     worker: WorkerId,
-) -> Result<Option<Seq<LogEntry>>, AllocError>
+) -> Result<Option<Seq<Entry>>, AllocError>
     ensures whole { OnOk result (whole.new ≡ whole_limited whole.old (claimed whole.old worker)) }
     ensures entries { IfOk result (λ given. given ≡ entries_limited (claimed whole.old worker)) }
 {
@@ -70,7 +71,7 @@ fn commit_outcomes(
     whole: &mut Whole,
     job: u64,
     outcomes: Outcomes,
-) -> Result<Option<Seq<LogEntry>>, AllocError>
+) -> Result<Option<Seq<Entry>>, AllocError>
     ensures whole { OnOk result (whole.new ≡ whole_limited whole.old (committed whole.old job (OfJob outcomes))) }
     ensures entries { IfOk result (λ given. given ≡ entries_limited (committed whole.old job (OfJob outcomes))) }
 {
@@ -94,7 +95,7 @@ pub fn commit(
     whole: &mut Whole,
     job: u64,
     handed: Handed,
-) -> Result<Option<Seq<LogEntry>>, AllocError>
+) -> Result<Option<Seq<Entry>>, AllocError>
     ensures whole { OnOk result (whole.new ≡ whole_limited whole.old (committed whole.old job handed)) }
     ensures entries { IfOk result (λ given. given ≡ entries_limited (committed whole.old job handed)) }
 {

@@ -7,7 +7,8 @@ ghost use Rattle.protocol.specs.Whole.{node_does};
 
 use crate::counting::{fits, opened_at};
 use ids::NodeId;
-use protocol_data::{LogEntry, Message, Party, Whole};
+use log_entries::Entry;
+use protocol_data::{Message, Party, Whole};
 use sequence::Seq;
 use std::alloc::{AllocError, Global};
 use whole_steps::deliver_to_node;
@@ -20,7 +21,7 @@ pub fn deliver_to_node_within(
     number: NodeId,
     sender: Party,
     message: &Message,
-) -> Result<Option<Seq<LogEntry>>, AllocError>
+) -> Result<Option<Seq<Entry>>, AllocError>
     ensures whole { OnOk result (whole.new ≡ whole_within whole.old.made whole.old (node_does whole.old number (λ h. node_reached h sender message.now))) }
     ensures entries { IfOk result (λ given. given ≡ entries_within whole.old.made (node_does whole.old number (λ h. node_reached h sender message.now))) }
 {

@@ -8,8 +8,9 @@ ghost use Rattle.whole_events.specs.Losses.{behind};
 
 use crate::counting::{fits, nothing};
 use ids::{NodeId, ObjectId};
+use log_entries::Entry;
 use object_store::{remove_copies, remove_secondaries};
-use protocol_data::{LogEntry, Store, Whole};
+use protocol_data::{Store, Whole};
 use sequence::Seq;
 use std::alloc::{AllocError, Global};
 use whole_steps::node_place;
@@ -51,7 +52,7 @@ pub fn lose_at(
     number: NodeId,
     object: ObjectId,
     loss: Loss,
-) -> Result<Option<Seq<LogEntry>>, AllocError>
+) -> Result<Option<Seq<Entry>>, AllocError>
     ensures whole { OnOk result (whole.new ≡ whole_limited whole.old (store_does whole.old number (λ s. behind loss object s))) }
     ensures entries { IfOk result (λ given. given ≡ entries_limited (store_does whole.old number (λ s. behind loss object s))) }
 {

@@ -8,7 +8,8 @@ ghost use Rattle.worker_acts.specs.Acts.{act_step};
 use crate::acting::{act, act_or_restore};
 use crate::counting::fits;
 use ids::WorkerId;
-use protocol_data::{LogEntry, Whole};
+use log_entries::Entry;
+use protocol_data::Whole;
 use sequence::Seq;
 use std::alloc::{AllocError, Global};
 use worker_acts::Act;
@@ -22,7 +23,7 @@ pub fn let_act(
     number: WorkerId,
     what: &Act,
     made: u64,
-) -> Result<Option<Seq<LogEntry>>, AllocError>
+) -> Result<Option<Seq<Entry>>, AllocError>
     ensures whole { OnOk result (whole.new ≡ whole_within made whole.old (worker_does whole.old number (act_step what.now))) }
     ensures entries { IfOk result (λ given. given ≡ entries_within made (worker_does whole.old number (act_step what.now))) }
 {
@@ -42,7 +43,7 @@ pub fn let_worker_act(
     whole: &mut Whole,
     number: WorkerId,
     what: &Act,
-) -> Result<Option<Seq<LogEntry>>, AllocError>
+) -> Result<Option<Seq<Entry>>, AllocError>
     ensures whole { OnOk result (whole.new ≡ whole_limited whole.old (worker_does whole.old number (act_step what.now))) }
     ensures entries { IfOk result (λ given. given ≡ entries_limited (worker_does whole.old number (act_step what.now))) }
 {

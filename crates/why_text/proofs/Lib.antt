@@ -1,2 +1,3 @@
+pub mod Chaining
 pub mod Sentences
 pub mod Writing

@@ -4,4 +4,5 @@ pub mod Events
 pub mod Holders
 pub mod Notes
 pub mod Entries
+pub mod Ways
 pub mod Text

@@ -1,18 +1,19 @@
 -- Why an object is as it is.
-use Rattle.std.specs.Prelude.{ℕ, ◌+◌, if◌then◌else◌, List, [], ◌∷◌, ◌++◌, codes, Option, Some, None, take}
+use Rattle.std.specs.Prelude.{ℕ, zero, suc, ◌+◌, if◌then◌else◌, List, [], ◌∷◌, ◌++◌, codes, length, Option, Some, None, take}
 use Rattle.std.specs.List.{flat_map}
 use Rattle.report.specs.Values.{id_text}
 use Rattle.meaning.specs.Values.{Id, Birth}
 use Rattle.meaning.specs.Births.{Bearing, birth_at, same_id}
-use Rattle.event_log.specs.Entries.{Entry, Faulted, Resolved, main_attempt}
+use Rattle.event_log.specs.Entries.{Entry, Faulted, Resolved}
 use Rattle.event_log.specs.Events.{refused_next}
-use Rattle.event_log.specs.Words.{Lack, births, faults_of}
+use Rattle.event_log.specs.Words.{Lack, births}
 use Rattle.why_text.specs.declared.causes.Lack.{Lack as CodeLack}
 use Rattle.history.specs.Main.{first}
 use Rattle.log_words.specs.Faults.{fault_words}
 use Rattle.why_text.specs.Moments.{Moment, first_moment, moment_after}
 use Rattle.why_text.specs.Runs.{Subject, subject_of}
 use Rattle.why_text.specs.Entries.{sentence}
+use Rattle.why_text.specs.Ways.{next_cause}
 
 -- the sentences of the entries from a place of the log on, where `m` is the moment before them, and `lines` are the lines of the events
 abbrev pub sentences : Subject → List Bearing → List ℕ → List Entry → ℕ → Moment → List Entry → List ℕ
@@ -51,13 +52,14 @@ why_text log lines o = account log lines o ++ cause_text log lines o (cause log 
 abbrev pub lack_of : CodeLack → Lack
 lack_of x = record { object = x.object; fault = x.fault }
 
+-- the accounts of the object and of each one on the way to z, so many at most
+unfoldable pub causes_text : List Entry → List ℕ → Id → ℕ → Id → List ℕ
+causes_text log lines z zero o = []
+causes_text log lines z (suc n) o =
+    account log lines o ++ (if same_id o z then [] else codes "\n" ++ causes_text log lines z n (next_cause log z o))
+
+-- why main ended with a fault: the accounts of the object that it was to get, and of each one on the way to the first cause
 unfoldable pub main_lack_text : List Entry → List ℕ → Lack → List ℕ
-main_lack_text log lines x = codes "Main ended with a fault: " ++ (fault_words x.fault ++ (codes ".\n\n" ++ why_text log lines x.object))
-
--- why a get of main was answered with a fault
-abbrev pub lack_text : List Entry → List ℕ → Option Lack → List ℕ
-lack_text log lines None = codes "Main did not end with a fault.\n"
-lack_text log lines (Some x) = main_lack_text log lines x
-
-abbrev pub why_main_text : List Entry → List ℕ → List ℕ
-why_main_text log lines = lack_text log lines (first (faults_of main_attempt log))
+main_lack_text log lines x =
+    codes "Main ended with a fault: "
+    ++ (fault_words x.fault ++ (codes ".\n\n" ++ causes_text log lines x.fault.object (length log) x.object))

@@ -4,7 +4,6 @@ ghost use Rattle.std.specs.Prelude.{◌≡◌, ◌++◌, OnOk, option_copied, st
 ghost use Rattle.std.specs.Option.{option_map};
 ghost use Rattle.task_spec.specs.Births.{birth_of};
 ghost use Rattle.event_log.specs.Words.{births};
-ghost use Rattle.event_log.specs.Views.{log_of};
 ghost use Rattle.log_words.specs.Index.{IsIndexOf};
 ghost use Rattle.why_text.specs.Moments.{first_moment};
 ghost use Rattle.why_text.specs.Runs.{seen_of, subject_of};
@@ -13,8 +12,8 @@ ghost use Rattle.why_text.specs.Text.{account, sentences, unborn_note};
 use crate::entries::write_sentence;
 use crate::moments::Moment;
 use crate::runs::Subject;
-use event_log::Entry;
 use ids::ObjectId;
+use log_entries::Entry;
 use log_words::{BirthIndex, is_refusal_at};
 use std::alloc::{AllocError, Global};
 use task_spec::Birth;
@@ -45,7 +44,7 @@ fn write_sentences(
     requires { IsIndexOf index.now log.now }
     ensures { OnOk result (string_bytes text.new
         ≡ string_bytes text.old
-        ++ sentences (seen_of subject.now) (births (log_of log.now)) lines.now (log_of log.now) 0 first_moment (log_of log.now)) }
+        ++ sentences (seen_of subject.now) (births log.now) lines.now log.now 0 first_moment log.now) }
 {
     let mut moment = Moment::first();
     for (place, entry) in log.iter().enumerate() {
@@ -68,7 +67,7 @@ pub fn write_account(
     lines: &[usize],
     object: ObjectId,
 ) -> Result<(), AllocError>
-    ensures { OnOk result (string_bytes text.new ≡ string_bytes text.old ++ account (log_of log.now) lines.now object) }
+    ensures { OnOk result (string_bytes text.new ≡ string_bytes text.old ++ account log.now lines.now object) }
 {
     let index = BirthIndex::of(alloc, log)?;
     let subject = Subject::of(alloc, log, object)?;

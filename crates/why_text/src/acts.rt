@@ -4,7 +4,6 @@ ghost use Rattle.std.specs.Prelude.{◌≡◌, ◌++◌, OnOk, string_bytes};
 ghost use Rattle.values.specs.Values.{content_of};
 ghost use Rattle.task_spec.specs.Births.{birth_of};
 ghost use Rattle.event_log.specs.Words.{births};
-ghost use Rattle.event_log.specs.Views.{log_of};
 ghost use Rattle.log_words.specs.Index.{IsIndexOf};
 ghost use Rattle.why_text.specs.Moments.{moment_of};
 ghost use Rattle.why_text.specs.Entries.{accepted_head, accepted_text, again_note, began_text, ended_text, faulted_head, faulted_text, get_note};
@@ -12,8 +11,8 @@ ghost use Rattle.why_text.specs.Entries.{given_up_text, got_text, made_text, rel
 
 use crate::moments::{Moment, write_when};
 use crate::notes::{write_fault_note, write_kept_note, write_owner_of, write_release_note};
-use event_log::Entry;
 use ids::{AttemptId, ObjectId, WorkerId};
+use log_entries::Entry;
 use log_text::write_named;
 use log_words::{BirthIndex, write_birth, write_content, write_fault};
 use std::alloc::{AllocError, Global};
@@ -30,7 +29,7 @@ pub fn write_made(
     birth: &Birth,
 ) -> Result<(), AllocError>
     ensures { IsIndexOf index.now log.now → OnOk result (string_bytes text.new ≡ string_bytes text.old
-        ++ made_text (births (log_of log.now)) (moment_of moment.now) object attempt (birth_of birth.now)) }
+        ++ made_text (births log.now) (moment_of moment.now) object attempt (birth_of birth.now)) }
 {
     write_named(text, index, log, attempt)?;
     write!(text, " made {object}")?;
@@ -58,7 +57,7 @@ pub fn write_began(
     worker: WorkerId,
 ) -> Result<(), AllocError>
     ensures { IsIndexOf index.now log.now → OnOk result (string_bytes text.new ≡ string_bytes text.old
-        ++ began_text (births (log_of log.now)) (moment_of moment.now) attempt worker) }
+        ++ began_text (births log.now) (moment_of moment.now) attempt worker) }
 {
     write_named(text, index, log, attempt)?;
     write!(text, " began on {worker}")?;
@@ -77,7 +76,7 @@ pub fn write_got(
     content: &Content,
 ) -> Result<(), AllocError>
     ensures { IsIndexOf index.now log.now → OnOk result (string_bytes text.new ≡ string_bytes text.old
-        ++ got_text (births (log_of log.now)) (moment_of moment.now) attempt object (content_of content.now)) }
+        ++ got_text (births log.now) (moment_of moment.now) attempt object (content_of content.now)) }
 {
     write_named(text, index, log, attempt)?;
     write!(text, " got {object}")?;
@@ -96,7 +95,7 @@ pub fn write_ended(
     content: &Content,
 ) -> Result<(), AllocError>
     ensures { IsIndexOf index.now log.now → OnOk result (string_bytes text.new ≡ string_bytes text.old
-        ++ ended_text (births (log_of log.now)) (moment_of moment.now) attempt (content_of content.now)) }
+        ++ ended_text (births log.now) (moment_of moment.now) attempt (content_of content.now)) }
 {
     write_named(text, index, log, attempt)?;
     text.push_str(" ended")?;
@@ -123,7 +122,7 @@ pub fn write_accepted(
     attempt: AttemptId,
 ) -> Result<(), AllocError>
     ensures { IsIndexOf index.now log.now → OnOk result (string_bytes text.new ≡ string_bytes text.old
-        ++ accepted_text (births (log_of log.now)) (log_of before.now) (moment_of moment.now) attempt) }
+        ++ accepted_text (births log.now) before.now (moment_of moment.now) attempt) }
 {
     write_accepted_head(text, attempt)?;
     write_named(text, index, log, attempt)?;
@@ -148,7 +147,7 @@ fn write_faulted_head(
     attempt: AttemptId,
 ) -> Result<(), AllocError>
     ensures { IsIndexOf index.now log.now → OnOk result (string_bytes text.new ≡ string_bytes text.old
-        ++ faulted_head (births (log_of log.now)) (moment_of moment.now) attempt) }
+        ++ faulted_head (births log.now) (moment_of moment.now) attempt) }
 {
     write_named(text, index, log, attempt)?;
     text.push_str(" ended with a fault")?;
@@ -168,7 +167,7 @@ pub fn write_faulted(
     fault: Fault,
 ) -> Result<(), AllocError>
     ensures { IsIndexOf index.now log.now → OnOk result (string_bytes text.new ≡ string_bytes text.old ++ faulted_text
-        (births (log_of log.now)) (log_of before.now) (moment_of moment.now) attempt object fault) }
+        (births log.now) before.now (moment_of moment.now) attempt object fault) }
 {
     write_faulted_head(text, index, log, moment, attempt)?;
     write_get(text, object)?;
@@ -217,7 +216,7 @@ pub fn write_released(
     object: ObjectId,
 ) -> Result<(), AllocError>
     ensures { OnOk result (string_bytes text.new
-        ≡ string_bytes text.old ++ released_text lines.now (log_of before.now) (moment_of moment.now) object) }
+        ≡ string_bytes text.old ++ released_text lines.now before.now (moment_of moment.now) object) }
 {
     write_released_head(text, moment, object)?;
     write_release_note(alloc, text, before, lines, object)?;

@@ -1,17 +1,17 @@
 // Why an object is as it is, down to the object in which its fault began.
 
-ghost use Rattle.std.specs.Prelude.{◌≡◌, ◌++◌, IfOk, OnOk, string_bytes};
+ghost use Rattle.std.specs.Prelude.{◌≡◌, ◌++◌, IfOk, OnOk, length, string_bytes};
 ghost use Rattle.std.specs.Option.{option_map};
 ghost use Rattle.event_log.specs.Entries.{main_attempt};
 ghost use Rattle.event_log.specs.Words.{faulted_in, faults_of};
-ghost use Rattle.event_log.specs.Views.{entry_of, log_of};
 ghost use Rattle.history.specs.Main.{first};
-ghost use Rattle.why_text.specs.Text.{cause, cause_in, cause_text, lack_of, lack_text, main_lack_text, why_main_text, why_text};
+ghost use Rattle.why_text.specs.Text.{cause, cause_in, cause_text, causes_text, lack_of, main_lack_text, why_text};
 
 use crate::account::write_account;
-use event_log::Entry;
+use crate::ways::next_cause;
 use history::main_end::is_main;
 use ids::ObjectId;
+use log_entries::Entry;
 use log_words::write_fault;
 use std::alloc::{AllocError, Global};
 use values::Fault;
@@ -19,7 +19,7 @@ use values::Fault;
 /// The object in which the fault of another began, where the entry says that the other has one.
 #[tactic(auto, unfolding(crate::specs::Text::cause_in))]
 fn cause_in(object: ObjectId, entry: &Entry) -> Option<ObjectId>
-    ensures { result ≡ first (cause_in object (entry_of entry.now)) }
+    ensures { result ≡ first (cause_in object entry.now) }
 {
     match entry {
         Entry::Resolved {
@@ -50,7 +50,7 @@ fn cause_in(object: ObjectId, entry: &Entry) -> Option<ObjectId>
 
 /// The object in which its fault began, if it has one.
 fn cause(log: &[Entry], object: ObjectId) -> Option<ObjectId>
-    ensures { result ≡ cause (log_of log.now) object }
+    ensures { result ≡ cause log.now object }
 {
     for entry in log {
         if let Some(found) = cause_in(object, entry) {
@@ -69,7 +69,7 @@ fn write_cause(
     cause: Option<ObjectId>,
 ) -> Result<(), AllocError>
     ensures { OnOk result (string_bytes text.new
-        ≡ string_bytes text.old ++ cause_text (log_of log.now) lines.now object cause) }
+        ≡ string_bytes text.old ++ cause_text log.now lines.now object cause) }
 {
     let Some(cause) = cause else {
         return Ok(());
@@ -89,7 +89,7 @@ fn write_why(
     lines: &[usize],
     object: ObjectId,
 ) -> Result<(), AllocError>
-    ensures { OnOk result (string_bytes text.new ≡ string_bytes text.old ++ why_text (log_of log.now) lines.now object) }
+    ensures { OnOk result (string_bytes text.new ≡ string_bytes text.old ++ why_text log.now lines.now object) }
 {
     write_account(alloc, text, log, lines, object)?;
     write_cause(alloc, text, log, lines, object, cause(log, object))
@@ -108,7 +108,7 @@ pub fn why_text(
     lines: &[usize],
     object: ObjectId,
 ) -> Result<String, AllocError>
-    ensures { IfOk result (λ text. string_bytes text ≡ why_text (log_of log.now) lines.now object) }
+    ensures { IfOk result (λ text. string_bytes text ≡ why_text log.now lines.now object) }
 {
     let mut text = String::new(alloc);
     write_why(alloc, &mut text, log, lines, object)?;
@@ -124,7 +124,7 @@ pub struct Lack {
 
 /// The fault that a get of main is answered with at an entry.
 fn lack_in(entry: &Entry) -> Option<Lack>
-    ensures { option_map lack_of result ≡ first (faulted_in main_attempt (entry_of entry.now)) }
+    ensures { option_map lack_of result ≡ first (faulted_in main_attempt entry.now) }
 {
     let Entry::Faulted {
         attempt,
@@ -144,8 +144,8 @@ fn lack_in(entry: &Entry) -> Option<Lack>
 }
 
 /// The fault that a get of main was answered with first.
-fn main_lack(log: &[Entry]) -> Option<Lack>
-    ensures { option_map lack_of result ≡ first (faults_of main_attempt (log_of log.now)) }
+pub fn main_lack(log: &[Entry]) -> Option<Lack>
+    ensures { option_map lack_of result ≡ first (faults_of main_attempt log.now) }
 {
     for entry in log {
         if let Some(lack) = lack_in(entry) {
@@ -155,43 +155,62 @@ fn main_lack(log: &[Entry]) -> Option<Lack>
     None
 }
 
-fn write_main_lack(
+/// Writes the accounts of the object and of each one on the way to the cause, so many at most.
+fn write_causes(
+    alloc: Global,
+    text: &mut String,
+    log: &[Entry],
+    lines: &[usize],
+    cause: ObjectId,
+    most: usize,
+    first: ObjectId,
+) -> Result<(), AllocError>
+    ensures { OnOk result
+        (string_bytes text.new ≡ string_bytes text.old ++ causes_text log.now lines.now cause most first) }
+{
+    let mut object = first;
+    let mut left = most;
+    while left > 0 {
+        write_account(alloc, text, log, lines, object)?;
+        if object.is(cause) {
+            return Ok(());
+        }
+        text.push_str("\n")?;
+        let next = next_cause(alloc, log, cause, object)?;
+        object = next;
+        left -= 1;
+    }
+    Ok(())
+}
+
+/// Writes the accounts of the object and of each one on the way to that in which the fault began.
+fn write_way(
+    alloc: Global,
+    text: &mut String,
+    log: &[Entry],
+    lines: &[usize],
+    fault: Fault,
+    object: ObjectId,
+) -> Result<(), AllocError>
+    ensures { OnOk result (string_bytes text.new
+        ≡ string_bytes text.old ++ causes_text log.now lines.now fault.object (length log.now) object) }
+{
+    write_causes(alloc, text, log, lines, fault.object, log.len(), object)
+}
+
+/// Writes why main ended with the fault: why the object that it was to get is as it is, and each one on the way from there to the first cause.
+pub fn write_main_lack(
     alloc: Global,
     text: &mut String,
     log: &[Entry],
     lines: &[usize],
     lack: Lack,
 ) -> Result<(), AllocError>
-    ensures { OnOk result (string_bytes text.new ≡ string_bytes text.old ++ main_lack_text (log_of log.now) lines.now (lack_of lack)) }
+    ensures { OnOk result (string_bytes text.new ≡ string_bytes text.old ++ main_lack_text log.now lines.now (lack_of lack)) }
 {
     text.push_str("Main ended with a fault: ")?;
     write_fault(text, lack.fault)?;
     text.push_str(".\n\n")?;
-    write_why(alloc, text, log, lines, lack.object)?;
+    write_way(alloc, text, log, lines, lack.fault, lack.object)?;
     Ok(())
-}
-
-fn write_lack(
-    alloc: Global,
-    text: &mut String,
-    log: &[Entry],
-    lines: &[usize],
-    lack: Option<Lack>,
-) -> Result<(), AllocError>
-    ensures { OnOk result
-        (string_bytes text.new ≡ string_bytes text.old ++ lack_text (log_of log.now) lines.now (option_map lack_of lack)) }
-{
-    let Some(lack) = lack else {
-        return text.push_str("Main did not end with a fault.\n");
-    };
-    write_main_lack(alloc, text, log, lines, lack)
-}
-
-/// Why main ended with a fault: why the object that it was to get is as it is, or that it did not end with one. `lines` are as for `why_text`.
-pub fn why_main_text(alloc: Global, log: &[Entry], lines: &[usize]) -> Result<String, AllocError>
-    ensures { IfOk result (λ text. string_bytes text ≡ why_main_text (log_of log.now) lines.now) }
-{
-    let mut text = String::new(alloc);
-    write_lack(alloc, &mut text, log, lines, main_lack(log))?;
-    Ok(text)
 }

@@ -4,7 +4,6 @@ ghost use Rattle.std.specs.Prelude.{◌≡◌, ◌++◌, OnOk, [], if◌then◌e
 ghost use Rattle.values.specs.Values.{content_of};
 ghost use Rattle.task_spec.specs.Births.{birth_of};
 ghost use Rattle.event_log.specs.Words.{births};
-ghost use Rattle.event_log.specs.Views.{entry_of, log_of};
 ghost use Rattle.log_words.specs.Index.{IsIndexOf};
 ghost use Rattle.why_text.specs.Moments.{moment_of};
 ghost use Rattle.why_text.specs.Runs.{seen_of};
@@ -18,9 +17,8 @@ use crate::acts::{
 use crate::events::write_event_sentence;
 use crate::moments::Moment;
 use crate::runs::Subject;
-use event_log::Entry;
 use ids::{AttemptId, ObjectId};
-use log_entries::Event;
+use log_entries::{Entry, Event};
 use log_words::BirthIndex;
 use std::alloc::{AllocError, Global};
 use story_text::is_in_birth;
@@ -39,7 +37,7 @@ fn write_birth_sentence(
     birth: &Birth,
 ) -> Result<(), AllocError>
     ensures { IsIndexOf index.now log.now → OnOk result (string_bytes text.new ≡ string_bytes text.old ++ birth_sentence subject
-        (births (log_of log.now)) (moment_of moment.now) object attempt (birth_of birth.now)) }
+        (births log.now) (moment_of moment.now) object attempt (birth_of birth.now)) }
 {
     if object.is(subject) {
         return write_made(text, index, log, moment, object, attempt, birth);
@@ -61,7 +59,7 @@ fn write_got_sentence(
     content: &Content,
 ) -> Result<(), AllocError>
     ensures { IsIndexOf index.now log.now → OnOk result (string_bytes text.new ≡ string_bytes text.old ++ got_sentence subject
-        (births (log_of log.now)) (moment_of moment.now) attempt object (content_of content.now)) }
+        (births log.now) (moment_of moment.now) attempt object (content_of content.now)) }
 {
     if attempt.object.is(subject) {
         return write_got(text, index, log, moment, attempt, object, content);
@@ -85,8 +83,8 @@ fn write_faulted_sentence(
     fault: Fault,
 ) -> Result<(), AllocError>
     ensures { IsIndexOf index.now log.now → OnOk result
-        (string_bytes text.new ≡ string_bytes text.old ++ faulted_sentence subject (births (log_of log.now))
-        (log_of before.now) (moment_of moment.now) attempt object fault) }
+        (string_bytes text.new ≡ string_bytes text.old ++ faulted_sentence subject (births log.now)
+        before.now (moment_of moment.now) attempt object fault) }
 {
     if attempt.object.is(subject) {
         return write_faulted(
@@ -114,7 +112,7 @@ fn write_entry_sentence(
     entry: &Entry,
 ) -> Result<(), AllocError>
     ensures { IsIndexOf index.now log.now → OnOk result (string_bytes text.new ≡ string_bytes text.old ++ entry_sentence
-        subject (births (log_of log.now)) lines.now (log_of before.now) (moment_of moment.now) (entry_of entry.now)) }
+        subject (births log.now) lines.now before.now (moment_of moment.now) entry.now) }
 {
     match entry {
         Entry::Born {
@@ -122,7 +120,15 @@ fn write_entry_sentence(
             attempt,
             birth,
         } => write_birth_sentence(
-            alloc, text, subject, index, log, moment, *object, *attempt, birth,
+            alloc,
+            text,
+            subject,
+            index,
+            log,
+            moment,
+            *object,
+            *attempt,
+            &birth.inner,
         ),
         Entry::Begun { attempt, worker } => {
             if attempt.object.is(subject) {
@@ -135,11 +141,18 @@ fn write_entry_sentence(
             object,
             content,
         } => write_got_sentence(
-            text, subject, index, log, moment, *attempt, *object, content,
+            text,
+            subject,
+            index,
+            log,
+            moment,
+            *attempt,
+            *object,
+            &content.inner,
         ),
         Entry::Ended { attempt, content } => {
             if attempt.object.is(subject) {
-                return write_ended(text, index, log, moment, *attempt, content);
+                return write_ended(text, index, log, moment, *attempt, &content.inner);
             }
             Ok(())
         }
@@ -204,7 +217,7 @@ pub fn write_sentence(
     is_refused: bool,
 ) -> Result<(), AllocError>
     ensures { IsIndexOf index.now log.now → OnOk result (string_bytes text.new ≡ string_bytes text.old ++ sentence
-        (seen_of subject.now) (births (log_of log.now)) lines.now (log_of before.now) (moment_of moment.now) (entry_of entry.now) is_refused) }
+        (seen_of subject.now) (births log.now) lines.now before.now (moment_of moment.now) entry.now is_refused) }
 {
     if let Entry::In { event, .. } = entry {
         return write_event_unless(text, subject, moment, event, is_refused);

@@ -2,7 +2,6 @@
 
 ghost use Rattle.std.specs.Prelude.{◌≡◌, IfOk};
 ghost use Rattle.std.specs.Option.{option_map};
-ghost use Rattle.event_log.specs.Views.{entry_of, log_of};
 ghost use Rattle.history.specs.Main.{first};
 ghost use Rattle.why_text.specs.Moments.{first_moment, moment_of};
 ghost use Rattle.why_text.specs.Holders.{death_from, death_of, gone_holder, gone_in, has, holder_in, if_gone, is_death, is_found, is_from_above};
@@ -10,9 +9,8 @@ ghost use Rattle.why_text.specs.Holders.{is_gone, is_had_in, is_kept, is_owner_d
 
 use crate::moments::Moment;
 use crate::runs::is_node;
-use event_log::Entry;
 use ids::{AttemptId, ObjectId};
-use log_entries::Event;
+use log_entries::{Entry, Event};
 use log_words::is_refusal_at;
 use std::alloc::{AllocError, Global};
 use story_text::{is_in_birth, is_in_content, node_of, opened};
@@ -21,7 +19,7 @@ use values::{Fault, FaultKind};
 /// Whether the event kills the worker, or its node.
 #[tactic(auto, unfolding(crate::specs::Holders::is_death))]
 fn is_death(worker: u32, node: Option<u32>, entry: &Entry) -> bool
-    ensures { result ≡ is_death worker node (entry_of entry.now) }
+    ensures { result ≡ is_death worker node entry.now }
 {
     match entry {
         Entry::In {
@@ -37,7 +35,7 @@ fn is_death(worker: u32, node: Option<u32>, entry: &Entry) -> bool
 }
 
 fn death_from(log: &[Entry], lines: &[usize], worker: u32, node: Option<u32>) -> Option<Moment>
-    ensures { option_map moment_of result ≡ death_from lines.now first_moment worker node (log_of log.now) }
+    ensures { option_map moment_of result ≡ death_from lines.now first_moment worker node log.now }
 {
     let mut moment = Moment::first();
     for (place, entry) in log.iter().enumerate() {
@@ -57,7 +55,7 @@ pub fn death_of(
     lines: &[usize],
     worker: u32,
 ) -> Result<Option<Moment>, AllocError>
-    ensures { IfOk result (λ death. option_map moment_of death ≡ death_of lines.now (log_of log.now) worker) }
+    ensures { IfOk result (λ death. option_map moment_of death ≡ death_of lines.now log.now worker) }
 {
     let nodes = opened(alloc, log)?;
     let node = node_of(&nodes, worker);
@@ -67,7 +65,7 @@ pub fn death_of(
 /// The object that has the other by the entry, if one does.
 #[tactic(auto, unfolding(crate::specs::Holders::holder_in))]
 fn holder_in(alloc: Global, object: ObjectId, entry: &Entry) -> Result<Option<ObjectId>, AllocError>
-    ensures { IfOk result (λ holder. holder ≡ holder_in object (entry_of entry.now)) }
+    ensures { IfOk result (λ holder. holder ≡ holder_in object entry.now) }
 {
     match entry {
         Entry::Born {
@@ -75,13 +73,13 @@ fn holder_in(alloc: Global, object: ObjectId, entry: &Entry) -> Result<Option<Ob
             birth,
             ..
         } => {
-            if is_in_birth(alloc, object, birth)? {
+            if is_in_birth(alloc, object, &birth.inner)? {
                 return Ok(Some(*born));
             }
             Ok(None)
         }
         Entry::Ended { attempt, content } => {
-            if is_in_content(alloc, object, content)? {
+            if is_in_content(alloc, object, &content.inner)? {
                 return Ok(Some(attempt.object));
             }
             Ok(None)
@@ -92,7 +90,7 @@ fn holder_in(alloc: Global, object: ObjectId, entry: &Entry) -> Result<Option<Ob
 
 #[tactic(auto, unfolding(crate::specs::Holders::is_release_of))]
 fn is_release_of(object: ObjectId, entry: &Entry) -> bool
-    ensures { result ≡ is_release_of object (entry_of entry.now) }
+    ensures { result ≡ is_release_of object entry.now }
 {
     match entry {
         Entry::Released(released) => released.is(object),
@@ -101,7 +99,7 @@ fn is_release_of(object: ObjectId, entry: &Entry) -> bool
 }
 
 fn is_released_in(log: &[Entry], object: ObjectId) -> bool
-    ensures { result ≡ is_released_in object (log_of log.now) }
+    ensures { result ≡ is_released_in object log.now }
 {
     for entry in log {
         if is_release_of(object, entry) {
@@ -128,7 +126,7 @@ fn is_gone(
     lines: &[usize],
     object: ObjectId,
 ) -> Result<bool, AllocError>
-    ensures { IfOk result (λ b. b ≡ is_gone lines.now (log_of log.now) object) }
+    ensures { IfOk result (λ b. b ≡ is_gone lines.now log.now object) }
 {
     if is_released_in(log, object) {
         return Ok(false);
@@ -144,7 +142,7 @@ fn if_gone(
     holder: Option<ObjectId>,
 ) -> Result<Option<ObjectId>, AllocError>
     ensures { IfOk result
-        (λ gone. gone ≡ first (if_gone lines.now (log_of log.now) holder)) }
+        (λ gone. gone ≡ first (if_gone lines.now log.now holder)) }
 {
     let Some(holder) = holder else {
         return Ok(None);
@@ -163,7 +161,7 @@ fn gone_in(
     entry: &Entry,
 ) -> Result<Option<ObjectId>, AllocError>
     ensures { IfOk result
-        (λ gone. gone ≡ first (gone_in lines.now (log_of log.now) object (entry_of entry.now))) }
+        (λ gone. gone ≡ first (gone_in lines.now log.now object entry.now)) }
 {
     let holder = holder_in(alloc, object, entry)?;
     if_gone(alloc, log, lines, holder)
@@ -177,7 +175,7 @@ pub fn gone_holder(
     lines: &[usize],
     object: ObjectId,
 ) -> Result<Option<ObjectId>, AllocError>
-    ensures { IfOk result (λ gone. gone ≡ gone_holder lines.now (log_of log.now) object) }
+    ensures { IfOk result (λ gone. gone ≡ gone_holder lines.now log.now object) }
 {
     for entry in log {
         if let Some(found) = gone_in(alloc, log, lines, object, entry)? {
@@ -202,7 +200,7 @@ fn is_had_in(
     object: ObjectId,
     entry: &Entry,
 ) -> Result<bool, AllocError>
-    ensures { IfOk result (λ b. b ≡ is_had_in holder object (entry_of entry.now)) }
+    ensures { IfOk result (λ b. b ≡ is_had_in holder object entry.now) }
 {
     let found = holder_in(alloc, object, entry)?;
     Ok(is_that(holder, found))
@@ -210,7 +208,7 @@ fn is_had_in(
 
 /// Whether the first object had the second.
 fn has(alloc: Global, log: &[Entry], holder: ObjectId, object: ObjectId) -> Result<bool, AllocError>
-    ensures { IfOk result (λ b. b ≡ has (log_of log.now) holder object) }
+    ensures { IfOk result (λ b. b ≡ has log.now holder object) }
 {
     for entry in log {
         if is_had_in(alloc, holder, object, entry)? {
@@ -237,7 +235,7 @@ pub fn is_from_above(
     object: ObjectId,
     fault: Fault,
 ) -> Result<bool, AllocError>
-    ensures { IfOk result (λ b. b ≡ is_from_above (log_of log.now) object fault) }
+    ensures { IfOk result (λ b. b ≡ is_from_above log.now object fault) }
 {
     if !is_owner_died(fault.kind) {
         return Ok(false);
@@ -251,7 +249,7 @@ pub fn is_from_above(
 /// Whether the attempt ended so with a small content.
 #[tactic(auto, unfolding(crate::specs::Holders::is_small_end))]
 fn is_small_end(attempt: AttemptId, entry: &Entry) -> bool
-    ensures { result ≡ is_small_end attempt (entry_of entry.now) }
+    ensures { result ≡ is_small_end attempt entry.now }
 {
     let Entry::Ended {
         attempt: ended,
@@ -268,7 +266,7 @@ fn is_small_end(attempt: AttemptId, entry: &Entry) -> bool
 
 /// Whether the attempt ended with a small content, which its owner keeps once it accepts it.
 pub fn is_kept(log: &[Entry], attempt: AttemptId) -> bool
-    ensures { result ≡ is_kept (log_of log.now) attempt }
+    ensures { result ≡ is_kept log.now attempt }
 {
     for entry in log {
         if is_small_end(attempt, entry) {

@@ -10,5 +10,8 @@ mod holders;
 mod moments;
 mod notes;
 mod runs;
+mod ways;
 
-pub use causes::{why_main_text, why_text};
+pub use causes::{Lack, main_lack, why_text, write_main_lack};
+pub use holders::death_of;
+pub use moments::{Moment, write_when};

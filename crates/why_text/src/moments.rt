@@ -1,11 +1,9 @@
 // The event at which something happened.
 
 ghost use Rattle.std.specs.Prelude.{◌≡◌, ◌+◌, ◌++◌, ◌<◌, ◌≤◌, ◌^◌, OnOk, string_bytes};
-ghost use Rattle.event_log.specs.Views.{entry_of};
 ghost use Rattle.why_text.specs.Moments.{event_note, first_moment, line_note, moment_after, moment_of, when_event, when_text};
 
-use event_log::Entry;
-use log_entries::Event;
+use log_entries::{Entry, Event};
 use std::alloc::AllocError;
 
 /// How many events came, the last of them, and the line of the event file from which it came, if there is one.
@@ -31,7 +29,7 @@ impl Moment {
     /// The moment with this entry, where `lines` are those of the events, in their order.
     pub fn after(self, lines: &[usize], entry: &Entry) -> Moment
         requires { self.number + 1 < 2 ^ 64 }
-        ensures moment { moment_of result ≡ moment_after lines.now (moment_of self) (entry_of entry.now) }
+        ensures moment { moment_of result ≡ moment_after lines.now (moment_of self) entry.now }
         ensures counted { result.number ≤ self.number + 1 }
     {
         match entry {

@@ -2,14 +2,13 @@
 
 ghost use Rattle.std.specs.Prelude.{◌≡◌, ◌++◌, OnOk, string_bytes};
 ghost use Rattle.std.specs.Option.{option_map};
-ghost use Rattle.event_log.specs.Views.{log_of};
 ghost use Rattle.why_text.specs.Moments.{moment_of};
 ghost use Rattle.why_text.specs.Notes.{above_note, death_head, death_note, death_text, fault_note, holder_note, kept_note, release_note, owner_text};
 
 use crate::holders::{death_of, gone_holder, is_from_above, is_kept};
 use crate::moments::{Moment, write_when};
-use event_log::Entry;
 use ids::{AttemptId, ObjectId, WorkerId};
+use log_entries::Entry;
 use std::alloc::{AllocError, Global};
 use values::Fault;
 
@@ -43,7 +42,7 @@ fn write_death_note(
     lines: &[usize],
     holder: ObjectId,
 ) -> Result<(), AllocError>
-    ensures { OnOk result (string_bytes text.new ≡ string_bytes text.old ++ death_note lines.now (log_of log.now) holder) }
+    ensures { OnOk result (string_bytes text.new ≡ string_bytes text.old ++ death_note lines.now log.now holder) }
 {
     let death = death_of(alloc, log, lines, holder.owner.0)?;
     write_death(text, holder, death)
@@ -57,7 +56,7 @@ fn write_holder_note(
     holder: Option<ObjectId>,
 ) -> Result<(), AllocError>
     ensures { OnOk result
-        (string_bytes text.new ≡ string_bytes text.old ++ holder_note lines.now (log_of log.now) holder) }
+        (string_bytes text.new ≡ string_bytes text.old ++ holder_note lines.now log.now holder) }
 {
     let Some(holder) = holder else {
         return Ok(());
@@ -74,7 +73,7 @@ pub fn write_release_note(
     lines: &[usize],
     object: ObjectId,
 ) -> Result<(), AllocError>
-    ensures { OnOk result (string_bytes text.new ≡ string_bytes text.old ++ release_note lines.now (log_of log.now) object) }
+    ensures { OnOk result (string_bytes text.new ≡ string_bytes text.old ++ release_note lines.now log.now object) }
 {
     let holder = gone_holder(alloc, log, lines, object)?;
     write_holder_note(alloc, text, log, lines, holder)
@@ -112,7 +111,7 @@ pub fn write_fault_note(
     object: ObjectId,
     fault: Fault,
 ) -> Result<(), AllocError>
-    ensures { OnOk result (string_bytes text.new ≡ string_bytes text.old ++ fault_note (log_of log.now) object fault) }
+    ensures { OnOk result (string_bytes text.new ≡ string_bytes text.old ++ fault_note log.now object fault) }
 {
     if is_from_above(alloc, log, object, fault)? {
         return write_above_note(text, object, fault.object);
@@ -127,7 +126,7 @@ pub fn write_kept_note(
     log: &[Entry],
     attempt: AttemptId,
 ) -> Result<(), AllocError>
-    ensures { OnOk result (string_bytes text.new ≡ string_bytes text.old ++ kept_note (log_of log.now) attempt) }
+    ensures { OnOk result (string_bytes text.new ≡ string_bytes text.old ++ kept_note log.now attempt) }
 {
     if is_kept(log, attempt) {
         return text.push_str(", and keeps the result itself: no node can lose it");

@@ -3,12 +3,10 @@
 ghost use Rattle.std.specs.Prelude.{◌≡◌, ◌++◌, IfOk, OnOk, map};
 ghost use Rattle.std.specs.List.{list_any};
 ghost use Rattle.event_log.specs.Words.{opened};
-ghost use Rattle.event_log.specs.Views.{entry_of, log_of};
 ghost use Rattle.why_text.specs.Runs.{is_end_of, is_kill, is_killed_in, is_node, run_in, run_of, run_seen, runs_of, seen_of, subject_of};
 
-use event_log::Entry;
 use ids::{AttemptId, ObjectId};
-use log_entries::Event;
+use log_entries::{Entry, Event};
 use log_words::is_refusal_at;
 use std::alloc::{AllocError, Global};
 use story_text::{node_of, opened};
@@ -34,7 +32,7 @@ pub struct Subject {
 
 #[tactic(auto, unfolding(crate::specs::Runs::is_end_of))]
 fn is_end_of(attempt: AttemptId, entry: &Entry) -> bool
-    ensures { result ≡ is_end_of attempt (entry_of entry.now) }
+    ensures { result ≡ is_end_of attempt entry.now }
 {
     match entry {
         Entry::Ended { attempt: ended, .. } | Entry::Faulted { attempt: ended, .. } => {
@@ -45,7 +43,7 @@ fn is_end_of(attempt: AttemptId, entry: &Entry) -> bool
 }
 
 fn has_ended(log: &[Entry], attempt: AttemptId) -> bool
-    ensures { result ≡ list_any (is_end_of attempt) (log_of log.now) }
+    ensures { result ≡ list_any (is_end_of attempt) log.now }
 {
     for entry in log {
         if is_end_of(attempt, entry) {
@@ -57,7 +55,7 @@ fn has_ended(log: &[Entry], attempt: AttemptId) -> bool
 
 #[tactic(auto, unfolding(crate::specs::Runs::is_kill))]
 fn is_kill(worker: u32, entry: &Entry) -> bool
-    ensures { result ≡ is_kill worker (entry_of entry.now) }
+    ensures { result ≡ is_kill worker entry.now }
 {
     match entry {
         Entry::In {
@@ -70,7 +68,7 @@ fn is_kill(worker: u32, entry: &Entry) -> bool
 
 /// Whether an event that kills the worker was taken.
 fn is_killed_in(log: &[Entry], worker: u32) -> bool
-    ensures { result ≡ is_killed_in worker (log_of log.now) }
+    ensures { result ≡ is_killed_in worker log.now }
 {
     for (place, entry) in log.iter().enumerate() {
         if is_kill(worker, entry) && !is_refusal_at(log, place + 1) {
@@ -81,7 +79,7 @@ fn is_killed_in(log: &[Entry], worker: u32) -> bool
 }
 
 fn run_of(log: &[Entry], nodes: &[u32], attempt: AttemptId, worker: u32) -> Run
-    ensures { nodes.now ≡ opened (log_of log.now) → run_seen result ≡ run_of (log_of log.now) attempt worker }
+    ensures { nodes.now ≡ opened log.now → run_seen result ≡ run_of log.now attempt worker }
 {
     Run {
         attempt,
@@ -99,8 +97,8 @@ fn add_run(
     object: ObjectId,
     entry: &Entry,
 ) -> Result<(), AllocError>
-    ensures { nodes.now ≡ opened (log_of log.now) → OnOk result
-        (map run_seen runs.new.items ≡ map run_seen runs.old.items ++ run_in (log_of log.now) object (entry_of entry.now)) }
+    ensures { nodes.now ≡ opened log.now → OnOk result
+        (map run_seen runs.new.items ≡ map run_seen runs.old.items ++ run_in log.now object entry.now) }
 {
     let Entry::Begun { attempt, worker } = entry else {
         return Ok(());
@@ -118,7 +116,7 @@ fn runs_of(
     nodes: &[u32],
     object: ObjectId,
 ) -> Result<Vec<Run>, AllocError>
-    ensures { nodes.now ≡ opened (log_of log.now) → IfOk result (λ runs. map run_seen runs.items ≡ runs_of (log_of log.now) object) }
+    ensures { nodes.now ≡ opened log.now → IfOk result (λ runs. map run_seen runs.items ≡ runs_of log.now object) }
 {
     let mut runs = Vec::new(alloc);
     for entry in log {
@@ -130,7 +128,7 @@ fn runs_of(
 impl Subject {
     /// The object with what the log says of its attempts.
     pub fn of(alloc: Global, log: &[Entry], object: ObjectId) -> Result<Subject, AllocError>
-        ensures { IfOk result (λ subject. seen_of subject ≡ subject_of (log_of log.now) object) }
+        ensures { IfOk result (λ subject. seen_of subject ≡ subject_of log.now object) }
     {
         let nodes = opened(alloc, log)?;
         let home = node_of(&nodes, object.owner.0);

@@ -3,7 +3,9 @@
 use crate::case::{Case, Outcome};
 use crate::threaded::{ran_on_threads, threads_asked};
 use ids::ObjectId;
-use raysim_commands::{Cluster, CommandRefusal, Form, Tracked, check, migrate, run, serial, sim};
+use raysim_commands::{
+    Cluster, CommandRefusal, FaultChoice, Form, Tracked, check, faults, migrate, run, serial, sim,
+};
 use script_syntax::{parse, print_program};
 use std::alloc::{AllocError, Global};
 use std::rt::Clock;
@@ -35,6 +37,73 @@ fn migrated(
     let mut events = Tracked::reader(case.events.as_bytes());
     let mut writer = Tracked::writer(written);
     Some(migrate(alloc, &mut reader, &mut events, cluster, &mut writer))
+}
+
+/// The faults that are tried where a case names none.
+const USUAL: &str = "kill,notice,kill-node,lose";
+
+/// The choice with the faults of that name too, if there are such.
+fn with_kind(choice: FaultChoice, name: &str) -> Option<FaultChoice> {
+    let mut more = choice;
+    match name {
+        "kill" => more.kill = true,
+        "notice" => more.told_kill = true,
+        "kill-node" => more.kill_node = true,
+        "lose" => more.lose = true,
+        "evict" => more.evict = true,
+        _ => return None,
+    }
+    Some(more)
+}
+
+/// The faults with these names, with commas between them.
+fn choice_of(names: &str) -> Option<FaultChoice> {
+    let mut choice = FaultChoice {
+        kill: false,
+        told_kill: false,
+        kill_node: false,
+        lose: false,
+        evict: false,
+    };
+    for name in names.split(',') {
+        choice = with_kind(choice, name)?;
+    }
+    Some(choice)
+}
+
+/// Which faults a command tries, if it tries any.
+fn faults_asked(command: &str) -> Option<FaultChoice> {
+    if command == "faults" {
+        return choice_of(USUAL);
+    }
+    choice_of(command.strip_prefix("faults ")?)
+}
+
+/// Tries a fault at every place of the run by the case's events.
+fn tried(
+    alloc: Global,
+    case: &Case,
+    choice: FaultChoice,
+    written: &mut Vec<u8>,
+) -> Option<Result<u8, CommandRefusal>> {
+    let cluster = Cluster::new(case.nodes, case.slots)?;
+    let mut reader = Tracked::reader(case.script.as_bytes());
+    let mut events = Tracked::reader(case.events.as_bytes());
+    let mut writer = Tracked::writer(written);
+    let most = usize::MAX;
+    let done = faults(
+        alloc,
+        &mut reader,
+        &mut events,
+        cluster,
+        choice,
+        most,
+        &mut writer,
+    );
+    match done {
+        Ok(faults) => Some(Ok(faults.status)),
+        Err(refusal) => Some(Err(refusal)),
+    }
 }
 
 /// Runs the case's script on its cluster.
@@ -115,6 +184,9 @@ fn done<R: Threads + Wait + Clock + AllocGlobal + Sync>(
     }
     if command == "migrate" {
         return migrated(alloc, case, written);
+    }
+    if let Some(choice) = faults_asked(command) {
+        return tried(alloc, case, choice, written);
     }
     if let Some(asked) = threads_asked(command) {
         return ran_on_threads(rt, case, asked, written);

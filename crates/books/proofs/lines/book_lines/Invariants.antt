@@ -1,8 +1,7 @@
 use Rattle.std.proofs.Common.{◌≡◌}
 use Rattle.std.specs.Prelude.{string_bytes}
-use Rattle.event_log.specs.Views.{log_of}
 use Rattle.books.specs.Lines.{lines_below}
 use Rattle.books.proofs.lines.book_lines.Given as goal
 
 abbrev pub invariant-loop-seat : goal.invariant-loop-seat
-invariant-loop-seat l = string_bytes l.text ≡ lines_below l.seat (log_of l.log)
+invariant-loop-seat l = string_bytes l.text ≡ lines_below l.seat l.log

@@ -89,7 +89,7 @@ emit_statement-returns-in_ok-condition-in-If-clause-code t c =
     c.deref-in-If-3.result.now
     (codes c.args.code.now.items) (codes c.emit_operand-in-If.new.code.items) (codes c.emit_choice.new.code.items) free
     (given_of c.in_ok-condition-in-If.condition)
-    c.in-If.is c.deref-in-If-2.ensures.value c.deref-in-If-3.ensures.value (c.in_ok-free.ensures ∙ c.len.ensures ∙ c.args.names.now.ok.0 ∙ count_names names)
+    c.in-If.is c.deref-in-If-2.ensures.value c.deref-in-If-3.ensures.value (c.in_ok-free.ensures.value ∙ c.len.ensures ∙ c.args.names.now.ok.0 ∙ count_names names)
     given before p)
     c.emit_choice.ensures.code
 
@@ -112,5 +112,5 @@ emit_statement-returns-in_ok-emit_expr-in-For-2-clause-code t c =
     (codes c.args.code.now.items) (codes c.emit_expr-in-For.new.code.items) (codes c.emit_expr-in-For-2.new.code.items) (codes c.emit_loop.new.code.items)
     free second
     c.as_str-in-For.result.now c.in-For.is c.deref-in-For-3.ensures.value c.as_str-in-For.ensures.value
-    (c.in_ok-free.ensures ∙ c.len.ensures ∙ c.args.names.now.ok.0 ∙ count_names names) c.in_ok-second-in-For.ensures one two p)
+    (c.in_ok-free.ensures.value ∙ c.len.ensures ∙ c.args.names.now.ok.0 ∙ count_names names) c.in_ok-second-in-For.ensures.value one two p)
     c.emit_loop.ensures.code

@@ -1,7 +1,6 @@
 use Rattle.std.proofs.Common.{◌≡◌, drop}
-use Rattle.event_log.specs.Views.{log_of}
 use Rattle.history.specs.Main.{main_fault}
 use Rattle.history.proofs.main_end.main_fault.Given as goal
 
 abbrev pub invariant-loop-entry : goal.invariant-loop-entry
-invariant-loop-entry l = main_fault (log_of l.log) ≡ main_fault (log_of (drop l.entry-index l.log))
+invariant-loop-entry l = main_fault l.log ≡ main_fault (drop l.entry-index l.log)

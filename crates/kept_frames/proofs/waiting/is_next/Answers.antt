@@ -1,9 +1,17 @@
-use Rattle.std.proofs.Common.{◌≡◌, ◌∷◌, ◌++◌, [], rules}
+use Rattle.std.proofs.Common.{◌≡◌, ◌∷◌, ◌++◌, [], map, sym, ap, ◌∙◌}
+use Rattle.values.specs.Values.{content_of}
 use Rattle.kept_frames.specs.Views.{data_of}
+use Rattle.kept_frames.proofs.Adding.{map_last}
 use Rattle.kept_frames.proofs.Fitting.{next_so}
 use Rattle.kept_frames.proofs.waiting.is_next.Goals as goal
 
 pub returns-then-is_own : goal.returns-then-is_own
 returns-then-is_own g c is_own =
-    let ends : c.args.job.now.answers ≡ c.in-Some.earlier.now ++ c.in-Some.field-0-0.now ∷ [] = search (rules, c.in-Some.ensures.cases, c.in-Some.ensures.variant, c.in-Some.is, c.answers.ensures) in
-    next_so (data_of c.args.known.now) c.args.job.now c.in-Some.earlier.now c.in-Some.field-0-0.now ends (c.is_shaped.ensures c.if-not-is_shaped.false) (c.requires is_own)
+    let j = c.args.job.now in
+    let earlier = c.in-Some.earlier.now in
+    let answer = c.in-Some.field-0-0.now in
+    let items : map content_of c.deref-2.result.now ≡ j.answers =
+    ap (map content_of) (c.deref-2.ensures.value ∙ ap (λ v. v.items) c.deref.ensures) ∙ c.behind-job.view_is ∙ c.answers.ensures in
+    let ends : j.answers ≡ map content_of earlier ++ content_of answer ∷ [] =
+    sym items ∙ ap (map content_of) c.in-Some.ensures.cases.0 ∙ map_last content_of earlier answer in
+    next_so (data_of c.args.known.now) j (map content_of earlier) (content_of answer) ends (c.is_shaped.ensures c.if-not-is_shaped.false) (c.requires is_own)

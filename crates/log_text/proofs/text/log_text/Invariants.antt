@@ -1,12 +1,11 @@
 use Rattle.std.proofs.Common.{◌≡◌, ◌≤◌, ◌++◌, string_bytes, drop}
 use Rattle.event_log.specs.Words.{births}
-use Rattle.event_log.specs.Views.{log_of}
 use Rattle.log_words.specs.Told.{told_of}
 use Rattle.log_text.specs.Text.{lines, log_text}
 use Rattle.log_text.proofs.text.log_text.Given as goal
 
 abbrev pub invariant-loop-place : goal.invariant-loop-place
 invariant-loop-place l = record {
-  written : string_bytes l.text ++ lines (births (log_of l.log)) (told_of l.told) (log_of (drop l.place l.log)) ≡ log_text (log_of l.log);
+  written : string_bytes l.text ++ lines (births l.log) (told_of l.told) (drop l.place l.log) ≡ log_text l.log;
   counted : l.told.events ≤ l.place;
 }

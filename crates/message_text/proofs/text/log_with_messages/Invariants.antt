@@ -1,6 +1,5 @@
 use Rattle.std.proofs.Common.{◌≡◌, ◌≤◌, ◌++◌, string_bytes, drop}
 use Rattle.event_log.specs.Words.{births}
-use Rattle.event_log.specs.Views.{log_of}
 use Rattle.log_words.specs.Told.{told_of}
 use Rattle.message_text.specs.Text.{lines_with, log_with_messages}
 use Rattle.message_text.proofs.text.log_with_messages.Given as goal
@@ -8,7 +7,7 @@ use Rattle.message_text.proofs.text.log_with_messages.Given as goal
 abbrev pub invariant-loop-place : goal.invariant-loop-place
 invariant-loop-place l = record {
   written :
-      string_bytes l.text ++ lines_with (births (log_of l.log)) l.letters l.sent (told_of l.told) (log_of (drop l.place l.log))
-      ≡ log_with_messages (log_of l.log) l.letters l.sent;
+      string_bytes l.text ++ lines_with (births l.log) l.letters l.sent (told_of l.told) (drop l.place l.log)
+      ≡ log_with_messages l.log l.letters l.sent;
   counted : l.told.events ≤ l.place;
 }

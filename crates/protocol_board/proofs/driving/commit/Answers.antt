@@ -1,25 +1,22 @@
 use Rattle.std.proofs.Common.{subst, sym}
-use Rattle.event_log.specs.Views.{log_of}
-use Rattle.exchange.specs.Jobs.{job_in}
 use Rattle.protocol_laws.specs.Given.{IsOfLog}
 use Rattle.protocol_core.specs.Steps.{reply_of}
-use Rattle.protocol_core.specs.Views.{state_of}
 use Rattle.protocol_board.specs.Views.{course_of}
 use Rattle.protocol_board.proofs.Own.{all_agree, frames_behind, kept_with}
 use Rattle.protocol_board.proofs.Turning.{committed_so, broken_so}
 use Rattle.protocol_board.proofs.driving.commit.Goals as goal
 
 pub run_own-requires-clause-own : goal.run_own-requires-clause-own
-run_own-requires-clause-own g c = all_agree (log_of c.args.board.now.log) c.args.frames.now c.args.job c.requires.frames c.requires.own
+run_own-requires-clause-own g c = all_agree c.args.board.now.log c.args.frames.now c.args.job c.requires.frames c.requires.own
 
 pub go-requires : goal.go-requires
-go-requires g c = subst (λ j. IsOfLog (log_of c.args.board.now.log) (job_in j)) (sym c.in-Ok.ensures.own) c.requires.own
+go-requires g c = subst (IsOfLog c.args.board.now.log) (sym c.in-Ok.ensures.own) c.requires.own
 
 pub returns-in-Ok-taken-clause-frames : goal.returns-in-Ok-taken-clause-frames
 returns-in-Ok-taken-clause-frames g c =
-    let log = log_of c.args.board.now.log in
+    let log = c.args.board.now.log in
     let kept = kept_with log c.args.job c.args.frames.now c.run_own.new.self c.requires.frames c.requires.own c.run_own.ensures.kept in
-    frames_behind (state_of c.args.board.now) (state_of c.go.new.board) c.run_own.new.self c.in-Ok-go.ensures.goes.answers kept
+    frames_behind c.args.board.now c.go.new.board c.run_own.new.self c.in-Ok-go.ensures.goes.answers kept
 
 pub returns-in-Ok-taken-clause-committed : goal.returns-in-Ok-taken-clause-committed
 returns-in-Ok-taken-clause-committed g c =

@@ -1,5 +1,4 @@
 use Rattle.std.proofs.Common.{rules, subst, sym}
-use Rattle.event_log.specs.Views.{log_of}
 use Rattle.protocol_board.specs.Views.{course_of}
 use Rattle.protocol_board.specs.Drives.{Turns}
 use Rattle.protocol_board.specs.Own.{FramesAreOwn}
@@ -9,7 +8,7 @@ use Rattle.protocol_board.proofs.driving.drive.Goals as goal
 
 pub loop-turn-init : goal.loop-turn-init
 loop-turn-init g c =
-    let log = log_of c.args.board.now.log in
+    let log = c.args.board.now.log in
     record {
       turns = no_turn g.S.ScriptName.script (course_of c.args.board.now c.args.sent.now);
       frames = subst (FramesAreOwn log) (sym c.new-frames.ensures) (none_kept log);

@@ -1,4 +1,3 @@
-use Rattle.event_log.specs.Views.{log_of}
 use Rattle.protocol_board.specs.Views.{course_of}
 use Rattle.protocol_board.specs.Drives.{Turns}
 use Rattle.protocol_board.specs.Own.{FramesAreOwn}
@@ -7,5 +6,5 @@ use Rattle.protocol_board.proofs.driving.drive.Given as goal
 abbrev pub invariant-loop-turn : goal.invariant-loop-turn
 invariant-loop-turn g l = record {
   turns : Turns g.S.ScriptName.script l.turn (course_of l.fn.board l.fn.sent) (course_of l.board l.sent);
-  frames : FramesAreOwn (log_of l.board.log) l.frames;
+  frames : FramesAreOwn l.board.log l.frames;
 }

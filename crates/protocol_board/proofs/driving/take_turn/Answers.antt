@@ -1,6 +1,5 @@
 use Rattle.std.proofs.Common.{None, inr, subst}
 use Rattle.protocol_core.specs.Steps.{reply_of}
-use Rattle.protocol_core.specs.Views.{state_of}
 use Rattle.protocol_board.specs.Drives.{Goes}
 use Rattle.protocol_board.specs.Views.{course_of}
 use Rattle.protocol_board.proofs.Own.{frames_behind}
@@ -8,11 +7,11 @@ use Rattle.protocol_board.proofs.driving.take_turn.Goals as goal
 
 pub commit-requires-clause-frames : goal.commit-requires-clause-frames
 commit-requires-clause-frames g c =
-    frames_behind (state_of c.args.board.now) (state_of c.go.new.board) c.args.frames.now c.in-Ok-Job.ensures.goes.answers c.requires.frames
+    frames_behind c.args.board.now c.go.new.board c.args.frames.now c.in-Ok-Job.ensures.goes.answers c.requires.frames
 
 pub returns-in-Ok-Ok-clause-frames : goal.returns-in-Ok-Ok-clause-frames
 returns-in-Ok-Ok-clause-frames g c =
-    frames_behind (state_of c.args.board.now) (state_of c.go.new.board) c.args.frames.now c.in-Ok-Ok.ensures.goes.answers c.requires.frames
+    frames_behind c.args.board.now c.go.new.board c.args.frames.now c.in-Ok-Ok.ensures.goes.answers c.requires.frames
 
 pub returns-in-Ok-clause-taken : goal.returns-in-Ok-clause-taken
 returns-in-Ok-clause-taken g c =

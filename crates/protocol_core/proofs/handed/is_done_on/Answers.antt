@@ -1,5 +1,5 @@
 use Rattle.std.proofs.Common.{◌∙◌, ap, sym, subst}
-use Rattle.exchange.specs.Runs.{HasItsAnswers}
+use Rattle.protocol_core.specs.SameJobs.{HasItsAnswers}
 use Rattle.protocol.specs.Jobs.{Given}
 use Rattle.protocol.specs.Numbered.{item_at}
 use Rattle.protocol_core.proofs.handed.is_done_on.Goals as goal

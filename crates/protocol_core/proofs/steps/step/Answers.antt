@@ -1,5 +1,5 @@
 use Rattle.protocol_core.specs.Steps.{reply_of}
-use Rattle.protocol_core.specs.Views.{data_of, state_of}
+use Rattle.protocol_core.specs.Views.{state_of}
 use Rattle.protocol_core.proofs.Cursors.{past_behind}
 use Rattle.protocol_core.proofs.Meant.{meant}
 use Rattle.protocol_core.proofs.Paid.{limited, paid}
@@ -8,30 +8,30 @@ use Rattle.protocol_core.proofs.steps.step.Goals as goal
 
 pub returns-then-state-clause-meant : goal.returns-then-state-clause-meant
 returns-then-state-clause-meant g c =
-    meant g.S.ScriptName.script (state_of (data_of c.args.state.now)) c.legal_logs_read_as_serial.ensures c.main_begins_the_serial_run.ensures
+    meant g.S.ScriptName.script (state_of c.args.state.now) c.legal_logs_read_as_serial.ensures c.main_begins_the_serial_run.ensures
     c.requires.kept.legal c.requires.kept.reached
 
 pub cursor_behind-requires : goal.cursor_behind-requires
 cursor_behind-requires g c =
-    past_behind (state_of (data_of c.args.state.now)) (state_of (data_of c.taken-told.new.state)) c.args.event c.args.seat c.args.done
+    past_behind (state_of c.args.state.now) (state_of c.taken-told.new.state) c.args.event c.args.seat c.args.done
     (reply_of c.taken-told.result) c.args.cursor.now c.taken-told.ensures.follows c.requires.past
 
 pub returns-clause-meant : goal.returns-clause-meant
 returns-clause-meant g c =
-    meant g.S.ScriptName.script (state_of (data_of c.taken-told.new.state)) c.legal_logs_read_as_serial.ensures c.main_begins_the_serial_run.ensures
+    meant g.S.ScriptName.script (state_of c.taken-told.new.state) c.legal_logs_read_as_serial.ensures c.main_begins_the_serial_run.ensures
     c.taken-told.ensures.kept.legal c.taken-told.ensures.kept.reached
 
 pub returns-clause-shown : goal.returns-clause-shown
 returns-clause-shown g c =
-    as_shown g.S.ScriptName.script (state_of (data_of c.args.state.now)) (state_of (data_of c.taken-told.new.state)) c.args.event c.args.seat c.args.done
+    as_shown g.S.ScriptName.script (state_of c.args.state.now) (state_of c.taken-told.new.state) c.args.event c.args.seat c.args.done
     (reply_of c.taken-told.result) c.refusals_are_as_shown.ensures c.requires.kept (λ goes. c.taken-told.ensures.follows)
 
 pub returns-clause-paid : goal.returns-clause-paid
 returns-clause-paid g c =
-    paid g.S.ScriptName.script (state_of (data_of c.args.state.now)) (state_of (data_of c.taken-told.new.state)) c.args.event c.args.seat c.args.done
+    paid g.S.ScriptName.script (state_of c.args.state.now) (state_of c.taken-told.new.state) c.args.event c.args.seat c.args.done
     (reply_of c.taken-told.result) c.requires.kept c.taken-told.ensures.is_true (λ goes. c.taken-told.ensures.follows)
 
 pub returns-clause-limited : goal.returns-clause-limited
 returns-clause-limited g c =
-    limited g.S.ScriptName.script (state_of (data_of c.args.state.now)) (state_of (data_of c.taken-told.new.state)) c.args.event c.args.seat c.args.done
+    limited g.S.ScriptName.script (state_of c.args.state.now) (state_of c.taken-told.new.state) c.args.event c.args.seat c.args.done
     (reply_of c.taken-told.result) c.requires.kept (λ goes. c.taken-told.ensures.follows)

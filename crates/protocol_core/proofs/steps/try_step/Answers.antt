@@ -1,129 +1,93 @@
-use Rattle.std.proofs.Common.{◌≡◌, Some, sym, ap, ◌∙◌, refl, subst, IfSome, IfNone, map}
-use Rattle.event_log.specs.Views.{entry_of}
-use Rattle.segment.specs.Parts as parts
+use Rattle.std.proofs.Common.{◌≡◌, Some, sym, ap, ◌∙◌, refl, subst}
 use Rattle.protocol.specs.Answers.{answer}
 use Rattle.answers.specs.declared.reply.Verdict.TheVariants.{Taken}
 use Rattle.protocol_core.specs.Own.{GivesOwn}
 use Rattle.protocol_core.specs.Steps.{Accepts, GivesJob}
 use Rattle.protocol_core.specs.Steps as told
-use Rattle.protocol_core.specs.Views.{data_of, state_of}
-use Rattle.exchange.specs.Refusals.{HasUnknown}
+use Rattle.protocol_core.specs.Views.{state_of}
 use Rattle.protocol_core.proofs.Jobs.{have_answers, in_pace}
-use Rattle.protocol_core.proofs.Kept.{came, applies, kept_behind, begun_behind, known_code, known_entries, own_behind, tells_refused, tells_job}
+use Rattle.protocol_core.proofs.Kept.{came, applies, kept_behind, begun_behind, own_behind, tells_refused, tells_job}
 use Rattle.protocol_core.proofs.steps.try_step.Goals as goal
 
 pub handed_with-requires-clause-pace : goal.handed_with-requires-clause-pace
 handed_with-requires-clause-pace g c =
-    in_pace g.S.ScriptName.script (state_of (data_of c.args.state.now)) c.requires.kept c.requires.goes_on c.runs_are_good.ensures
+    in_pace g.S.ScriptName.script (state_of c.args.state.now) c.requires.kept c.requires.goes_on c.runs_are_good.ensures
 
 pub handed_with-requires-clause-own : goal.handed_with-requires-clause-own
 handed_with-requires-clause-own g c is_own =
-    have_answers g.S.ScriptName.script (state_of (data_of c.args.state.now)) c.requires.kept c.requires.goes_on c.runs_have_the_logs_answers.ensures c.args.done (c.requires.own is_own)
+    have_answers g.S.ScriptName.script (state_of c.args.state.now) c.requires.kept c.requires.goes_on c.runs_have_the_logs_answers.ensures c.args.done (c.requires.own is_own)
 
-pub returns-in-Refused-clause-applied : goal.returns-in-Refused-clause-applied
-returns-in-Refused-clause-applied g c =
+pub returns-in_ok-add-in-Refused-clause-kept : goal.returns-in_ok-add-in-Refused-clause-kept
+returns-in_ok-add-in-Refused-clause-kept g c =
     let script = g.S.ScriptName.script in
-    let before = state_of (data_of c.args.state.now) in
-    let after = state_of (data_of c.add.new.self) in
+    let before = state_of c.args.state.now in
+    let after = state_of c.add.new.self in
     let e = c.args.event in
-    let known = subst (λ o. IfSome o (λ es. map entry_of es.items ≡ c.in_ok-reply.reply.entries)) c.in-Some.is c.in_ok-logged.ensures.known in
-    let h = came script before after e e c.args.seat c.args.done c.in_ok-handed.handed c.in_ok-reply.reply (map entry_of c.in-Some.logged.items)
-    refl c.in_ok-handed.ensures.handed c.handed_with.ensures.is_true c.in_ok-reply.ensures.reply known
-    c.in_ok-add-in-Refused.ensures.ok (c.add.ensures.whole ∙ c.in_ok-reply.ensures.whole) c.add.ensures.nodes (c.add.ensures.halted ∙ c.requires.goes_on) in
-    applies script before after e c.args.seat c.args.done c.in_ok-reply.reply.outcome (told.Refuses c.in-Some-refusal_of.refusal) h
-    (tells_refused _ c.in-Refused.code c.in-Some-refusal_of.refusal (sym h.outcome_is ∙ c.in-Refused.is) c.in-Some-refusal_of.ensures.known)
-
-pub returns-in-Refused-clause-kept : goal.returns-in-Refused-clause-kept
-returns-in-Refused-clause-kept g c =
-    let script = g.S.ScriptName.script in
-    let before = state_of (data_of c.args.state.now) in
-    let after = state_of (data_of c.add.new.self) in
-    let e = c.args.event in
-    let known = subst (λ o. IfSome o (λ es. map entry_of es.items ≡ c.in_ok-reply.reply.entries)) c.in-Some.is c.in_ok-logged.ensures.known in
-    let h = came script before after e e c.args.seat c.args.done c.in_ok-handed.handed c.in_ok-reply.reply (map entry_of c.in-Some.logged.items)
-    refl c.in_ok-handed.ensures.handed c.handed_with.ensures.is_true c.in_ok-reply.ensures.reply known
+    let h = came script before after e e c.args.seat c.args.done c.in_ok-handed.handed c.in_ok-reply.reply
+    refl c.in_ok-handed.ensures.handed c.handed_with.ensures.is_true c.in_ok-reply.ensures.reply
     c.in_ok-add-in-Refused.ensures.ok (c.add.ensures.whole ∙ c.in_ok-reply.ensures.whole) c.add.ensures.nodes (c.add.ensures.halted ∙ c.requires.goes_on) in
     kept_behind script before after e c.args.seat c.args.done c.in_ok-reply.reply.outcome c.requires.kept c.requires.goes_on c.event_keeps_sound.ensures c.sound_is_legal.ensures h
 
-pub returns-in-Taken-None-clause-kept : goal.returns-in-Taken-None-clause-kept
-returns-in-Taken-None-clause-kept g c =
+pub returns-in_ok-add-in-Taken-None-clause-kept : goal.returns-in_ok-add-in-Taken-None-clause-kept
+returns-in_ok-add-in-Taken-None-clause-kept g c =
     let script = g.S.ScriptName.script in
-    let before = state_of (data_of c.args.state.now) in
-    let after = state_of (data_of c.add-in-Taken-None.new.self) in
+    let before = state_of c.args.state.now in
+    let after = state_of c.add-in-Taken-None.new.self in
     let e = c.args.event in
-    let known = subst (λ o. IfSome o (λ es. map entry_of es.items ≡ c.in_ok-reply.reply.entries)) c.in-Some.is c.in_ok-logged.ensures.known in
-    let h = came script before after e e c.args.seat c.args.done c.in_ok-handed.handed c.in_ok-reply.reply (map entry_of c.in-Some.logged.items)
-    refl c.in_ok-handed.ensures.handed c.handed_with.ensures.is_true c.in_ok-reply.ensures.reply known
+    let h = came script before after e e c.args.seat c.args.done c.in_ok-handed.handed c.in_ok-reply.reply
+    refl c.in_ok-handed.ensures.handed c.handed_with.ensures.is_true c.in_ok-reply.ensures.reply
     c.in_ok-add-in-Taken-None.ensures.ok (c.add-in-Taken-None.ensures.whole ∙ c.in_ok-reply.ensures.whole) c.add-in-Taken-None.ensures.nodes (c.add-in-Taken-None.ensures.halted ∙ c.requires.goes_on) in
     kept_behind script before after e c.args.seat c.args.done c.in_ok-reply.reply.outcome c.requires.kept c.requires.goes_on c.event_keeps_sound.ensures c.sound_is_legal.ensures h
 
 pub new-requires : goal.new-requires
 new-requires g c =
     let script = g.S.ScriptName.script in
-    let before = state_of (data_of c.args.state.now) in
-    let after = state_of (data_of c.add-in-Taken-Some.new.self) in
+    let before = state_of c.args.state.now in
+    let after = state_of c.add-in-Taken-Some.new.self in
     let e = c.args.event in
-    let known = subst (λ o. IfSome o (λ es. map entry_of es.items ≡ c.in_ok-reply.reply.entries)) c.in-Some.is c.in_ok-logged.ensures.known in
-    let h = came script before after e e c.args.seat c.args.done c.in_ok-handed.handed c.in_ok-reply.reply (map entry_of c.in-Some.logged.items)
-    refl c.in_ok-handed.ensures.handed c.handed_with.ensures.is_true c.in_ok-reply.ensures.reply known
+    let h = came script before after e e c.args.seat c.args.done c.in_ok-handed.handed c.in_ok-reply.reply
+    refl c.in_ok-handed.ensures.handed c.handed_with.ensures.is_true c.in_ok-reply.ensures.reply
     c.in_ok-add-in-Taken-Some.ensures.ok (c.add-in-Taken-Some.ensures.whole ∙ c.in_ok-reply.ensures.whole) c.add-in-Taken-Some.ensures.nodes (c.add-in-Taken-Some.ensures.halted ∙ c.requires.goes_on) in
-    let job = parts.data_of c.job_parts-parts.result in
-    let gives = c.in-Taken-Some.is ∙ ap (λ x. Taken x) (c.in-Taken-Some.field-0-is ∙ ap (λ x. Some x) (sym c.job_parts-parts.ensures)) in
+    let job = c.in-Taken-Some.job in
+    let gives = c.in-Taken-Some.is ∙ ap (λ x. Taken x) c.in-Taken-Some.field-0-is in
     begun_behind script before after e c.args.seat c.args.done c.in_ok-reply.reply.outcome c.requires.kept c.requires.goes_on c.claims_give_good_jobs.ensures h job gives
 
-pub returns-clause-applied : goal.returns-clause-applied
-returns-clause-applied g c =
+pub returns-in_ok-add-in-Taken-Some-clause-applied : goal.returns-in_ok-add-in-Taken-Some-clause-applied
+returns-in_ok-add-in-Taken-Some-clause-applied g c =
     let script = g.S.ScriptName.script in
-    let before = state_of (data_of c.args.state.now) in
-    let after = state_of (data_of c.add-in-Taken-Some.new.self) in
+    let before = state_of c.args.state.now in
+    let after = state_of c.add-in-Taken-Some.new.self in
     let e = c.args.event in
-    let known = subst (λ o. IfSome o (λ es. map entry_of es.items ≡ c.in_ok-reply.reply.entries)) c.in-Some.is c.in_ok-logged.ensures.known in
-    let h = came script before after e e c.args.seat c.args.done c.in_ok-handed.handed c.in_ok-reply.reply (map entry_of c.in-Some.logged.items)
-    refl c.in_ok-handed.ensures.handed c.handed_with.ensures.is_true c.in_ok-reply.ensures.reply known
+    let h = came script before after e e c.args.seat c.args.done c.in_ok-handed.handed c.in_ok-reply.reply
+    refl c.in_ok-handed.ensures.handed c.handed_with.ensures.is_true c.in_ok-reply.ensures.reply
     c.in_ok-add-in-Taken-Some.ensures.ok (c.add-in-Taken-Some.ensures.whole ∙ c.in_ok-reply.ensures.whole) c.add-in-Taken-Some.ensures.nodes (c.add-in-Taken-Some.ensures.halted ∙ c.requires.goes_on) in
-    let job = parts.data_of c.job_parts-parts.result in
-    let gives = c.in-Taken-Some.is ∙ ap (λ x. Taken x) (c.in-Taken-Some.field-0-is ∙ ap (λ x. Some x) (sym c.job_parts-parts.ensures)) in
+    let job = c.in-Taken-Some.job in
+    let gives = c.in-Taken-Some.is ∙ ap (λ x. Taken x) c.in-Taken-Some.field-0-is in
     let tells = tells_job _ job (sym h.outcome_is ∙ gives) in
     applies script before after e c.args.seat c.args.done c.in_ok-reply.reply.outcome (GivesJob c.new.result) h (subst (λ j. told.Tells (answer before.whole e h.handed) (GivesJob j)) (sym c.new.ensures) tells)
 
-pub returns-clause-own : goal.returns-clause-own
-returns-clause-own g c =
+pub returns-in_ok-add-in-Taken-Some-clause-own : goal.returns-in_ok-add-in-Taken-Some-clause-own
+returns-in_ok-add-in-Taken-Some-clause-own g c =
     let script = g.S.ScriptName.script in
-    let before = state_of (data_of c.args.state.now) in
-    let after = state_of (data_of c.add-in-Taken-Some.new.self) in
+    let before = state_of c.args.state.now in
+    let after = state_of c.add-in-Taken-Some.new.self in
     let e = c.args.event in
-    let known = subst (λ o. IfSome o (λ es. map entry_of es.items ≡ c.in_ok-reply.reply.entries)) c.in-Some.is c.in_ok-logged.ensures.known in
-    let h = came script before after e e c.args.seat c.args.done c.in_ok-handed.handed c.in_ok-reply.reply (map entry_of c.in-Some.logged.items)
-    refl c.in_ok-handed.ensures.handed c.handed_with.ensures.is_true c.in_ok-reply.ensures.reply known
+    let h = came script before after e e c.args.seat c.args.done c.in_ok-handed.handed c.in_ok-reply.reply
+    refl c.in_ok-handed.ensures.handed c.handed_with.ensures.is_true c.in_ok-reply.ensures.reply
     c.in_ok-add-in-Taken-Some.ensures.ok (c.add-in-Taken-Some.ensures.whole ∙ c.in_ok-reply.ensures.whole) c.add-in-Taken-Some.ensures.nodes (c.add-in-Taken-Some.ensures.halted ∙ c.requires.goes_on) in
-    let job = parts.data_of c.job_parts-parts.result in
-    let gives = c.in-Taken-Some.is ∙ ap (λ x. Taken x) (c.in-Taken-Some.field-0-is ∙ ap (λ x. Some x) (sym c.job_parts-parts.ensures)) in
+    let job = c.in-Taken-Some.job in
+    let gives = c.in-Taken-Some.is ∙ ap (λ x. Taken x) c.in-Taken-Some.field-0-is in
     let own = own_behind script before after e c.args.seat c.args.done c.in_ok-reply.reply.outcome c.requires.kept c.requires.goes_on
     c.claims_give_jobs_of_the_log.ensures c.jobs_stay_of_the_log.ensures h job gives in
     subst (λ j. GivesOwn after.log (GivesJob j)) (sym c.new.ensures) own
 
-pub returns-clause-kept : goal.returns-clause-kept
-returns-clause-kept g c =
+pub returns-in_ok-add-in-Taken-Some-clause-kept : goal.returns-in_ok-add-in-Taken-Some-clause-kept
+returns-in_ok-add-in-Taken-Some-clause-kept g c =
     let script = g.S.ScriptName.script in
-    let before = state_of (data_of c.args.state.now) in
-    let after = state_of (data_of c.add-in-Taken-Some.new.self) in
+    let before = state_of c.args.state.now in
+    let after = state_of c.add-in-Taken-Some.new.self in
     let e = c.args.event in
-    let known = subst (λ o. IfSome o (λ es. map entry_of es.items ≡ c.in_ok-reply.reply.entries)) c.in-Some.is c.in_ok-logged.ensures.known in
-    let h = came script before after e e c.args.seat c.args.done c.in_ok-handed.handed c.in_ok-reply.reply (map entry_of c.in-Some.logged.items)
-    refl c.in_ok-handed.ensures.handed c.handed_with.ensures.is_true c.in_ok-reply.ensures.reply known
+    let h = came script before after e e c.args.seat c.args.done c.in_ok-handed.handed c.in_ok-reply.reply
+    refl c.in_ok-handed.ensures.handed c.handed_with.ensures.is_true c.in_ok-reply.ensures.reply
     c.in_ok-add-in-Taken-Some.ensures.ok (c.add-in-Taken-Some.ensures.whole ∙ c.in_ok-reply.ensures.whole) c.add-in-Taken-Some.ensures.nodes (c.add-in-Taken-Some.ensures.halted ∙ c.requires.goes_on) in
     kept_behind script before after e c.args.seat c.args.done c.in_ok-reply.reply.outcome c.requires.kept c.requires.goes_on c.event_keeps_sound.ensures c.sound_is_legal.ensures h
-
-pub unreachable-requires : goal.unreachable-requires
-unreachable-requires g c =
-    let unknown = subst (λ o. IfNone o (HasUnknown c.in_ok-reply.reply.entries)) c.in_default.is c.in_ok-logged.ensures.unknown in
-    known_entries g.S.ScriptName.script (state_of (data_of c.args.state.now)) c.args.event c.args.event
-    c.args.seat c.args.done c.in_ok-handed.handed c.in_ok-reply.reply c.requires.kept c.requires.goes_on refl
-    c.in_ok-handed.ensures.handed c.handed_with.ensures.is_true c.in_ok-reply.ensures.reply c.event_keeps_sound.ensures c.sound_is_legal.ensures unknown
-
-pub unreachable-requires-in_default-refusal_of : goal.unreachable-requires-in_default-refusal_of
-unreachable-requires-in_default-refusal_of g c =
-    known_code g.S.ScriptName.script (state_of (data_of c.args.state.now)) c.args.event c.args.event
-    c.args.seat c.in-Refused.code c.args.done c.in_ok-handed.handed c.in_ok-reply.reply c.requires.kept c.requires.goes_on refl
-    c.in_ok-handed.ensures.handed c.handed_with.ensures.is_true c.in_ok-reply.ensures.reply c.event_keeps_sound.ensures c.sound_is_legal.ensures
-    c.in-Refused.is c.in_default-refusal_of.ensures.unknown

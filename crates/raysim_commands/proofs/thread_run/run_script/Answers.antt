@@ -2,7 +2,6 @@ use Rattle.std.proofs.Common.{rules, ◌≡◌, subst}
 use Rattle.std.specs.Prelude.{string_bytes}
 use Rattle.script_check.specs.Scripts.{IsWellTyped}
 use Rattle.script_check.specs.Trees.{script_of}
-use Rattle.protocol_board.specs.Cores.{state_of}
 use Rattle.seats.specs.Ends.{size_of}
 use Rattle.raysim_commands.proofs.Replayed.{over_so, run_on_so}
 use Rattle.raysim_commands.proofs.thread_run.run_script.Goals as goal
@@ -11,8 +10,8 @@ pub returns-in_ok-outputs_of-in-Over-clause-run : goal.returns-in_ok-outputs_of-
 returns-in_ok-outputs_of-in-Over-clause-run g c =
     let script = g.S.ScriptName.script in
     let out = c.in_ok-outputs_of-in-Over.field-0 in
-    let sized : size_of (state_of c.new-board.result) ≡ c.args.cluster = search rules in
-    let over = over_so script c.args.threads c.args.plan.lines (size_of (state_of c.new-board.result)) c.args.cluster c.in_ok-board.field-0 c.in-Over.board sized
+    let sized : size_of c.new-board.result ≡ c.args.cluster = search rules in
+    let over = over_so script c.args.threads c.args.plan.lines (size_of c.new-board.result) c.args.cluster c.in_ok-board.field-0 c.in-Over.board sized
     c.in-Over.is c.in_ok-board.ensures in
     run_on_so c.runs_replay.ensures.again c.runs_replay.ensures.same script (script_of c.args.script.now) c.requires.script
     (subst (λ s. IsWellTyped (script_of s)) c.script.ensures c.functions.ensures.well_typed) c.args.plan.lines c.args.cluster c.args.threads c.args.form

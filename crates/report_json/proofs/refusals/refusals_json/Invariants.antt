@@ -1,8 +1,7 @@
 use Rattle.std.proofs.Common.{◌≡◌, ◌++◌, None, map, drop}
 use Rattle.serde_json.specs.View.{view}
-use Rattle.event_log.specs.Views.{log_of}
 use Rattle.report_json.specs.Refusals.{refused_data}
 use Rattle.report_json.proofs.refusals.refusals_json.Given as goal
 
 abbrev pub invariant-loop-entry : goal.invariant-loop-entry
-invariant-loop-entry l = map view l.all.items ++ refused_data l.last (log_of (drop l.entry-index l.log)) ≡ refused_data None (log_of l.log)
+invariant-loop-entry l = map view l.all.items ++ refused_data l.last (drop l.entry-index l.log) ≡ refused_data None l.log

@@ -3,7 +3,7 @@ use Rattle.std.specs.Prelude.{IfOk, IfErr, IsTrue}
 use Rattle.meaning.specs.Syntax.{Number}
 use Rattle.meaning.specs.Syntax as syntax
 use Rattle.script_syntax.specs.Trees as parsed
-use Rattle.script_syntax.specs.Views.{program_of, tree_of, statement_of as parsed_statement, statements_of as parsed_statements, function_of as parsed_function}
+use Rattle.script_syntax.specs.Views.{program_of, tree_of, trees_of, statement_of as parsed_statement, statements_of as parsed_statements, function_of as parsed_function}
 use Rattle.script_check.specs.Sizes.{block_size}
 use Rattle.script_check.specs.Refusals.{is_refusal}
 use Rattle.script_check.specs.Trees.{expr_of, statement_of, block_of}
@@ -94,12 +94,14 @@ check_statement-returns-in-Print-clause-refused t c =
 pub check_statement-returns-in-Return-clause-value : goal.check_statement-returns-in-Return-clause-value
 check_statement-returns-in-Return-clause-value t c =
     subst (λ x. IfOk c.check_return.result (λ s. step_of (program_of c.args.functions.now) (parsed_function c.args.function.now) x (context_of c.args.scope.now.items) ≡ Some (record { stmt = statement_of s; after = (context_of c.args.scope.now.items) }))) (sym (ap parsed_statement c.in-Return.is))
-    (subst (λ xs. IfOk c.check_return.result (λ s. step_of (program_of c.args.functions.now) (parsed_function c.args.function.now) (parsed.Return (tree_of c.in-Return.expr)) (context_of xs) ≡ Some (record { stmt = statement_of s; after = (context_of xs) }))) c.deref-in-Return.ensures.value c.check_return.ensures.value)
+    (subst (λ es. IfOk c.check_return.result (λ s. step_of (program_of c.args.functions.now) (parsed_function c.args.function.now) (parsed.Return (tree_of c.in-Return.expr) (trees_of es)) (context_of c.args.scope.now.items) ≡ Some (record { stmt = statement_of s; after = (context_of c.args.scope.now.items) }))) c.deref-in-Return-2.ensures.value
+    (subst (λ xs. IfOk c.check_return.result (λ s. step_of (program_of c.args.functions.now) (parsed_function c.args.function.now) (parsed.Return (tree_of c.in-Return.expr) (trees_of c.deref-in-Return-2.result.now)) (context_of xs) ≡ Some (record { stmt = statement_of s; after = (context_of xs) }))) c.deref-in-Return.ensures.value c.check_return.ensures.value))
 
 pub check_statement-returns-in-Return-clause-refused : goal.check_statement-returns-in-Return-clause-refused
 check_statement-returns-in-Return-clause-refused t c =
     subst (λ x. IfErr c.check_return.result (λ e. IsTrue (is_refusal e) → step_of (program_of c.args.functions.now) (parsed_function c.args.function.now) x (context_of c.args.scope.now.items) ≡ None)) (sym (ap parsed_statement c.in-Return.is))
-    (subst (λ xs. IfErr c.check_return.result (λ e. IsTrue (is_refusal e) → step_of (program_of c.args.functions.now) (parsed_function c.args.function.now) (parsed.Return (tree_of c.in-Return.expr)) (context_of xs) ≡ None)) c.deref-in-Return.ensures.value c.check_return.ensures.refused)
+    (subst (λ es. IfErr c.check_return.result (λ e. IsTrue (is_refusal e) → step_of (program_of c.args.functions.now) (parsed_function c.args.function.now) (parsed.Return (tree_of c.in-Return.expr) (trees_of es)) (context_of c.args.scope.now.items) ≡ None)) c.deref-in-Return-2.ensures.value
+    (subst (λ xs. IfErr c.check_return.result (λ e. IsTrue (is_refusal e) → step_of (program_of c.args.functions.now) (parsed_function c.args.function.now) (parsed.Return (tree_of c.in-Return.expr) (trees_of c.deref-in-Return-2.result.now)) (context_of xs) ≡ None)) c.deref-in-Return.ensures.value c.check_return.ensures.refused))
 
 pub check_statements-check_statement-requires : goal.check_statements-check_statement-requires
 check_statements-check_statement-requires t c =

@@ -1,12 +1,11 @@
 use Rattle.std.proofs.Common.{◌∷◌, ◌++◌, List, map, sym, ap, ◌∙◌}
 use Rattle.script_tokens.specs.declared.token.Mark.TheVariants as marks
-use Rattle.script_tokens.specs.Tokens.{Token, mark, name}
+use Rattle.script_tokens.specs.Tokens.{Token, mark}
 use Rattle.script_tokens.specs.Views.{token_of}
-use Rattle.std.specs.String.{string_bytes}
 use Rattle.script_syntax.specs.Views.{tree_of, trees_of, retries_of}
 use Rattle.script_syntax.specs.Expressions.{expression_before, arguments_before, retries_before}
 use Rattle.script_syntax.specs.Printing.{written, written_arguments, as_expression}
-use Rattle.script_syntax.specs.Writing.{wanted_before, has_items}
+use Rattle.script_syntax.specs.Writing.{wanted_before, call_before, has_items}
 use Rattle.script_syntax.proofs.Written.{binary_written, index_written, list_written, no_list_written, call_written, remote_written}
 use Rattle.script_syntax.proofs.writer.+writing.Goals as goal
 
@@ -28,27 +27,17 @@ add_bare-returns-in_ok-add_mark-in-Index-2 t c rest =
     ∙ c.in_ok-add_as-in-Index.ensures (mark marks.OpenBracket ∷ place)
     ∙ ap (λ (x : List Token). map token_of c.args.tokens.now.items ++ x) (index_written c.args.expression.now.kind c.in-Index.list c.in-Index.place c.deref-in-Index.result.now c.deref-in-Index-2.result.now rest c.in-Index.is c.deref-in-Index.ensures c.deref-in-Index-2.ensures)
 
-pub add_bare-returns-in_ok-add_mark-in-Call-2 : goal.add_bare-returns-in_ok-add_mark-in-Call-2
-add_bare-returns-in_ok-add_mark-in-Call-2 t c rest =
-    let closed = mark marks.CloseParenthesis ∷ rest in
-    let items = arguments_before (written_arguments (trees_of c.deref-in-Call.result.now)) closed in
-    c.in_ok-add_mark-in-Call-2.ensures rest
-    ∙ c.in_ok-add_items-in-Call.ensures closed
-    ∙ c.in_ok-add_mark-in-Call.ensures items
-    ∙ c.in_ok-add_name-in-Call.ensures (mark marks.OpenParenthesis ∷ items)
+pub add_bare-returns-in_ok-add_call-in-Call : goal.add_bare-returns-in_ok-add_call-in-Call
+add_bare-returns-in_ok-add_call-in-Call t c rest =
+    c.in_ok-add_call-in-Call.ensures rest
     ∙ ap (λ (x : List Token). map token_of c.args.tokens.now.items ++ x) (call_written c.args.expression.now.kind c.in-Call.name c.in-Call.arguments c.deref-in-Call.result.now rest c.in-Call.is c.deref-in-Call.ensures.value)
 
-pub add_bare-returns-in_ok-add_mark-in-Remote-3 : goal.add_bare-returns-in_ok-add_mark-in-Remote-3
-add_bare-returns-in_ok-add_mark-in-Remote-3 t c rest =
-    let closed = mark marks.CloseParenthesis ∷ rest in
-    let items = arguments_before (written_arguments (trees_of c.deref-in-Remote.result.now)) closed in
-    let named = name (string_bytes c.in-Remote.name.text) ∷ mark marks.OpenParenthesis ∷ items in
-    c.in_ok-add_mark-in-Remote-3.ensures rest
-    ∙ c.in_ok-add_items-in-Remote.ensures closed
-    ∙ c.in_ok-add_mark-in-Remote-2.ensures items
-    ∙ c.in_ok-add_name-in-Remote.ensures (mark marks.OpenParenthesis ∷ items)
-    ∙ c.in_ok-add_retries-in-Remote.ensures named
-    ∙ c.in_ok-add_mark-in-Remote.ensures (retries_before (retries_of c.in-Remote.retries) named)
+pub add_bare-returns-in_ok-add_call-in-Remote : goal.add_bare-returns-in_ok-add_call-in-Remote
+add_bare-returns-in_ok-add_call-in-Remote t c rest =
+    let called = call_before c.in-Remote.name c.deref-in-Remote.result.now rest in
+    c.in_ok-add_call-in-Remote.ensures rest
+    ∙ c.in_ok-add_retries-in-Remote.ensures called
+    ∙ c.in_ok-add_mark-in-Remote.ensures (retries_before (retries_of c.in-Remote.retries) called)
     ∙ ap (λ (x : List Token). map token_of c.args.tokens.now.items ++ x) (remote_written c.args.expression.now.kind c.in-Remote.retries c.in-Remote.name c.in-Remote.arguments c.deref-in-Remote.result.now rest c.in-Remote.is c.deref-in-Remote.ensures.value)
 
 pub add_bare-returns-then-has_items : goal.add_bare-returns-then-has_items

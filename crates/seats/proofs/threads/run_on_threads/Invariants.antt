@@ -1,10 +1,9 @@
 use Rattle.std.specs.Prelude.{false}
-use Rattle.protocol_board.specs.Cores.{state_of}
 use Rattle.seats.specs.Ends.{size_of}
 use Rattle.seats.proofs.threads.run_on_threads.Given as goal
 
 abbrev pub ghosts-run_shared-P-RunName : goal.ghosts-run_shared-P-RunName
-ghosts-run_shared-P-RunName g a = record { plan = a.plan.lines; size = size_of (state_of a.board); is_open = false }
+ghosts-run_shared-P-RunName g a = record { plan = a.plan.lines; size = size_of a.board; is_open = false }
 
 abbrev pub ghosts-run_shared-E-Ledger : goal.ghosts-run_shared-E-Ledger
 ghosts-run_shared-E-Ledger g a = record { name = a.blanks.events.name; parts = a.blanks.events.parts }

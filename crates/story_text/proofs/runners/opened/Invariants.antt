@@ -1,7 +1,6 @@
 use Rattle.std.proofs.Common.{◌≡◌, take}
 use Rattle.event_log.specs.Words.{opened}
-use Rattle.event_log.specs.Views.{log_of}
 use Rattle.story_text.proofs.runners.opened.Given as goal
 
 abbrev pub invariant-loop-entry : goal.invariant-loop-entry
-invariant-loop-entry l = l.nodes.items ≡ opened (log_of (take l.entry-index l.log))
+invariant-loop-entry l = l.nodes.items ≡ opened (take l.entry-index l.log)

@@ -1,7 +1,6 @@
 use Rattle.std.proofs.Common.{◌≡◌, take}
 use Rattle.event_log.specs.Words.{runs_of}
-use Rattle.event_log.specs.Views.{log_of}
 use Rattle.story_text.proofs.runners.workers_of.Given as goal
 
 abbrev pub invariant-loop-entry : goal.invariant-loop-entry
-invariant-loop-entry l = l.workers.items ≡ runs_of l.object (log_of (take l.entry-index l.log))
+invariant-loop-entry l = l.workers.items ≡ runs_of l.object (take l.entry-index l.log)

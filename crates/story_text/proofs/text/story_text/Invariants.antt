@@ -1,6 +1,5 @@
 use Rattle.std.proofs.Common.{◌≡◌, ◌≤◌, ◌++◌, string_bytes, drop}
 use Rattle.event_log.specs.Words.{births}
-use Rattle.event_log.specs.Views.{log_of}
 use Rattle.log_words.specs.Told.{nothing_told, told_of}
 use Rattle.story_text.specs.About.{seen_of}
 use Rattle.story_text.specs.Text.{lines_about}
@@ -8,7 +7,7 @@ use Rattle.story_text.proofs.text.story_text.Given as goal
 
 abbrev pub invariant-loop-place : goal.invariant-loop-place
 invariant-loop-place l = record {
-  written : string_bytes l.text ++ lines_about (seen_of l.subject) (births (log_of l.log)) (told_of l.told) (log_of (drop l.place l.log))
-      ≡ lines_about (seen_of l.subject) (births (log_of l.log)) nothing_told (log_of l.log);
+  written : string_bytes l.text ++ lines_about (seen_of l.subject) (births l.log) (told_of l.told) (drop l.place l.log)
+      ≡ lines_about (seen_of l.subject) (births l.log) nothing_told l.log;
   counted : l.told.events ≤ l.place;
 }

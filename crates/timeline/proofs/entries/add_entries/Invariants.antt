@@ -1,7 +1,6 @@
 use Rattle.std.proofs.Common.{◌≡◌, ◌≤◌, ◌++◌, [], map, drop}
 use Rattle.serde_json.specs.View.{view}
 use Rattle.event_log.specs.Words.{births}
-use Rattle.event_log.specs.Views.{log_of}
 use Rattle.log_words.specs.Told.{nothing_told, told_of}
 use Rattle.timeline.specs.Entries.{entries_data}
 use Rattle.timeline.proofs.entries.add_entries.Given as goal
@@ -9,7 +8,7 @@ use Rattle.timeline.proofs.entries.add_entries.Given as goal
 abbrev pub invariant-loop-place : goal.invariant-loop-place
 invariant-loop-place l = record {
   added : map view l.all.items
-      ++ entries_data (births (log_of l.log)) l.letters l.sent l.arrivals (told_of l.told) l.rows.items (drop l.place l.log)
-      ≡ map view l.fn.all.items ++ entries_data (births (log_of l.log)) l.letters l.sent l.arrivals nothing_told [] l.log;
+      ++ entries_data (births l.log) l.letters l.sent l.arrivals (told_of l.told) l.rows.items (drop l.place l.log)
+      ≡ map view l.fn.all.items ++ entries_data (births l.log) l.letters l.sent l.arrivals nothing_told [] l.log;
   counted : l.told.events ≤ l.place;
 }

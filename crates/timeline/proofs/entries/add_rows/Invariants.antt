@@ -2,7 +2,6 @@ use Rattle.std.proofs.Common.{◌≡◌, ◌++◌, map, take}
 use Rattle.std.specs.List.{flat_map}
 use Rattle.serde_json.specs.View.{view}
 use Rattle.event_log.specs.Words.{births}
-use Rattle.event_log.specs.Views.{log_of}
 use Rattle.log_words.specs.Index.{IsIndexOf}
 use Rattle.timeline.specs.Endings.{row_data}
 use Rattle.timeline.proofs.entries.add_rows.Given as goal
@@ -10,4 +9,4 @@ use Rattle.timeline.proofs.entries.add_rows.Given as goal
 abbrev pub invariant-loop-row : goal.invariant-loop-row
 invariant-loop-row l =
     IsIndexOf l.index l.log →
-    map view l.all.items ≡ map view l.fn.all.items ++ flat_map (row_data (births (log_of l.log)) l.clock l.entry l.is_refused) (take l.row-index l.rows)
+    map view l.all.items ≡ map view l.fn.all.items ++ flat_map (row_data (births l.log) l.clock l.entry l.is_refused) (take l.row-index l.rows)

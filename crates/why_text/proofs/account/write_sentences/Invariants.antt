@@ -1,6 +1,5 @@
 use Rattle.std.proofs.Common.{◌≡◌, ◌≤◌, ◌++◌, string_bytes, drop}
 use Rattle.event_log.specs.Words.{births}
-use Rattle.event_log.specs.Views.{log_of}
 use Rattle.why_text.specs.Moments.{first_moment, moment_of}
 use Rattle.why_text.specs.Runs.{seen_of}
 use Rattle.why_text.specs.Text.{sentences}
@@ -10,7 +9,7 @@ abbrev pub invariant-loop-place : goal.invariant-loop-place
 invariant-loop-place l = record {
   written :
       string_bytes l.text
-      ++ sentences (seen_of l.subject) (births (log_of l.log)) l.lines (log_of l.log) l.place (moment_of l.moment) (log_of (drop l.place l.log))
-      ≡ string_bytes l.fn.text ++ sentences (seen_of l.subject) (births (log_of l.log)) l.lines (log_of l.log) 0 first_moment (log_of l.log);
+      ++ sentences (seen_of l.subject) (births l.log) l.lines l.log l.place (moment_of l.moment) (drop l.place l.log)
+      ≡ string_bytes l.fn.text ++ sentences (seen_of l.subject) (births l.log) l.lines l.log 0 first_moment l.log;
   counted : l.moment.number ≤ l.place;
 }

@@ -1,9 +1,8 @@
 use Rattle.std.proofs.Common.{◌≡◌, drop}
 use Rattle.event_log.specs.Entries.{main_attempt}
 use Rattle.event_log.specs.Words.{faults_of}
-use Rattle.event_log.specs.Views.{log_of}
 use Rattle.history.specs.Main.{first}
 use Rattle.why_text.proofs.causes.main_lack.Given as goal
 
 abbrev pub invariant-loop-entry : goal.invariant-loop-entry
-invariant-loop-entry l = first (faults_of main_attempt (log_of l.log)) ≡ first (faults_of main_attempt (log_of (drop l.entry-index l.log)))
+invariant-loop-entry l = first (faults_of main_attempt l.log) ≡ first (faults_of main_attempt (drop l.entry-index l.log))

@@ -1,11 +1,10 @@
 use Rattle.std.proofs.Common.{◌≡◌, map, take}
 use Rattle.std.specs.List.{flat_map}
 use Rattle.event_log.specs.Words.{opened}
-use Rattle.event_log.specs.Views.{log_of}
 use Rattle.why_text.specs.Runs.{run_in, run_seen}
 use Rattle.why_text.proofs.runs.runs_of.Given as goal
 
 abbrev pub invariant-loop-entry : goal.invariant-loop-entry
 invariant-loop-entry l =
-    l.nodes ≡ opened (log_of l.log) →
-    map run_seen l.runs.items ≡ flat_map (run_in (log_of l.log) l.object) (log_of (take l.entry-index l.log))
+    l.nodes ≡ opened l.log →
+    map run_seen l.runs.items ≡ flat_map (run_in l.log l.object) (take l.entry-index l.log)

@@ -1,12 +1,11 @@
 use Rattle.std.proofs.Common.{◌+◌, [], rules, sym, ap, subst, ◌∙◌}
 use Rattle.protocol_board.specs.Replays.{LinePlays, PlayStops, Plays, from_first}
-use Rattle.protocol_board.specs.Views.{play_of}
 use Rattle.protocol_board.proofs.Playing.{item_there, no_item, one_more_item}
 use Rattle.protocol_board.proofs.replay.Replay.play.Goals as goal
 
 pub loop-line-init : goal.loop-line-init
 loop-line-init g c =
-    let first = from_first (play_of c.args.self.now) in
+    let first = from_first c.args.self.now in
     record {
       plays = subst (λ p. Plays g.S.ScriptName.script [] first p) (sym c.restart.ensures.first) (no_item (LinePlays g.S.ScriptName.script) first);
       counted = c.restart.ensures.begun;
@@ -17,8 +16,8 @@ returns-in_err-play_line-clause-stops g c =
     let lines = c.deref-line-items.result.now in
     let same = c.deref-line-items.ensures.value ∙ c.lines.view_is in
     let at = item_there lines c.args.lines.now c.loop-line.line-index c.line-item.result same c.loop-line-test.true c.line-item.is in
-    let why : PlayStops g.S.ScriptName.script c.args.lines.now (from_first (play_of c.args.self.now)) (play_of c.play_line.new.self) c.in_err-play_line.field-0.0 =
-    (c.loop-line.line-index, c.line-item.result, play_of c.loop-line.self, at, c.loop-line.invariant.plays, c.in_err-play_line.ensures.stops) in
+    let why : PlayStops g.S.ScriptName.script c.args.lines.now (from_first c.args.self.now) c.play_line.new.self c.in_err-play_line.field-0.0 =
+    (c.loop-line.line-index, c.line-item.result, c.loop-line.self, at, c.loop-line.invariant.plays, c.in_err-play_line.ensures.stops) in
     search (rules, why)
 
 pub loop-line-preserved : goal.loop-line-preserved
@@ -26,9 +25,9 @@ loop-line-preserved g c =
     let lines = c.deref-line-items.result.now in
     let same = c.deref-line-items.ensures.value ∙ c.lines.view_is in
     let at = item_there lines c.args.lines.now c.loop-line.line-index c.line-item.result same c.loop-line-test.true c.line-item.is in
-    let before = from_first (play_of c.args.self.now) in
-    let between = play_of c.loop-line.self in
-    let after = play_of c.play_line.new.self in
+    let before = from_first c.args.self.now in
+    let between = c.loop-line.self in
+    let after = c.play_line.new.self in
     let plays = c.in_ok-play_line.ensures.plays in
     let h = c.loop-line.invariant in
     record {

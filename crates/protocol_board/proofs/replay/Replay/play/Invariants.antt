@@ -1,10 +1,9 @@
 use Rattle.std.proofs.Common.{◌≡◌, take}
 use Rattle.protocol_board.specs.Replays.{Plays, from_first}
-use Rattle.protocol_board.specs.Views.{play_of}
 use Rattle.protocol_board.proofs.replay.Replay.play.Given as goal
 
 abbrev pub invariant-loop-line : goal.invariant-loop-line
 invariant-loop-line g l = record {
-  plays : Plays g.S.ScriptName.script (take l.line-index l.lines) (from_first (play_of l.fn.self)) (play_of l.self);
+  plays : Plays g.S.ScriptName.script (take l.line-index l.lines) (from_first l.fn.self) l.self;
   counted : l.self.begun ≡ l.line-index;
 }

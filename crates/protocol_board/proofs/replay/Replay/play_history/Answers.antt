@@ -1,12 +1,11 @@
 use Rattle.std.proofs.Common.{◌+◌, [], Some, ap, rules, subst, sym, ◌∙◌}
 use Rattle.protocol_board.specs.Replays.{EventPlays, HistoryStops, PlaysHistory, from_first}
-use Rattle.protocol_board.specs.Views.{play_of}
 use Rattle.protocol_board.proofs.Playing.{item_copied, no_item, one_more_item}
 use Rattle.protocol_board.proofs.replay.Replay.play_history.Goals as goal
 
 pub loop-said-init : goal.loop-said-init
 loop-said-init g c =
-    let first = from_first (play_of c.args.self.now) in
+    let first = from_first c.args.self.now in
     record {
       plays = subst (λ p. PlaysHistory g.S.ScriptName.script [] first p) (sym c.restart.ensures.first) (no_item (EventPlays g.S.ScriptName.script) first);
       counted = c.restart.ensures.begun;
@@ -18,8 +17,8 @@ returns-in_err-play_event-clause-stops g c =
     let same = c.deref-said-items.ensures.value ∙ c.events.view_is in
     let said = c.said-item.result in
     let at = item_copied lines c.args.events.now c.loop-said.said-index said same c.loop-said-test.true ∙ ap (λ x. Some x) (sym c.said-item.is) in
-    let why : HistoryStops g.S.ScriptName.script c.args.events.now (from_first (play_of c.args.self.now)) (play_of c.play_event.new.self) c.in_err-play_event.field-0.0 =
-    (c.loop-said.said-index, said, play_of c.loop-said.self, at, c.loop-said.invariant.plays, c.in_err-play_event.ensures.stops) in
+    let why : HistoryStops g.S.ScriptName.script c.args.events.now (from_first c.args.self.now) c.play_event.new.self c.in_err-play_event.field-0.0 =
+    (c.loop-said.said-index, said, c.loop-said.self, at, c.loop-said.invariant.plays, c.in_err-play_event.ensures.stops) in
     search (rules, why)
 
 pub loop-said-preserved : goal.loop-said-preserved
@@ -28,9 +27,9 @@ loop-said-preserved g c =
     let same = c.deref-said-items.ensures.value ∙ c.events.view_is in
     let said = c.said-item.result in
     let at = item_copied lines c.args.events.now c.loop-said.said-index said same c.loop-said-test.true ∙ ap (λ x. Some x) (sym c.said-item.is) in
-    let before = from_first (play_of c.args.self.now) in
-    let between = play_of c.loop-said.self in
-    let after = play_of c.play_event.new.self in
+    let before = from_first c.args.self.now in
+    let between = c.loop-said.self in
+    let after = c.play_event.new.self in
     let plays = c.in_ok-play_event.ensures.plays in
     let h = c.loop-said.invariant in
     record {

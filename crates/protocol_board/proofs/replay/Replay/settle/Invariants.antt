@@ -1,11 +1,10 @@
 use Rattle.std.proofs.Common.{◌≡◌, ℕ, ◌-◌}
 use Rattle.protocol_board.specs.Replays.{Settles}
-use Rattle.protocol_board.specs.Views.{play_of}
 use Rattle.protocol_board.proofs.replay.Replay.settle.Given as goal
 
 abbrev pub invariant-loop-event : goal.invariant-loop-event
 invariant-loop-event g l = record {
-  settles : (n : ℕ) × Settles g.S.ScriptName.script l.but n (play_of l.fn.self) (play_of l.self);
+  settles : (n : ℕ) × Settles g.S.ScriptName.script l.but n l.fn.self l.self;
   same : l.self.begun ≡ l.fn.self.begun;
 }
 

@@ -1,7 +1,7 @@
 use Rattle.std.proofs.Common.{subst}
 use Rattle.protocol_core.specs.Limits.{IsWithin}
 use Rattle.protocol_core.specs.Meant.{IsSoundLog}
-use Rattle.protocol_core.specs.Views.{data_of, state_of}
+use Rattle.protocol_core.specs.Views.{state_of}
 use Rattle.protocol_core.proofs.Meant.{meant}
 use Rattle.protocol_core.proofs.Paid.{within}
 use Rattle.protocol_core.proofs.cores.Core.log.Goals as goal
@@ -9,10 +9,10 @@ use Rattle.protocol_core.proofs.cores.Core.log.Goals as goal
 pub returns-clause-meant : goal.returns-clause-meant
 returns-clause-meant g c =
     let kept = c.self.invariant.0 in
-    subst (λ d. IsSoundLog g.S.ScriptName.script (state_of d)) c.self.view_is
-    (meant g.S.ScriptName.script (state_of (data_of c.self.inside.state)) c.legal_logs_read_as_serial.ensures c.main_begins_the_serial_run.ensures
+    subst (λ d. IsSoundLog g.S.ScriptName.script d) c.self.view_is
+    (meant g.S.ScriptName.script (state_of c.self.inside.state) c.legal_logs_read_as_serial.ensures c.main_begins_the_serial_run.ensures
     kept.legal kept.reached)
 
 pub returns-clause-within : goal.returns-clause-within
 returns-clause-within g c =
-    subst (λ d. IsWithin g.S.ScriptName.script (state_of d)) c.self.view_is (within g.S.ScriptName.script (state_of (data_of c.self.inside.state)) c.self.invariant.0)
+    subst (λ d. IsWithin g.S.ScriptName.script d) c.self.view_is (within g.S.ScriptName.script (state_of c.self.inside.state) c.self.invariant.0)

@@ -1,4 +1,3 @@
-use Rattle.event_log.specs.Views.{log_of}
 use Rattle.protocol_board.specs.Cores.{reply_of}
 use Rattle.seat_books.specs.Tallies.{totals_in}
 use Rattle.seats.specs.Counted.{counted}
@@ -8,8 +7,8 @@ use Rattle.seats.proofs.shared.Locked.apply.Goals as goal
 pub invariant_of-self : goal.invariant_of-self
 invariant_of-self g c =
     let old = c.args.self.now in
-    let before = log_of old.turning.run.log in
-    let after = log_of c.apply-told.new.self.run.log in
+    let before = old.turning.run.log in
+    let after = c.apply-told.new.self.run.log in
     let adds = counted c.args.event (reply_of c.apply-told.result) in
     let more = totals_in c.tally_of-more.result in
     let w = g.P.Watching.watched in

@@ -1,4 +1,3 @@
-use Rattle.event_log.specs.Views.{log_of}
 use Rattle.seat_books.specs.Tallies.{totals_in}
 use Rattle.seats.specs.Turns.{turn_counted}
 use Rattle.seats.specs.Views.{told_of}
@@ -8,8 +7,8 @@ use Rattle.seats.proofs.shared.Locked.turn.Goals as goal
 pub invariant_of-self : goal.invariant_of-self
 invariant_of-self g c =
     let old = c.args.self.now in
-    let before = log_of old.turning.run.log in
-    let after = log_of c.turn-told.new.self.run.log in
+    let before = old.turning.run.log in
+    let after = c.turn-told.new.self.run.log in
     let adds = turn_counted (told_of c.turn-told.result) in
     let more = totals_in c.turn_tally-more.result in
     let w = g.P.Watching.watched in

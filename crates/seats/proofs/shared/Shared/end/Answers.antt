@@ -1,5 +1,4 @@
 use Rattle.std.proofs.Common.{sym, subst, ◌∙◌}
-use Rattle.event_log.specs.Views.{log_of}
 use Rattle.seats.specs.Ends.{AddUp}
 use Rattle.seats.specs.Seated.{AreFrom}
 use Rattle.seats.proofs.Books.{of_log}
@@ -7,7 +6,7 @@ use Rattle.seats.proofs.shared.Shared.end.Goals as goal
 
 pub returns-clause-ended : goal.returns-clause-ended
 returns-clause-ended g c =
-    let log = log_of c.gathered.result.run.log in
+    let log = c.gathered.result.run.log in
     let seated : AreFrom c.args.self log = subst (λ n. AreFrom n log) (sym c.self.invariant.1 ∙ c.self.view_is) c.gathered.ensures.seated in (
       c.into_end.ensures.ended,
       of_log (λ l. AddUp g.P.Watching.watched c.args.seats.items l × AreFrom c.args.self l) log

@@ -1,13 +1,12 @@
 use Rattle.std.proofs.Common.{◌≡◌, ◌+◌, ◌≤◌, ◌∙◌, sym, subst}
 use Rattle.event_log.specs.Books.{totals_of}
 use Rattle.event_log.specs.Laws.{plus}
-use Rattle.event_log.specs.Views.{log_of}
-use Rattle.protocol_board.specs.Cores.{first_state, reply_of, state_of}
+use Rattle.protocol_board.specs.Cores.{first_state, reply_of}
 use Rattle.seats.specs.Counted.{AddsFrom, counted}
 use Rattle.seats.specs.Ends.{first_events}
 use Rattle.seats.specs.Outside.{Passes}
 use Rattle.seats.specs.Seated.{StaysFrom}
-use Rattle.seats.specs.Views.{TurnData, turn_of}
+use Rattle.seats.specs.Turns.{TurnState}
 use Rattle.seats.proofs.Counted.{answers_counted}
 use Rattle.seats.proofs.Few.{commits_now, few_behind}
 use Rattle.seats.proofs.Outside.{keeps_kept, keeps_past}
@@ -23,9 +22,9 @@ commits_behind-self-inside-requires g c =
     let after = c.apply-told.new.self in
     let e = c.args.event in
     let told = reply_of c.apply-told.result in
-    let h = answers_counted (state_of before) (state_of after) e c.args.seat c.args.done told c.self.invariant.0 c.apply-told.ensures.answers in
+    let h = answers_counted before after e c.args.seat c.args.done told c.self.invariant.0 c.apply-told.ensures.answers in
     subst (λ n. c.self.inside.commits + (counted e told).commits ≤ n) (sym c.entries_of-most.ensures)
-    (few_behind (totals_of (log_of before.log)) (counted e told) after.log c.self.inside.commits h.totals c.self.invariant.1)
+    (few_behind (totals_of before.log) (counted e told) after.log c.self.inside.commits h.totals c.self.invariant.1)
 
 pub invariant_of-self : goal.invariant_of-self
 invariant_of-self g c =
@@ -34,27 +33,27 @@ invariant_of-self g c =
     let e = c.args.event in
     let told = reply_of c.apply-told.result in
     let is_open = g.P.RunName.is_open in
-    let t : TurnData = record { run = before; plan = c.self.inside.plan; taken = c.self.inside.taken; out = c.self.inside.out; given_up = c.self.inside.given_up } in
+    let t : TurnState = record { run = before; plan = c.self.inside.plan; taken = c.self.inside.taken; out = c.self.inside.out; given_up = c.self.inside.given_up } in
     let es = first_events c.args.taken c.self.inside.plan in
-    let h = answers_counted (state_of before) (state_of after) e c.args.seat c.args.done told c.self.invariant.0 c.apply-told.ensures.answers in
-    let passes : Passes is_open (turn_of t) e c.args.taken =
-    subst (λ (r : TurnData). Passes is_open (turn_of r) e c.args.taken) (sym c.self.view_is) c.requires in (
+    let h = answers_counted before after e c.args.seat c.args.done told c.self.invariant.0 c.apply-told.ensures.answers in
+    let passes : Passes is_open t e c.args.taken =
+    subst (λ (r : TurnState). Passes is_open r e c.args.taken) (sym c.self.view_is) c.requires in (
       h.jobs,
-      commits_now (totals_of (log_of before.log)) (counted e told) after.log c.self.inside.commits c.commits_behind-self-inside.result
+      commits_now (totals_of before.log) (counted e told) after.log c.self.inside.commits c.commits_behind-self-inside.result
           h.totals c.self.invariant.1 c.commits_behind-self-inside.ensures,
       c.self.invariant.2,
-      same_nodes (state_of before) (state_of after) e c.args.seat c.args.done told c.apply-told.ensures.answers ∙ c.self.invariant.3,
-      slots_kept g.P.RunName.size.slots (state_of after) e told c.self.inside.out c.self.inside.given_up c.keep_or_give_up.new.out c.keep_or_give_up.new.given_up
-          (slots_behind g.P.RunName.size.slots (state_of before) (state_of after) e c.args.seat c.args.done told c.self.inside.given_up c.apply-told.ensures.answers
+      same_nodes before after e c.args.seat c.args.done told c.apply-told.ensures.answers ∙ c.self.invariant.3,
+      slots_kept g.P.RunName.size.slots after e told c.self.inside.out c.self.inside.given_up c.keep_or_give_up.new.out c.keep_or_give_up.new.given_up
+          (slots_behind g.P.RunName.size.slots before after e c.args.seat c.args.done told c.self.inside.given_up c.apply-told.ensures.answers
           c.self.invariant.4)
           c.keep_or_give_up.ensures,
-      stands_kept es (log_of after.log) e told c.self.inside.out c.self.inside.given_up c.keep_or_give_up.new.out c.keep_or_give_up.new.given_up
-          (stands_past is_open (turn_of t) (state_of after) e c.args.seat c.args.done told c.args.taken passes c.apply-told.ensures.answers c.self.invariant.5)
+      stands_kept es after.log e told c.self.inside.out c.self.inside.given_up c.keep_or_give_up.new.out c.keep_or_give_up.new.given_up
+          (stands_past is_open t after e c.args.seat c.args.done told c.args.taken passes c.apply-told.ensures.answers c.self.invariant.5)
           c.keep_or_give_up.ensures,
-      keeps_kept is_open es (log_of after.log) e told c.self.inside.out c.self.inside.given_up c.keep_or_give_up.new.out c.keep_or_give_up.new.given_up
-          (keeps_past is_open (turn_of t) (state_of after) e c.args.seat c.args.done told c.args.taken passes c.apply-told.ensures.answers c.self.invariant.6)
+      keeps_kept is_open es after.log e told c.self.inside.out c.self.inside.given_up c.keep_or_give_up.new.out c.keep_or_give_up.new.given_up
+          (keeps_past is_open t after e c.args.seat c.args.done told c.args.taken passes c.apply-told.ensures.answers c.self.invariant.6)
           c.keep_or_give_up.ensures,
-      c.paths_go_on.ensures.one_more g.S.ScriptName.script (first_state g.P.RunName.size.nodes g.P.RunName.size.slots) (state_of before) (state_of after) e
+      c.paths_go_on.ensures.one_more g.S.ScriptName.script (first_state g.P.RunName.size.nodes g.P.RunName.size.slots) before after e
           c.args.seat c.args.done told c.self.invariant.7 c.attest.ensures c.apply-told.ensures.answers,
     )
 
@@ -64,8 +63,8 @@ returns-clause-counted g c =
     let after = c.apply-told.new.self in
     let e = c.args.event in
     let told = reply_of c.apply-told.result in
-    let h = answers_counted (state_of before) (state_of after) e c.args.seat c.args.done told c.self.invariant.0 c.apply-told.ensures.answers in
-    let P : TurnData → Type 0 = λ r. totals_of (log_of after.log) ≡ plus (totals_of (log_of r.run.log)) (counted e told) in
+    let h = answers_counted before after e c.args.seat c.args.done told c.self.invariant.0 c.apply-told.ensures.answers in
+    let P : TurnState → Type 0 = λ r. totals_of after.log ≡ plus (totals_of r.run.log) (counted e told) in
     subst P c.self.view_is h.totals
 
 pub returns-clause-watched : goal.returns-clause-watched
@@ -74,9 +73,9 @@ returns-clause-watched g c =
     let after = c.apply-told.new.self in
     let e = c.args.event in
     let told = reply_of c.apply-told.result in
-    let h = answers_counted (state_of before) (state_of after) e c.args.seat c.args.done told c.self.invariant.0 c.apply-told.ensures.answers in
+    let h = answers_counted before after e c.args.seat c.args.done told c.self.invariant.0 c.apply-told.ensures.answers in
     let w = g.P.Watching.watched in
-    let P : TurnData → Type 0 = λ r. AddsFrom w c.args.seat (counted e told) (log_of r.run.log) (log_of after.log) in
+    let P : TurnState → Type 0 = λ r. AddsFrom w c.args.seat (counted e told) r.run.log after.log in
     subst P c.self.view_is (h.of_seat w)
 
 pub returns-clause-seated : goal.returns-clause-seated
@@ -85,5 +84,5 @@ returns-clause-seated g c =
     let after = c.apply-told.new.self in
     let e = c.args.event in
     let told = reply_of c.apply-told.result in
-    let P : TurnData → Type 0 = λ r. StaysFrom c.args.seat (log_of r.run.log) (log_of after.log) in
-    subst P c.self.view_is (stays_from (state_of before) (state_of after) e c.args.seat c.args.done told c.apply-told.ensures.answers)
+    let P : TurnState → Type 0 = λ r. StaysFrom c.args.seat r.run.log after.log in
+    subst P c.self.view_is (stays_from before after e c.args.seat c.args.done told c.apply-told.ensures.answers)

@@ -1,7 +1,6 @@
 use Rattle.std.proofs.Common.{ap, sym}
 use Rattle.event_log.specs.Books.{Totals}
-use Rattle.event_log.specs.Views.{log_of}
-use Rattle.protocol_board.specs.Cores.{Size, state_of}
+use Rattle.protocol_board.specs.Cores.{Size}
 use Rattle.seats.proofs.Came.{fresh_came}
 use Rattle.seats.proofs.Counted.{fresh_claims, fresh_seat_totals, fresh_totals}
 use Rattle.seats.proofs.Outside.{none_yet}
@@ -11,7 +10,7 @@ use Rattle.seats.proofs.turning.Turning.new.Goals as goal
 
 pub invariant_of-result : goal.invariant_of-result
 invariant_of-result g c =
-    let r = state_of c.args.board in (
+    let r = c.args.board in (
       fresh_claims r c.requires.fresh,
       sym (ap (λ (t : Totals). t.commits) (fresh_totals r c.requires.fresh)),
       c.requires.named.0,
@@ -24,10 +23,10 @@ invariant_of-result g c =
     )
 
 pub returns-clause-totals : goal.returns-clause-totals
-returns-clause-totals g c = fresh_totals (state_of c.args.board) c.requires.fresh
+returns-clause-totals g c = fresh_totals c.args.board c.requires.fresh
 
 pub returns-clause-watched : goal.returns-clause-watched
-returns-clause-watched g c = fresh_seat_totals g.P.Watching.watched (state_of c.args.board) c.requires.fresh
+returns-clause-watched g c = fresh_seat_totals g.P.Watching.watched c.args.board c.requires.fresh
 
 pub returns-clause-seated : goal.returns-clause-seated
-returns-clause-seated g c = none_came_yet (log_of c.args.board.log) c.requires.fresh.0
+returns-clause-seated g c = none_came_yet c.args.board.log c.requires.fresh.0

@@ -3,13 +3,12 @@ use Rattle.meaning.specs.Syntax.{Script}
 use Rattle.script_check.specs.Trees.{script_of}
 use Rattle.script_check.specs.Scripts.{IsWellTyped}
 use Rattle.segment.specs.Jobs.{IsBegun}
-use Rattle.segment.specs.Parts.{data_of}
 use Rattle.segment.proofs.Safe.{never_broken}
 use Rattle.segment.proofs.job.Job.run.Goals as goal
 
 pub unreachable-requires : goal.unreachable-requires
 unreachable-requires g c =
-    let j = data_of c.self.inside.parts in
+    let j = c.self.inside.parts in
     let script = script_of c.args.script.now in
     let Begun : Script → Type 0 = λ s. IsBegun s j in
     let begun = subst Begun (sym c.requires) c.self.invariant.0 in

@@ -1,0 +1,21 @@
+//! A run's history with one fault more: the lists of events that there are, how main ended with each, and the table of them.
+#![tactic(auto)]
+
+mod all_lists;
+mod choice;
+mod ending;
+mod fault_list;
+mod log_events;
+mod seen;
+mod table;
+mod told;
+mod tried;
+
+pub use all_lists::{fault_lists, first_lists};
+pub use choice::FaultChoice;
+pub use ending::{RunEnd, attempts_in, end_of};
+pub use fault_list::{FaultList, event_lines, event_list};
+pub use log_events::events_in;
+pub use table::table_text;
+pub use told::{list_file, list_text};
+pub use tried::{EndKind, Tried, first_of, status_of_all};

@@ -1,0 +1,10 @@
+use Rattle.std.proofs.Common.{◌≡◌, map, take}
+use Rattle.std.specs.List.{AllByRecursion}
+use Rattle.fault_runs.specs.Replays.{IsTried, list_in}
+use Rattle.fault_runs.proofs.trying.try_lists.Given as goal
+
+abbrev pub invariant-loop-list : goal.invariant-loop-list
+invariant-loop-list g l = record {
+  lists_are : map list_in l.all ≡ take l.list-index l.lists;
+  each : AllByRecursion (IsTried g.S.ScriptName.script l.cluster l.events) l.all;
+}

@@ -1,0 +1,8 @@
+//! A script's run with each of many faults: each list of events is replayed on the same cluster, and what came of it is noted.
+#![tactic(auto)]
+
+mod replayed;
+mod trying;
+
+pub use replayed::{Replayed, replay_lines};
+pub use trying::try_lists;

@@ -1,0 +1,47 @@
+// One replay.
+
+ghost use Rattle.std.specs.Prelude.{◌≡◌, IfOk};
+ghost use Rattle.script_check.specs.Trees.{script_of};
+ghost use Rattle.fault_runs.specs.Replays.{EndsSo};
+
+use event_files::Line;
+use protocol_board::{Cluster, Core, Replay, ReplayStop};
+use segment::{Compiled, NoMemory, ScriptName};
+use sequence::Seq;
+use std::alloc::Global;
+
+/// A run to which lines were applied, and whether it was stopped before an event more than it may have.
+#[derive(Drop)]
+pub struct Replayed<S: ScriptName> {
+    pub replay: Replay<S>,
+    pub is_stopped: bool,
+}
+
+/// Applies the lines to a run of the script that begins on the cluster: see `Replay::play`.
+pub fn replay_lines<S: ScriptName>(
+    alloc: Global,
+    script: &Compiled,
+    cluster: Cluster,
+    lines: &Seq<Line>,
+) -> Result<Replayed<S>, NoMemory>
+    requires { script_of script.now ≡ S.script }
+    ensures { IfOk result (λ r. EndsSo S.script cluster lines.now r.replay r.is_stopped) }
+{
+    let Ok(core) = Core::<S>::new(alloc, script.script(), cluster) else {
+        return Err(NoMemory);
+    };
+    let mut replay = Replay::new(alloc, core);
+    match replay.play(alloc, script, lines) {
+        Ok(()) => Ok(Replayed {
+            replay,
+            is_stopped: false,
+        }),
+        Err(ReplayStop::TooLong) => Ok(Replayed {
+            replay,
+            is_stopped: true,
+        }),
+        Err(ReplayStop::NoMemory) => Err(NoMemory),
+        // No line of format 1 says which job a claim gives.
+        Err(ReplayStop::WrongJob) => unreachable!(),
+    }
+}

@@ -1,0 +1,2 @@
+pub mod Trapping
+pub mod Writing

@@ -1,0 +1,8 @@
+use Rattle.std.proofs.Common.{string_bytes}
+use Rattle.main_text.proofs.Writing.{three}
+use Rattle.main_text.proofs.links.write_rest.Goals as goal
+
+pub returns : goal.returns
+returns c =
+    three (string_bytes c.args.text.now) (string_bytes c.push_str.new.self) (string_bytes c.write_worker.new.text) (string_bytes c.write.new.self) _ _
+    _ c.in_ok-push_str.ensures.bytes c.in_ok-write_worker.ensures c.in_ok-write.ensures.bytes

@@ -1,0 +1,7 @@
+use Rattle.std.proofs.Common.{◌≡◌, None, drop}
+use Rattle.main_text.specs.Traps.{trap_got_from}
+use Rattle.main_text.proofs.traps.trap_got.Given as goal
+
+abbrev pub invariant-loop-entry : goal.invariant-loop-entry
+invariant-loop-entry l =
+    trap_got_from l.attempt l.last (drop l.entry-index l.log) ≡ trap_got_from l.attempt None l.log

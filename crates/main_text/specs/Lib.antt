@@ -1,0 +1,4 @@
+pub mod Happenings
+pub mod Links
+pub mod Traps
+pub mod Text

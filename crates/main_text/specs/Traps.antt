@@ -1,0 +1,99 @@
+-- Where a trap comes from.
+use Rattle.std.specs.Prelude.{Bool, List, None, Option, Some, [], codes, false, if◌then◌else◌, suc, true, zero, ℕ, ◌&&◌, ◌+◌, ◌++◌, ◌∷◌}
+use Rattle.std.specs.List.{flat_map}
+use Rattle.std.specs.Fmt.{decimal}
+use Rattle.meaning.specs.Births.{same_id}
+use Rattle.meaning.specs.Values.{Id, Outcome, Trapped, Val}
+use Rattle.event_log.specs.Entries.{Attempt, Begun, Ended, Entry, Got}
+use Rattle.event_log.specs.Words.{births, same_attempt}
+use Rattle.history.specs.Main.{first}
+use Rattle.log_text.specs.Attempts.{named_text}
+use Rattle.protocol_data.specs.declared.job.Given.{Given}
+use Rattle.main_text.specs.declared.happenings.Happening.TheVariants.{Begins, Gets, Stops}
+use Rattle.main_text.specs.Happenings.{when_last}
+use Rattle.main_text.specs.Links.{made_text, worker_text}
+
+abbrev pub is_trap : Outcome → Bool
+is_trap (Val v) = false
+is_trap (Trapped t) = true
+
+abbrev pub trapped_or_none : Id → Outcome → Option Id
+trapped_or_none y (Val v) = None
+trapped_or_none y (Trapped t) = Some y
+
+-- what the attempt got last, if that was a trap; `last` is so of the entries before
+abbrev pub trap_after : Attempt → Option Id → Entry → Option Id
+trap_after a last (Got b y c) = if same_attempt b a then trapped_or_none y c else last
+trap_after a last _ = last
+
+abbrev pub trap_got_from : Attempt → Option Id → List Entry → Option Id
+trap_got_from a last [] = last
+trap_got_from a last (x ∷ rest) = trap_got_from a (trap_after a last x) rest
+
+-- the object whose trap the attempt got last
+unfoldable pub trap_got : List Entry → Attempt → Option Id
+trap_got log a = trap_got_from a None log
+
+abbrev pub count_in : Attempt → Entry → ℕ
+count_in a (Got b y c) = if same_attempt b a then 1 else 0
+count_in a _ = 0
+
+-- how many answers the attempt got
+abbrev pub answer_count : Attempt → List Entry → ℕ
+answer_count a [] = 0
+answer_count a (x ∷ rest) = count_in a x + answer_count a rest
+
+abbrev pub trapped_in : Id → Entry → List Attempt
+trapped_in o (Ended a c) = if same_id a.object o && is_trap c then a ∷ [] else []
+trapped_in o _ = []
+
+-- the first attempt of the object's task that ended with a trap
+abbrev pub trapped_of : List Entry → Id → Option Attempt
+trapped_of log o = first (flat_map (trapped_in o) log)
+
+abbrev pub runner_in : Attempt → Entry → List ℕ
+runner_in a (Begun b w) = if same_attempt b a then w ∷ [] else []
+runner_in a _ = []
+
+abbrev pub runner_of : List Entry → Attempt → Option ℕ
+runner_of log a = first (flat_map (runner_in a) log)
+
+abbrev pub runner_note : Option ℕ → List ℕ
+runner_note None = []
+runner_note (Some w) = codes " on " ++ worker_text w
+
+-- a1.2#0 (f) began on w3 in event 10 (deliver 5, line 4), and ended with the trap in event 15 (commit 4, line 8).
+unfoldable pub run_text : List Given → List Entry → List ℕ → Attempt → List ℕ
+run_text jobs log lines a =
+    named_text (births log) a
+    ++ (codes " began"
+    ++ (runner_note (runner_of log a)
+    ++ (when_last jobs lines log (Begins a) ++ (codes ", and ended with the trap" ++ (when_last jobs lines log (Stops a) ++ codes ".\n")))))
+
+abbrev pub behind_text : ℕ → List ℕ
+behind_text zero = codes "before any answer.\n"
+behind_text (suc n) = codes "after answer " ++ (decimal (suc n) ++ codes ".\n")
+
+-- a3.1#0 (g) trapped in its own code, after answer 2.
+unfoldable pub own_text : List Entry → Attempt → List ℕ
+own_text log a = named_text (births log) a ++ (codes " trapped in its own code, " ++ behind_text (answer_count a log))
+
+-- a1.0#0 (main) got a trap in event 19 (deliver 11, line 9), that of o1.2: remote(2) f(get o1.1, 5).
+unfoldable pub trap_text : List Given → List Entry → List ℕ → Attempt → Id → List ℕ
+trap_text jobs log lines a y =
+    named_text (births log) a
+    ++ (codes " got a trap" ++ (when_last jobs lines log (Gets a) ++ (codes ", that of " ++ (made_text (births log) y ++ codes ".\n"))))
+
+-- an attempt that ended with the trap, and what is told of it behind that
+abbrev pub made_step : List Given → List Entry → List ℕ → (Attempt → List ℕ) → Option Attempt → List ℕ
+made_step jobs log lines rest None = []
+made_step jobs log lines rest (Some b) = run_text jobs log lines b ++ rest b
+
+abbrev pub trap_step : List Given → List Entry → List ℕ → (Attempt → List ℕ) → Attempt → Option Id → List ℕ
+trap_step jobs log lines rest a None = own_text log a
+trap_step jobs log lines rest a (Some y) = trap_text jobs log lines a y ++ made_step jobs log lines rest (trapped_of log y)
+
+-- from that attempt to the first one whose own code trapped, so many at most
+unfoldable pub traps_text : List Given → List Entry → List ℕ → ℕ → Attempt → List ℕ
+traps_text jobs log lines zero a = []
+traps_text jobs log lines (suc n) a = trap_step jobs log lines (traps_text jobs log lines n) a (trap_got log a)

@@ -1,0 +1,11 @@
+//! Why main ended as it did, or for what it waits, in sentences.
+#![tactic(auto)]
+
+mod attempts;
+mod happenings;
+mod links;
+mod parties;
+mod text;
+mod traps;
+
+pub use text::main_text;

@@ -1,0 +1,270 @@
+// Where a trap comes from.
+
+ghost use Rattle.std.specs.Prelude.{◌≡◌, ◌≤◌, ◌++◌, OnOk, string_bytes};
+ghost use Rattle.values.specs.Values.{content_of};
+ghost use Rattle.event_log.specs.Words.{births};
+ghost use Rattle.history.specs.Main.{first};
+ghost use Rattle.log_words.specs.Index.{IsIndexOf};
+ghost use Rattle.main_text.specs.Traps.{answer_count, behind_text, count_in, is_trap, own_text, run_text, runner_in, runner_note, runner_of, trap_after};
+ghost use Rattle.main_text.specs.Traps.{trap_got, trap_text, trapped_in, trapped_of, traps_text};
+
+use crate::attempts::write_made;
+use crate::happenings::{Happening, write_when_last};
+use crate::parties::write_worker;
+use ids::{AttemptId, ObjectId, WorkerId};
+use log_entries::Entry;
+use log_text::write_named;
+use log_words::BirthIndex;
+use protocol_data::Whole;
+use std::alloc::AllocError;
+use values::Content;
+
+fn is_trap(content: &Content) -> bool
+    ensures { result ≡ is_trap (content_of content.now) }
+{
+    match content {
+        Content::Value(_) => false,
+        Content::Trap(_) => true,
+    }
+}
+
+/// The object whose trap the attempt got last, where `last` is that of the entries before.
+fn trap_after(attempt: AttemptId, last: Option<ObjectId>, entry: &Entry) -> Option<ObjectId>
+    ensures { result ≡ trap_after attempt last entry.now }
+{
+    let Entry::Got {
+        attempt: answered,
+        object,
+        content,
+    } = entry
+    else {
+        return last;
+    };
+    if !answered.is(attempt) {
+        return last;
+    }
+    match &*content.inner {
+        Content::Value(_) => None,
+        Content::Trap(_) => Some(*object),
+    }
+}
+
+/// The object whose trap the attempt got last.
+#[tactic(auto, unfolding(crate::specs::Traps::trap_got))]
+fn trap_got(log: &[Entry], attempt: AttemptId) -> Option<ObjectId>
+    ensures { result ≡ trap_got log.now attempt }
+{
+    let mut last = None;
+    for entry in log {
+        last = trap_after(attempt, last, entry);
+    }
+    last
+}
+
+fn count_in(attempt: AttemptId, entry: &Entry) -> usize
+    ensures count { result ≡ count_in attempt entry.now }
+    ensures few { result ≤ 1 }
+{
+    match entry {
+        Entry::Got {
+            attempt: answered,
+            ..
+        } => {
+            if answered.is(attempt) {
+                return 1;
+            }
+            0
+        }
+        _ => 0,
+    }
+}
+
+/// How many answers the attempt got.
+fn answer_count(log: &[Entry], attempt: AttemptId) -> usize
+    ensures { result ≡ answer_count attempt log.now }
+{
+    let mut count = 0;
+    for entry in log {
+        count += count_in(attempt, entry);
+    }
+    count
+}
+
+fn trapped_in(object: ObjectId, entry: &Entry) -> Option<AttemptId>
+    ensures { result ≡ first (trapped_in object entry.now) }
+{
+    let Entry::Ended { attempt, content } = entry else {
+        return None;
+    };
+    if attempt.object.is(object) && is_trap(&content.inner) {
+        return Some(*attempt);
+    }
+    None
+}
+
+/// The first attempt of the object's task that ended with a trap.
+fn trapped_of(log: &[Entry], object: ObjectId) -> Option<AttemptId>
+    ensures { result ≡ trapped_of log.now object }
+{
+    for entry in log {
+        if let Some(attempt) = trapped_in(object, entry) {
+            return Some(attempt);
+        }
+    }
+    None
+}
+
+fn runner_in(attempt: AttemptId, entry: &Entry) -> Option<WorkerId>
+    ensures { result ≡ first (runner_in attempt entry.now) }
+{
+    let Entry::Begun {
+        attempt: begun,
+        worker,
+    } = entry
+    else {
+        return None;
+    };
+    if begun.is(attempt) {
+        return Some(*worker);
+    }
+    None
+}
+
+/// The worker that ran the attempt.
+fn runner_of(log: &[Entry], attempt: AttemptId) -> Option<WorkerId>
+    ensures { result ≡ runner_of log.now attempt }
+{
+    for entry in log {
+        if let Some(worker) = runner_in(attempt, entry) {
+            return Some(worker);
+        }
+    }
+    None
+}
+
+fn write_runner(text: &mut String, worker: Option<WorkerId>) -> Result<(), AllocError>
+    ensures { OnOk result (string_bytes text.new ≡ string_bytes text.old ++ runner_note worker) }
+{
+    let Some(worker) = worker else {
+        return Ok(());
+    };
+    text.push_str(" on ")?;
+    write_worker(text, worker)
+}
+
+fn write_runner_of(text: &mut String, log: &[Entry], attempt: AttemptId) -> Result<(), AllocError>
+    ensures { OnOk result (string_bytes text.new ≡ string_bytes text.old ++ runner_note (runner_of log.now attempt)) }
+{
+    let runner = runner_of(log, attempt);
+    write_runner(text, runner)
+}
+
+/// Writes where the attempt began, and when it ended.
+#[tactic(auto, unfolding(crate::specs::Traps::run_text))]
+fn write_run(
+    text: &mut String,
+    index: &BirthIndex,
+    whole: &Whole,
+    log: &[Entry],
+    lines: &[usize],
+    attempt: AttemptId,
+) -> Result<(), AllocError>
+    ensures { IsIndexOf index.now log.now → OnOk result
+        (string_bytes text.new ≡ string_bytes text.old ++ run_text whole.now.jobs log.now lines.now attempt) }
+{
+    write_named(text, index, log, attempt)?;
+    text.push_str(" began")?;
+    write_runner_of(text, log, attempt)?;
+    write_when_last(text, whole, lines, log, &Happening::Begins(attempt))?;
+    text.push_str(", and ended with the trap")?;
+    write_when_last(text, whole, lines, log, &Happening::Stops(attempt))?;
+    text.push_str(".\n")?;
+    Ok(())
+}
+
+fn write_behind(text: &mut String, count: usize) -> Result<(), AllocError>
+    ensures { OnOk result (string_bytes text.new ≡ string_bytes text.old ++ behind_text count) }
+{
+    if count == 0 {
+        return text.push_str("before any answer.\n");
+    }
+    write!(text, "after answer {count}.\n")
+}
+
+fn write_behind_of(text: &mut String, log: &[Entry], attempt: AttemptId) -> Result<(), AllocError>
+    ensures { OnOk result (string_bytes text.new ≡ string_bytes text.old ++ behind_text (answer_count attempt log.now)) }
+{
+    let count = answer_count(log, attempt);
+    write_behind(text, count)
+}
+
+/// Writes that the attempt's own code trapped, and behind which answer.
+#[tactic(auto, unfolding(crate::specs::Traps::own_text))]
+fn write_own(
+    text: &mut String,
+    index: &BirthIndex,
+    log: &[Entry],
+    attempt: AttemptId,
+) -> Result<(), AllocError>
+    ensures { IsIndexOf index.now log.now → OnOk result (string_bytes text.new ≡ string_bytes text.old ++ own_text log.now attempt) }
+{
+    write_named(text, index, log, attempt)?;
+    text.push_str(" trapped in its own code, ")?;
+    write_behind_of(text, log, attempt)?;
+    Ok(())
+}
+
+/// Writes whose trap the attempt got.
+#[tactic(auto, unfolding(crate::specs::Traps::trap_text))]
+fn write_trap(
+    text: &mut String,
+    index: &BirthIndex,
+    whole: &Whole,
+    log: &[Entry],
+    lines: &[usize],
+    attempt: AttemptId,
+    object: ObjectId,
+) -> Result<(), AllocError>
+    ensures { IsIndexOf index.now log.now → OnOk result
+        (string_bytes text.new ≡ string_bytes text.old ++ trap_text whole.now.jobs log.now lines.now attempt object) }
+{
+    write_named(text, index, log, attempt)?;
+    text.push_str(" got a trap")?;
+    write_when_last(text, whole, lines, log, &Happening::Gets(attempt))?;
+    text.push_str(", that of ")?;
+    write_made(text, index, log, object)?;
+    text.push_str(".\n")?;
+    Ok(())
+}
+
+/// Writes whose trap it was, from that attempt to the first one whose own code trapped, so many at most.
+pub fn write_traps(
+    text: &mut String,
+    index: &BirthIndex,
+    whole: &Whole,
+    log: &[Entry],
+    lines: &[usize],
+    most: usize,
+    first: AttemptId,
+) -> Result<(), AllocError>
+    requires { IsIndexOf index.now log.now }
+    ensures { OnOk result
+        (string_bytes text.new ≡ string_bytes text.old ++ traps_text whole.now.jobs log.now lines.now most first) }
+{
+    let mut attempt = first;
+    let mut left = most;
+    while left > 0 {
+        let Some(object) = trap_got(log, attempt) else {
+            write_own(text, index, log, attempt)?;
+            return Ok(());
+        };
+        write_trap(text, index, whole, log, lines, attempt, object)?;
+        let Some(next) = trapped_of(log, object) else {
+            return Ok(());
+        };
+        write_run(text, index, whole, log, lines, next)?;
+        attempt = next;
+        left -= 1;
+    }
+    Ok(())
+}

@@ -1,0 +1,224 @@
+// A fault at every place of a run.
+
+use crate::inputs::{read_behind, read_script_file};
+use crate::replays::Texts;
+use crate::told::{OUTPUT, Stop, fault, no_memory, stopped};
+use raysim_commands::{
+    Cluster, CommandRefusal, EndKind, FaultChoice, FaultKind, Tracked, TriedFaults, faults,
+    first_of, list_file,
+};
+use raysim_files::{Noted, write_whole};
+use raysim_options::FaultsOptions;
+use std::alloc::{AllocError, Global};
+use std::process::ExitCode;
+use std::rt::Files;
+use std::{fs, io};
+
+/// The ends whose first lists are written.
+const ENDS: [EndKind; 6] = [
+    EndKind::Faulted(FaultKind::OwnerDied),
+    EndKind::Faulted(FaultKind::PutLost),
+    EndKind::Faulted(FaultKind::RetriesUsed),
+    EndKind::Open,
+    EndKind::Killed,
+    EndKind::Stopped,
+];
+
+/// The name of the file of an end's first list.
+fn file_name(kind: EndKind) -> &'static str {
+    match kind {
+        EndKind::AsSerial => "as_serial.ev",
+        EndKind::Faulted(FaultKind::OwnerDied) => "owner_died.ev",
+        EndKind::Faulted(FaultKind::PutLost) => "put_lost.ev",
+        EndKind::Faulted(FaultKind::RetriesUsed) => "retries_used.ev",
+        EndKind::Open => "open.ev",
+        EndKind::Killed => "main_killed.ev",
+        EndKind::Stopped => "stopped.ev",
+    }
+}
+
+/// Which faults are tried, and how many lists at most.
+#[derive(Clone, Copy)]
+struct Trial {
+    choice: FaultChoice,
+    most: usize,
+}
+
+/// What is tried where the words don't say.
+const USUAL: FaultChoice = FaultChoice {
+    kill: true,
+    told_kill: true,
+    kill_node: true,
+    lose: true,
+    evict: false,
+};
+
+const NOTHING: FaultChoice = FaultChoice {
+    kill: false,
+    told_kill: false,
+    kill_node: false,
+    lose: false,
+    evict: false,
+};
+
+/// The choice with the faults of that name too, if there are such.
+fn with_kind(choice: FaultChoice, name: &str) -> Option<FaultChoice> {
+    let mut more = choice;
+    match name {
+        "kill" => more.kill = true,
+        "notice" => more.told_kill = true,
+        "kill-node" => more.kill_node = true,
+        "lose" => more.lose = true,
+        "evict" => more.evict = true,
+        _ => return None,
+    }
+    Some(more)
+}
+
+/// The faults with these names, with commas between them.
+fn choice_of(names: &str) -> Option<FaultChoice> {
+    let mut choice = NOTHING;
+    for name in names.split(',') {
+        choice = with_kind(choice, name)?;
+    }
+    Some(choice)
+}
+
+/// Tries a fault at every place of a run, writes the table, and the lists where they are asked for; why it stops, where it does, is told.
+pub fn over_each_place<R: Files + Print + Eprint + AllocGlobal>(
+    rt: &R,
+    options: &FaultsOptions<'_>,
+    cluster: Cluster,
+) -> ExitCode {
+    let mut trial = Trial {
+        choice: USUAL,
+        most: usize::MAX,
+    };
+    if let Some(names) = options.of {
+        let Some(choice) = choice_of(names) else {
+            return fault(
+                rt,
+                names,
+                "are no kinds of faults: kill, notice, kill-node, lose and evict are, with commas between them",
+            );
+        };
+        trial.choice = choice;
+    }
+    if let Some(text) = options.most {
+        match text.parse::<usize>() {
+            Ok(most) => trial.most = most,
+            Err(_) => return fault(rt, text, "is no number of lists"),
+        }
+    }
+    if let Some(folder) = options.out {
+        match taken_path(rt, folder) {
+            Ok(None) => {}
+            Ok(Some(path)) => {
+                return fault(rt, path.as_str(), "is there already, and isn't overwritten");
+            }
+            Err(error) => return stopped(rt, Stop::writing(folder, error), options.script),
+        }
+    }
+    try_faults(rt, options, cluster, trial)
+}
+
+fn try_faults<R: Files + Print + Eprint + AllocGlobal>(
+    rt: &R,
+    options: &FaultsOptions<'_>,
+    cluster: Cluster,
+    trial: Trial,
+) -> ExitCode {
+    let texts = match read_texts(rt, options) {
+        Ok(texts) => texts,
+        Err(stop) => return stopped(rt, stop, options.script),
+    };
+    let mut output = Noted::new(io::writer(rt));
+    let done = faults(
+        rt.alloc(),
+        &mut Tracked::reader(texts.script.as_slice()),
+        &mut Tracked::reader(texts.events.as_slice()),
+        cluster,
+        trial.choice,
+        trial.most,
+        &mut Tracked::writer(&mut output),
+    );
+    let error = output.error();
+    match done {
+        Ok(tried) => write_lists(rt, options, &tried),
+        Err(refusal) => stopped(rt, Stop::of_writer(refusal, OUTPUT, error), options.script),
+    }
+}
+
+/// Reads both files. Without a file of events the run is settled.
+fn read_texts<'a, R: Files + AllocGlobal>(
+    rt: &R,
+    options: &FaultsOptions<'a>,
+) -> Result<Texts, Stop<'a>> {
+    let script = read_script_file(rt, options.script)?;
+    if let Some(path) = options.events {
+        let events = read_behind(rt, script.as_slice(), path)?;
+        return Ok(Texts { script, events });
+    }
+    match settled(rt.alloc()) {
+        Ok(events) => Ok(Texts { script, events }),
+        Err(_) => Err(Stop::Refused(CommandRefusal::NoMemory)),
+    }
+}
+
+fn settled(alloc: Global) -> Result<Vec<u8>, AllocError> {
+    let mut events = Vec::new(alloc);
+    events.extend_from_slice(b"settle\n")?;
+    Ok(events)
+}
+
+fn path_in(alloc: Global, folder: &str, name: &str) -> Result<String, AllocError> {
+    format!(in alloc; "{folder}/{name}")
+}
+
+/// The first file that would be written and is there already.
+fn taken_path<R: Files + AllocGlobal>(rt: &R, folder: &str) -> io::Result<Option<String>> {
+    for kind in ENDS {
+        let path = path_in(rt.alloc(), folder, file_name(kind))?;
+        if fs::exists(rt, path.as_str())? {
+            return Ok(Some(path));
+        }
+    }
+    Ok(None)
+}
+
+/// Writes the first list for each end that there is, and says with which status the program ends.
+fn write_lists<R: Files + Eprint + AllocGlobal>(
+    rt: &R,
+    options: &FaultsOptions<'_>,
+    tried: &TriedFaults,
+) -> ExitCode {
+    let Some(folder) = options.out else {
+        return ExitCode::from(tried.status);
+    };
+    if let Err(error) = fs::create_dir_all(rt, folder) {
+        return stopped(rt, Stop::writing(folder, error), options.script);
+    }
+    for kind in ENDS {
+        let Ok(path) = path_in(rt.alloc(), folder, file_name(kind)) else {
+            return no_memory(rt);
+        };
+        if let Err(error) = write_list(rt, path.as_str(), kind, tried) {
+            return stopped(rt, Stop::writing(path.as_str(), error), options.script);
+        }
+    }
+    ExitCode::from(tried.status)
+}
+
+/// Writes the first list that ended so to a file, whole or not at all, if there is one.
+fn write_list<R: Files + AllocGlobal>(
+    rt: &R,
+    path: &str,
+    kind: EndKind,
+    tried: &TriedFaults,
+) -> io::Result<()> {
+    let Some(first) = first_of(kind, tried.tried.as_slice()) else {
+        return Ok(());
+    };
+    let text = list_file(rt.alloc(), tried.events.as_slice(), &first)?;
+    write_whole(rt, path, text.as_bytes())
+}

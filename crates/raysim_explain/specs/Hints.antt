@@ -1,0 +1,108 @@
+-- What somebody who writes other languages may have meant: read off the token at fault and the bytes around it.
+use Rattle.std.specs.Prelude.{Bool, List, None, Option, Some, [], codes, drop, if◌then◌else◌, nat_eq, nat_le, nat_lt, not, slice_get, take, ℕ, ◌&&◌, ◌+◌, ◌-◌, ◌||◌, ◌∷◌, length, fold}
+use Rattle.std.specs.Option.{unwrap_or}
+use Rattle.std.specs.Str.{bytes_eq}
+use Rattle.raysim_explain.specs.declared.hint.Hint.{Hint}
+use Rattle.raysim_explain.specs.declared.hint.Hint.TheVariants.{Greater, AtLeast, And, Or, Not, Text, Fraction, CapitalLetter, SlashComment, While}
+use Rattle.raysim_explain.specs.declared.hint.Hint.TheVariants.{ElseIf, Assignment, Statement, LoneCall, EmptyList, LastComma, TypedName, NoResult, Truth, Semicolon}
+
+-- the byte at a place, and 0 where there is none
+abbrev pub byte_at : List ℕ → ℕ → ℕ
+byte_at text place = unwrap_or (slice_get text place) 0
+
+-- space, tab, carriage return, line feed
+abbrev pub is_blank : ℕ → Bool
+is_blank b = nat_eq b 32 || (nat_eq b 9 || (nat_eq b 13 || nat_eq b 10))
+
+-- the last byte that is no blank, and 0 where there is none
+abbrev pub byte_before : List ℕ → ℕ
+byte_before text = fold (λ last b. if is_blank b then last else b) 0 text
+
+-- the first byte that is no blank, and 0 where there is none
+unfoldable pub byte_behind : List ℕ → ℕ
+byte_behind [] = 0
+byte_behind (b ∷ bs) = if is_blank b then byte_behind bs else b
+
+-- + - * / %
+abbrev pub is_sum_sign : ℕ → Bool
+is_sum_sign b = nat_eq b 43 || (nat_eq b 45 || (nat_eq b 42 || (nat_eq b 47 || nat_eq b 37)))
+
+-- of bytes that begin no token: > & | ! " ' . and capital letters
+abbrev pub sign_hint : ℕ → ℕ → Option Hint
+sign_hint first second =
+    if nat_eq first 62 then (if nat_eq second 61 then Some AtLeast else Some Greater)
+    else if nat_eq first 38 then Some And
+    else if nat_eq first 124 then Some Or
+    else if nat_eq first 33 then Some Not
+    else if nat_eq first 34 || nat_eq first 39 then Some Text
+    else if nat_eq first 46 then Some Fraction
+    else if nat_lt 64 first && nat_lt first 91 then Some CapitalLetter
+    else None
+
+-- a statement may begin behind { } ;
+abbrev pub is_statement_begun : ℕ → Bool
+is_statement_begun before = nat_eq before 123 || (nat_eq before 125 || nat_eq before 59)
+
+-- of a token at which a statement was to begin: = ( or a sign stands behind it
+abbrev pub statement_hint : ℕ → Option Hint
+statement_hint behind =
+    if nat_eq behind 61 then Some Assignment
+    else if nat_eq behind 40 then Some LoneCall
+    else if is_sum_sign behind then Some Statement
+    else None
+
+-- of a token that the grammar does not allow there, with the bytes before and behind it that are no blanks
+abbrev pub token_hint : List ℕ → ℕ → ℕ → Option Hint
+token_hint token before behind =
+    if bytes_eq token (codes "while") then Some While
+    else if bytes_eq token (codes "if") && nat_eq before 101 then Some ElseIf
+    else if bytes_eq token (codes "/") && nat_eq behind 47 then Some SlashComment
+    else if bytes_eq token (codes ":") then Some TypedName
+    else if bytes_eq token (codes "{") && nat_eq before 41 then Some NoResult
+    else if bytes_eq token (codes "]") && nat_eq before 91 then Some EmptyList
+    else if nat_eq before 44 && (bytes_eq token (codes "]") || bytes_eq token (codes ")")) then Some LastComma
+    else if is_statement_begun before then statement_hint behind
+    else if bytes_eq token (codes "}") then Some Semicolon
+    else None
+
+-- of a name that is not in scope
+abbrev pub name_hint : List ℕ → Option Hint
+name_hint name = if bytes_eq name (codes "true") || bytes_eq name (codes "false") then Some Truth else None
+
+-- the bytes of a span
+abbrev pub span_bytes : List ℕ → ℕ → ℕ → List ℕ
+span_bytes text start end = take (end - start) (drop start text)
+
+-- of a span that is refused with that number
+abbrev pub hint_at : ℕ → List ℕ → ℕ → ℕ → Option Hint
+hint_at code text start end =
+    if nat_eq code 2 then sign_hint (byte_at text start) (byte_at text (start + 1))
+    else if nat_eq code 3 then token_hint (span_bytes text start end) (byte_before (take start text)) (byte_behind (drop end text))
+    else if nat_eq code 10 then name_hint (span_bytes text start end)
+    else None
+
+-- the same, where the span lies in the text
+abbrev pub hint_of : ℕ → List ℕ → ℕ → ℕ → Option Hint
+hint_of code text start end = if nat_lt (length text) end || nat_lt end start then None else hint_at code text start end
+
+abbrev pub hint_words : Hint → List ℕ
+hint_words Greater = codes "there is no >: a > b is b < a"
+hint_words AtLeast = codes "there is no >=: a >= b is b <= a"
+hint_words And = codes "there is no &&: one if stands inside another, or a * b where both are 0 or 1"
+hint_words Or = codes "there is no ||: 0 < a + b, where both are 0 or 1"
+hint_words Not = codes "there is no !: not a is a == 0"
+hint_words Text = codes "there are no texts: values are numbers, lists and references"
+hint_words Fraction = codes "there are no fractions, and .. stands between the bounds of a loop"
+hint_words CapitalLetter = codes "names have small letters, digits and _ alone"
+hint_words SlashComment = codes "a comment begins with #"
+hint_words While = codes "there is no while: a for over as many turns as there may be, in a function that returns when it is done"
+hint_words ElseIf = codes "there is no else if: else { if a { } }"
+hint_words Assignment = codes "a variable gets another value by set: set x = 2;"
+hint_words Statement = codes "a statement begins with let, set, if, for, print or return: set x = x + 1;"
+hint_words LoneCall = codes "a call alone is no statement: let unused = f();"
+hint_words EmptyList = codes "an empty list says of which type its items are: empty int"
+hint_words LastComma = codes "no comma stands behind the last one"
+hint_words TypedName = codes "a variable's type isn't written: let x = 1;"
+hint_words NoResult = codes "a function says of which type its result is: fn f() -> int { }"
+hint_words Truth = codes "there are no truth values: 1 and 0 stand for them"
+hint_words Semicolon = codes "a statement ends with ;"

@@ -1,0 +1,5 @@
+use Rattle.raysim_files.specs.Clashes.{NoneBefore}
+use Rattle.raysim_files.proofs.clash.earlier_name.Given as goal
+
+abbrev pub invariant-loop-earlier : goal.invariant-loop-earlier
+invariant-loop-earlier l = NoneBefore l.places l.earlier l.later

@@ -1,0 +1,54 @@
+// Why a read or a write failed.
+
+use std::io;
+use std::io::{Read, Write};
+
+/// A reader or a writer, with the error of its last call that failed.
+#[derive(Drop)]
+pub struct Noted<T> {
+    inner: T,
+    error: Option<io::Error>,
+}
+
+impl<T> Noted<T> {
+    pub fn new(inner: T) -> Noted<T> {
+        Noted { inner, error: None }
+    }
+
+    /// The error of its last call that failed, if one did.
+    pub fn error(&self) -> Option<io::Error> {
+        self.error
+    }
+}
+
+impl<R: Read> Read for Noted<R> {
+    ghost remaining = { λ s. R.remaining s.inner };
+
+    fn read(&mut self, buf: &mut [u8]) -> io::Result<usize> {
+        let done = self.inner.read(buf);
+        if let Err(error) = done {
+            self.error = Some(error);
+        }
+        done
+    }
+}
+
+impl<W: Write> Write for Noted<W> {
+    ghost contents = { λ s. W.contents s.inner };
+
+    fn write(&mut self, buf: &[u8]) -> io::Result<usize> {
+        let done = self.inner.write(buf);
+        if let Err(error) = done {
+            self.error = Some(error);
+        }
+        done
+    }
+
+    fn flush(&mut self) -> io::Result<()> {
+        let done = self.inner.flush();
+        if let Err(error) = done {
+            self.error = Some(error);
+        }
+        done
+    }
+}

@@ -1,0 +1,97 @@
+use Rattle.std.proofs.Common.{◌≡◌, IfSome, [], ◌∷◌, ◌++◌, map, sym, ap, ◌∙◌, subst}
+use Rattle.meaning.specs.Meaning.{replay}
+use Rattle.script_check.specs.Trees.{script_of}
+use Rattle.values.specs.Values.{content_of}
+use Rattle.frame_laws.specs.Steps.{HasSteps}
+use Rattle.frames.specs.Frames.{IsWaiting}
+use Rattle.frames.proofs.Doing.{if_ok, on_err}
+use Rattle.evaluation.specs.TaskValues.{IsTaskBirth}
+use Rattle.evaluation.proofs.Standing.{both_ok}
+use Rattle.evaluation.proofs.TaskRuns.{plain_contents}
+use Rattle.segment.specs.Jobs.{JobParts, replay_of, whole_of}
+use Rattle.segment.specs.Frames.{Fits, before_of}
+use Rattle.segment.specs.Pieces.{done_of}
+use Rattle.segment.proofs.Beyond.{whole_made}
+use Rattle.segment.proofs.Lasts.{map_last, waits_last}
+use Rattle.segment.proofs.runs.run_on.Goals as goal
+
+pub returns-in_default-clause-whole : goal.returns-in_default-clause-whole
+returns-in_default-clause-whole c =
+    let j = c.args.job.now in
+    if_ok _ _ c.run_again.result
+    (λ p is. whole_made j p (replay_of (script_of c.args.script.now) j) c.requires.begun.births c.requires.begun.prints is) c.run_again.ensures.beyond
+
+pub returns-in_default-clause-waits : goal.returns-in_default-clause-waits
+returns-in_default-clause-waits c =
+    let j = c.args.job.now in
+    both_ok _ _ _ c.run_again.result
+    (λ p is waits. waits (whole_made j p (replay_of (script_of c.args.script.now) j) c.requires.begun.births c.requires.begun.prints is))
+    c.run_again.ensures.beyond c.run_again.ensures.waits
+
+pub returns-clause-whole : goal.returns-clause-whole
+returns-clause-whole c =
+    let j = c.args.job.now in
+    let script = script_of c.args.script.now in
+    let rest = map content_of c.in-Some-split_last.field-0-1.now in
+    let answer = content_of c.in-Some-split_last.answer.now in
+    let items : map content_of c.deref-2.result.now ≡ j.answers =
+    ap (map content_of) (c.deref-2.ensures.value ∙ ap (λ v. v.items) c.deref.ensures) ∙ ap (λ (p : JobParts). p.answers) c.job.view_is in
+    let last : j.answers ≡ rest ++ answer ∷ [] =
+    sym items ∙ ap (map content_of) c.in-Some-split_last.ensures.cases.0 ∙ map_last content_of c.in-Some-split_last.field-0-1.now c.in-Some-split_last.answer.now in
+    let fits : Fits script j c.in-Some.frame = subst (λ f. IfSome f (Fits script j)) c.in-Some.is c.requires.fits in
+    let waits = waits_last script j c.in-Some.frame rest answer last fits in
+    if_ok _ _ c.go_on.result
+    (λ p replayed. ap (replay script j.spec j.base) last ∙ sym (replayed j.spec j.base (before_of j rest) waits))
+    c.go_on.ensures.replayed
+
+pub returns-clause-broken : goal.returns-clause-broken
+returns-clause-broken c =
+    let j = c.args.job.now in
+    let script = script_of c.args.script.now in
+    let rest = map content_of c.in-Some-split_last.field-0-1.now in
+    let answer = content_of c.in-Some-split_last.answer.now in
+    let items : map content_of c.deref-2.result.now ≡ j.answers =
+    ap (map content_of) (c.deref-2.ensures.value ∙ ap (λ v. v.items) c.deref.ensures) ∙ ap (λ (p : JobParts). p.answers) c.job.view_is in
+    let last : j.answers ≡ rest ++ answer ∷ [] =
+    sym items ∙ ap (map content_of) c.in-Some-split_last.ensures.cases.0 ∙ map_last content_of c.in-Some-split_last.field-0-1.now c.in-Some-split_last.answer.now in
+    let fits : Fits script j c.in-Some.frame = subst (λ f. IfSome f (Fits script j)) c.in-Some.is c.requires.fits in
+    let waits = waits_last script j c.in-Some.frame rest answer last fits in
+    on_err _ _ c.go_on.result
+    (λ e broken is. ap (λ cs. (replay script j.spec j.base cs).stop) last
+    ∙ broken is j.spec j.base (before_of j rest) (subst IsTaskBirth (ap (λ (x : JobParts). x.spec) c.job.view_is) c.attest_spec.ensures)
+    (plain_contents c.in-Some-split_last.field-0-1.now) waits)
+    c.go_on.ensures.broken
+
+pub returns-clause-waits : goal.returns-clause-waits
+returns-clause-waits c =
+    let j = c.args.job.now in
+    let script = script_of c.args.script.now in
+    let rest = map content_of c.in-Some-split_last.field-0-1.now in
+    let answer = content_of c.in-Some-split_last.answer.now in
+    let items : map content_of c.deref-2.result.now ≡ j.answers =
+    ap (map content_of) (c.deref-2.ensures.value ∙ ap (λ v. v.items) c.deref.ensures) ∙ ap (λ (p : JobParts). p.answers) c.job.view_is in
+    let last : j.answers ≡ rest ++ answer ∷ [] =
+    sym items ∙ ap (map content_of) c.in-Some-split_last.ensures.cases.0 ∙ map_last content_of c.in-Some-split_last.field-0-1.now c.in-Some-split_last.answer.now in
+    let fits : Fits script j c.in-Some.frame = subst (λ f. IfSome f (Fits script j)) c.in-Some.is c.requires.fits in
+    let waits = waits_last script j c.in-Some.frame rest answer last fits in
+    if_ok _ _ c.go_on.result
+    (λ p keeps. subst (λ cs. IfSome p.frame (IsWaiting script j.spec j.base
+    (record { answers = cs; births = (whole_of (done_of j p)).births; prints = (whole_of (done_of j p)).prints })))
+    (sym last) (keeps j.spec j.base (before_of j rest) waits))
+    c.go_on.ensures.keeps
+
+pub returns-clause-counts : goal.returns-clause-counts
+returns-clause-counts c =
+    let j = c.args.job.now in
+    let script = script_of c.args.script.now in
+    let rest = map content_of c.in-Some-split_last.field-0-1.now in
+    let answer = content_of c.in-Some-split_last.answer.now in
+    let items : map content_of c.deref-2.result.now ≡ j.answers =
+    ap (map content_of) (c.deref-2.ensures.value ∙ ap (λ v. v.items) c.deref.ensures) ∙ ap (λ (p : JobParts). p.answers) c.job.view_is in
+    let last : j.answers ≡ rest ++ answer ∷ [] =
+    sym items ∙ ap (map content_of) c.in-Some-split_last.ensures.cases.0 ∙ map_last content_of c.in-Some-split_last.field-0-1.now c.in-Some-split_last.answer.now in
+    let fits : Fits script j c.in-Some.frame = subst (λ f. IfSome f (Fits script j)) c.in-Some.is c.requires.fits in
+    let waits = waits_last script j c.in-Some.frame rest answer last fits in
+    if_ok _ _ c.go_on.result
+    (λ p counts. subst (λ cs. HasSteps script j.spec j.base cs p.steps) (sym last) (counts j.spec j.base (before_of j rest) waits))
+    c.go_on.ensures.counts

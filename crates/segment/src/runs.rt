@@ -1,0 +1,76 @@
+// How a job is run.
+
+ghost use Rattle.std.specs.Prelude.{◌≡◌, IfOk, IfErr, IfSome, drop};
+ghost use Rattle.meaning.specs.Values.{Trapped, Broken};
+ghost use Rattle.meaning.specs.Runs.{Over};
+ghost use Rattle.script_check.specs.Trees.{script_of};
+ghost use Rattle.evaluation.specs.Pieces.{piece_of};
+ghost use Rattle.evaluation.specs.TaskValues.{IsTaskBirth};
+ghost use Rattle.segment.specs.Jobs.{replay_of, beyond, HasStepsOf, IsBegun, IsTrueOf};
+ghost use Rattle.segment.specs.Frames.{Fits, WaitsAfter};
+ghost use Rattle.segment.specs.Pieces.{done_of};
+
+use evaluation::{Compiled, Frame, Piece, PieceError, go_on, run_piece};
+use held::{JobParts, Origin};
+use std::alloc::{AllocError, Global};
+
+/// The items after the first `count`, moved.
+fn items_after<T: Drop>(items: Vec<T>, count: usize) -> Result<Vec<T>, AllocError>
+    ensures { IfOk result (λ rest. rest.items ≡ drop count items.items) }
+{
+    let mut items = items;
+    let at = count.min(items.len());
+    items.split_off(at)
+}
+
+/// Runs the task from its start on the answers, and gives what it bears and prints beyond what it bore and printed before. What the
+/// run makes again is dropped.
+fn run_again(alloc: Global, script: &Compiled, job: &JobParts) -> Result<Piece, PieceError>
+    ensures beyond { IfOk result (λ p. piece_of p ≡ beyond job.now (replay_of (script_of script.now) job.now)) }
+    ensures broken { IfErr result (λ e. e ≡ PieceError.Broken → (replay_of (script_of script.now) job.now).stop ≡ Over (Trapped Broken)) }
+    ensures waits { IfOk result (λ p. IsTrueOf (script_of script.now) (done_of job.now p) →
+        IfSome p.frame (WaitsAfter (script_of script.now) (done_of job.now p))) }
+    ensures counts { IfOk result (λ p. HasStepsOf (script_of script.now) job.now p.steps) }
+{
+    let piece = run_piece(alloc, script, &job.spec.inner, job.base, &job.answers.inner)?;
+    let births = items_after(piece.births, job.births.len())?;
+    let prints = items_after(piece.prints, job.prints.len())?;
+    Ok(Piece {
+        births,
+        prints,
+        stop: piece.stop,
+        frame: piece.frame,
+        steps: piece.steps,
+    })
+}
+
+/// Tells that no value of a task has an outcome in it, and does nothing.
+fn attest_spec(spec: &Origin)
+    ensures { IsTaskBirth spec.now }
+{
+    let _ = &spec.inner;
+}
+
+/// Goes on from where the task waits for the last of the answers; with no frame it is run again from its start.
+pub(crate) fn run_on(
+    alloc: Global,
+    script: &Compiled,
+    job: &JobParts,
+    frame: Option<Frame>,
+) -> Result<Piece, PieceError>
+    requires begun { IsBegun (script_of script.now) job.now }
+    requires fits { IfSome frame (Fits (script_of script.now) job.now) }
+    ensures whole { IfOk result (λ p. IsTrueOf (script_of script.now) (done_of job.now p)) }
+    ensures broken { IfErr result (λ e. e ≡ PieceError.Broken → (replay_of (script_of script.now) job.now).stop ≡ Over (Trapped Broken)) }
+    ensures waits { IfOk result (λ p. IfSome p.frame (WaitsAfter (script_of script.now) (done_of job.now p))) }
+    ensures counts { IfOk result (λ p. HasStepsOf (script_of script.now) job.now p.steps) }
+{
+    let Some(frame) = frame else {
+        return run_again(alloc, script, job);
+    };
+    attest_spec(&job.spec);
+    let Some((answer, _)) = job.answers.inner.split_last() else {
+        return run_again(alloc, script, job);
+    };
+    go_on(alloc, script, frame, answer)
+}

@@ -1,0 +1,9 @@
+use Rattle.std.proofs.Common.{◌≡◌, drop}
+use Rattle.std.specs.List.{flat_map}
+use Rattle.history.specs.Main.{first}
+use Rattle.why_text.specs.Ways.{lacked_in}
+use Rattle.why_text.proofs.ways.lacked.Given as goal
+
+abbrev pub invariant-loop-entry : goal.invariant-loop-entry
+invariant-loop-entry l =
+    first (flat_map (lacked_in l.cause l.object) l.log) ≡ first (flat_map (lacked_in l.cause l.object) (drop l.entry-index l.log))

@@ -1,0 +1,79 @@
+// All rows, one after the other.
+
+use crate::orders::try_orders;
+use crate::row::{Read, Reading, Row};
+use crate::trial::{Tally, try_row};
+use std::process::ExitCode;
+use std::rt::Files;
+use std::{fs, io};
+
+fn tell<R: Print>(rt: &R, name: &str, tally: &Tally) -> io::Result<()> {
+    let (lists, serial) = (tally.lists, tally.serial);
+    let (died, lost, used) = (tally.owner_died, tally.put_lost, tally.retries_used);
+    let (open, killed, stopped) = (tally.open, tally.killed, tally.stopped);
+    let differ = tally.differ;
+    print!(rt; "{name}: {lists} lists, {serial} as serial, {died} OwnerDied, {lost} PutLost, ")?;
+    println!(rt;
+        "{used} RetriesUsed, {open} open, {killed} main killed, {stopped} stopped, {differ} differ"
+    )
+}
+
+/// Tries a row, tells what came of it, and says whether all is as it is promised.
+fn try_one<R: Print + AllocGlobal>(rt: &R, row: &Row, tells: bool) -> io::Result<bool> {
+    let name = row.name.as_str();
+    let Some(tally) = try_row(rt, row, tells)? else {
+        println!(rt; "{name}: no script with events")?;
+        return Ok(false);
+    };
+    tell(rt, name, &tally)?;
+    Ok(tally.differ == 0)
+}
+
+/// Tries the row, and the orders of its deliveries where it is the first.
+fn try_with_orders<R: Print + AllocGlobal>(rt: &R, row: &Row, tells: bool) -> io::Result<bool> {
+    let good = try_one(rt, row, tells)?;
+    if row.name.as_str() == "row 1" {
+        return Ok(try_orders(rt, row)? && good);
+    }
+    Ok(good)
+}
+
+fn try_file<R: Files + Print + AllocGlobal>(rt: &R, path: &str, tells: bool) -> io::Result<bool> {
+    let text = fs::read_to_string(rt, path)?;
+    let mut reading = Reading::new(rt.alloc());
+    let mut good = true;
+    for line in text.as_str().lines() {
+        match reading.read(rt.alloc(), line)? {
+            Read::Whole(row) => {
+                if !try_with_orders(rt, &row, tells)? {
+                    good = false;
+                }
+            }
+            Read::GoesOn => {}
+            Read::BadLine => {
+                println!(rt; "{path}: no line of a row: {line}")?;
+                good = false;
+            }
+        }
+    }
+    match reading.last() {
+        Some(row) => Ok(try_with_orders(rt, &row, tells)? && good),
+        None => Ok(good),
+    }
+}
+
+/// Tries the rows of each file that the words name behind the first, which is the program's own name. Behind the word `--reports` each list is told with its
+/// report, so that another implementation can be compared. Status 1 where something isn't as it is promised.
+pub fn try_files<R: Files + Print + AllocGlobal>(rt: &R, words: &[String]) -> io::Result<ExitCode> {
+    let mut good = true;
+    let mut tells = false;
+    for word in words.iter().skip(1) {
+        if word.as_str() == "--reports" {
+            tells = true;
+        } else if !try_file(rt, word.as_str(), tells)? {
+            good = false;
+        }
+    }
+    let status = if good { 0 } else { 1 };
+    Ok(ExitCode::from(status))
+}

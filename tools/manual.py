@@ -1,0 +1,193 @@
+#!/usr/bin/env python3
+"""Writes the manual page and the completions of the shells from what the program says of itself.
+
+    tools/manual.py PROGRAM             writes docs/raysim.1, docs/completions/raysim.bash and docs/completions/_raysim
+    tools/manual.py PROGRAM --check     writes nothing, and fails where one of them isn't what it would write
+
+All commands, words and options, with what they do, come from `PROGRAM --help` and `PROGRAM COMMAND --help`: from the table in which the program looks for them.
+"""
+import os
+import re
+import subprocess
+import sys
+
+TOP = os.path.dirname(os.path.dirname(os.path.abspath(__file__)))
+MANUAL, BASH, ZSH = "docs/raysim.1", "docs/completions/raysim.bash", "docs/completions/_raysim"
+# what an option's value is completed to, by the name that help gives it
+FILES, FOLDERS = ("FILE",), ("DIR",)
+STATUS = [
+    ("0", "A script is in order; main ended with a value; no fault was found that main doesn't survive."),
+    ("1", "Main ended with a trap; or there is no report: something was refused, or a word of the command line is at fault."),
+    ("2", "Main ended with a fault, or is open; a fault was found that main doesn't survive."),
+]
+EXAMPLES = [
+    ("raysim run sq.ray", "Runs a script."),
+    ("raysim run sq.ray --nodes 2 --plan deaths.plan --history deaths.ev", "Runs it on threads and two nodes, while what the plan says happens, and keeps the run."),
+    ("raysim sim sq.ray deaths.ev --nodes 2", "Replays the run that was kept."),
+    ("raysim why sq.ray deaths.ev --nodes 2", "Tells why it ended so."),
+]
+
+
+class Command:
+    """A command: its name, what it does, how it is called, its words and its options, each with what help says."""
+
+    def __init__(self, name, said):
+        self.name = name
+        self.about = said.split("\n", 1)[0]
+        self.usage = re.search(r"^Usage: (.*)$", said, re.M)[1]
+        self.words = rows(said, "Arguments")
+        self.options = [Option(*row) for row in rows(said, "Options")]
+
+
+class Option:
+    def __init__(self, form, does):
+        self.form, self.does = form, does
+        self.long = re.search(r"--[a-z-]+", form)[0]
+        self.short = (re.match(r"-[A-Za-z]\b", form) or [None])[0]
+        self.value = (re.search(r"<(\w+)>", form) or [None, None])[1]
+
+
+def rows(said, head):
+    """The rows below a heading of help: what stands left, and what it does."""
+    found = re.search(rf"^{head}:\n((?:  .*\n?)*)", said, re.M)
+    return [re.split(r"\s{2,}", row.strip(), maxsplit=1) for row in found[1].splitlines()] if found else []
+
+
+def help_of(program, *words):
+    """What the program says of itself, under its own name."""
+    ran = subprocess.run(["raysim", *words, "--help"], executable=program, capture_output=True, text=True, check=False)
+    said = ran.stdout + ran.stderr
+    if "Usage: " not in said:
+        sys.exit(f"{program} {' '.join(words)} --help tells no usage")
+    return said
+
+
+def commands_of(program):
+    whole = help_of(program)
+    names = [name for name, _ in rows(whole, "Commands") if name != "help"]
+    return Command("raysim", whole), [Command(name, help_of(program, name)) for name in names]
+
+
+# ---- the manual page
+
+
+def roff(text):
+    """A text as the manual page's language writes it."""
+    text = text.replace("\\", "\\e").replace("-", "\\-")
+    return f"\\&{text}" if text[:1] in (".", "'") else text
+
+
+def form_in_roff(form):
+    """An option's form, its name in bold and its value in italics."""
+    names, value = form.split(" <")[0], (re.search(r"<(.+?)>", form) or [None, None])[1]
+    return f"\\fB{roff(names)}\\fR" + (f" \\fI{roff(value)}\\fR" if value else "")
+
+
+def manual(whole, commands):
+    out = ['.TH RAYSIM 1 "" "Rowandeck" "User commands"', ".SH NAME", f"raysim \\- {roff(whole.about[0].lower() + whole.about[1:])}", ".SH SYNOPSIS"]
+    for command in commands:
+        out += [".B raysim", roff(command.usage.removeprefix("raysim ")), ".br"]
+    out += [".SH DESCRIPTION", "A script's functions call each other plainly or remotely. What a run prints and answers is what it prints and answers where every",
+            "remote call is a plain call, whatever messages come late or twice, and whatever workers and nodes die.", ".SH COMMANDS"]
+    for command in commands:
+        out += [f".SS raysim {roff(command.usage.removeprefix('raysim '))}", roff(command.about) + "."]
+        for form, does in command.words:
+            out += [".TP", f"\\fI{roff(re.sub('[<>]', '', form))}\\fR", roff(does)]
+        for option in command.options:
+            if option.long != "--help":
+                out += [".TP", form_in_roff(option.form), roff(option.does)]
+    out += [".SH EXIT STATUS"]
+    for status, meant in STATUS:
+        out += [".TP", f".B {status}", roff(meant)]
+    out += [".SH EXAMPLES"]
+    for words, does in EXAMPLES:
+        out += [".TP", f".B {roff(words)}", roff(does)]
+    return "\n".join(out) + "\n"
+
+
+# ---- completions
+
+
+def bash(whole, commands):
+    def cases(of):
+        return "\n".join(f"        {command.name}) words='{' '.join(of(command))}' ;;" for command in commands)
+
+    values = sorted({it.long for command in commands for it in command.options if it.value})
+    files = sorted({it.long for command in commands for it in command.options if it.value in FILES})
+    folders = sorted({it.long for command in commands for it in command.options if it.value in FOLDERS})
+    others = [it for it in values if it not in files and it not in folders]
+    asked = []
+    if files:
+        asked.append(f"        {'|'.join(files)}) COMPREPLY=($(compgen -f -- \"$word\")); return ;;")
+    if folders:
+        asked.append(f"        {'|'.join(folders)}) COMPREPLY=($(compgen -d -- \"$word\")); return ;;")
+    if others:
+        asked.append(f"        {'|'.join(others)}) return ;;")
+    names = " ".join([*(it.name for it in commands), *(it.long for it in whole.options)])
+    return f"""# Completions of raysim for bash: source this file. Made by tools/manual.py from the program's help.
+_raysim() {{
+    local word=${{COMP_WORDS[COMP_CWORD]}} before=${{COMP_WORDS[COMP_CWORD - 1]}} words
+    if [ "$COMP_CWORD" -eq 1 ]; then
+        COMPREPLY=($(compgen -W '{names}' -- "$word"))
+        return
+    fi
+    case $before in
+{chr(10).join(asked)}
+    esac
+    case ${{COMP_WORDS[1]}} in
+{cases(lambda command: [it.long for it in command.options])}
+        *) return ;;
+    esac
+    case $word in
+        -*) COMPREPLY=($(compgen -W "$words" -- "$word")) ;;
+        *) COMPREPLY=($(compgen -f -- "$word")) ;;
+    esac
+}}
+complete -o filenames -F _raysim raysim
+"""
+
+
+def quoted(text):
+    """A text between the quotes of zsh, in a place where brackets and colons mean something."""
+    return re.sub(r"([\[\]:\\])", r"\\\1", text).replace("'", "'\\''")
+
+
+def zsh(whole, commands):
+    def option(it):
+        kind = {"FILE": ":file:_files", "DIR": ":folder:_files -/"}.get(it.value, f":{it.value}:" if it.value else "")
+        return f"'{it.long}[{quoted(it.does)}]{kind}'"
+
+    lines = ["#compdef raysim", "# Completions of raysim for zsh: put this file into a folder of fpath. Made by tools/manual.py from the program's help.", "_raysim() {",
+             "    local -a commands", "    commands=("]
+    lines += [f"        '{command.name}:{quoted(command.about)}'" for command in commands]
+    lines += ["    )", "    if (( CURRENT == 2 )); then", "        _describe command commands", "        return", "    fi", "    local command=$words[2]",
+              "    shift words", "    (( CURRENT-- ))", "    case $command in"]
+    for command in commands:
+        places = [f"'{number}:{quoted(re.sub('[<>]', '', form.strip('[]')))}:_files'" for number, (form, _) in enumerate(command.words, 1)]
+        said = " \\\n            ".join(["_arguments", *[option(it) for it in command.options], *places])
+        lines.append(f"    {command.name})\n        {said}\n        ;;")
+    return "\n".join([*lines, "    esac", "}", '_raysim "$@"']) + "\n"
+
+
+def main(words):
+    if not words or words[1:] not in ([], ["--check"]):
+        sys.exit(__doc__)
+    whole, commands = commands_of(os.path.realpath(words[0]))
+    differ = 0
+    for path, text in ((MANUAL, manual(whole, commands)), (BASH, bash(whole, commands)), (ZSH, zsh(whole, commands))):
+        stands = None
+        if os.path.exists(f"{TOP}/{path}"):
+            with open(f"{TOP}/{path}", encoding="utf-8") as file:
+                stands = file.read()
+        if words[1:] and stands != text:
+            differ += 1
+            print(f"{path} isn't what the program's help says: tools/manual.py PROGRAM writes it anew")
+        elif not words[1:]:
+            os.makedirs(os.path.dirname(f"{TOP}/{path}"), exist_ok=True)
+            with open(f"{TOP}/{path}", "w", encoding="utf-8") as file:
+                file.write(text)
+    sys.exit(1 if differ else 0)
+
+
+if __name__ == "__main__":
+    main(sys.argv[1:])

@@ -10,7 +10,8 @@ line or the block's end, are all that it prints, standard error included; where 
 below which nothing stands isn't compared. A fenced block whose first line says `ray NAME`, `events NAME` or `plan NAME` is a file of that name for
 the commands of its page.
 
-A case is made of each command that prints the same every time and writes no file: `check`, `serial`, `run`, `sim`, `migrate`, `log` and `why`.
+A case is made of each command that prints the same every time and writes no file: `check`, `serial`, `run`, `sim`, `migrate`, `log`,
+`why` and `state`.
 Other programs than ./raysim that a page calls, such as printf and sed, make files for these.
 """
 import os
@@ -30,7 +31,10 @@ HEAD = """# What the pages of this repository show: each command line with what 
 """
 FILE = re.compile(r"(?:ray|events|plan) (\S+)$")
 # what a case may say, by the words of the command line
-FLAGS = {"sim": ("--json", "--books"), "run": ("--json",), "log": ("--messages",), "why": (), "check": (), "serial": (), "migrate": ()}
+FLAGS = {
+    "sim": ("--json", "--books", "--summary"), "run": ("--json", "--summary"), "log": ("--messages", "--full"), "why": ("--full",), "check": (), "serial": (),
+    "migrate": (), "state": ("--at",),
+}
 
 
 class Block:
@@ -121,7 +125,7 @@ class Words:
         words = iter(words)
         self.command = next(words, "")
         for word in words:
-            if word in ("--nodes", "--slots", "--threads", "--plan", "--history", "--timeline", "--lineage"):
+            if word in ("--nodes", "--slots", "--threads", "--plan", "--history", "--timeline", "--lineage", "--at"):
                 self.options[word] = next(words, "")
             elif word.startswith("--"):
                 self.options[word] = None
@@ -150,18 +154,24 @@ def case_of(place, line, shown, room, statuses):
     if asked.command not in FLAGS or not plain <= set(FLAGS[asked.command]):
         return None
     files = list(asked.files)
-    name = " ".join([asked.command, *sorted(plain)])
+    full = " --full" if "--full" in plain else ""
+    name = " ".join([asked.command, *sorted(plain - {"--full"})])
     script, events = room.read(files.pop(0)), ""
-    if asked.command in ("sim", "migrate", "why") or asked.command == "log" and files:
+    if asked.command in ("sim", "migrate", "why", "state") or asked.command == "log" and files:
         events = room.read(files.pop(0))
     elif asked.command == "log":
-        name += " of a run"
+        name, full = f"{name}{full} of a run", ""
+    if "--at" in asked.options:
+        name += f" {asked.options['--at']}"
     is_of_object = asked.command == "why" and files
     if is_of_object:
         name += f" {files.pop(0)}"
+    name += full
     nodes, slots = asked.options.get("--nodes", "1"), asked.options.get("--slots", "4")
     run = script, events, nodes, slots
-    if asked.command == "log" or is_of_object:
+    if asked.command == "state" and "w1: a1.0#0 (main) ended" not in shown:
+        status = 2
+    elif asked.command in ("log", "state") or is_of_object:
         status = statuses.get(run, 0)
     else:
         status = statuses[run] = status_of(shown)

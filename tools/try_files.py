@@ -1,6 +1,6 @@
 #!/usr/bin/env python3
-"""Tries what the program raysim does with files: tools/try_files.py PROGRAM. Each case runs it in a fresh folder, and compares what it writes, its
-status and the files that are there afterwards. The last line counts them; the status is 1 where one differs."""
+"""Tries what the program raysim does with files, and what it tells below a refusal: tools/try_files.py PROGRAM. Each case runs it in a fresh folder, and
+compares what it writes, its status and the files that are there afterwards. The last line counts them; the status is 1 where one differs."""
 import os
 import resource
 import shutil
@@ -79,6 +79,103 @@ REFUSED = [
     ("run sq.ray --plan bad.plan --history old", "refused 40 line 1\n"),
     ("run bad.ray --timeline old --lineage new", "refused 10 at 26..27\n"),
     ("sim sq.ray bad.plan --timeline old", "refused 40 line 1\n"),
+]
+
+# The name of a refusal and its cause, as docs/refusals.md has them.
+WORDS = {
+    1: "NotAscii: A byte of the script is above 127. The place is that byte.",
+    2: "BadToken: A byte begins no token, or a run of letters, digits and _ is none. The place is the byte or the run.",
+    3: "Expected: The grammar does not allow this token here, or the text ends too early. The place is the token or the end.",
+    4: "TooLarge: A limit is passed: bytes (the place is 0..0), functions, parameters, tokens of an expression, or nesting.",
+    10: "UnknownName: No variable or function of this name is in scope, or main is called. The place is the name.",
+    11: "WrongType: An expression has another type than its place asks for. The place is the expression.",
+    12: "WrongCount: A call has too many or too few arguments. The place is the function's name in the call.",
+    13: "NoMain: There is no main, or it has parameters, or its result is not int. The place is 0..0.",
+    14: "PrintOutsideMain: A function other than main prints. The place is the word print.",
+    15: "MissingReturn: A function's body may end without a return. The place is the function's name.",
+    16: "BadRetries: A remote call asks for more than 10 retries. The place is the number.",
+    17: "Duplicate: A name is given again while it is in scope. The place is the second name.",
+    18: "WrongReturns: A wrong number of results: several are read and printed, and not run yet. The place is the function's name or the word return.",
+    40: "BadLine: A line of a file of events is no event, or the last line has no line feed. Lines are counted from 1.",
+    42: "WrongJob: A claim gave another job than the line of a recorded history says. The file was recorded of another run.",
+}
+
+# What is said of those texts that look like something that another language has.
+HINTS = {
+    "fn main() -> int { return 1 }\n": "a statement ends with ;",
+    "fn main() -> int {\n    let x = 3\n    return x;\n}\n": "a statement ends with ;",
+    "fn main() { return 1; }\n": "a function says of which type its result is: fn f() -> int { }",
+    "fn main() -> int { let aB = 1; return 1; }\n": "names have small letters, digits and _ alone",
+}
+
+OPERATORS = "[ * / % + - == != < <="
+VALUES = "- get put INT NAME remote [ ( empty len push"
+EVENTS = "claim, commit, deliver, tick, notice, notice-node, evict, lose, kill, kill-node, join and settle"
+PLANNED = "tick, notice, notice-node, evict, lose, kill, kill-node and join"
+
+# Scripts that are refused: the number, the text, what stands at the place (none: the text's end), and what is told below the carets.
+SCRIPTS = [
+    (12, "fn one() -> int { return 1; }\nfn main() -> int { return one(2); }\n", "one(2", 3, ["expected: 0 arguments", "found: 1 argument"]),
+    (12, "fn two(a: int, b: int) -> int { return a; }\nfn main() -> int { return get remote two(1); }\n", "two(1", 3,
+     ["expected: 2 arguments", "found: 1 argument"]),
+    (17, "fn main() -> int {\n    let x = 1;\n    let x = 2;\n    return x;\n}\n", "x = 2", 1, ["first: 2:9"]),
+    (17, "fn f() -> int { return 1; }\nfn main() -> int { return 1; }\nfn f() -> int { return 2; }\n", "f() -> int { return 2", 1, ["first: 1:4"]),
+    (17, "fn f(a: int, a: int) -> int { return a; }\nfn main() -> int { return 1; }\n", "a: int)", 1, ["first: 1:6"]),
+    (11, "fn main() -> int { return put 1; }\n", "put 1", 5, ["expected: int, as the function's result", "found: ref int"]),
+    (11, "fn main() -> int { let l = [1, [2]]; return 1; }\n", "[2]", 3, ["expected: int, as the first item", "found: [int]"]),
+    (11, "fn main() -> int { let r = put [1]; print r; return 1; }\n", "r; return", 1,
+     ["expected: a type with no ref in it, since it is printed", "found: ref [int]"]),
+    (11, "fn f(l: [int]) -> int { return 1; }\nfn main() -> int { return get remote f(7); }\n", "7", 1,
+     ["expected: [int] or ref [int], as an argument of a remote call", "found: int"]),
+    (11, "fn main() -> int { let a = 1; return len(a); }\n", "a); }", 1, ["expected: a list, for len", "found: int"]),
+    (11, "fn main() -> int { return get 4; }\n", "4", 1, ["expected: a reference, for get", "found: int"]),
+    (11, "fn main() -> int { let l = empty ref int; set l = 3; return 1; }\n", "3; return", 1, ["expected: [ref int], as the variable", "found: int"]),
+    (11, "fn main() -> int { if [1] { return 1; } return 2; }\n", "[1]", 3, ["expected: int, as a condition", "found: [int]"]),
+    (3, "fn main() -> int { return 1 }\n", "}", 1, [f"expected one of: {OPERATORS} ; ,", "found: }"]),
+    (3, "fn main() -> int {\n    let x = 3\n    return x;\n}\n", "return", 6, [f"expected one of: {OPERATORS} ;", "found: return"]),
+    (3, "fn main() -> int { return", None, 1, [f"expected one of: {VALUES}", "found: the end of the text"]),
+    (3, "fn main() { return 1; }\n", "{", 1, ["expected: ->", "found: {"]),
+    (3, "fn f(a) -> int { return 1; }\n", ") ->", 1, ["expected: :", "found: )"]),
+    (3, "fn main() -> int { let 3 = 4; }\n", "3", 1, ["expected: NAME", "found: 3"]),
+    (3, "main", "main", 4, ["expected: fn", "found: main"]),
+    (4, "fn main() -> int { return " + "(" * 40 + "1" + ")" * 40 + "; }\n", "(" * 9 + "1", 1,
+     ["expected: 32 brackets and prefixes open at one place at most", "found: one more"]),
+    (4, "fn f(" + ", ".join(f"p{it}: int" for it in range(17)) + ") -> int { return 1; }\n", "p16", 3,
+     ["expected: 16 parameters at most", "found: parameter 17"]),
+    (4, "".join(f"fn f{it}() -> int {{ return 1; }}\n" for it in range(65)), "fn f64", 2, ["expected: 64 functions at most", "found: function 65"]),
+    (4, "fn main() -> int { return " + "1+" * 256 + "7; }\n", "7", 1, ["expected: 512 tokens in one expression at most", "found: token 513"]),
+    (10, "fn main() -> int { let total = 1; return totl; }\n", "totl", 4, ["near: total"]),
+    (10, "fn square(x: int) -> int { return x * x; }\nfn main() -> int { return sqare(3); }\n", "sqare", 5, ["near: square"]),
+    (10, "fn f() -> int { return main(); }\nfn main() -> int { return 1; }\n", "main(); }", 4, ["found: a call of main, which is called by nothing"]),
+    (2, "fn main() -> int { let aB = 1; return 1; }\n", "B", 1, ["expected: names have small letters, digits and _", "found: B"]),
+    (2, "fn main() -> int { return 07; }\n", "07", 2, ["expected: a number has no leading zero", "found: 07"]),
+    (2, "fn main() -> int { return 1 @ 2; }\n", "@", 1, ["found: @, the byte 64, which begins no token here"]),
+    (16, "fn f() -> int { return 1; }\nfn main() -> int { return get remote(11) f(); }\n", "11", 2, ["expected: 10 at most", "found: 11"]),
+    (18, "fn f() -> (int, int) { return 1, 2; }\nfn main() -> int { return 1; }\n", "f() -> (", 1, ["expected: 1", "found: 2"]),
+    (14, "fn f() -> int { print 1; return 1; }\nfn main() -> int { return 1; }\n", "print", 5, ["found: a print in f"]),
+    (13, "fn main(a: int) -> int { return a; }\n", "", 0, ["expected: fn main() -> int", "found: main has parameters"]),
+    (15, "fn main() -> int { if 1 { return 1; } }\n", "main", 4, []),
+]
+
+# Lists of events, and plans, with the line that is refused and why.
+LISTS = [
+    ("sim", "settle\nclaim w2\n", 2, "w2 is no number: a worker is written by its number alone"),
+    ("sim", "claim 1", 1, "no line feed stands at its end"),
+    ("sim", "claim 1\r\n", 1, "a carriage return stands in it: lines end with a line feed alone"),
+    ("log", "kill  2\n", 1, "two spaces stand beside one another: one stands between two words"),
+    ("sim", "kill 2 \n", 1, "a space stands at its end"),
+    ("sim", "# first\n \n", 2, "it has spaces alone: an empty line is passed over, or one that begins with #"),
+    ("why", "klaim 1\n", 1, f"there is no event klaim, but claim; there are {EVENTS}"),
+    ("sim", "deliver 07\n", 1, "07 is no number: it has a leading zero"),
+    ("sim", "kill 4294967296\n", 1, "4294967296 is too large: the number of a worker is at most 4294967295"),
+    ("sim", "lose 1 1.2\n", 1, "1.2 is no object: one is written as o1.2"),
+    ("sim", "notice 1\n", 1, "it is written notice W V"),
+    ("faults", "settle but w2\n", 1, "w2 is no number: a worker is written by its number alone"),
+    ("sim", "1 kill 2\n", 1, "1 stands in front of the event: so it does in a plan, and in a file whose first line is raysim 2"),
+    ("sim", "raysim 2\nclaim 1 1\n", 2, "claim is no seat: a line of a file of format 2 begins with one, from 0 to 8"),
+    ("migrate", "raysim 2\n0 claim 1 1\n", 1, "the file is of format 2 already"),
+    ("run", "0 claim 1\n", 1, f"claim stands in no plan: the run does that by itself; there are {PLANNED}"),
+    ("run", "soon kill 1\n", 1, "soon is no number of commits, with which a line of a plan begins"),
 ]
 
 
@@ -274,6 +371,68 @@ def try_standard_output(trial):
     trial.count("run sq.ray --history /dev/stdout", [] if is_both else [f"status {ran.returncode}, wrote {ran.stdout!r}"])
 
 
+def explained(code, text, mark, width):
+    """What stands below a script's refusal down to the words of its number: the place is where the mark begins, and the text's end where there is none."""
+    start = len(text) if mark is None else text.index(mark)
+    end = start if mark is None else start + width
+    line = text.count("\n", 0, start) + 1
+    begun = text.rfind("\n", 0, start) + 1
+    shown = text[begun:].split("\n")[0]
+    carets = " " * (start - begun) + "^" * max(width, 1)
+    told = f"refused {code} at {start}..{end}\nbad.ray:{line}:{start - begun + 1}\n    {shown}\n    {carets}\n"
+    if code in (10, 12, 15, 17):
+        told += f"    name: {text[start:end]}\n"
+    return told
+
+
+def try_explanations(trial):
+    """What is told with --explain."""
+    for code, text, mark, width, lines in SCRIPTS:
+        told = explained(code, text, mark, width)
+        FILES["bad.ray"] = text.encode()
+        hint = HINTS.get(text)
+        if hint:
+            told += f"    hint: {hint}\n"
+        told += "".join(f"    {it}\n" for it in [WORDS[code], *lines])
+        trial.run("check bad.ray --explain", 1, told)
+        trial.run("sim bad.ray settle.ev --explain", 1, told)
+    for command, text, number, why in LISTS:
+        kind = "the plan" if command == "run" else "the list of events"
+        FILES["bad.plan"] = text.encode()
+        words = "run sq.ray --plan bad.plan" if command == "run" else f"{command} sq.ray bad.plan"
+        shown = text.split("\n")[number - 1].replace("\r", "?")
+        told = f"refused 40 line {number}\n{kind} bad.plan, line {number}:\n    {shown}\n    {WORDS[40]}\n    why: {why}\n"
+        trial.run(f"{words} --explain", 1, told)
+        trial.run(words, 1, f"refused 40 line {number}\n")
+
+
+def try_limits(trial):
+    """What is told of limits, also without --explain."""
+    many = b"fn f() -> int { return 1; }\nfn main() -> int {\n    let l = empty ref int;\n    for i in 0 .. 1100 { set l = push(l, remote g()); }\n"
+    many += b"    for i in 0 .. 1100 { let unused = get l[i]; }\n    return 0;\n}\nfn g() -> int { return get remote f(); }\n"
+    FILES["bad.ray"] = many
+    limit = "limit: 1,024 workers in all, or 1,000,000 objects: the next event would have passed one of them\n"
+    remedy = "what to do: get some results before the next tasks are begun, or give each task more to do\n"
+    trial.run("run bad.ray", 1, f"refused 37\n{limit}{remedy}")
+    FILES["bad.plan"] = b"join\n" * 100001
+    limit = "limit: 100,000 events, those of settle lines counted\n"
+    remedy = "what to do: give each task more to do, so that there are fewer: each takes some ten events\n"
+    trial.run("sim sq.ray bad.plan", 1, f"refused 41\n{limit}{remedy}")
+
+
+def try_names(trial):
+    """What numbers and names mean."""
+    reason = b"30 NoWorker\nThe first worker that an event names does not live: it was never opened, or it is dead.\n"
+    reason += b"Example: claim 7 in a run with two workers\n"
+    for word in ["30", "NoWorker", "noworker"]:
+        trial.run(f"explain {word}", 0, report=reason)
+    trap = b"DivZero, a trap\nA number was divided by 0.\nComes of: / or % by 0\nExample: 1 / 0\nWhat to do: test the divisor before\n"
+    trial.run("explain divzero", 0, report=trap)
+    trial.run("explain OwnerDie", 1, "OwnerDie is the name of no refusal, fault or trap; near are: OwnerDied\n")
+    trial.run("explain nothing_like_it", 1, "nothing_like_it is the name of no refusal, fault or trap\n")
+    trial.run("explain 5", 1, "nothing is refused 5\n")
+
+
 def main():
     if len(sys.argv) != 2:
         sys.exit("usage: tools/try_files.py PROGRAM")
@@ -283,7 +442,7 @@ def main():
         program = shutil.copy(sys.argv[1], f"{room}/raysim")
         os.chmod(program, 0o755)
         trial = Trial(program, room)
-        for part in [try_refusals, try_writes, try_failures, try_standard_output]:
+        for part in [try_refusals, try_writes, try_failures, try_standard_output, try_explanations, try_limits, try_names]:
             part(trial)
         print(f"{trial.passed} passed, {trial.failed} failed")
         return 1 if trial.failed else 0

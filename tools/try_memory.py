@@ -155,6 +155,9 @@ class Trial:
 def main(words):
     if len(words) != 1:
         sys.exit(__doc__)
+    with open(words[0], "rb") as file:
+        if b"__asan_init" in file.read():
+            sys.exit("this program watches each access to memory, and has an allocator of its own: build one that doesn't (./raysim does, where it can)")
     with tempfile.TemporaryDirectory(prefix="try-memory-") as room:
         with open(f"{room}/refusing.c", "w", encoding="utf-8") as file:
             file.write(LIBRARY)

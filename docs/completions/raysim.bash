@@ -2,24 +2,26 @@
 _raysim() {
     local word=${COMP_WORDS[COMP_CWORD]} before=${COMP_WORDS[COMP_CWORD - 1]} words
     if [ "$COMP_CWORD" -eq 1 ]; then
-        COMPREPLY=($(compgen -W 'check serial sim run log why faults migrate explain --help --version' -- "$word"))
+        COMPREPLY=($(compgen -W 'check serial sim run log why faults migrate explain export state --help --version' -- "$word"))
         return
     fi
     case $before in
         --history|--lineage|--plan|--timeline) COMPREPLY=($(compgen -f -- "$word")); return ;;
         --out) COMPREPLY=($(compgen -d -- "$word")); return ;;
-        --most|--nodes|--of|--slots|--threads) return ;;
+        --at|--most|--nodes|--of|--slots|--threads|--to) return ;;
     esac
     case ${COMP_WORDS[1]} in
         check) words='--explain --help' ;;
         serial) words='--explain --help' ;;
-        sim) words='--nodes --slots --json --timeline --lineage --books --help' ;;
-        run) words='--explain --threads --nodes --slots --plan --history --json --timeline --lineage --help' ;;
-        log) words='--nodes --slots --messages --help' ;;
-        why) words='--nodes --slots --help' ;;
-        faults) words='--nodes --slots --of --most --out --help' ;;
-        migrate) words='--nodes --slots --help' ;;
+        sim) words='--explain --nodes --slots --json --timeline --lineage --books --full --summary --help' ;;
+        run) words='--explain --threads --nodes --slots --plan --history --json --timeline --lineage --full --summary --help' ;;
+        log) words='--explain --nodes --slots --messages --full --help' ;;
+        why) words='--explain --nodes --slots --full --help' ;;
+        faults) words='--explain --nodes --slots --of --most --out --help' ;;
+        migrate) words='--explain --nodes --slots --help' ;;
         explain) words='--help' ;;
+        export) words='--explain --to --help' ;;
+        state) words='--explain --nodes --slots --at --help' ;;
         *) return ;;
     esac
     case $word in

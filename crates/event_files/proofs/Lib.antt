@@ -1,9 +1,9 @@
 mod Decimals
-mod Marks
+pub mod Marks
 mod Objects
 mod EventTexts
 mod Settles
-mod Rows
-mod Readers
-mod Histories
+pub mod Rows
+pub mod Readers
+pub mod Histories
 mod BothFormats

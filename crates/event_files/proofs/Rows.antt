@@ -86,7 +86,7 @@ pub ends : {A : Type 0} (is : A → Type 0) (text : A → List ℕ) (bytes rest 
 ends is text bytes [] says n h e = record { rows = h.rows; are_rows = h.are_rows; written = h.written ∙ append-nil (rows_text text h.rows); said = h.said }
 ends is text bytes (b ∷ rest) says n h e = absurd (omega (arith, e))
 
-no_row : {A : Type 0} (is : A → Type 0) (text : A → List ℕ) (read : List ℕ → Option A) → Reads is text read → (line : List ℕ) →
+pub no_row : {A : Type 0} (is : A → Type 0) (text : A → List ℕ) (read : List ℕ → Option A) → Reads is text read → (line : List ℕ) →
     is_passed line ≡ false → read line ≡ None → (r : Row A) → IsRow is r → row_text text r ≢ line
 no_row is text read own line k e (Passed x) h f = let g : is_passed line ≡ true = sym (ap is_passed f) ∙ h.0 in cc
 no_row is text read own line k e (Said a) h f = let g : read line ≡ Some a = sym (ap read f) ∙ own.reads a h in cc

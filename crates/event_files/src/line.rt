@@ -50,7 +50,7 @@ fn read_settle(alloc: Global, text: &[u8]) -> Result<Option<Line>, AllocError>
     Ok(Some(Line::Settle(workers)))
 }
 
-/// What a line without its line feed says.
+/// What a line of an event file says, without its line feed; no other text is one.
 #[tactic(auto, unfolding(crate::specs::Reading::line_in))]
 pub fn read_line(alloc: Global, text: &[u8]) -> Result<Option<Line>, AllocError>
     ensures { IfOk result (λ line. line ≡ line_in text.now) }

@@ -36,9 +36,9 @@ fn may_be_planned(event: &Event) -> bool
     )
 }
 
-/// What a line without its line feed says.
+/// What a line of a plan says, without its line feed; no other text is one. Takes no memory.
 #[tactic(auto, unfolding(crate::specs::Plans::plan_line_in))]
-fn read_plan_line(text: &[u8]) -> Option<PlanLine>
+pub fn read_plan_line(text: &[u8]) -> Option<PlanLine>
     ensures { result ≡ plan_line_in text.now }
 {
     let Some((front, back)) = parted(text, b' ') else {

@@ -72,9 +72,9 @@ fn read_said(seat: u8, text: &[u8]) -> Option<RecordedEvent>
     })
 }
 
-/// What a line without its line feed says.
+/// What a line of a file of format 2 says, without its line feed; no other text is one. Takes no memory.
 #[tactic(auto, unfolding(crate::specs::Recorded::recorded_in))]
-fn read_recorded(text: &[u8]) -> Option<RecordedEvent>
+pub fn read_recorded(text: &[u8]) -> Option<RecordedEvent>
     ensures { result ≡ recorded_in text.now }
 {
     let Some((front, back)) = parted(text, b' ') else {

@@ -8,6 +8,7 @@ use Rattle.report.specs.Values.{id_text}
 use Rattle.event_log.specs.Entries.{Attempt, Fault, Entry}
 use Rattle.history.specs.Texts.{attempt_text, fault_text}
 use Rattle.history.specs.Attempts.{state_of}
+use Rattle.log_words.specs.declared.contents.Contents.{Contents}
 use Rattle.log_words.specs.Contents.{content_text}
 use Rattle.lineage_text.specs.Edges.{named_edge}
 
@@ -32,8 +33,8 @@ unfoldable pub fate_tail : List ℕ
 fate_tail = codes "\"];\n"
 
 -- the content with which an attempt ended is the label of its edge, and what it names is joined to its object
-abbrev pub ended_text : Attempt → Outcome → List ℕ
-ended_text a c = fate_head a ++ (content_text c ++ (fate_tail ++ flat_map (named_edge a.object) (each_once (ids_in_outcome c))))
+abbrev pub ended_text : Contents → Attempt → Outcome → List ℕ
+ended_text how a c = fate_head a ++ (content_text how c ++ (fate_tail ++ flat_map (named_edge a.object) (each_once (ids_in_outcome c))))
 
 -- a fault ends a red label
 unfoldable pub fault_tail : Fault → List ℕ

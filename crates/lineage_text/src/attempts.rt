@@ -9,7 +9,7 @@ ghost use Rattle.lineage_text.specs.Attempts.{attempt_edge, attempt_node, begun_
 use crate::edges::write_named_edges;
 use history::{AttemptStates, kind_name};
 use ids::{AttemptId, ObjectId, WorkerId};
-use log_words::write_content;
+use log_words::{Contents, write_content};
 use std::alloc::{AllocError, Global};
 use values::{Content, Fault, FaultKind, ids_in};
 
@@ -74,14 +74,15 @@ fn write_fate_tail(text: &mut String) -> Result<(), AllocError>
 pub fn write_ended(
     alloc: Global,
     text: &mut String,
+    contents: Contents,
     attempt: AttemptId,
     content: &Content,
 ) -> Result<(), AllocError>
-    ensures { OnOk result (string_bytes text.new ≡ string_bytes text.old ++ ended_text attempt (content_of content.now)) }
+    ensures { OnOk result (string_bytes text.new ≡ string_bytes text.old ++ ended_text contents attempt (content_of content.now)) }
 {
     let named = ids_in(content, alloc)?;
     write_fate_head(text, attempt)?;
-    write_content(text, content)?;
+    write_content(text, contents, content)?;
     write_fate_tail(text)?;
     write_named_edges(text, attempt.object, &named)
 }

@@ -6,8 +6,7 @@ ghost use Rattle.lineage_text.specs.Births.{birth_edges, born_text, label_text, 
 
 use crate::edges::{write_arguments, write_named_edges};
 use ids::ObjectId;
-use log_words::{ids_of, write_call};
-use report::write_value;
+use log_words::{Contents, ids_of, write_call, write_value};
 use std::alloc::{AllocError, Global};
 use task_spec::Birth;
 
@@ -18,19 +17,19 @@ fn write_head(text: &mut String, object: ObjectId) -> Result<(), AllocError>
     write!(text, "    \"{object}\" [label=\"{object}: ")
 }
 
-fn write_label(text: &mut String, birth: &Birth) -> Result<(), AllocError>
-    ensures { OnOk result (string_bytes text.new ≡ string_bytes text.old ++ label_text (birth_of birth.now)) }
+fn write_label(text: &mut String, contents: Contents, birth: &Birth) -> Result<(), AllocError>
+    ensures { OnOk result (string_bytes text.new ≡ string_bytes text.old ++ label_text contents (birth_of birth.now)) }
 {
     match birth {
         Birth::Put(value) => {
             text.push_str("put ")?;
-            write_value(text, value)
+            write_value(text, contents, value)
         }
         Birth::Task {
             function,
             arguments,
             ..
-        } => write_call(text, function.as_str(), arguments),
+        } => write_call(text, contents, function.as_str(), arguments),
     }
 }
 
@@ -45,11 +44,16 @@ fn write_tail(text: &mut String, birth: &Birth) -> Result<(), AllocError>
 }
 
 #[tactic(auto, unfolding(crate::specs::Births::node_text))]
-fn write_node(text: &mut String, object: ObjectId, birth: &Birth) -> Result<(), AllocError>
-    ensures { OnOk result (string_bytes text.new ≡ string_bytes text.old ++ node_text object (birth_of birth.now)) }
+fn write_node(
+    text: &mut String,
+    contents: Contents,
+    object: ObjectId,
+    birth: &Birth,
+) -> Result<(), AllocError>
+    ensures { OnOk result (string_bytes text.new ≡ string_bytes text.old ++ node_text contents object (birth_of birth.now)) }
 {
     write_head(text, object)?;
-    write_label(text, birth)?;
+    write_label(text, contents, birth)?;
     write_tail(text, birth)
 }
 
@@ -74,11 +78,12 @@ fn write_edges(
 pub fn write_born(
     alloc: Global,
     text: &mut String,
+    contents: Contents,
     object: ObjectId,
     birth: &Birth,
 ) -> Result<(), AllocError>
-    ensures { OnOk result (string_bytes text.new ≡ string_bytes text.old ++ born_text object (birth_of birth.now)) }
+    ensures { OnOk result (string_bytes text.new ≡ string_bytes text.old ++ born_text contents object (birth_of birth.now)) }
 {
-    write_node(text, object, birth)?;
+    write_node(text, contents, object, birth)?;
     write_edges(alloc, text, object, birth)
 }

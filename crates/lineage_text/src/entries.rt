@@ -10,6 +10,7 @@ use crate::births::write_born;
 use history::AttemptStates;
 use ids::ObjectId;
 use log_entries::Entry;
+use log_words::Contents;
 use std::alloc::{AllocError, Global};
 use values::Fault;
 
@@ -38,16 +39,29 @@ fn write_released(text: &mut String, object: ObjectId) -> Result<(), AllocError>
 pub fn write_entry(
     alloc: Global,
     text: &mut String,
+    contents: Contents,
     states: &AttemptStates,
     entry: &Entry,
 ) -> Result<(), AllocError>
     ensures { (log : List Entry) → AreStatesOf states.now log → OnOk result
-        (string_bytes text.new ≡ string_bytes text.old ++ lineage_in log entry.now) }
+        (string_bytes text.new ≡ string_bytes text.old ++ lineage_in contents log entry.now) }
 {
     match entry {
-        Entry::Born { object, birth, .. } => write_born(alloc, text, *object, &birth.inner),
+        Entry::Born { object, birth, .. } => write_born(
+            alloc,
+            text,
+            contents,
+            *object,
+            &birth.inner,
+        ),
         Entry::Begun { attempt, worker } => write_begun(text, states, *attempt, *worker),
-        Entry::Ended { attempt, content } => write_ended(alloc, text, *attempt, &content.inner),
+        Entry::Ended { attempt, content } => write_ended(
+            alloc,
+            text,
+            contents,
+            *attempt,
+            &content.inner,
+        ),
         Entry::Faulted { attempt, fault, .. } => write_faulted(text, *attempt, *fault),
         Entry::Resolved { object, fault } => write_resolved(text, *object, *fault),
         Entry::Released(object) => write_released(text, *object),

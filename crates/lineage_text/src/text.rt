@@ -8,6 +8,7 @@ ghost use Rattle.lineage_text.specs.Text.{graph_head, lineage_text};
 use crate::entries::write_entry;
 use history::AttemptStates;
 use log_entries::Entry;
+use log_words::Contents;
 use std::alloc::{AllocError, Global};
 
 #[tactic(auto, unfolding(crate::specs::Text::graph_head))]
@@ -19,12 +20,17 @@ fn write_head(text: &mut String) -> Result<(), AllocError>
     )
 }
 
-fn write_entries(alloc: Global, text: &mut String, log: &[Entry]) -> Result<(), AllocError>
-    ensures { OnOk result (string_bytes text.new ≡ string_bytes text.old ++ flat_map (lineage_in log.now) log.now) }
+fn write_entries(
+    alloc: Global,
+    text: &mut String,
+    contents: Contents,
+    log: &[Entry],
+) -> Result<(), AllocError>
+    ensures { OnOk result (string_bytes text.new ≡ string_bytes text.old ++ flat_map (lineage_in contents log.now) log.now) }
 {
     let states = AttemptStates::of(alloc, log)?;
     for entry in log {
-        write_entry(alloc, text, &states, entry)?;
+        write_entry(alloc, text, contents, &states, entry)?;
     }
     Ok(())
 }
@@ -37,12 +43,12 @@ fn write_entries(alloc: Global, text: &mut String, log: &[Entry]) -> Result<(), 
 ///
 /// It is made of any log, a legal one or not. Names of functions are written as they are: those of a script that was
 /// checked need no escapes. Goes over the log a fixed number of times.
-pub fn lineage_text(alloc: Global, log: &[Entry]) -> Result<String, AllocError>
-    ensures { IfOk result (λ text. string_bytes text ≡ lineage_text log.now) }
+pub fn lineage_text(alloc: Global, contents: Contents, log: &[Entry]) -> Result<String, AllocError>
+    ensures { IfOk result (λ text. string_bytes text ≡ lineage_text contents log.now) }
 {
     let mut text = String::new(alloc);
     write_head(&mut text)?;
-    write_entries(alloc, &mut text, log)?;
+    write_entries(alloc, &mut text, contents, log)?;
     text.push_str("}\n")?;
     Ok(text)
 }

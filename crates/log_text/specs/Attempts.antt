@@ -5,6 +5,7 @@ use Rattle.meaning.specs.Values.{Birth, Task}
 use Rattle.meaning.specs.Births.{Bearing, birth_at}
 use Rattle.event_log.specs.Entries.{Attempt}
 use Rattle.history.specs.Texts.{attempt_text}
+use Rattle.log_words.specs.declared.contents.Contents.{Contents}
 use Rattle.log_words.specs.Calls.{call_text}
 
 -- the function of a call; what was put, or was never born, has none
@@ -17,9 +18,9 @@ abbrev pub named_text : List Bearing → Attempt → List ℕ
 named_text births a = attempt_text a ++ name_note (birth_at births a.object)
 
 -- the call that an attempt runs
-abbrev pub call_note : Option Birth → List ℕ
-call_note (Some (Task g args depth retries)) = codes ": " ++ call_text g args
-call_note _ = []
+abbrev pub call_note : Contents → Option Birth → List ℕ
+call_note how (Some (Task g args depth retries)) = codes ": " ++ call_text how g args
+call_note how _ = []
 
 -- behind a later attempt of a task
 abbrev pub again_note : ℕ → List ℕ
@@ -27,6 +28,6 @@ again_note zero = []
 again_note (suc n) = codes " again"
 
 -- w3 begins a1.1#1 again: sq(7)
-abbrev pub begun_text : List Bearing → Attempt → ℕ → List ℕ
-begun_text births a w =
-    codes "w" ++ (decimal w ++ (codes " begins " ++ (attempt_text a ++ (again_note a.number ++ call_note (birth_at births a.object)))))
+abbrev pub begun_text : Contents → List Bearing → Attempt → ℕ → List ℕ
+begun_text how births a w =
+    codes "w" ++ (decimal w ++ (codes " begins " ++ (attempt_text a ++ (again_note a.number ++ call_note how (birth_at births a.object)))))

@@ -1,12 +1,13 @@
 -- The line of each entry.
 use Rattle.std.specs.Prelude.{ℕ, zero, suc, ◌+◌, Bool, List, [], ◌++◌, codes}
 use Rattle.std.specs.Fmt.{decimal}
-use Rattle.report.specs.Values.{id_text, value_text}
+use Rattle.report.specs.Values.{id_text}
 use Rattle.meaning.specs.Values.{Id, Value}
 use Rattle.meaning.specs.Births.{Bearing}
 use Rattle.event_log.specs.Entries.{Fault, Entry, In, Refused, Opened, Begun, Born, Got, Printed, Ended, Accepted, Faulted, Resolved, Released}
+use Rattle.log_words.specs.declared.contents.Contents.{Contents}
 use Rattle.log_words.specs.Calls.{birth_text}
-use Rattle.log_words.specs.Contents.{content_text}
+use Rattle.log_words.specs.Contents.{content_text, shown_text}
 use Rattle.log_words.specs.Faults.{fault_words}
 use Rattle.log_text.specs.Attempts.{named_text, begun_text}
 use Rattle.log_text.specs.Events.{event_line}
@@ -27,28 +28,28 @@ resolve_head o = codes "w" ++ (decimal o.owner ++ (codes " gives up " ++ (id_tex
 abbrev pub resolve_text : Id → Fault → List ℕ
 resolve_text o f = resolve_head o ++ fault_words f
 
-abbrev pub print_text : Value → List ℕ
-print_text v = codes "main prints " ++ value_text v
+abbrev pub print_text : Contents → Value → List ℕ
+print_text how v = codes "main prints " ++ shown_text how v
 
--- what an entry says of an attempt; `births` are those of the whole log
-abbrev pub act_text : List Bearing → Entry → List ℕ
-act_text births (Begun a w) = begun_text births a w
-act_text births (Born o a b) = named_text births a ++ (codes " makes " ++ (id_text o ++ (codes ": " ++ birth_text b)))
-act_text births (Got a y c) = named_text births a ++ (codes " gets " ++ (id_text y ++ (codes ": " ++ content_text c)))
-act_text births (Ended a c) = named_text births a ++ (codes " ends with " ++ content_text c)
-act_text births (Accepted a) = codes "w" ++ (decimal a.object.owner ++ (codes " accepts " ++ named_text births a))
-act_text births (Faulted a y f) = named_text births a ++ lack_text y f
-act_text births _ = []
+-- what an entry says of an attempt; `how` says whether long lists are cut, and `births` are those of the whole log
+abbrev pub act_text : Contents → List Bearing → Entry → List ℕ
+act_text how births (Begun a w) = begun_text how births a w
+act_text how births (Born o a b) = named_text births a ++ (codes " makes " ++ (id_text o ++ (codes ": " ++ birth_text how b)))
+act_text how births (Got a y c) = named_text births a ++ (codes " gets " ++ (id_text y ++ (codes ": " ++ content_text how c)))
+act_text how births (Ended a c) = named_text births a ++ (codes " ends with " ++ content_text how c)
+act_text how births (Accepted a) = codes "w" ++ (decimal a.object.owner ++ (codes " accepts " ++ named_text births a))
+act_text how births (Faulted a y f) = named_text births a ++ lack_text y f
+act_text how births _ = []
 
 -- what came of an event
-abbrev pub entry_text : List Bearing → Entry → List ℕ
-entry_text births (In e seat) = []
-entry_text births (Refused r) = refusal_text r
-entry_text births (Opened w n) = codes "n" ++ (decimal n ++ (codes " opens w" ++ decimal w))
-entry_text births (Printed v) = print_text v
-entry_text births (Resolved o f) = resolve_text o f
-entry_text births (Released o) = codes "w" ++ (decimal o.owner ++ (codes " releases " ++ id_text o))
-entry_text births x = act_text births x
+abbrev pub entry_text : Contents → List Bearing → Entry → List ℕ
+entry_text how births (In e seat) = []
+entry_text how births (Refused r) = refusal_text r
+entry_text how births (Opened w n) = codes "n" ++ (decimal n ++ (codes " opens w" ++ decimal w))
+entry_text how births (Printed v) = print_text how v
+entry_text how births (Resolved o f) = resolve_text o f
+entry_text how births (Released o) = codes "w" ++ (decimal o.owner ++ (codes " releases " ++ id_text o))
+entry_text how births x = act_text how births x
 
 -- what came of an event stands below it; the opening belongs to none
 abbrev pub indent : ℕ → List ℕ
@@ -56,6 +57,6 @@ indent zero = []
 indent (suc n) = codes "    "
 
 -- `told` is what was told before, and `refused` says of an event that it is refused
-abbrev pub line : List Bearing → Told → Entry → Bool → List ℕ
-line births told (In e seat) refused = event_line (told.events + 1) told.jobs e seat refused
-line births told x refused = indent told.events ++ (entry_text births x ++ codes "\n")
+abbrev pub line : Contents → List Bearing → Told → Entry → Bool → List ℕ
+line how births told (In e seat) refused = event_line (told.events + 1) told.jobs e seat refused
+line how births told x refused = indent told.events ++ (entry_text how births x ++ codes "\n")

@@ -4,14 +4,15 @@ use Rattle.meaning.specs.Births.{Bearing}
 use Rattle.event_log.specs.Entries.{Entry}
 use Rattle.event_log.specs.Events.{refused_next}
 use Rattle.event_log.specs.Words.{births}
+use Rattle.log_words.specs.declared.contents.Contents.{Contents}
 use Rattle.log_words.specs.Told.{Told, nothing_told, told_after}
 use Rattle.log_text.specs.Entries.{line}
 
 -- the lines of the entries, where `told` is what was told before them
-abbrev pub lines : List Bearing → Told → List Entry → List ℕ
-lines births told [] = []
-lines births told (x ∷ rest) = line births told x (refused_next rest) ++ lines births (told_after told x (refused_next rest)) rest
+abbrev pub lines : Contents → List Bearing → Told → List Entry → List ℕ
+lines how births told [] = []
+lines how births told (x ∷ rest) = line how births told x (refused_next rest) ++ lines how births (told_after told x (refused_next rest)) rest
 
--- a line for each entry
-abbrev pub log_text : List Entry → List ℕ
-log_text log = lines (births log) nothing_told log
+-- a line for each entry; `how` says whether long lists are cut
+abbrev pub log_text : Contents → List Entry → List ℕ
+log_text how log = lines how (births log) nothing_told log

@@ -9,7 +9,7 @@ ghost use Rattle.log_text.specs.Attempts.{again_note, begun_text, call_note, nam
 
 use ids::{AttemptId, WorkerId};
 use log_entries::Entry;
-use log_words::{BirthIndex, write_call};
+use log_words::{BirthIndex, Contents, write_call};
 use std::alloc::AllocError;
 use task_spec::Birth;
 
@@ -26,8 +26,12 @@ fn write_name(text: &mut String, birth: Option<&Birth>) -> Result<(), AllocError
 }
 
 /// Writes `: sq(7)`, a call.
-fn write_call_of(text: &mut String, birth: Option<&Birth>) -> Result<(), AllocError>
-    ensures { OnOk result (string_bytes text.new ≡ string_bytes text.old ++ call_note (option_map birth_of (option_copied birth.entry))) }
+fn write_call_of(
+    text: &mut String,
+    contents: Contents,
+    birth: Option<&Birth>,
+) -> Result<(), AllocError>
+    ensures { OnOk result (string_bytes text.new ≡ string_bytes text.old ++ call_note contents (option_map birth_of (option_copied birth.entry))) }
 {
     let Some(
         Birth::Task {
@@ -40,7 +44,7 @@ fn write_call_of(text: &mut String, birth: Option<&Birth>) -> Result<(), AllocEr
         return Ok(());
     };
     text.push_str(": ")?;
-    write_call(text, function.as_str(), arguments)
+    write_call(text, contents, function.as_str(), arguments)
 }
 
 fn write_again(text: &mut String, number: u32) -> Result<(), AllocError>
@@ -69,15 +73,16 @@ pub fn write_named(
 /// Writes where an attempt begins and what it runs, such as `w2 begins a1.1#0: sq(7)`.
 pub fn write_begun(
     text: &mut String,
+    contents: Contents,
     index: &BirthIndex,
     log: &[Entry],
     attempt: AttemptId,
     worker: WorkerId,
 ) -> Result<(), AllocError>
     ensures { IsIndexOf index.now log.now → OnOk result
-        (string_bytes text.new ≡ string_bytes text.old ++ begun_text (births log.now) attempt worker) }
+        (string_bytes text.new ≡ string_bytes text.old ++ begun_text contents (births log.now) attempt worker) }
 {
     write!(text, "{worker} begins {attempt}")?;
     write_again(text, attempt.number)?;
-    write_call_of(text, index.birth(log, attempt.object))
+    write_call_of(text, contents, index.birth(log, attempt.object))
 }

@@ -13,8 +13,7 @@ use crate::events::write_event;
 use crate::refusals::write_refusal;
 use ids::ObjectId;
 use log_entries::Entry;
-use log_words::{BirthIndex, Told, write_birth, write_content, write_fault};
-use report::write_value;
+use log_words::{BirthIndex, Contents, Told, write_birth, write_content, write_fault, write_value};
 use std::alloc::AllocError;
 use values::{Fault, RunValue};
 
@@ -47,25 +46,28 @@ fn write_resolve(text: &mut String, object: ObjectId, fault: Fault) -> Result<()
     write_fault(text, fault)
 }
 
-fn write_print(text: &mut String, value: &RunValue) -> Result<(), AllocError>
-    ensures { OnOk result (string_bytes text.new ≡ string_bytes text.old ++ print_text (value_of value.now)) }
+fn write_print(text: &mut String, contents: Contents, value: &RunValue) -> Result<(), AllocError>
+    ensures { OnOk result (string_bytes text.new ≡ string_bytes text.old ++ print_text contents (value_of value.now)) }
 {
     text.push_str("main prints ")?;
-    write_value(text, value)
+    write_value(text, contents, value)
 }
 
 /// Writes what an entry says of an attempt: what it makes, gets, or ends with.
 fn write_act(
     text: &mut String,
+    contents: Contents,
     index: &BirthIndex,
     log: &[Entry],
     entry: &Entry,
 ) -> Result<(), AllocError>
     ensures { IsIndexOf index.now log.now → OnOk result
-        (string_bytes text.new ≡ string_bytes text.old ++ act_text (births log.now) entry.now) }
+        (string_bytes text.new ≡ string_bytes text.old ++ act_text contents (births log.now) entry.now) }
 {
     match entry {
-        Entry::Begun { attempt, worker } => write_begun(text, index, log, *attempt, *worker),
+        Entry::Begun { attempt, worker } => write_begun(
+            text, contents, index, log, *attempt, *worker,
+        ),
         Entry::Born {
             object,
             attempt,
@@ -73,7 +75,7 @@ fn write_act(
         } => {
             write_named(text, index, log, *attempt)?;
             write!(text, " makes {object}: ")?;
-            write_birth(text, &birth.inner)
+            write_birth(text, contents, &birth.inner)
         }
         Entry::Got {
             attempt,
@@ -82,12 +84,12 @@ fn write_act(
         } => {
             write_named(text, index, log, *attempt)?;
             write!(text, " gets {object}: ")?;
-            write_content(text, &content.inner)
+            write_content(text, contents, &content.inner)
         }
         Entry::Ended { attempt, content } => {
             write_named(text, index, log, *attempt)?;
             text.push_str(" ends with ")?;
-            write_content(text, &content.inner)
+            write_content(text, contents, &content.inner)
         }
         Entry::Accepted(attempt) => {
             let owner = attempt.object.owner;
@@ -109,24 +111,25 @@ fn write_act(
 /// Writes what came of an event.
 fn write_entry(
     text: &mut String,
+    contents: Contents,
     index: &BirthIndex,
     log: &[Entry],
     entry: &Entry,
 ) -> Result<(), AllocError>
     ensures { IsIndexOf index.now log.now → OnOk result
-        (string_bytes text.new ≡ string_bytes text.old ++ entry_text (births log.now) entry.now) }
+        (string_bytes text.new ≡ string_bytes text.old ++ entry_text contents (births log.now) entry.now) }
 {
     match entry {
         Entry::In { .. } => Ok(()),
         Entry::Refused(refusal) => write_refusal(text, *refusal),
         Entry::Opened { worker, node } => write!(text, "{node} opens {worker}"),
-        Entry::Printed(value) => write_print(text, &value.inner),
+        Entry::Printed(value) => write_print(text, contents, &value.inner),
         Entry::Resolved { object, fault } => write_resolve(text, *object, *fault),
         Entry::Released(object) => {
             let owner = object.owner;
             write!(text, "{owner} releases {object}")
         }
-        _ => write_act(text, index, log, entry),
+        _ => write_act(text, contents, index, log, entry),
     }
 }
 
@@ -142,6 +145,7 @@ fn write_indent(text: &mut String, events: usize) -> Result<(), AllocError>
 /// Writes the line of an entry, behind what was told before; `is_refused` says of an event that it is refused.
 pub fn write_line(
     text: &mut String,
+    contents: Contents,
     index: &BirthIndex,
     log: &[Entry],
     told: &Told,
@@ -150,12 +154,12 @@ pub fn write_line(
 ) -> Result<(), AllocError>
     requires { told.now.events + 1 < 2 ^ 64 }
     ensures { IsIndexOf index.now log.now → OnOk result (string_bytes text.new
-        ≡ string_bytes text.old ++ line (births log.now) (told_of told.now) entry.now is_refused) }
+        ≡ string_bytes text.old ++ line contents (births log.now) (told_of told.now) entry.now is_refused) }
 {
     if let Entry::In { event, seat } = entry {
         return write_event(text, told.events + 1, &told.jobs, event, *seat, is_refused);
     }
     write_indent(text, told.events)?;
-    write_entry(text, index, log, entry)?;
+    write_entry(text, contents, index, log, entry)?;
     text.push_str("\n")
 }

@@ -5,7 +5,7 @@ ghost use Rattle.log_text.specs.Text.{log_text};
 
 use crate::entries::write_line;
 use log_entries::Entry;
-use log_words::{BirthIndex, Told, is_refusal_at};
+use log_words::{BirthIndex, Contents, Told, is_refusal_at};
 use std::alloc::{AllocError, Global};
 
 /// The log in words: a line for each entry, each with a line feed, in the order of the log. Events are numbered from 1, and
@@ -13,15 +13,15 @@ use std::alloc::{AllocError, Global};
 ///
 /// It is made of any log, a legal one or not: of several births of an object the first counts, an attempt of an object
 /// without a birth has no function beside it, and a commit of a job that was never given out names no worker.
-pub fn log_text(alloc: Global, log: &[Entry]) -> Result<String, AllocError>
-    ensures { IfOk result (λ text. string_bytes text ≡ log_text log.now) }
+pub fn log_text(alloc: Global, contents: Contents, log: &[Entry]) -> Result<String, AllocError>
+    ensures { IfOk result (λ text. string_bytes text ≡ log_text contents log.now) }
 {
     let mut text = String::new(alloc);
     let index = BirthIndex::of(alloc, log)?;
     let mut told = Told::new(alloc);
     for (place, entry) in log.iter().enumerate() {
         let is_refused = is_refusal_at(log, place + 1);
-        write_line(&mut text, &index, log, &told, entry, is_refused)?;
+        write_line(&mut text, contents, &index, log, &told, entry, is_refused)?;
         told.note(entry, is_refused)?;
     }
     Ok(text)

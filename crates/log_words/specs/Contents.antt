@@ -1,10 +1,18 @@
--- The texts of contents.
+-- The texts of values and contents.
 use Rattle.std.specs.Prelude.{ℕ, List, ◌++◌, codes}
-use Rattle.meaning.specs.Values.{Outcome, Val, Trapped}
+use Rattle.meaning.specs.Values.{Value, Outcome, Val, Trapped}
 use Rattle.report.specs.Values.{value_text}
 use Rattle.report.specs.MainLines.{trap_name}
+use Rattle.log_words.specs.declared.contents.Contents.{Contents}
+use Rattle.log_words.specs.declared.contents.Contents.TheVariants.{Cut, Whole}
+use Rattle.log_words.specs.Cut.{cut_text}
+
+-- as a report has it, or with its long lists cut
+abbrev pub shown_text : Contents → Value → List ℕ
+shown_text Whole v = value_text v
+shown_text Cut v = cut_text v
 
 -- a value, or trap DivZero
-abbrev pub content_text : Outcome → List ℕ
-content_text (Val v) = value_text v
-content_text (Trapped t) = codes "trap " ++ trap_name t
+abbrev pub content_text : Contents → Outcome → List ℕ
+content_text how (Val v) = shown_text how v
+content_text how (Trapped t) = codes "trap " ++ trap_name t

@@ -1,5 +1,6 @@
 pub mod Calls
 pub mod Contents
+pub mod Cut
 pub mod Faults
 pub mod Index
 pub mod Told

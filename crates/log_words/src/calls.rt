@@ -5,7 +5,7 @@ ghost use Rattle.std.specs.List.{flat_map};
 ghost use Rattle.task_spec.specs.Births.{argument_of, birth_of};
 ghost use Rattle.log_words.specs.Calls.{mark_text, argument_text, other_text, arguments_text, call_text, birth_text};
 
-use report::write_value;
+use crate::contents::{Contents, write_value};
 use std::alloc::AllocError;
 use task_spec::{Argument, Birth};
 
@@ -19,57 +19,70 @@ fn write_mark(text: &mut String, is_dereferenced: bool) -> Result<(), AllocError
     Ok(())
 }
 
-fn write_argument(text: &mut String, argument: &Argument) -> Result<(), AllocError>
-    ensures { OnOk result (string_bytes text.new ≡ string_bytes text.old ++ argument_text (argument_of argument.now)) }
+fn write_argument(
+    text: &mut String,
+    contents: Contents,
+    argument: &Argument,
+) -> Result<(), AllocError>
+    ensures { OnOk result (string_bytes text.new ≡ string_bytes text.old ++ argument_text contents (argument_of argument.now)) }
 {
     write_mark(text, argument.is_dereferenced)?;
-    write_value(text, &argument.value)
+    write_value(text, contents, &argument.value)
 }
 
 /// Writes the arguments behind the first.
-fn write_others(text: &mut String, arguments: &[Argument]) -> Result<(), AllocError>
-    ensures { OnOk result (string_bytes text.new ≡ string_bytes text.old ++ flat_map other_text (map argument_of arguments.now)) }
+fn write_others(
+    text: &mut String,
+    contents: Contents,
+    arguments: &[Argument],
+) -> Result<(), AllocError>
+    ensures { OnOk result (string_bytes text.new ≡ string_bytes text.old ++ flat_map (other_text contents) (map argument_of arguments.now)) }
 {
     for argument in arguments {
         text.push_str(", ")?;
-        write_argument(text, argument)?;
+        write_argument(text, contents, argument)?;
     }
     Ok(())
 }
 
-fn write_arguments(text: &mut String, arguments: &[Argument]) -> Result<(), AllocError>
-    ensures { OnOk result (string_bytes text.new ≡ string_bytes text.old ++ arguments_text (map argument_of arguments.now)) }
+fn write_arguments(
+    text: &mut String,
+    contents: Contents,
+    arguments: &[Argument],
+) -> Result<(), AllocError>
+    ensures { OnOk result (string_bytes text.new ≡ string_bytes text.old ++ arguments_text contents (map argument_of arguments.now)) }
 {
     let [first, others @ ..] = arguments else {
         return Ok(());
     };
-    write_argument(text, first)?;
-    write_others(text, others)
+    write_argument(text, contents, first)?;
+    write_others(text, contents, others)
 }
 
 /// Writes a call, such as `inc(get o1.1, 5)`: `get` stands before an argument that the task's worker dereferences before
 /// the body.
 pub fn write_call(
     text: &mut String,
+    contents: Contents,
     function: &str,
     arguments: &[Argument],
 ) -> Result<(), AllocError>
-    ensures { OnOk result (string_bytes text.new ≡ string_bytes text.old ++ call_text function.now (map argument_of arguments.now)) }
+    ensures { OnOk result (string_bytes text.new ≡ string_bytes text.old ++ call_text contents function.now (map argument_of arguments.now)) }
 {
     text.push_str(function)?;
     text.push_str("(")?;
-    write_arguments(text, arguments)?;
+    write_arguments(text, contents, arguments)?;
     text.push_str(")")
 }
 
 /// Writes what makes an object, such as `put [1, 2]` or `remote(3) sq(7)`, where 3 is how many further runs the task has.
-pub fn write_birth(text: &mut String, birth: &Birth) -> Result<(), AllocError>
-    ensures { OnOk result (string_bytes text.new ≡ string_bytes text.old ++ birth_text (birth_of birth.now)) }
+pub fn write_birth(text: &mut String, contents: Contents, birth: &Birth) -> Result<(), AllocError>
+    ensures { OnOk result (string_bytes text.new ≡ string_bytes text.old ++ birth_text contents (birth_of birth.now)) }
 {
     match birth {
         Birth::Put(value) => {
             text.push_str("put ")?;
-            write_value(text, value)
+            write_value(text, contents, value)
         }
         Birth::Task {
             function,
@@ -78,7 +91,7 @@ pub fn write_birth(text: &mut String, birth: &Birth) -> Result<(), AllocError>
             ..
         } => {
             write!(text, "remote({retries}) ")?;
-            write_call(text, function.as_str(), arguments)
+            write_call(text, contents, function.as_str(), arguments)
         }
     }
 }

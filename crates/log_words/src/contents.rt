@@ -1,19 +1,47 @@
-// Contents, written.
+// Values and contents, written.
 
 ghost use Rattle.std.specs.Prelude.{◌≡◌, ◌++◌, OnOk, string_bytes};
-ghost use Rattle.values.specs.Values.{content_of};
-ghost use Rattle.log_words.specs.Contents.{content_text};
+ghost use Rattle.values.specs.Values.{content_of, value_of};
+ghost use Rattle.log_words.specs.Contents.{content_text, shown_text};
 
-use report::{trap_name, write_value};
+use crate::cut::write_cut;
+use report::trap_name;
 use std::alloc::AllocError;
-use values::Content;
+use values::{Content, RunValue};
+
+/// How the lists in values and contents are written.
+#[derive(Clone, Copy, PartialEq, Eq, Debug)]
+pub enum Contents {
+    /// Of one with more than 8 items the first three, and how many follow, such as `[0, 37, 74, .. 1,997 items]`.
+    Cut,
+    /// With all their items, as a report has them.
+    Whole,
+}
+
+/// Writes a value.
+pub fn write_value(
+    text: &mut String,
+    contents: Contents,
+    value: &RunValue,
+) -> Result<(), AllocError>
+    ensures { OnOk result (string_bytes text.new ≡ string_bytes text.old ++ shown_text contents (value_of value.now)) }
+{
+    match contents {
+        Contents::Cut => write_cut(text, value),
+        Contents::Whole => report::write_value(text, value),
+    }
+}
 
 /// Writes a content: a value, or `trap DivZero`.
-pub fn write_content(text: &mut String, content: &Content) -> Result<(), AllocError>
-    ensures { OnOk result (string_bytes text.new ≡ string_bytes text.old ++ content_text (content_of content.now)) }
+pub fn write_content(
+    text: &mut String,
+    contents: Contents,
+    content: &Content,
+) -> Result<(), AllocError>
+    ensures { OnOk result (string_bytes text.new ≡ string_bytes text.old ++ content_text contents (content_of content.now)) }
 {
     match content {
-        Content::Value(value) => write_value(text, value),
+        Content::Value(value) => write_value(text, contents, value),
         Content::Trap(trap) => {
             text.push_str("trap ")?;
             text.push_str(trap_name(*trap))

@@ -4,13 +4,14 @@
 mod births;
 mod calls;
 mod contents;
+mod cut;
 mod faults;
 mod objects;
 mod told;
 
 pub use births::BirthIndex;
 pub use calls::{write_birth, write_call};
-pub use contents::write_content;
+pub use contents::{Contents, write_content, write_value};
 pub use faults::{kind_words, write_fault};
 pub use objects::ids_of;
 pub use told::{Told, is_refusal_at, worker_of_job};

@@ -9,6 +9,7 @@ use Rattle.event_log.specs.Entries.{Attempt, Claim, Commit, Deliver, Entry, Even
 use Rattle.event_log.specs.Events.{from_one}
 use Rattle.event_log.specs.Words.{births}
 use Rattle.history.specs.Texts.{event_text}
+use Rattle.log_words.specs.declared.contents.Contents.{Contents}
 use Rattle.log_words.specs.Calls.{birth_text}
 use Rattle.log_text.specs.Attempts.{named_text}
 use Rattle.message_text.specs.Messages.{kind_text}
@@ -20,6 +21,7 @@ use Rattle.waits.specs.declared.link.Link.{Link}
 use Rattle.waits.specs.declared.link.Link.TheVariants.{AskedFor, CanGoOn, FetchesFor, HasJob, HasStopped, HoldsBack, IsDead, KeepsSlot}
 use Rattle.waits.specs.declared.link.Link.TheVariants.{LacksSlot, NodeUntold, Resting, RunsAt, UnderWay, Untold, WaitsFor, WasReleased}
 use Rattle.waits.specs.Tables.{holders_at}
+use Rattle.why_text.specs.Again.{again_note}
 use Rattle.why_text.specs.Holders.{death_of}
 use Rattle.main_text.specs.declared.happenings.Happening.TheVariants.{Begins, Claims, Commits, NodeDies, Releases, Stops}
 use Rattle.main_text.specs.Happenings.{when_last, when_some}
@@ -71,27 +73,27 @@ slot_text c w n =
 abbrev pub kept_text : ℕ → List ℕ
 kept_text w = worker_text w ++ (codes " keeps its slot, and nothing comes to it any more" ++ remedy_text (Kill w))
 
-abbrev pub birth_note : Option Birth → List ℕ
-birth_note None = []
-birth_note (Some b) = codes ": " ++ birth_text b
+abbrev pub birth_note : Contents → Option Birth → List ℕ
+birth_note how None = []
+birth_note how (Some b) = codes ": " ++ birth_text how b
 
 -- o1.2: remote(2) inc(get o1.1, 5)
-unfoldable pub made_text : List Bearing → Id → List ℕ
-made_text births o = id_text o ++ birth_note (birth_at births o)
+unfoldable pub made_text : Contents → List Bearing → Id → List ℕ
+made_text how births o = id_text o ++ birth_note how (birth_at births o)
 
 unfoldable pub stopped_text : List Entry → List ℕ → Whole → ℕ → Attempt → List ℕ
 stopped_text log lines c w a = named_text (births log) a ++ (codes " stopped" ++ when_last c.jobs lines log (Commits w))
 
 -- a1.0#0 (main) stopped in event 8 (commit 3, line 4), and waits for o1.2: remote(2) inc(get o1.1, 5).
-abbrev pub wait_text : List Entry → List ℕ → Whole → ℕ → Attempt → Id → List ℕ
-wait_text log lines c w a o = stopped_text log lines c w a ++ (codes ", and waits for " ++ (made_text (births log) o ++ codes ".\n"))
+abbrev pub wait_text : Contents → List Entry → List ℕ → Whole → ℕ → Attempt → Id → List ℕ
+wait_text how log lines c w a o = stopped_text log lines c w a ++ (codes ", and waits for " ++ (made_text how (births log) o ++ codes ".\n"))
 
 -- w2 asked n2 for a copy.
 abbrev pub copy_text : ℕ → ℕ → List ℕ
 copy_text w n = worker_text w ++ (codes " asked " ++ (node_text n ++ codes " for a copy.\n"))
 
-abbrev pub fetch_text : List Entry → List ℕ → Whole → ℕ → Attempt → Id → ℕ → List ℕ
-fetch_text log lines c w a o n = wait_text log lines c w a o ++ copy_text w n
+abbrev pub fetch_text : Contents → List Entry → List ℕ → Whole → ℕ → Attempt → Id → ℕ → List ℕ
+fetch_text how log lines c w a o n = wait_text how log lines c w a o ++ copy_text w n
 
 -- a1.2#0 (inc) ended in event 13 (commit 2, line 5), which w1 does not know.
 abbrev pub end_text : List Entry → List ℕ → Whole → Attempt → List ℕ
@@ -114,10 +116,10 @@ ask_text log a n =
     named_text (births log) a
     ++ (codes " has not begun: " ++ (worker_text a.object.owner ++ (codes " asked " ++ (node_text n ++ codes " for a worker.\n"))))
 
--- a1.2#0 (inc) began on w3 in event 10 (deliver 5, line 4).
+-- a1.2#1 (inc) began on w3 in event 10 (deliver 5, line 4), since w2 died in event 6 (kill 2, line 2).
 abbrev pub run_text : List Entry → List ℕ → Whole → Attempt → ℕ → List ℕ
 run_text log lines c a v =
-    named_text (births log) a ++ (codes " began on " ++ (worker_text v ++ (when_last c.jobs lines log (Begins a) ++ codes ".\n")))
+    named_text (births log) a ++ (codes " began on " ++ (worker_text v ++ (when_last c.jobs lines log (Begins a) ++ (again_note lines log a ++ codes ".\n"))))
 
 abbrev pub party_text : Party → List ℕ
 party_text (TheWorker w) = worker_text w
@@ -159,23 +161,23 @@ released_text log lines c o =
 abbrev pub rest_text : ℕ → List ℕ
 rest_text w = codes "Nothing that " ++ (worker_text w ++ (codes " asked for is under way: " ++ (event_text (Tick w) ++ codes " would ask again.\n")))
 
-abbrev pub link_text : List Entry → List ℕ → Whole → Link → List ℕ
-link_text log lines c (IsDead w) = dead_text log lines w
-link_text log lines c (CanGoOn w) = ready_text w
-link_text log lines c (HasJob w j) = job_text log lines c w j
-link_text log lines c (LacksSlot w n) = slot_text c w n
-link_text log lines c (KeepsSlot w) = kept_text w
-link_text log lines c (WaitsFor w a o) = wait_text log lines c w a o
-link_text log lines c (FetchesFor w a o n) = fetch_text log lines c w a o n
-link_text log lines c (HasStopped w a) = end_text log lines c a
-link_text log lines c (HoldsBack w e o) = hold_text w e o
-link_text log lines c (AskedFor a t n) = ask_text log a n
-link_text log lines c (RunsAt a v n) = run_text log lines c a v
-link_text log lines c (UnderWay k) = message_text c k
-link_text log lines c (Untold w v) = untold_text log lines w v
-link_text log lines c (NodeUntold w n) = node_untold_text log lines c w n
-link_text log lines c (WasReleased o) = released_text log lines c o
-link_text log lines c (Resting w) = rest_text w
+abbrev pub link_text : Contents → List Entry → List ℕ → Whole → Link → List ℕ
+link_text how log lines c (IsDead w) = dead_text log lines w
+link_text how log lines c (CanGoOn w) = ready_text w
+link_text how log lines c (HasJob w j) = job_text log lines c w j
+link_text how log lines c (LacksSlot w n) = slot_text c w n
+link_text how log lines c (KeepsSlot w) = kept_text w
+link_text how log lines c (WaitsFor w a o) = wait_text how log lines c w a o
+link_text how log lines c (FetchesFor w a o n) = fetch_text how log lines c w a o n
+link_text how log lines c (HasStopped w a) = end_text log lines c a
+link_text how log lines c (HoldsBack w e o) = hold_text w e o
+link_text how log lines c (AskedFor a t n) = ask_text log a n
+link_text how log lines c (RunsAt a v n) = run_text log lines c a v
+link_text how log lines c (UnderWay k) = message_text c k
+link_text how log lines c (Untold w v) = untold_text log lines w v
+link_text how log lines c (NodeUntold w n) = node_untold_text log lines c w n
+link_text how log lines c (WasReleased o) = released_text log lines c o
+link_text how log lines c (Resting w) = rest_text w
 
-abbrev pub links_text : List Entry → List ℕ → Whole → List Link → List ℕ
-links_text log lines c links = flat_map (link_text log lines c) links
+abbrev pub links_text : Contents → List Entry → List ℕ → Whole → List Link → List ℕ
+links_text how log lines c links = flat_map (link_text how log lines c) links

@@ -3,12 +3,15 @@ use Rattle.std.specs.Prelude.{Bool, List, None, Option, Some, [], codes, false, 
 use Rattle.std.specs.List.{flat_map}
 use Rattle.std.specs.Fmt.{decimal}
 use Rattle.meaning.specs.Births.{same_id}
-use Rattle.meaning.specs.Values.{Id, Outcome, Trapped, Val}
-use Rattle.event_log.specs.Entries.{Attempt, Begun, Ended, Entry, Got}
+use Rattle.meaning.specs.Values.{Broken, DivZero, Id, Index, Loop, Outcome, Overflow, TooDeep, TooLong, Trap, Trapped, Val}
+use Rattle.report.specs.MainLines.{trap_name}
+use Rattle.event_log.specs.Entries.{Attempt, Ended, Entry, Got}
 use Rattle.event_log.specs.Words.{births, same_attempt}
 use Rattle.history.specs.Main.{first}
 use Rattle.log_text.specs.Attempts.{named_text}
 use Rattle.protocol_data.specs.declared.job.Given.{Given}
+use Rattle.log_words.specs.declared.contents.Contents.{Contents}
+use Rattle.why_text.specs.Again.{runner_of}
 use Rattle.main_text.specs.declared.happenings.Happening.TheVariants.{Begins, Gets, Stops}
 use Rattle.main_text.specs.Happenings.{when_last}
 use Rattle.main_text.specs.Links.{made_text, worker_text}
@@ -51,13 +54,6 @@ trapped_in o _ = []
 abbrev pub trapped_of : List Entry → Id → Option Attempt
 trapped_of log o = first (flat_map (trapped_in o) log)
 
-abbrev pub runner_in : Attempt → Entry → List ℕ
-runner_in a (Begun b w) = if same_attempt b a then w ∷ [] else []
-runner_in a _ = []
-
-abbrev pub runner_of : List Entry → Attempt → Option ℕ
-runner_of log a = first (flat_map (runner_in a) log)
-
 abbrev pub runner_note : Option ℕ → List ℕ
 runner_note None = []
 runner_note (Some w) = codes " on " ++ worker_text w
@@ -71,29 +67,58 @@ run_text jobs log lines a =
     ++ (when_last jobs lines log (Begins a) ++ (codes ", and ended with the trap" ++ (when_last jobs lines log (Stops a) ++ codes ".\n")))))
 
 abbrev pub behind_text : ℕ → List ℕ
-behind_text zero = codes "before any answer.\n"
-behind_text (suc n) = codes "after answer " ++ (decimal (suc n) ++ codes ".\n")
+behind_text zero = codes "before any answer"
+behind_text (suc n) = codes "after answer " ++ decimal (suc n)
 
--- a3.1#0 (g) trapped in its own code, after answer 2.
+abbrev pub trap_in_outcome : Outcome → List Trap
+trap_in_outcome (Val v) = []
+trap_in_outcome (Trapped t) = t ∷ []
+
+abbrev pub trap_in : Attempt → Entry → List Trap
+trap_in a (Ended b c) = if same_attempt b a then trap_in_outcome c else []
+trap_in a _ = []
+
+-- the trap with which the attempt ended
+abbrev pub trap_ended : List Entry → Attempt → Option Trap
+trap_ended log a = first (flat_map (trap_in a) log)
+
+-- what such a trap can come of; no checked script has the last
+abbrev pub operators : Trap → List ℕ
+operators Overflow = codes "+, -, *, / or %"
+operators DivZero = codes "/ or %"
+operators Index = codes "[ ]"
+operators TooLong = codes "push"
+operators Loop = codes "for"
+operators TooDeep = codes "a call"
+operators Broken = codes "nothing"
+
+-- : DivZero, by / or %
+abbrev pub trap_note : Option Trap → List ℕ
+trap_note None = []
+trap_note (Some t) = codes ": " ++ (trap_name t ++ (codes ", by " ++ operators t))
+
+-- a3.1#0 (g) trapped in its own code, after answer 2: DivZero, by / or %.
 unfoldable pub own_text : List Entry → Attempt → List ℕ
-own_text log a = named_text (births log) a ++ (codes " trapped in its own code, " ++ behind_text (answer_count a log))
+own_text log a =
+    named_text (births log) a
+    ++ (codes " trapped in its own code, " ++ (behind_text (answer_count a log) ++ (trap_note (trap_ended log a) ++ codes ".\n")))
 
 -- a1.0#0 (main) got a trap in event 19 (deliver 11, line 9), that of o1.2: remote(2) f(get o1.1, 5).
-unfoldable pub trap_text : List Given → List Entry → List ℕ → Attempt → Id → List ℕ
-trap_text jobs log lines a y =
+unfoldable pub trap_text : Contents → List Given → List Entry → List ℕ → Attempt → Id → List ℕ
+trap_text how jobs log lines a y =
     named_text (births log) a
-    ++ (codes " got a trap" ++ (when_last jobs lines log (Gets a) ++ (codes ", that of " ++ (made_text (births log) y ++ codes ".\n"))))
+    ++ (codes " got a trap" ++ (when_last jobs lines log (Gets a) ++ (codes ", that of " ++ (made_text how (births log) y ++ codes ".\n"))))
 
 -- an attempt that ended with the trap, and what is told of it behind that
 abbrev pub made_step : List Given → List Entry → List ℕ → (Attempt → List ℕ) → Option Attempt → List ℕ
 made_step jobs log lines rest None = []
 made_step jobs log lines rest (Some b) = run_text jobs log lines b ++ rest b
 
-abbrev pub trap_step : List Given → List Entry → List ℕ → (Attempt → List ℕ) → Attempt → Option Id → List ℕ
-trap_step jobs log lines rest a None = own_text log a
-trap_step jobs log lines rest a (Some y) = trap_text jobs log lines a y ++ made_step jobs log lines rest (trapped_of log y)
+abbrev pub trap_step : Contents → List Given → List Entry → List ℕ → (Attempt → List ℕ) → Attempt → Option Id → List ℕ
+trap_step how jobs log lines rest a None = own_text log a
+trap_step how jobs log lines rest a (Some y) = trap_text how jobs log lines a y ++ made_step jobs log lines rest (trapped_of log y)
 
--- from that attempt to the first one whose own code trapped, so many at most
-unfoldable pub traps_text : List Given → List Entry → List ℕ → ℕ → Attempt → List ℕ
-traps_text jobs log lines zero a = []
-traps_text jobs log lines (suc n) a = trap_step jobs log lines (traps_text jobs log lines n) a (trap_got log a)
+-- from that attempt to the first one whose own code trapped, so many at most; `how` says whether long lists are cut
+unfoldable pub traps_text : Contents → List Given → List Entry → List ℕ → ℕ → Attempt → List ℕ
+traps_text how jobs log lines zero a = []
+traps_text how jobs log lines (suc n) a = trap_step how jobs log lines (traps_text how jobs log lines n) a (trap_got log a)

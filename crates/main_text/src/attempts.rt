@@ -16,33 +16,39 @@ use crate::parties::{write_node, write_owner, write_owner_of, write_worker};
 use ids::{AttemptId, NodeId, ObjectId, WorkerId};
 use log_entries::Entry;
 use log_text::write_named;
-use log_words::{BirthIndex, write_birth};
+use log_words::{BirthIndex, Contents, write_birth};
 use protocol_data::Whole;
-use std::alloc::AllocError;
+use std::alloc::{AllocError, Global};
 use task_spec::Birth;
+use why_text::write_again;
 
-fn write_birth_note(text: &mut String, birth: Option<&Birth>) -> Result<(), AllocError>
-    ensures { OnOk result (string_bytes text.new ≡ string_bytes text.old ++ birth_note (option_map birth_of (option_copied birth.entry))) }
+fn write_birth_note(
+    text: &mut String,
+    contents: Contents,
+    birth: Option<&Birth>,
+) -> Result<(), AllocError>
+    ensures { OnOk result (string_bytes text.new ≡ string_bytes text.old ++ birth_note contents (option_map birth_of (option_copied birth.entry))) }
 {
     let Some(birth) = birth else {
         return Ok(());
     };
     text.push_str(": ")?;
-    write_birth(text, birth)
+    write_birth(text, contents, birth)
 }
 
 /// Writes the object with what makes it.
 #[tactic(auto, unfolding(crate::specs::Links::made_text))]
 pub fn write_made(
     text: &mut String,
+    contents: Contents,
     index: &BirthIndex,
     log: &[Entry],
     object: ObjectId,
 ) -> Result<(), AllocError>
-    ensures { IsIndexOf index.now log.now → OnOk result (string_bytes text.new ≡ string_bytes text.old ++ made_text (births log.now) object) }
+    ensures { IsIndexOf index.now log.now → OnOk result (string_bytes text.new ≡ string_bytes text.old ++ made_text contents (births log.now) object) }
 {
     write!(text, "{object}")?;
-    write_birth_note(text, index.birth(log, object))
+    write_birth_note(text, contents, index.birth(log, object))
 }
 
 #[tactic(auto, unfolding(crate::specs::Links::stopped_text))]
@@ -67,6 +73,7 @@ fn write_stopped(
 /// Writes for what the attempt waits.
 pub fn write_wait(
     text: &mut String,
+    contents: Contents,
     index: &BirthIndex,
     log: &[Entry],
     lines: &[usize],
@@ -76,11 +83,11 @@ pub fn write_wait(
     object: ObjectId,
 ) -> Result<(), AllocError>
     ensures { IsIndexOf index.now log.now → OnOk result
-        (string_bytes text.new ≡ string_bytes text.old ++ wait_text log.now lines.now whole.now worker attempt object) }
+        (string_bytes text.new ≡ string_bytes text.old ++ wait_text contents log.now lines.now whole.now worker attempt object) }
 {
     write_stopped(text, index, log, lines, whole, worker, attempt)?;
     text.push_str(", and waits for ")?;
-    write_made(text, index, log, object)?;
+    write_made(text, contents, index, log, object)?;
     text.push_str(".\n")?;
     Ok(())
 }
@@ -98,6 +105,7 @@ fn write_copy(text: &mut String, worker: WorkerId, node: NodeId) -> Result<(), A
 /// Writes for what the attempt waits, and where a copy was asked for.
 pub fn write_fetch(
     text: &mut String,
+    contents: Contents,
     index: &BirthIndex,
     log: &[Entry],
     lines: &[usize],
@@ -108,9 +116,11 @@ pub fn write_fetch(
     node: NodeId,
 ) -> Result<(), AllocError>
     ensures { IsIndexOf index.now log.now → OnOk result
-        (string_bytes text.new ≡ string_bytes text.old ++ fetch_text log.now lines.now whole.now worker attempt object node) }
+        (string_bytes text.new ≡ string_bytes text.old ++ fetch_text contents log.now lines.now whole.now worker attempt object node) }
 {
-    write_wait(text, index, log, lines, whole, worker, attempt, object)?;
+    write_wait(
+        text, contents, index, log, lines, whole, worker, attempt, object,
+    )?;
     write_copy(text, worker, node)?;
     Ok(())
 }
@@ -179,8 +189,9 @@ pub fn write_ask(
     Ok(())
 }
 
-/// Writes where the attempt began.
+/// Writes where the attempt began, and why, if it is a later one.
 pub fn write_run(
+    alloc: Global,
     text: &mut String,
     index: &BirthIndex,
     log: &[Entry],
@@ -196,6 +207,7 @@ pub fn write_run(
     text.push_str(" began on ")?;
     write_worker(text, worker)?;
     write_when_last(text, whole, lines, log, &Happening::Begins(attempt))?;
+    write_again(alloc, text, log, lines, attempt)?;
     text.push_str(".\n")?;
     Ok(())
 }

@@ -14,7 +14,7 @@ use crate::happenings::{Happening, write_when_last, write_when_some};
 use crate::parties::{write_node, write_owner, write_party, write_worker, write_workers};
 use ids::{NodeId, ObjectId, WorkerId};
 use log_entries::{Entry, Event};
-use log_words::BirthIndex;
+use log_words::{BirthIndex, Contents};
 use message_text::message_kind;
 use protocol_data::{Letter, Whole};
 use std::alloc::{AllocError, Global};
@@ -225,6 +225,7 @@ fn write_rest(text: &mut String, worker: WorkerId) -> Result<(), AllocError>
 fn write_link(
     alloc: Global,
     text: &mut String,
+    contents: Contents,
     index: &BirthIndex,
     log: &[Entry],
     lines: &[usize],
@@ -232,7 +233,7 @@ fn write_link(
     link: &Link,
 ) -> Result<(), AllocError>
     ensures { IsIndexOf index.now log.now → OnOk result
-        (string_bytes text.new ≡ string_bytes text.old ++ link_text log.now lines.now whole.now link.now) }
+        (string_bytes text.new ≡ string_bytes text.old ++ link_text contents log.now lines.now whole.now link.now) }
 {
     match link {
         Link::IsDead(worker) => write_dead(alloc, text, log, lines, *worker),
@@ -241,18 +242,20 @@ fn write_link(
         Link::LacksSlot(worker, node) => write_slot(text, whole, *worker, *node),
         Link::KeepsSlot(worker) => write_kept(text, *worker),
         Link::WaitsFor(worker, attempt, object) => {
-            write_wait(text, index, log, lines, whole, *worker, *attempt, *object)
+            write_wait(
+                text, contents, index, log, lines, whole, *worker, *attempt, *object,
+            )
         }
         Link::FetchesFor(worker, attempt, object, node) => {
             write_fetch(
-                text, index, log, lines, whole, *worker, *attempt, *object, *node,
+                text, contents, index, log, lines, whole, *worker, *attempt, *object, *node,
             )
         }
         Link::HasStopped(_, attempt) => write_end(text, index, log, lines, whole, *attempt),
         Link::HoldsBack(worker, holder, object) => write_hold(text, *worker, *holder, *object),
         Link::AskedFor(attempt, _, node) => write_ask(text, index, log, *attempt, *node),
         Link::RunsAt(attempt, worker, _) => {
-            write_run(text, index, log, lines, whole, *attempt, *worker)
+            write_run(alloc, text, index, log, lines, whole, *attempt, *worker)
         }
         Link::UnderWay(number) => write_message(text, whole, *number),
         Link::Untold(worker, dead) => write_untold(alloc, text, log, lines, *worker, *dead),
@@ -268,6 +271,7 @@ fn write_link(
 pub fn write_links(
     alloc: Global,
     text: &mut String,
+    contents: Contents,
     index: &BirthIndex,
     log: &[Entry],
     lines: &[usize],
@@ -275,10 +279,10 @@ pub fn write_links(
     links: &[Link],
 ) -> Result<(), AllocError>
     ensures { IsIndexOf index.now log.now → OnOk result
-        (string_bytes text.new ≡ string_bytes text.old ++ links_text log.now lines.now whole.now links.now) }
+        (string_bytes text.new ≡ string_bytes text.old ++ links_text contents log.now lines.now whole.now links.now) }
 {
     for link in links {
-        write_link(alloc, text, index, log, lines, whole, link)?;
+        write_link(alloc, text, contents, index, log, lines, whole, link)?;
     }
     Ok(())
 }

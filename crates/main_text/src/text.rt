@@ -20,7 +20,7 @@ use held::SharedContent;
 use history::main_end::main_end;
 use ids::{AttemptId, ObjectId, WorkerId};
 use log_entries::Entry;
-use log_words::{BirthIndex, write_content};
+use log_words::{BirthIndex, Contents, write_content};
 use protocol_data::Whole;
 use std::alloc::{AllocError, Global};
 use values::Content;
@@ -55,24 +55,26 @@ fn write_main_when(
 #[tactic(auto, unfolding(crate::specs::Text::ended_text))]
 fn write_ended(
     text: &mut String,
+    contents: Contents,
     log: &[Entry],
     lines: &[usize],
     whole: &Whole,
     content: &Content,
 ) -> Result<(), AllocError>
     ensures { OnOk result
-        (string_bytes text.new ≡ string_bytes text.old ++ ended_text log.now lines.now whole.now (content_of content.now)) }
+        (string_bytes text.new ≡ string_bytes text.old ++ ended_text contents log.now lines.now whole.now (content_of content.now)) }
 {
     text.push_str("Main ended")?;
     write_main_when(text, log, lines, whole)?;
     text.push_str(": ")?;
-    write_content(text, content)?;
+    write_content(text, contents, content)?;
     text.push_str(".\n")?;
     Ok(())
 }
 
 fn write_main_traps(
     text: &mut String,
+    contents: Contents,
     index: &BirthIndex,
     log: &[Entry],
     lines: &[usize],
@@ -80,31 +82,32 @@ fn write_main_traps(
 ) -> Result<(), AllocError>
     requires { IsIndexOf index.now log.now }
     ensures { OnOk result (string_bytes text.new
-        ≡ string_bytes text.old ++ traps_text whole.now.jobs log.now lines.now (length log.now) main_attempt) }
+        ≡ string_bytes text.old ++ traps_text contents whole.now.jobs log.now lines.now (length log.now) main_attempt) }
 {
     let most = log.len();
     let attempt = main_attempt();
-    write_traps(text, index, whole, log, lines, most, attempt)
+    write_traps(text, contents, index, whole, log, lines, most, attempt)
 }
 
 /// Writes where the trap with which main ended comes from.
 fn write_source(
     alloc: Global,
     text: &mut String,
+    contents: Contents,
     log: &[Entry],
     lines: &[usize],
     whole: &Whole,
     content: &Content,
 ) -> Result<(), AllocError>
     ensures { OnOk result
-        (string_bytes text.new ≡ string_bytes text.old ++ source_text log.now lines.now whole.now (content_of content.now)) }
+        (string_bytes text.new ≡ string_bytes text.old ++ source_text contents log.now lines.now whole.now (content_of content.now)) }
 {
     match content {
         Content::Value(_) => Ok(()),
         Content::Trap(_) => {
             let index = BirthIndex::of(alloc, log)?;
             text.push_str("\n")?;
-            write_main_traps(text, &index, log, lines, whole)
+            write_main_traps(text, contents, &index, log, lines, whole)
         }
     }
 }
@@ -112,16 +115,17 @@ fn write_source(
 fn write_all_links(
     alloc: Global,
     text: &mut String,
+    contents: Contents,
     log: &[Entry],
     lines: &[usize],
     whole: &Whole,
 ) -> Result<(), AllocError>
     ensures { OnOk result
-        (string_bytes text.new ≡ string_bytes text.old ++ links_text log.now lines.now whole.now (links whole.now)) }
+        (string_bytes text.new ≡ string_bytes text.old ++ links_text contents log.now lines.now whole.now (links whole.now)) }
 {
     let index = BirthIndex::of(alloc, log)?;
     let links = links(alloc, whole)?;
-    write_links(alloc, text, &index, log, lines, whole, &links)
+    write_links(alloc, text, contents, &index, log, lines, whole, &links)
 }
 
 /// Writes for what main waits.
@@ -129,68 +133,73 @@ fn write_all_links(
 fn write_open(
     alloc: Global,
     text: &mut String,
+    contents: Contents,
     log: &[Entry],
     lines: &[usize],
     whole: &Whole,
 ) -> Result<(), AllocError>
-    ensures { OnOk result (string_bytes text.new ≡ string_bytes text.old ++ open_text log.now lines.now whole.now) }
+    ensures { OnOk result (string_bytes text.new ≡ string_bytes text.old ++ open_text contents log.now lines.now whole.now) }
 {
     text.push_str("Main is open.\n\n")?;
-    write_all_links(alloc, text, log, lines, whole)?;
+    write_all_links(alloc, text, contents, log, lines, whole)?;
     Ok(())
 }
 
 fn write_unended(
     alloc: Global,
     text: &mut String,
+    contents: Contents,
     log: &[Entry],
     lines: &[usize],
     whole: &Whole,
     lack: Option<Lack>,
 ) -> Result<(), AllocError>
     ensures { OnOk result
-        (string_bytes text.new ≡ string_bytes text.old ++ unended_text log.now lines.now whole.now (option_map lack_of lack)) }
+        (string_bytes text.new ≡ string_bytes text.old ++ unended_text contents log.now lines.now whole.now (option_map lack_of lack)) }
 {
     match lack {
-        None => write_open(alloc, text, log, lines, whole),
-        Some(lack) => write_main_lack(alloc, text, log, lines, lack),
+        None => write_open(alloc, text, contents, log, lines, whole),
+        Some(lack) => write_main_lack(alloc, text, contents, log, lines, lack),
     }
 }
 
 fn write_main_end(
     alloc: Global,
     text: &mut String,
+    contents: Contents,
     log: &[Entry],
     lines: &[usize],
     whole: &Whole,
     end: Option<&SharedContent>,
 ) -> Result<(), AllocError>
     ensures { OnOk result
-        (string_bytes text.new ≡ string_bytes text.old ++ end_text log.now lines.now whole.now (option_copied end.entry)) }
+        (string_bytes text.new ≡ string_bytes text.old ++ end_text contents log.now lines.now whole.now (option_copied end.entry)) }
 {
     let Some(content) = end else {
-        return write_unended(alloc, text, log, lines, whole, main_lack(log));
+        return write_unended(alloc, text, contents, log, lines, whole, main_lack(log));
     };
-    write_ended(text, log, lines, whole, &content.inner)?;
-    write_source(alloc, text, log, lines, whole, &content.inner)
+    write_ended(text, contents, log, lines, whole, &content.inner)?;
+    write_source(alloc, text, contents, log, lines, whole, &content.inner)
 }
 
-/// Why main ended as it did: with a value, when; with a trap, from which attempt's code that comes, through the gets on the way; with a
-/// fault, what happened to each object on the way to its first cause. Or, where main is open, for what it waits, and what keeps that from
-/// coming, from one attempt to the next; the last sentence names the event that would let it go on, as event files write it, or says that none does.
-/// Each with its event and the line of the event file. `lines` are these lines, in the order of the events; an event behind the last has none.
+/// Why main ended as it did: with a value, when; with a trap, from which attempt's code that comes, through the gets on the way, and what such a
+/// trap can come of; with a fault, what happened to each object on the way to its first cause. Or, where main is open, for what it waits, and
+/// what keeps that from coming, from one attempt to the next; the last sentence names the event that would let it go on, as event files write
+/// it, or says that none does. Each with its event and the line of the event file. `lines` are these lines, in the order of the events; an event
+/// behind the last has none.
 ///
 /// It is made of any log and any tables and messages, whether they are of one run or not.
 #[tactic(auto, unfolding(crate::specs::Text::main_text))]
 pub fn main_text(
     alloc: Global,
+    contents: Contents,
     log: &[Entry],
     lines: &[usize],
     whole: &Whole,
 ) -> Result<String, AllocError>
-    ensures { IfOk result (λ text. string_bytes text ≡ main_text log.now lines.now whole.now) }
+    ensures { IfOk result (λ text. string_bytes text ≡ main_text contents log.now lines.now whole.now) }
 {
     let mut text = String::new(alloc);
-    write_main_end(alloc, &mut text, log, lines, whole, main_end(log))?;
+    write_main_end(alloc, &mut text, contents, log, lines, whole, main_end(log))?;
     Ok(text)
 }

@@ -1,12 +1,14 @@
 // Where a trap comes from.
 
 ghost use Rattle.std.specs.Prelude.{◌≡◌, ◌≤◌, ◌++◌, OnOk, string_bytes};
-ghost use Rattle.values.specs.Values.{content_of};
+ghost use Rattle.std.specs.Option.{option_map};
+ghost use Rattle.values.specs.Values.{content_of, trap_of};
 ghost use Rattle.event_log.specs.Words.{births};
 ghost use Rattle.history.specs.Main.{first};
 ghost use Rattle.log_words.specs.Index.{IsIndexOf};
-ghost use Rattle.main_text.specs.Traps.{answer_count, behind_text, count_in, is_trap, own_text, run_text, runner_in, runner_note, runner_of, trap_after};
-ghost use Rattle.main_text.specs.Traps.{trap_got, trap_text, trapped_in, trapped_of, traps_text};
+ghost use Rattle.why_text.specs.Again.{runner_of};
+ghost use Rattle.main_text.specs.Traps.{answer_count, behind_text, count_in, is_trap, own_text, run_text, runner_note, trap_after};
+ghost use Rattle.main_text.specs.Traps.{operators, trap_ended, trap_got, trap_in, trap_note, trap_text, trapped_in, trapped_of, traps_text};
 
 use crate::attempts::write_made;
 use crate::happenings::{Happening, write_when_last};
@@ -14,10 +16,12 @@ use crate::parties::write_worker;
 use ids::{AttemptId, ObjectId, WorkerId};
 use log_entries::Entry;
 use log_text::write_named;
-use log_words::BirthIndex;
+use log_words::{BirthIndex, Contents};
 use protocol_data::Whole;
+use report::trap_name;
 use std::alloc::AllocError;
-use values::Content;
+use values::{Content, Trap};
+use why_text::runner_of;
 
 fn is_trap(content: &Content) -> bool
     ensures { result ≡ is_trap (content_of content.now) }
@@ -114,34 +118,6 @@ fn trapped_of(log: &[Entry], object: ObjectId) -> Option<AttemptId>
     None
 }
 
-fn runner_in(attempt: AttemptId, entry: &Entry) -> Option<WorkerId>
-    ensures { result ≡ first (runner_in attempt entry.now) }
-{
-    let Entry::Begun {
-        attempt: begun,
-        worker,
-    } = entry
-    else {
-        return None;
-    };
-    if begun.is(attempt) {
-        return Some(*worker);
-    }
-    None
-}
-
-/// The worker that ran the attempt.
-fn runner_of(log: &[Entry], attempt: AttemptId) -> Option<WorkerId>
-    ensures { result ≡ runner_of log.now attempt }
-{
-    for entry in log {
-        if let Some(worker) = runner_in(attempt, entry) {
-            return Some(worker);
-        }
-    }
-    None
-}
-
 fn write_runner(text: &mut String, worker: Option<WorkerId>) -> Result<(), AllocError>
     ensures { OnOk result (string_bytes text.new ≡ string_bytes text.old ++ runner_note worker) }
 {
@@ -186,9 +162,9 @@ fn write_behind(text: &mut String, count: usize) -> Result<(), AllocError>
     ensures { OnOk result (string_bytes text.new ≡ string_bytes text.old ++ behind_text count) }
 {
     if count == 0 {
-        return text.push_str("before any answer.\n");
+        return text.push_str("before any answer");
     }
-    write!(text, "after answer {count}.\n")
+    write!(text, "after answer {count}")
 }
 
 fn write_behind_of(text: &mut String, log: &[Entry], attempt: AttemptId) -> Result<(), AllocError>
@@ -198,7 +174,71 @@ fn write_behind_of(text: &mut String, log: &[Entry], attempt: AttemptId) -> Resu
     write_behind(text, count)
 }
 
-/// Writes that the attempt's own code trapped, and behind which answer.
+fn trap_in(attempt: AttemptId, entry: &Entry) -> Option<Trap>
+    ensures { option_map trap_of result ≡ first (trap_in attempt entry.now) }
+{
+    let Entry::Ended {
+        attempt: ended,
+        content,
+    } = entry
+    else {
+        return None;
+    };
+    if !ended.is(attempt) {
+        return None;
+    }
+    match &*content.inner {
+        Content::Value(_) => None,
+        Content::Trap(trap) => Some(*trap),
+    }
+}
+
+/// The trap with which the attempt ended.
+fn trap_ended(log: &[Entry], attempt: AttemptId) -> Option<Trap>
+    ensures { option_map trap_of result ≡ trap_ended log.now attempt }
+{
+    for entry in log {
+        if let Some(trap) = trap_in(attempt, entry) {
+            return Some(trap);
+        }
+    }
+    None
+}
+
+/// What such a trap can come of.
+fn operators(trap: Trap) -> &'static str
+    ensures { result.now ≡ operators (trap_of trap) }
+{
+    match trap {
+        Trap::Overflow => "+, -, *, / or %",
+        Trap::DivZero => "/ or %",
+        Trap::Index => "[ ]",
+        Trap::TooLong => "push",
+        Trap::Loop => "for",
+        Trap::TooDeep => "a call",
+    }
+}
+
+fn write_trap_note(text: &mut String, trap: Option<Trap>) -> Result<(), AllocError>
+    ensures { OnOk result (string_bytes text.new ≡ string_bytes text.old ++ trap_note (option_map trap_of trap)) }
+{
+    let Some(trap) = trap else {
+        return Ok(());
+    };
+    text.push_str(": ")?;
+    text.push_str(trap_name(trap))?;
+    text.push_str(", by ")?;
+    text.push_str(operators(trap))
+}
+
+fn write_trap_of(text: &mut String, log: &[Entry], attempt: AttemptId) -> Result<(), AllocError>
+    ensures { OnOk result (string_bytes text.new ≡ string_bytes text.old ++ trap_note (trap_ended log.now attempt)) }
+{
+    let trap = trap_ended(log, attempt);
+    write_trap_note(text, trap)
+}
+
+/// Writes that the attempt's own code trapped, behind which answer, and what such a trap can come of.
 #[tactic(auto, unfolding(crate::specs::Traps::own_text))]
 fn write_own(
     text: &mut String,
@@ -211,6 +251,8 @@ fn write_own(
     write_named(text, index, log, attempt)?;
     text.push_str(" trapped in its own code, ")?;
     write_behind_of(text, log, attempt)?;
+    write_trap_of(text, log, attempt)?;
+    text.push_str(".\n")?;
     Ok(())
 }
 
@@ -218,6 +260,7 @@ fn write_own(
 #[tactic(auto, unfolding(crate::specs::Traps::trap_text))]
 fn write_trap(
     text: &mut String,
+    contents: Contents,
     index: &BirthIndex,
     whole: &Whole,
     log: &[Entry],
@@ -226,13 +269,13 @@ fn write_trap(
     object: ObjectId,
 ) -> Result<(), AllocError>
     ensures { IsIndexOf index.now log.now → OnOk result
-        (string_bytes text.new ≡ string_bytes text.old ++ trap_text whole.now.jobs log.now lines.now attempt object) }
+        (string_bytes text.new ≡ string_bytes text.old ++ trap_text contents whole.now.jobs log.now lines.now attempt object) }
 {
     write_named(text, index, log, attempt)?;
     text.push_str(" got a trap")?;
     write_when_last(text, whole, lines, log, &Happening::Gets(attempt))?;
     text.push_str(", that of ")?;
-    write_made(text, index, log, object)?;
+    write_made(text, contents, index, log, object)?;
     text.push_str(".\n")?;
     Ok(())
 }
@@ -240,6 +283,7 @@ fn write_trap(
 /// Writes whose trap it was, from that attempt to the first one whose own code trapped, so many at most.
 pub fn write_traps(
     text: &mut String,
+    contents: Contents,
     index: &BirthIndex,
     whole: &Whole,
     log: &[Entry],
@@ -249,7 +293,7 @@ pub fn write_traps(
 ) -> Result<(), AllocError>
     requires { IsIndexOf index.now log.now }
     ensures { OnOk result
-        (string_bytes text.new ≡ string_bytes text.old ++ traps_text whole.now.jobs log.now lines.now most first) }
+        (string_bytes text.new ≡ string_bytes text.old ++ traps_text contents whole.now.jobs log.now lines.now most first) }
 {
     let mut attempt = first;
     let mut left = most;
@@ -258,7 +302,7 @@ pub fn write_traps(
             write_own(text, index, log, attempt)?;
             return Ok(());
         };
-        write_trap(text, index, whole, log, lines, attempt, object)?;
+        write_trap(text, contents, index, whole, log, lines, attempt, object)?;
         let Some(next) = trapped_of(log, object) else {
             return Ok(());
         };

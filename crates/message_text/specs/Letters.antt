@@ -1,6 +1,7 @@
 -- The lines of messages.
 use Rattle.std.specs.Prelude.{ℕ, ◌+◌, List, [], ◌∷◌, ◌++◌, codes}
 use Rattle.std.specs.Fmt.{decimal}
+use Rattle.log_words.specs.declared.contents.Contents.{Contents}
 use Rattle.protocol_data.specs.declared.message.Letter.{Letter}
 use Rattle.message_text.specs.Messages.{party_text, message_text}
 
@@ -9,10 +10,10 @@ letter_head k l =
     codes "    " ++ (party_text l.sender ++ (codes " sends message " ++ (decimal k ++ (codes " to " ++ (party_text l.receiver ++ codes ": ")))))
 
 -- w1 sends message 3 to w2: Push(a1.1#0, remote(3) sq(7))
-abbrev pub letter_line : ℕ → Letter → List ℕ
-letter_line k l = letter_head k l ++ (message_text l.message ++ codes "\n")
+abbrev pub letter_line : Contents → ℕ → Letter → List ℕ
+letter_line how k l = letter_head k l ++ (message_text how l.message ++ codes "\n")
 
 -- the messages behind the first k, which have the next numbers
-abbrev pub letters_text : ℕ → List Letter → List ℕ
-letters_text k [] = []
-letters_text k (l ∷ ls) = letter_line (k + 1) l ++ letters_text (k + 1) ls
+abbrev pub letters_text : Contents → ℕ → List Letter → List ℕ
+letters_text how k [] = []
+letters_text how k (l ∷ ls) = letter_line how (k + 1) l ++ letters_text how (k + 1) ls

@@ -6,6 +6,7 @@ use Rattle.report.specs.Values.{id_text}
 use Rattle.meaning.specs.Values.{Id, Birth, Outcome}
 use Rattle.event_log.specs.Entries.{Attempt}
 use Rattle.history.specs.Texts.{attempt_text, fault_text}
+use Rattle.log_words.specs.declared.contents.Contents.{Contents}
 use Rattle.log_words.specs.Calls.{birth_text}
 use Rattle.log_words.specs.Contents.{content_text}
 use Rattle.protocol_data.specs.declared.message.Party.{Party}
@@ -67,34 +68,34 @@ kind_text (HoldAck e o) = codes "HoldAck"
 kind_text (Unhold e o why) = codes "Unhold"
 
 -- Push(a1.1#0, remote(3) sq(7))
-abbrev pub push_text : Attempt → Birth → List ℕ
-push_text a b = codes "Push(" ++ (attempt_text a ++ (codes ", " ++ (birth_text b ++ codes ")")))
+abbrev pub push_text : Contents → Attempt → Birth → List ℕ
+push_text how a b = codes "Push(" ++ (attempt_text a ++ (codes ", " ++ (birth_text how b ++ codes ")")))
 
 -- a small content that comes along
-abbrev pub kept_text : Option Outcome → List ℕ
-kept_text None = []
-kept_text (Some c) = codes ", " ++ content_text c
+abbrev pub kept_text : Contents → Option Outcome → List ℕ
+kept_text how None = []
+kept_text how (Some c) = codes ", " ++ content_text how c
 
 -- Finished(a1.1#0, n1, [], 49), or without the content
-abbrev pub finished_text : Attempt → ℕ → List Id → Option Outcome → List ℕ
-finished_text a n ids kept =
-    codes "Finished(" ++ (attempt_text a ++ (codes ", n" ++ (decimal n ++ (codes ", " ++ (objects_text ids ++ (kept_text kept ++ codes ")"))))))
+abbrev pub finished_text : Contents → Attempt → ℕ → List Id → Option Outcome → List ℕ
+finished_text how a n ids kept =
+    codes "Finished(" ++ (attempt_text a ++ (codes ", n" ++ (decimal n ++ (codes ", " ++ (objects_text ids ++ (kept_text how kept ++ codes ")"))))))
 
 -- At(o1.1, 0, [n1, n2]), or At(o1.1, 0, [], 49)
-abbrev pub at_text : Id → ℕ → List ℕ → Option Outcome → List ℕ
-at_text o k ns kept = codes "At(" ++ (id_text o ++ (codes ", " ++ (decimal k ++ (codes ", " ++ (nodes_text ns ++ (kept_text kept ++ codes ")"))))))
+abbrev pub at_text : Contents → Id → ℕ → List ℕ → Option Outcome → List ℕ
+at_text how o k ns kept = codes "At(" ++ (id_text o ++ (codes ", " ++ (decimal k ++ (codes ", " ++ (nodes_text ns ++ (kept_text how kept ++ codes ")"))))))
 
 -- Copy(o1.1, 0, 49)
-abbrev pub copy_text : Id → ℕ → Outcome → List ℕ
-copy_text o k c = codes "Copy(" ++ (id_text o ++ (codes ", " ++ (decimal k ++ (codes ", " ++ (content_text c ++ codes ")")))))
+abbrev pub copy_text : Contents → Id → ℕ → Outcome → List ℕ
+copy_text how o k c = codes "Copy(" ++ (id_text o ++ (codes ", " ++ (decimal k ++ (codes ", " ++ (content_text how c ++ codes ")")))))
 
 -- what carries a task, objects, nodes or a content
-abbrev pub carrying_text : Message → List ℕ
-carrying_text (Push a b) = push_text a b
-carrying_text (Finished a n ids kept) = finished_text a n ids kept
-carrying_text (At o k ns kept) = at_text o k ns kept
-carrying_text (CopyOf o k c) = copy_text o k c
-carrying_text _ = []
+abbrev pub carrying_text : Contents → Message → List ℕ
+carrying_text how (Push a b) = push_text how a b
+carrying_text how (Finished a n ids kept) = finished_text how a n ids kept
+carrying_text how (At o k ns kept) = at_text how o k ns kept
+carrying_text how (CopyOf o k c) = copy_text how o k c
+carrying_text how _ = []
 
 -- why one object holds another no more
 abbrev pub reason_text : Reason → List ℕ
@@ -106,18 +107,18 @@ abbrev pub unhold_text : Id → Id → Reason → List ℕ
 unhold_text e o why = codes "Unhold(" ++ (id_text e ++ (codes ", " ++ (id_text o ++ (codes ", " ++ (reason_text why ++ codes ")")))))
 
 -- who holds an object, and the others
-abbrev pub hold_text : Message → List ℕ
-hold_text (Hold e o) = codes "Hold(" ++ (id_text e ++ (codes ", " ++ (id_text o ++ codes ")")))
-hold_text (HoldAck e o) = codes "HoldAck(" ++ (id_text e ++ (codes ", " ++ (id_text o ++ codes ")")))
-hold_text (Unhold e o why) = unhold_text e o why
-hold_text m = carrying_text m
+abbrev pub hold_text : Contents → Message → List ℕ
+hold_text how (Hold e o) = codes "Hold(" ++ (id_text e ++ (codes ", " ++ (id_text o ++ codes ")")))
+hold_text how (HoldAck e o) = codes "HoldAck(" ++ (id_text e ++ (codes ", " ++ (id_text o ++ codes ")")))
+hold_text how (Unhold e o why) = unhold_text e o why
+hold_text how m = carrying_text how m
 
 -- where an object is, and the others
-abbrev pub place_text : Message → List ℕ
-place_text (Where o) = codes "Where(" ++ (id_text o ++ codes ")")
-place_text (Fetch o k) = codes "Fetch(" ++ (id_text o ++ (codes ", " ++ (decimal k ++ codes ")")))
-place_text (Missing o k n) = codes "Missing(" ++ (id_text o ++ (codes ", " ++ (decimal k ++ (codes ", n" ++ (decimal n ++ codes ")")))))
-place_text m = hold_text m
+abbrev pub place_text : Contents → Message → List ℕ
+place_text how (Where o) = codes "Where(" ++ (id_text o ++ codes ")")
+place_text how (Fetch o k) = codes "Fetch(" ++ (id_text o ++ (codes ", " ++ (decimal k ++ codes ")")))
+place_text how (Missing o k n) = codes "Missing(" ++ (id_text o ++ (codes ", " ++ (decimal k ++ (codes ", n" ++ (decimal n ++ codes ")")))))
+place_text how m = hold_text how m
 
 abbrev pub closed_text : Attempt → List ℕ
 closed_text a = attempt_text a ++ codes ")"
@@ -126,17 +127,17 @@ abbrev pub finished_ack_text : Attempt → List ℕ
 finished_ack_text a = codes "FinishedAck(" ++ closed_text a
 
 -- how an attempt stopped, and the others
-abbrev pub stop_text : Message → List ℕ
-stop_text (FinishedAck a) = finished_ack_text a
-stop_text (Back a) = codes "Back(" ++ (attempt_text a ++ codes ")")
-stop_text (Failed a f) = codes "Failed(" ++ (attempt_text a ++ (codes ", " ++ (fault_text f ++ codes ")")))
-stop_text (Gone o f) = codes "Gone(" ++ (id_text o ++ (codes ", " ++ (fault_text f ++ codes ")")))
-stop_text m = place_text m
+abbrev pub stop_text : Contents → Message → List ℕ
+stop_text how (FinishedAck a) = finished_ack_text a
+stop_text how (Back a) = codes "Back(" ++ (attempt_text a ++ codes ")")
+stop_text how (Failed a f) = codes "Failed(" ++ (attempt_text a ++ (codes ", " ++ (fault_text f ++ codes ")")))
+stop_text how (Gone o f) = codes "Gone(" ++ (id_text o ++ (codes ", " ++ (fault_text f ++ codes ")")))
+stop_text how m = place_text how m
 
--- asks, and the others
-abbrev pub message_text : Message → List ℕ
-message_text (Ask a t) = codes "Ask(" ++ (attempt_text a ++ (codes ", " ++ (decimal t ++ codes ")")))
-message_text (Give a t w) = codes "Give(" ++ (attempt_text a ++ (codes ", " ++ (decimal t ++ (codes ", w" ++ (decimal w ++ codes ")")))))
-message_text (Elsewhere a t n) = codes "Elsewhere(" ++ (attempt_text a ++ (codes ", " ++ (decimal t ++ (codes ", n" ++ (decimal n ++ codes ")")))))
-message_text (Wait a t) = codes "Wait(" ++ (attempt_text a ++ (codes ", " ++ (decimal t ++ codes ")")))
-message_text m = stop_text m
+-- asks, and the others; `how` says whether the long lists of contents are cut
+abbrev pub message_text : Contents → Message → List ℕ
+message_text how (Ask a t) = codes "Ask(" ++ (attempt_text a ++ (codes ", " ++ (decimal t ++ codes ")")))
+message_text how (Give a t w) = codes "Give(" ++ (attempt_text a ++ (codes ", " ++ (decimal t ++ (codes ", w" ++ (decimal w ++ codes ")")))))
+message_text how (Elsewhere a t n) = codes "Elsewhere(" ++ (attempt_text a ++ (codes ", " ++ (decimal t ++ (codes ", n" ++ (decimal n ++ codes ")")))))
+message_text how (Wait a t) = codes "Wait(" ++ (attempt_text a ++ (codes ", " ++ (decimal t ++ codes ")")))
+message_text how m = stop_text how m

@@ -1,6 +1,7 @@
 -- The messages that each event sent.
 use Rattle.std.specs.Prelude.{ℕ, zero, suc, ◌-◌, Bool, true, false, if◌then◌else◌, List, [], ◌∷◌, Option, Some, None, drop, take, slice_get}
 use Rattle.event_log.specs.Entries.{Entry, In}
+use Rattle.log_words.specs.declared.contents.Contents.{Contents}
 use Rattle.protocol_data.specs.declared.message.Letter.{Letter}
 use Rattle.message_text.specs.Letters.{letters_text}
 
@@ -18,10 +19,10 @@ abbrev pub letters_between : List Letter → ℕ → ℕ → List Letter
 letters_between letters from until = take (until - from) (drop from letters)
 
 -- a line for each message that the event sent
-abbrev pub sent_text : List Letter → List ℕ → ℕ → List ℕ
-sent_text letters sent zero = []
-sent_text letters sent (suc n) =
-    letters_text (sent_behind sent n) (letters_between letters (sent_behind sent n) (sent_behind sent (suc n)))
+abbrev pub sent_text : Contents → List Letter → List ℕ → ℕ → List ℕ
+sent_text how letters sent zero = []
+sent_text how letters sent (suc n) =
+    letters_text how (sent_behind sent n) (letters_between letters (sent_behind sent n) (sent_behind sent (suc n)))
 
 -- no entry of the event is still to come
 abbrev pub is_over : List Entry → Bool
@@ -29,5 +30,5 @@ is_over [] = true
 is_over (In e seat ∷ rest) = true
 is_over (x ∷ rest) = false
 
-abbrev pub sent_note : List Letter → List ℕ → ℕ → Bool → List ℕ
-sent_note letters sent event over = if over then sent_text letters sent event else []
+abbrev pub sent_note : Contents → List Letter → List ℕ → ℕ → Bool → List ℕ
+sent_note how letters sent event over = if over then sent_text how letters sent event else []

@@ -8,84 +8,104 @@ use crate::lists::{write_nodes, write_objects};
 use held::{Origin, SharedContent};
 use history::kind_name;
 use ids::{AttemptId, NodeId, ObjectId};
-use log_words::{write_birth, write_content};
+use log_words::{Contents, write_birth, write_content};
 use protocol_data::{Message, Reason};
 use sequence::Seq;
 use std::alloc::AllocError;
 
-fn write_push(text: &mut String, attempt: AttemptId, birth: &Origin) -> Result<(), AllocError>
-    ensures { OnOk result (string_bytes text.new ≡ string_bytes text.old ++ push_text attempt birth.now) }
+fn write_push(
+    text: &mut String,
+    contents: Contents,
+    attempt: AttemptId,
+    birth: &Origin,
+) -> Result<(), AllocError>
+    ensures { OnOk result (string_bytes text.new ≡ string_bytes text.old ++ push_text contents attempt birth.now) }
 {
     write!(text, "Push({attempt}, ")?;
-    write_birth(text, &birth.inner)?;
+    write_birth(text, contents, &birth.inner)?;
     text.push_str(")")
 }
 
-fn write_kept(text: &mut String, kept: &Option<SharedContent>) -> Result<(), AllocError>
-    ensures { OnOk result (string_bytes text.new ≡ string_bytes text.old ++ kept_text kept.now) }
+fn write_kept(
+    text: &mut String,
+    contents: Contents,
+    kept: &Option<SharedContent>,
+) -> Result<(), AllocError>
+    ensures { OnOk result (string_bytes text.new ≡ string_bytes text.old ++ kept_text contents kept.now) }
 {
     let Some(content) = kept else {
         return Ok(());
     };
     text.push_str(", ")?;
-    write_content(text, &content.inner)
+    write_content(text, contents, &content.inner)
 }
 
 fn write_finished(
     text: &mut String,
+    contents: Contents,
     attempt: AttemptId,
     node: NodeId,
     ids: &Seq<ObjectId>,
     kept: &Option<SharedContent>,
 ) -> Result<(), AllocError>
-    ensures { OnOk result (string_bytes text.new ≡ string_bytes text.old ++ finished_text attempt node ids.now kept.now) }
+    ensures { OnOk result (string_bytes text.new ≡ string_bytes text.old ++ finished_text contents attempt node ids.now kept.now) }
 {
     let node = node.0;
     write!(text, "Finished({attempt}, n{node}, ")?;
     write_objects(text, ids.as_slice())?;
-    write_kept(text, kept)?;
+    write_kept(text, contents, kept)?;
     text.push_str(")")
 }
 
 fn write_at(
     text: &mut String,
+    contents: Contents,
     object: ObjectId,
     number: u32,
     nodes: &Seq<NodeId>,
     kept: &Option<SharedContent>,
 ) -> Result<(), AllocError>
-    ensures { OnOk result (string_bytes text.new ≡ string_bytes text.old ++ at_text object number nodes.now kept.now) }
+    ensures { OnOk result (string_bytes text.new ≡ string_bytes text.old ++ at_text contents object number nodes.now kept.now) }
 {
     write!(text, "At({object}, {number}, ")?;
     write_nodes(text, nodes.as_slice())?;
-    write_kept(text, kept)?;
+    write_kept(text, contents, kept)?;
     text.push_str(")")
 }
 
 fn write_copy(
     text: &mut String,
+    contents: Contents,
     object: ObjectId,
     number: u32,
     content: &SharedContent,
 ) -> Result<(), AllocError>
-    ensures { OnOk result (string_bytes text.new ≡ string_bytes text.old ++ copy_text object number content.now) }
+    ensures { OnOk result (string_bytes text.new ≡ string_bytes text.old ++ copy_text contents object number content.now) }
 {
     write!(text, "Copy({object}, {number}, ")?;
-    write_content(text, &content.inner)?;
+    write_content(text, contents, &content.inner)?;
     text.push_str(")")
 }
 
 /// Writes a message that carries a task, objects, nodes or a content.
-fn write_carrying(text: &mut String, message: &Message) -> Result<(), AllocError>
-    ensures { OnOk result (string_bytes text.new ≡ string_bytes text.old ++ carrying_text message.now) }
+fn write_carrying(
+    text: &mut String,
+    contents: Contents,
+    message: &Message,
+) -> Result<(), AllocError>
+    ensures { OnOk result (string_bytes text.new ≡ string_bytes text.old ++ carrying_text contents message.now) }
 {
     match message {
-        Message::Push(attempt, birth) => write_push(text, *attempt, birth),
+        Message::Push(attempt, birth) => write_push(text, contents, *attempt, birth),
         Message::Finished(attempt, node, ids, kept) => {
-            write_finished(text, *attempt, *node, ids, kept)
+            write_finished(text, contents, *attempt, *node, ids, kept)
         }
-        Message::At(object, number, nodes, kept) => write_at(text, *object, *number, nodes, kept),
-        Message::CopyOf(object, number, content) => write_copy(text, *object, *number, content),
+        Message::At(object, number, nodes, kept) => write_at(
+            text, contents, *object, *number, nodes, kept,
+        ),
+        Message::CopyOf(object, number, content) => write_copy(
+            text, contents, *object, *number, content,
+        ),
         _ => Ok(()),
     }
 }
@@ -113,8 +133,8 @@ fn write_unhold(
 }
 
 /// Writes what is said of who holds an object, and the others.
-fn write_hold(text: &mut String, message: &Message) -> Result<(), AllocError>
-    ensures { OnOk result (string_bytes text.new ≡ string_bytes text.old ++ hold_text message.now) }
+fn write_hold(text: &mut String, contents: Contents, message: &Message) -> Result<(), AllocError>
+    ensures { OnOk result (string_bytes text.new ≡ string_bytes text.old ++ hold_text contents message.now) }
 {
     match message {
         Message::Hold(holder, object) => {
@@ -128,13 +148,13 @@ fn write_hold(text: &mut String, message: &Message) -> Result<(), AllocError>
             write!(text, "HoldAck({holder}, {object})")
         }
         Message::Unhold(holder, object, reason) => write_unhold(text, *holder, *object, *reason),
-        _ => write_carrying(text, message),
+        _ => write_carrying(text, contents, message),
     }
 }
 
 /// Writes what is said of where an object is, and the others.
-fn write_place(text: &mut String, message: &Message) -> Result<(), AllocError>
-    ensures { OnOk result (string_bytes text.new ≡ string_bytes text.old ++ place_text message.now) }
+fn write_place(text: &mut String, contents: Contents, message: &Message) -> Result<(), AllocError>
+    ensures { OnOk result (string_bytes text.new ≡ string_bytes text.old ++ place_text contents message.now) }
 {
     match message {
         Message::Where(object) => {
@@ -150,7 +170,7 @@ fn write_place(text: &mut String, message: &Message) -> Result<(), AllocError>
             let node = node.0;
             write!(text, "Missing({object}, {number}, n{node})")
         }
-        _ => write_hold(text, message),
+        _ => write_hold(text, contents, message),
     }
 }
 
@@ -168,8 +188,8 @@ fn write_finished_ack(text: &mut String, attempt: AttemptId) -> Result<(), Alloc
 }
 
 /// Writes what is said of how an attempt stopped, and the others.
-fn write_stop(text: &mut String, message: &Message) -> Result<(), AllocError>
-    ensures { OnOk result (string_bytes text.new ≡ string_bytes text.old ++ stop_text message.now) }
+fn write_stop(text: &mut String, contents: Contents, message: &Message) -> Result<(), AllocError>
+    ensures { OnOk result (string_bytes text.new ≡ string_bytes text.old ++ stop_text contents message.now) }
 {
     match message {
         Message::FinishedAck(attempt) => write_finished_ack(text, *attempt),
@@ -191,13 +211,17 @@ fn write_stop(text: &mut String, message: &Message) -> Result<(), AllocError>
             let object = fault.object;
             write!(text, "Gone({lost}, {kind} {object})")
         }
-        _ => write_place(text, message),
+        _ => write_place(text, contents, message),
     }
 }
 
 /// Writes a message, such as `Push(a1.1#0, remote(3) sq(7))`: its kind and what it says, as docs/protocol.md has them.
-pub fn write_message(text: &mut String, message: &Message) -> Result<(), AllocError>
-    ensures { OnOk result (string_bytes text.new ≡ string_bytes text.old ++ message_text message.now) }
+pub fn write_message(
+    text: &mut String,
+    contents: Contents,
+    message: &Message,
+) -> Result<(), AllocError>
+    ensures { OnOk result (string_bytes text.new ≡ string_bytes text.old ++ message_text contents message.now) }
 {
     match message {
         Message::Ask(attempt, ask) => {
@@ -218,7 +242,7 @@ pub fn write_message(text: &mut String, message: &Message) -> Result<(), AllocEr
             let attempt = *attempt;
             write!(text, "Wait({attempt}, {ask})")
         }
-        _ => write_stop(text, message),
+        _ => write_stop(text, contents, message),
     }
 }
 

@@ -5,6 +5,7 @@ ghost use Rattle.message_text.specs.Letters.{letter_head, letter_line, letters_t
 
 use crate::kinds::write_message;
 use crate::parties::write_party;
+use log_words::Contents;
 use protocol_data::Letter;
 use std::alloc::AllocError;
 
@@ -18,21 +19,31 @@ fn write_head(text: &mut String, number: usize, letter: &Letter) -> Result<(), A
     text.push_str(": ")
 }
 
-fn write_letter(text: &mut String, number: usize, letter: &Letter) -> Result<(), AllocError>
-    ensures { OnOk result (string_bytes text.new ≡ string_bytes text.old ++ letter_line number letter.now) }
+fn write_letter(
+    text: &mut String,
+    contents: Contents,
+    number: usize,
+    letter: &Letter,
+) -> Result<(), AllocError>
+    ensures { OnOk result (string_bytes text.new ≡ string_bytes text.old ++ letter_line contents number letter.now) }
 {
     write_head(text, number, letter)?;
-    write_message(text, &letter.message)?;
+    write_message(text, contents, &letter.message)?;
     text.push_str("\n")
 }
 
 /// Writes the messages behind the first `before`, a line each, with their numbers.
-pub fn write_letters(text: &mut String, before: usize, letters: &[Letter]) -> Result<(), AllocError>
+pub fn write_letters(
+    text: &mut String,
+    contents: Contents,
+    before: usize,
+    letters: &[Letter],
+) -> Result<(), AllocError>
     requires { before + length letters.now < 2 ^ 64 }
-    ensures { OnOk result (string_bytes text.new ≡ string_bytes text.old ++ letters_text before letters.now) }
+    ensures { OnOk result (string_bytes text.new ≡ string_bytes text.old ++ letters_text contents before letters.now) }
 {
     for (place, letter) in letters.iter().enumerate() {
-        write_letter(text, before + place + 1, letter)?;
+        write_letter(text, contents, before + place + 1, letter)?;
     }
     Ok(())
 }

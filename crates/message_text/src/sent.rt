@@ -5,6 +5,7 @@ ghost use Rattle.message_text.specs.Sent.{is_over, letters_between, sent_behind,
 
 use crate::letters::write_letters;
 use log_entries::Entry;
+use log_words::Contents;
 use protocol_data::Letter;
 use std::alloc::AllocError;
 
@@ -39,18 +40,19 @@ pub fn letters_between(letters: &[Letter], from: usize, until: usize) -> &[Lette
 /// Writes the messages that the event sent.
 fn write_sent(
     text: &mut String,
+    contents: Contents,
     letters: &[Letter],
     sent: &[usize],
     event: usize,
 ) -> Result<(), AllocError>
-    ensures { OnOk result (string_bytes text.new ≡ string_bytes text.old ++ sent_text letters.now sent.now event) }
+    ensures { OnOk result (string_bytes text.new ≡ string_bytes text.old ++ sent_text contents letters.now sent.now event) }
 {
     if event == 0 {
         return Ok(());
     }
     let from = sent_behind(sent, event - 1);
     let until = sent_behind(sent, event);
-    write_letters(text, from, letters_between(letters, from, until))
+    write_letters(text, contents, from, letters_between(letters, from, until))
 }
 
 /// Whether no entry of an event is still to come at the place.
@@ -66,15 +68,16 @@ pub fn is_over_at(log: &[Entry], place: usize) -> bool
 /// Writes the messages that the event sent, where it is over.
 pub fn write_sent_where_over(
     text: &mut String,
+    contents: Contents,
     letters: &[Letter],
     sent: &[usize],
     event: usize,
     is_over: bool,
 ) -> Result<(), AllocError>
-    ensures { OnOk result (string_bytes text.new ≡ string_bytes text.old ++ sent_note letters.now sent.now event is_over) }
+    ensures { OnOk result (string_bytes text.new ≡ string_bytes text.old ++ sent_note contents letters.now sent.now event is_over) }
 {
     if is_over {
-        return write_sent(text, letters, sent, event);
+        return write_sent(text, contents, letters, sent, event);
     }
     Ok(())
 }

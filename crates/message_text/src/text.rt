@@ -6,7 +6,7 @@ ghost use Rattle.message_text.specs.Text.{log_with_messages};
 use crate::sent::{is_over_at, write_sent_where_over};
 use log_entries::Entry;
 use log_text::write_line;
-use log_words::{BirthIndex, Told, is_refusal_at};
+use log_words::{BirthIndex, Contents, Told, is_refusal_at};
 use protocol_data::Letter;
 use std::alloc::{AllocError, Global};
 
@@ -15,21 +15,22 @@ use std::alloc::{AllocError, Global};
 /// how many had been sent behind each event. An event without a count sent nothing, and so one behind it.
 pub fn log_with_messages(
     alloc: Global,
+    contents: Contents,
     log: &[Entry],
     letters: &[Letter],
     sent: &[usize],
 ) -> Result<String, AllocError>
-    ensures { IfOk result (λ text. string_bytes text ≡ log_with_messages log.now letters.now sent.now) }
+    ensures { IfOk result (λ text. string_bytes text ≡ log_with_messages contents log.now letters.now sent.now) }
 {
     let mut text = String::new(alloc);
     let index = BirthIndex::of(alloc, log)?;
     let mut told = Told::new(alloc);
     for (place, entry) in log.iter().enumerate() {
         let is_refused = is_refusal_at(log, place + 1);
-        write_line(&mut text, &index, log, &told, entry, is_refused)?;
+        write_line(&mut text, contents, &index, log, &told, entry, is_refused)?;
         told.note(entry, is_refused)?;
         let is_over = is_over_at(log, place + 1);
-        write_sent_where_over(&mut text, letters, sent, told.events, is_over)?;
+        write_sent_where_over(&mut text, contents, letters, sent, told.events, is_over)?;
     }
     Ok(text)
 }

@@ -87,6 +87,23 @@ fn reads_a_simulation_with_books(rt: HostRuntime) -> Result<(), Fail> {
 }
 
 #[test]
+fn reads_whether_lists_are_whole(rt: HostRuntime) -> Result<(), Fail> {
+    let alloc = rt.alloc();
+    let w = words(alloc, &["raysim", "log", "sq.ray", "--full"])?;
+    let Request::Log(log) = options(alloc, w.as_slice())? else {
+        return Err(Fail::from("a log"));
+    };
+    assert!(rt; log.full);
+    assert!(rt; !log.messages);
+    let w = words(alloc, &["raysim", "why", "sq.ray", "events"])?;
+    let Request::Why(why) = options(alloc, w.as_slice())? else {
+        return Err(Fail::from("a question"));
+    };
+    assert!(rt; !why.full);
+    Ok(())
+}
+
+#[test]
 fn reads_a_migration(rt: HostRuntime) -> Result<(), Fail> {
     let alloc = rt.alloc();
     let w = words(
@@ -184,6 +201,37 @@ fn reads_what_is_to_be_told(rt: HostRuntime) -> Result<(), Fail> {
 }
 
 #[test]
+fn reads_whether_a_refusal_is_explained(rt: HostRuntime) -> Result<(), Fail> {
+    let alloc = rt.alloc();
+    let w = words(alloc, &["raysim", "sim", "a.ray", "e", "--explain"])?;
+    let Request::Sim(sim) = options(alloc, w.as_slice())? else {
+        return Err(Fail::from("a simulation"));
+    };
+    assert!(rt; sim.explain);
+    let w = words(alloc, &["raysim", "log", "a.ray", "--explain"])?;
+    let Request::Log(log) = options(alloc, w.as_slice())? else {
+        return Err(Fail::from("a log"));
+    };
+    assert!(rt; log.explain);
+    let w = words(alloc, &["raysim", "why", "a.ray", "e"])?;
+    let Request::Why(why) = options(alloc, w.as_slice())? else {
+        return Err(Fail::from("a why"));
+    };
+    assert!(rt; !why.explain);
+    let w = words(alloc, &["raysim", "migrate", "--explain", "a.ray", "e"])?;
+    let Request::Migrate(migrate) = options(alloc, w.as_slice())? else {
+        return Err(Fail::from("a migration"));
+    };
+    assert!(rt; migrate.explain);
+    let w = words(alloc, &["raysim", "faults", "a.ray", "--explain"])?;
+    let Request::Faults(faults) = options(alloc, w.as_slice())? else {
+        return Err(Fail::from("faults"));
+    };
+    assert!(rt; faults.explain);
+    Ok(())
+}
+
+#[test]
 fn reads_the_short_commands(rt: HostRuntime) -> Result<(), Fail> {
     let alloc = rt.alloc();
     let w = words(alloc, &["raysim", "check", "a.ray"])?;
@@ -199,13 +247,76 @@ fn reads_the_short_commands(rt: HostRuntime) -> Result<(), Fail> {
     assert_eq!(rt; serial.script, "b.ray");
     assert!(rt; serial.explain);
     let w = words(alloc, &["raysim", "explain", "37"])?;
-    let Request::Explain(number) = options(alloc, w.as_slice())? else {
+    let Request::Explain(what) = options(alloc, w.as_slice())? else {
         return Err(Fail::from("an explanation"));
     };
-    assert_eq!(rt; number, 37);
+    assert_eq!(rt; what, "37");
+    let w = words(alloc, &["raysim", "explain", "OwnerDied"])?;
+    let Request::Explain(what) = options(alloc, w.as_slice())? else {
+        return Err(Fail::from("an explanation"));
+    };
+    assert_eq!(rt; what, "OwnerDied");
+    let w = words(alloc, &["raysim", "explain"])?;
+    assert!(rt; options(alloc, w.as_slice()).is_err());
     let w = words(alloc, &["raysim", "fly", "b.ray"])?;
     assert!(rt; options(alloc, w.as_slice()).is_err());
     let w = words(alloc, &["raysim"])?;
     assert!(rt; options(alloc, w.as_slice()).is_err());
+    Ok(())
+}
+
+#[test]
+fn reads_a_state(rt: HostRuntime) -> Result<(), Fail> {
+    let alloc = rt.alloc();
+    let w = words(
+        alloc,
+        &[
+            "raysim", "state", "sq.ray", "events", "--at", "12", "--nodes", "2",
+        ],
+    )?;
+    let Request::State(state) = options(alloc, w.as_slice())? else {
+        return Err(Fail::from("a state"));
+    };
+    assert_eq!(rt; state.script, "sq.ray");
+    assert_eq!(rt; state.events, "events");
+    assert_eq!(rt; state.at, Some("12"));
+    assert_eq!(rt; state.nodes, 2);
+    assert_eq!(rt; state.slots, 4);
+    let w = words(alloc, &["raysim", "state", "sq.ray"])?;
+    assert!(rt; options(alloc, w.as_slice()).is_err());
+    Ok(())
+}
+
+fn conflict_of(alloc: Global, all: &[&str]) -> Result<String, Fail> {
+    let w = words(alloc, all)?;
+    let Err(error) = options(alloc, w.as_slice()) else {
+        return Err(Fail::from("a fault"));
+    };
+    Ok(format!(in alloc; "{error}")?)
+}
+
+#[test]
+fn reads_a_summary(rt: HostRuntime) -> Result<(), Fail> {
+    let alloc = rt.alloc();
+    let w = words(alloc, &["raysim", "run", "sq.ray", "--summary"])?;
+    let Request::Run(run) = options(alloc, w.as_slice())? else {
+        return Err(Fail::from("a run"));
+    };
+    assert!(rt; run.summary);
+    let with_json = conflict_of(alloc, &["raysim", "run", "sq.ray", "--summary", "--json"])?;
+    assert!(rt;
+        with_json.as_str().starts_with(
+            "error: the argument '--summary' cannot be used with '--json'"
+        )
+    );
+    let with_books = conflict_of(
+        alloc,
+        &["raysim", "sim", "sq.ray", "events", "--summary", "--books"],
+    )?;
+    assert!(rt;
+        with_books.as_str().starts_with(
+            "error: the argument '--summary' cannot be used with '--books'"
+        )
+    );
     Ok(())
 }

@@ -1,14 +1,17 @@
 // A fault at every place of a run.
 
-use crate::inputs::{read_behind, read_script_file};
+use crate::inputs;
+use crate::inputs::{first_bytes, read_script_file};
+use crate::reasons::{Course, Known, List};
 use crate::replays::Texts;
-use crate::told::{OUTPUT, Stop, fault, no_memory, stopped};
+use crate::told::{OUTPUT, Stop, fault, no_memory, stopped, tell};
 use raysim_commands::{
     Cluster, CommandRefusal, EndKind, FaultChoice, FaultKind, Tracked, TriedFaults, faults,
     first_of, list_file,
 };
 use raysim_files::{Noted, write_whole};
 use raysim_options::FaultsOptions;
+use refusal_reasons::ListKind;
 use std::alloc::{AllocError, Global};
 use std::process::ExitCode;
 use std::rt::Files;
@@ -116,7 +119,7 @@ pub fn over_each_place<R: Files + Print + Eprint + AllocGlobal>(
             Ok(Some(path)) => {
                 return fault(rt, path.as_str(), "is there already, and isn't overwritten");
             }
-            Err(error) => return stopped(rt, Stop::writing(folder, error), options.script),
+            Err(error) => return stopped(rt, Stop::writing(folder, error)),
         }
     }
     try_faults(rt, options, cluster, trial)
@@ -128,9 +131,8 @@ fn try_faults<R: Files + Print + Eprint + AllocGlobal>(
     cluster: Cluster,
     trial: Trial,
 ) -> ExitCode {
-    let texts = match read_texts(rt, options) {
-        Ok(texts) => texts,
-        Err(stop) => return stopped(rt, stop, options.script),
+    let Some(texts) = read_texts(rt, options) else {
+        return ExitCode::FAILURE;
     };
     let mut output = Noted::new(io::writer(rt));
     let done = faults(
@@ -145,22 +147,82 @@ fn try_faults<R: Files + Print + Eprint + AllocGlobal>(
     let error = output.error();
     match done {
         Ok(tried) => write_lists(rt, options, &tried),
-        Err(refusal) => stopped(rt, Stop::of_writer(refusal, OUTPUT, error), options.script),
+        Err(refusal) => {
+            let (text, events) = (texts.script.as_slice(), texts.events.as_slice());
+            let stop = Stop::of_writer(refusal, OUTPUT, error);
+            tell(rt, stop, &known_of(options, text, events));
+            ExitCode::FAILURE
+        }
     }
 }
 
-/// Reads both files. Without a file of events the run is settled.
-fn read_texts<'a, R: Files + AllocGlobal>(
+/// What is known of a trial that stops.
+fn known_of<'a, 'b>(
+    options: &FaultsOptions<'a>,
+    text: &'b [u8],
+    events: &'b [u8],
+) -> Known<'a, 'b> {
+    let list = match options.events {
+        Some(file) => Some(List {
+            kind: ListKind::Events,
+            file,
+            text: events,
+        }),
+        None => None,
+    };
+    Known {
+        explain: options.explain,
+        script: options.script,
+        text,
+        list,
+        course: Some(Course::Replayed),
+    }
+}
+
+/// Reads both files, or tells why they can't be read. Without a file of events the run is settled.
+fn read_texts<R: Files + Eprint + AllocGlobal>(
+    rt: &R,
+    options: &FaultsOptions<'_>,
+) -> Option<Texts> {
+    let script = match read_script_file(rt, options.script) {
+        Ok(script) => script,
+        Err(stop) => {
+            tell(rt, stop, &known_of(options, b"", b""));
+            return None;
+        }
+    };
+    match read_events(rt, options, script.as_slice()) {
+        Ok(events) => Some(Texts { script, events }),
+        Err(stop) => {
+            let shown = shown_bytes(rt, options);
+            tell(
+                rt,
+                stop,
+                &known_of(options, script.as_slice(), shown.as_slice()),
+            );
+            None
+        }
+    }
+}
+
+/// What is shown of the list of events, if that is asked for.
+fn shown_bytes<R: Files + AllocGlobal>(rt: &R, options: &FaultsOptions<'_>) -> Vec<u8> {
+    match options.events {
+        Some(path) if options.explain => first_bytes(rt, path),
+        _ => Vec::new(rt.alloc()),
+    }
+}
+
+fn read_events<'a, R: Files + AllocGlobal>(
     rt: &R,
     options: &FaultsOptions<'a>,
-) -> Result<Texts, Stop<'a>> {
-    let script = read_script_file(rt, options.script)?;
+    script: &[u8],
+) -> Result<Vec<u8>, Stop<'a>> {
     if let Some(path) = options.events {
-        let events = read_behind(rt, script.as_slice(), path)?;
-        return Ok(Texts { script, events });
+        return inputs::read_events(rt, script, path);
     }
     match settled(rt.alloc()) {
-        Ok(events) => Ok(Texts { script, events }),
+        Ok(events) => Ok(events),
         Err(_) => Err(Stop::Refused(CommandRefusal::NoMemory)),
     }
 }
@@ -196,14 +258,14 @@ fn write_lists<R: Files + Eprint + AllocGlobal>(
         return ExitCode::from(tried.status);
     };
     if let Err(error) = fs::create_dir_all(rt, folder) {
-        return stopped(rt, Stop::writing(folder, error), options.script);
+        return stopped(rt, Stop::writing(folder, error));
     }
     for kind in ENDS {
         let Ok(path) = path_in(rt.alloc(), folder, file_name(kind)) else {
             return no_memory(rt);
         };
         if let Err(error) = write_list(rt, path.as_str(), kind, tried) {
-            return stopped(rt, Stop::writing(path.as_str(), error), options.script);
+            return stopped(rt, Stop::writing(path.as_str(), error));
         }
     }
     ExitCode::from(tried.status)

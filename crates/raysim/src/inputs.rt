@@ -1,10 +1,16 @@
 // Files that are read.
 
+use crate::kept::{events_text, lines_text, plan_text};
 use crate::told::Stop;
-use raysim_commands::{Tracked, check, read_at_most, read_script};
+use event_reading::{read_event_file, read_lines, read_plan_file};
+use raysim_commands::{CommandRefusal, Tracked, check, read_at_most, read_script};
 use raysim_files::Noted;
+use std::alloc::AllocError;
 use std::fs;
 use std::rt::Files;
+
+/// How many bytes of a file are read once more, to show a line of it.
+const MOST_SHOWN: usize = 1_000_000;
 
 /// Reads a script, up to its bound.
 pub fn read_script_file<'a, R: Files + AllocGlobal>(
@@ -21,33 +27,90 @@ pub fn read_script_file<'a, R: Files + AllocGlobal>(
     }
 }
 
-/// Reads a file of any length.
-fn read_file<'a, R: Files + AllocGlobal>(rt: &R, path: &'a str) -> Result<Vec<u8>, Stop<'a>> {
-    let mut file = match fs::open(rt, path) {
-        Ok(file) => Noted::new(file),
-        Err(error) => return Err(Stop::reading(path, error)),
-    };
-    match read_at_most(rt.alloc(), &mut Tracked::reader(&mut file), usize::MAX) {
-        Ok(bytes) => Ok(bytes),
-        Err(refusal) => Err(Stop::of_reader(refusal, path, file.error())),
-    }
-}
-
-/// Reads a file beside a script. Where it can't be read, the script's refusal counts, if it has one.
-pub fn read_behind<'a, R: Files + AllocGlobal>(
+/// Reads a list of events of either format, as far as a replay may go, and gives it as a text of the same lines. Where it can't be read, or is
+/// refused, the script's refusal counts, if it has one.
+pub fn read_events<'a, R: Files + AllocGlobal>(
     rt: &R,
     script: &[u8],
     path: &'a str,
 ) -> Result<Vec<u8>, Stop<'a>> {
-    match read_file(rt, path) {
-        Ok(bytes) => Ok(bytes),
-        Err(stop) => {
-            let mut unseen = Vec::new(rt.alloc());
-            let mut writer = Tracked::writer(&mut unseen);
-            match check(rt.alloc(), &mut Tracked::reader(script), &mut writer) {
-                Ok(_) => Err(stop),
-                Err(refusal) => Err(Stop::Refused(refusal)),
-            }
-        }
+    let mut file = open(rt, script, path)?;
+    let read = read_event_file(rt.alloc(), &mut Tracked::reader(&mut file));
+    match read {
+        Ok(kept) => in_memory(events_text(rt.alloc(), &kept)),
+        Err(refusal) => Err(behind(rt, script, Stop::of_reader(refusal, path, file.error()))),
+    }
+}
+
+/// The same of a list of events of format 1.
+pub fn read_plain_events<'a, R: Files + AllocGlobal>(
+    rt: &R,
+    script: &[u8],
+    path: &'a str,
+) -> Result<Vec<u8>, Stop<'a>> {
+    let mut file = open(rt, script, path)?;
+    let read = read_lines(rt.alloc(), &mut Tracked::reader(&mut file));
+    match read {
+        Ok(kept) => in_memory(lines_text(rt.alloc(), &kept.says, &kept.numbers)),
+        Err(refusal) => Err(behind(rt, script, Stop::of_reader(refusal, path, file.error()))),
+    }
+}
+
+/// The same of a plan.
+pub fn read_plan<'a, R: Files + AllocGlobal>(
+    rt: &R,
+    script: &[u8],
+    path: &'a str,
+) -> Result<Vec<u8>, Stop<'a>> {
+    let mut file = open(rt, script, path)?;
+    let read = read_plan_file(rt.alloc(), &mut Tracked::reader(&mut file));
+    match read {
+        Ok(plan) => in_memory(plan_text(rt.alloc(), &plan)),
+        Err(refusal) => Err(behind(rt, script, Stop::of_reader(refusal, path, file.error()))),
+    }
+}
+
+/// The first bytes of a file that was refused, to show the line at fault: none where it is no file that can be read once more.
+pub fn first_bytes<R: Files + AllocGlobal>(rt: &R, path: &str) -> Vec<u8> {
+    match fs::metadata(rt, path) {
+        Ok(found) if found.is_file() => {}
+        _ => return Vec::new(rt.alloc()),
+    }
+    let Ok(mut file) = fs::open(rt, path) else {
+        return Vec::new(rt.alloc());
+    };
+    match read_at_most(rt.alloc(), &mut Tracked::reader(&mut file), MOST_SHOWN) {
+        Ok(bytes) => bytes,
+        Err(_) => Vec::new(rt.alloc()),
+    }
+}
+
+/// Opens a file beside a script.
+fn open<'a, R: Files + AllocGlobal>(
+    rt: &R,
+    script: &[u8],
+    path: &'a str,
+) -> Result<Noted<R::File>, Stop<'a>> {
+    match fs::open(rt, path) {
+        Ok(file) => Ok(Noted::new(file)),
+        Err(error) => Err(behind(rt, script, Stop::reading(path, error))),
+    }
+}
+
+/// A text, unless there was no memory for it.
+fn in_memory<'a>(text: Result<String, AllocError>) -> Result<Vec<u8>, Stop<'a>> {
+    match text {
+        Ok(text) => Ok(text.into_bytes()),
+        Err(_) => Err(Stop::Refused(CommandRefusal::NoMemory)),
+    }
+}
+
+/// Why a command stops that reads a script before: the script's refusal, if it has one.
+fn behind<'a, R: AllocGlobal>(rt: &R, script: &[u8], stop: Stop<'a>) -> Stop<'a> {
+    let mut unseen = Vec::new(rt.alloc());
+    let mut writer = Tracked::writer(&mut unseen);
+    match check(rt.alloc(), &mut Tracked::reader(script), &mut writer) {
+        Ok(_) => stop,
+        Err(refusal) => Stop::Refused(refusal),
     }
 }

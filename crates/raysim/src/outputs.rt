@@ -67,9 +67,7 @@ pub fn are_fit<R: Files + Eprint + AllocGlobal>(rt: &R, paths: &Paths<'_>) -> bo
         tell_clash(rt, paths, clash.earlier, clash.later);
         return false;
     }
-    is_fit(rt, paths.history, paths.script)
-        && is_fit(rt, paths.timeline, paths.script)
-        && is_fit(rt, paths.lineage, paths.script)
+    is_fit(rt, paths.history) && is_fit(rt, paths.timeline) && is_fit(rt, paths.lineage)
 }
 
 /// Tells that an output is another file, too.
@@ -91,14 +89,14 @@ fn tell_clash<R: Eprint>(rt: &R, paths: &Paths<'_>, earlier: usize, later: usize
 }
 
 /// Whether an output can be written, as far as that can be seen before. Where it can't, that is told.
-fn is_fit<R: Files + Eprint + AllocGlobal>(rt: &R, path: Option<&str>, script: &str) -> bool {
+fn is_fit<R: Files + Eprint + AllocGlobal>(rt: &R, path: Option<&str>) -> bool {
     let Some(path) = path else {
         return true;
     };
     match try_output(rt, path) {
         Ok(()) => true,
         Err(error) => {
-            stopped(rt, Stop::writing(path, error), script);
+            stopped(rt, Stop::writing(path, error));
             let _ = eprintln!(rt; "nothing was run or written");
             false
         }

@@ -1,20 +1,41 @@
 // Commands over a script and a list of events.
 
-use crate::inputs::{read_behind, read_script_file};
-use crate::told::{Printed, Stop, stopped, tell_beside};
+use crate::inputs::{first_bytes, read_events, read_plain_events, read_script_file};
+use crate::reasons::{Course, Known, List};
+use crate::told::{Printed, tell, tell_beside};
 use crate::views::{View, Views, write_done};
-use raysim_commands::{Cluster, CommandRefusal, Form, Tracked, migrate, sim};
+use raysim_commands::{Cluster, CommandRefusal, Form, Tracked, migrate, sim, state};
 use raysim_files::Noted;
+use refusal_reasons::ListKind;
 use std::io;
 use std::process::ExitCode;
 use std::rt::Files;
 
-/// A script and a list of events, by their files, and the cluster.
+/// A script and a list of events, by their files, the cluster, and whether a refusal's place is asked for.
 #[derive(Clone, Copy)]
 pub struct Replayed<'a> {
     pub script: &'a str,
     pub events: &'a str,
     pub cluster: Cluster,
+    pub explain: bool,
+}
+
+impl<'a> Replayed<'a> {
+    /// What is known of a command that stops, where the list is of that kind.
+    fn known<'b>(&self, kind: ListKind, text: &'b [u8], events: &'b [u8]) -> Known<'a, 'b> {
+        let list = List {
+            kind,
+            file: self.events,
+            text: events,
+        };
+        Known {
+            explain: self.explain,
+            script: self.script,
+            text,
+            list: Some(list),
+            course: Some(Course::Replayed),
+        }
+    }
 }
 
 /// What was read of both files.
@@ -32,13 +53,13 @@ pub fn over_events<R: Files + Print + Eprint + AllocGlobal>(
     form: Form,
     views: &Views<'_>,
 ) -> ExitCode {
-    let texts = match read_texts(rt, replayed) {
-        Ok(texts) => texts,
-        Err(stop) => return stopped(rt, stop, replayed.script),
+    let Some(texts) = read_texts(rt, replayed, ListKind::Events) else {
+        return ExitCode::FAILURE;
     };
     let printed = print_replay(rt, replayed.cluster, &texts, form);
     if let Some(stop) = printed.stop() {
-        stopped(rt, stop, replayed.script);
+        let (text, events) = (texts.script.as_slice(), texts.events.as_slice());
+        tell(rt, stop, &replayed.known(ListKind::Events, text, events));
         if !stop.is_of_writing() {
             return printed.ending();
         }
@@ -54,13 +75,34 @@ pub fn migrate_events<R: Files + Print + Eprint + AllocGlobal>(
     rt: &R,
     replayed: &Replayed<'_>,
 ) -> ExitCode {
-    let texts = match read_texts(rt, replayed) {
-        Ok(texts) => texts,
-        Err(stop) => return stopped(rt, stop, replayed.script),
+    let Some(texts) = read_texts(rt, replayed, ListKind::FirstFormat) else {
+        return ExitCode::FAILURE;
     };
     let printed = print_migrated(rt, replayed.cluster, &texts);
     if let Some(stop) = printed.stop() {
-        stopped(rt, stop, replayed.script);
+        let (text, events) = (texts.script.as_slice(), texts.events.as_slice());
+        tell(
+            rt,
+            stop,
+            &replayed.known(ListKind::FirstFormat, text, events),
+        );
+    }
+    printed.ending()
+}
+
+/// Replays a list of events and tells what is alive behind the event of that number; why it stops, where it does, is told.
+pub fn state_at<R: Files + Print + Eprint + AllocGlobal>(
+    rt: &R,
+    replayed: &Replayed<'_>,
+    at: usize,
+) -> ExitCode {
+    let Some(texts) = read_texts(rt, replayed, ListKind::Events) else {
+        return ExitCode::FAILURE;
+    };
+    let printed = print_state(rt, replayed.cluster, &texts, at);
+    if let Some(stop) = printed.stop() {
+        let (text, events) = (texts.script.as_slice(), texts.events.as_slice());
+        tell(rt, stop, &replayed.known(ListKind::Events, text, events));
     }
     printed.ending()
 }
@@ -99,14 +141,59 @@ fn print_migrated<R: Print + AllocGlobal>(rt: &R, cluster: Cluster, texts: &Text
     Printed { done, error }
 }
 
-/// Reads both files.
-fn read_texts<'a, R: Files + AllocGlobal>(
+/// Replays, and prints what is alive behind the event of that number.
+fn print_state<R: Print + AllocGlobal>(
     rt: &R,
-    replayed: &Replayed<'a>,
-) -> Result<Texts, Stop<'a>> {
-    let script = read_script_file(rt, replayed.script)?;
-    let events = read_behind(rt, script.as_slice(), replayed.events)?;
-    Ok(Texts { script, events })
+    cluster: Cluster,
+    texts: &Texts,
+    at: usize,
+) -> Printed {
+    let mut output = Noted::new(io::writer(rt));
+    let done = state(
+        rt.alloc(),
+        &mut Tracked::reader(texts.script.as_slice()),
+        &mut Tracked::reader(texts.events.as_slice()),
+        cluster,
+        at,
+        &mut Tracked::writer(&mut output),
+    );
+    let error = output.error();
+    Printed { done, error }
+}
+
+/// Reads both files, or tells why they can't be read.
+fn read_texts<R: Files + Eprint + AllocGlobal>(
+    rt: &R,
+    replayed: &Replayed<'_>,
+    kind: ListKind,
+) -> Option<Texts> {
+    let script = match read_script_file(rt, replayed.script) {
+        Ok(script) => script,
+        Err(stop) => {
+            tell(rt, stop, &replayed.known(kind, b"", b""));
+            return None;
+        }
+    };
+    let events = match kind {
+        ListKind::FirstFormat => read_plain_events(rt, script.as_slice(), replayed.events),
+        _ => read_events(rt, script.as_slice(), replayed.events),
+    };
+    match events {
+        Ok(events) => Some(Texts { script, events }),
+        Err(stop) => {
+            let shown = if replayed.explain {
+                first_bytes(rt, replayed.events)
+            } else {
+                Vec::new(rt.alloc())
+            };
+            tell(
+                rt,
+                stop,
+                &replayed.known(kind, script.as_slice(), shown.as_slice()),
+            );
+            None
+        }
+    }
 }
 
 /// Writes the other views of a replay, and says whether all are out.
@@ -145,7 +232,7 @@ fn is_written<R: Files + Eprint + AllocGlobal>(
     match write_done(rt, view.path, done, shown.as_slice()) {
         Ok(()) => true,
         Err(stop) => {
-            tell_beside(rt, stop, view.path, replayed.script, report);
+            tell_beside(rt, stop, view.path, report);
             false
         }
     }

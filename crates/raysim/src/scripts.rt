@@ -1,9 +1,10 @@
 // Commands over a script alone.
 
 use crate::inputs::read_script_file;
+use crate::reasons::{Course, Known};
 use crate::told::{Printed, tell, tell_beside};
 use crate::views::{View, Views, write_done};
-use raysim_commands::{Cluster, CommandRefusal, Form, Tracked, check, run, serial};
+use raysim_commands::{Cluster, CommandRefusal, Engine, Form, Tracked, check, export, run, serial};
 use raysim_files::Noted;
 use raysim_options::ScriptOptions;
 use std::io;
@@ -16,6 +17,7 @@ pub enum Command {
     Check,
     Serial,
     Run(Cluster, Form),
+    Export(Engine),
 }
 
 /// Does a command, and tells why it stops where it does. Other views of a run are written behind its report, and also where that could not be
@@ -29,21 +31,32 @@ pub fn over_script<R: Files + Print + Eprint + AllocGlobal>(
     let text = match read_script_file(rt, options.script) {
         Ok(text) => text,
         Err(stop) => {
-            tell(rt, stop, options, b"");
+            tell(rt, stop, &known_of(options, b""));
             return ExitCode::FAILURE;
         }
     };
     let printed = print_done(rt, command, text.as_slice());
     if let Some(stop) = printed.stop() {
-        tell(rt, stop, options, text.as_slice());
+        tell(rt, stop, &known_of(options, text.as_slice()));
         if !stop.is_of_writing() {
             return printed.ending();
         }
     }
-    if are_written(rt, command, options, text.as_slice(), views, &printed.done) {
+    if are_written(rt, command, text.as_slice(), views, &printed.done) {
         return printed.ending();
     }
     ExitCode::FAILURE
+}
+
+/// What is known of a command that stops.
+fn known_of<'a, 'b>(options: &ScriptOptions<'a>, text: &'b [u8]) -> Known<'a, 'b> {
+    Known {
+        explain: options.explain,
+        script: options.script,
+        text,
+        list: None,
+        course: Some(Course::Driven),
+    }
 }
 
 /// Does a command, and prints what it gives.
@@ -57,6 +70,7 @@ fn print_done<R: Print + AllocGlobal>(rt: &R, command: &Command, text: &[u8]) ->
         Command::Run(cluster, form) => {
             run(rt.alloc(), &mut reader, *cluster, *form, &mut writer)
         }
+        Command::Export(engine) => export(rt.alloc(), &mut reader, *engine, &mut writer),
     };
     let error = output.error();
     Printed { done, error }
@@ -66,7 +80,6 @@ fn print_done<R: Print + AllocGlobal>(rt: &R, command: &Command, text: &[u8]) ->
 fn are_written<R: Files + Eprint + AllocGlobal>(
     rt: &R,
     command: &Command,
-    options: &ScriptOptions<'_>,
     text: &[u8],
     views: &Views<'_>,
     report: &Result<u8, CommandRefusal>,
@@ -74,8 +87,8 @@ fn are_written<R: Files + Eprint + AllocGlobal>(
     let Command::Run(cluster, _) = command else {
         return true;
     };
-    let timeline = is_written(rt, *cluster, options, text, &views.timeline(), report);
-    let lineage = is_written(rt, *cluster, options, text, &views.lineage(), report);
+    let timeline = is_written(rt, *cluster, text, &views.timeline(), report);
+    let lineage = is_written(rt, *cluster, text, &views.lineage(), report);
     timeline && lineage
 }
 
@@ -83,7 +96,6 @@ fn are_written<R: Files + Eprint + AllocGlobal>(
 fn is_written<R: Files + Eprint + AllocGlobal>(
     rt: &R,
     cluster: Cluster,
-    options: &ScriptOptions<'_>,
     text: &[u8],
     view: &Option<View<'_>>,
     report: &Result<u8, CommandRefusal>,
@@ -102,7 +114,7 @@ fn is_written<R: Files + Eprint + AllocGlobal>(
     match write_done(rt, view.path, done, shown.as_slice()) {
         Ok(()) => true,
         Err(stop) => {
-            tell_beside(rt, stop, view.path, options.script, report);
+            tell_beside(rt, stop, view.path, report);
             false
         }
     }

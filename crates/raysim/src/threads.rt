@@ -2,13 +2,16 @@
 
 ghost use Rattle.raysim_options.specs.Reads.{AreThreads};
 
-use crate::inputs::{read_behind, read_script_file};
+use crate::inputs;
+use crate::inputs::{first_bytes, read_script_file};
+use crate::reasons::{Course, Known, List};
 use crate::replays::{Replayed, Texts, are_written};
 use crate::told::{Printed, Stop, stopped, tell, tell_beside};
 use crate::views::{Views, in_memory, write_done};
 use raysim_commands::{Cluster, CommandRefusal, Form, OpenGate, Tracked, put_all, run_threaded};
 use raysim_files::Noted;
-use raysim_options::{RunOptions, ScriptOptions};
+use raysim_options::RunOptions;
+use refusal_reasons::ListKind;
 use std::io;
 use std::process::ExitCode;
 use std::rt::{Clock, Files};
@@ -36,18 +39,64 @@ pub fn over_threads<R: Files + Print + Eprint + AllocGlobal + Threads + Wait + C
 {
     let script = match read_script_file(rt, options.script) {
         Ok(script) => script,
-        Err(stop) => return stopped(rt, stop, options.script),
+        Err(stop) => {
+            tell(rt, stop, &known_of(options, b"", b""));
+            return ExitCode::FAILURE;
+        }
     };
-    match run_in_memory(rt, options, script.as_slice(), cluster, form) {
+    let plan = match read_plan(rt, options, script.as_slice()) {
+        Ok(plan) => plan,
+        Err(stop) => {
+            let shown = shown_bytes(rt, options);
+            tell(
+                rt,
+                stop,
+                &known_of(options, script.as_slice(), shown.as_slice()),
+            );
+            return ExitCode::FAILURE;
+        }
+    };
+    match run_in_memory(
+        rt,
+        options,
+        script.as_slice(),
+        plan.as_slice(),
+        cluster,
+        form,
+    ) {
         Ok(unwritten) => write_all(rt, options, script, unwritten, cluster, views),
         Err(stop) => {
-            let shown = ScriptOptions {
-                script: options.script,
-                explain: options.explain,
-            };
-            tell(rt, stop, &shown, script.as_slice());
+            let known = known_of(options, script.as_slice(), plan.as_slice());
+            tell(rt, stop, &known);
             ExitCode::FAILURE
         }
+    }
+}
+
+/// What is known of a run that stops.
+fn known_of<'a, 'b>(options: &RunOptions<'a>, text: &'b [u8], plan: &'b [u8]) -> Known<'a, 'b> {
+    let list = match options.plan {
+        Some(file) => Some(List {
+            kind: ListKind::Plan,
+            file,
+            text: plan,
+        }),
+        None => None,
+    };
+    Known {
+        explain: options.explain,
+        script: options.script,
+        text,
+        list,
+        course: Some(Course::OnThreads),
+    }
+}
+
+/// What is shown of the plan, if that is asked for.
+fn shown_bytes<R: Files + AllocGlobal>(rt: &R, options: &RunOptions<'_>) -> Vec<u8> {
+    match options.plan {
+        Some(path) if options.explain => first_bytes(rt, path),
+        _ => Vec::new(rt.alloc()),
     }
 }
 
@@ -58,29 +107,29 @@ fn read_plan<'a, R: Files + AllocGlobal>(
     script: &[u8],
 ) -> Result<Vec<u8>, Stop<'a>> {
     match options.plan {
-        Some(path) => read_behind(rt, script, path),
+        Some(path) => inputs::read_plan(rt, script, path),
         None => Ok(Vec::new(rt.alloc())),
     }
 }
 
 /// Runs the script, in memory.
-fn run_in_memory<'a, R: Files + AllocGlobal + Threads + Wait + Clock + Sync>(
+fn run_in_memory<'a, R: AllocGlobal + Threads + Wait + Clock + Sync>(
     rt: &R,
     options: &RunOptions<'a>,
     script: &[u8],
+    plan: &[u8],
     cluster: Cluster,
     form: Form,
 ) -> Result<Unwritten, Stop<'a>>
     requires { AreThreads options.now.threads }
 {
-    let plan = read_plan(rt, options, script)?;
     let mut history = Vec::new(rt.alloc());
     let mut report = Vec::new(rt.alloc());
     let done = run_threaded(
         rt,
         rt.alloc(),
         &mut Tracked::reader(script),
-        &mut Tracked::reader(plan.as_slice()),
+        &mut Tracked::reader(plan),
         cluster,
         form,
         options.threads,
@@ -122,16 +171,17 @@ fn write_all<R: Files + Print + Eprint + AllocGlobal>(
     let history = keep_history(rt, options, events.as_slice());
     let printed = print_report(rt, unwritten.report.as_slice(), unwritten.status);
     if let Some(stop) = printed.stop() {
-        stopped(rt, stop, options.script);
+        stopped(rt, stop);
     }
     if let Err(stop) = history {
         let path = options.history.unwrap_or("");
-        tell_beside(rt, stop, path, options.script, &printed.done);
+        tell_beside(rt, stop, path, &printed.done);
     }
     let replayed = Replayed {
         script: options.script,
         events: "its history",
         cluster,
+        explain: false,
     };
     let texts = Texts { script, events };
     if are_written(rt, &replayed, &texts, views, &printed.done) && history.is_ok() {

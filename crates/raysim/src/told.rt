@@ -1,8 +1,9 @@
 // What is told on standard error, and explanations. Where that can't be written either, nothing is left to tell it to.
 
+use crate::reasons::{Known, tell_reason};
 use raysim_commands::{CommandRefusal, Failure, exit_status};
-use raysim_explain::{RefusalCause, Shown};
-use raysim_options::ScriptOptions;
+use raysim_explain::RefusalCause;
+use refusal_reasons::{Ending, NearNames, refusal_named};
 use std::io;
 use std::io::ErrorKind;
 use std::process::ExitCode;
@@ -110,22 +111,12 @@ pub fn fault<R: Eprint>(rt: &R, what: &str, why: &str) -> ExitCode {
 }
 
 /// Tells why a command stops; where nobody reads the output any more, nothing is told.
-pub fn tell<R: Eprint>(rt: &R, stop: Stop<'_>, options: &ScriptOptions<'_>, text: &[u8]) {
+pub fn tell<R: Eprint + AllocGlobal>(rt: &R, stop: Stop<'_>, known: &Known<'_, '_>) {
     match stop {
         Stop::Refused(CommandRefusal::Failed(Failure::Closed)) => {}
-        Stop::Refused(CommandRefusal::At { code, span }) if options.explain => {
-            let shown = Shown {
-                file: options.script,
-                code,
-                text,
-                start: span.start,
-                end: span.end,
-            };
-            let refusal = CommandRefusal::At { code, span };
-            let _ = eprintln!(rt; "{refusal}\n{shown}");
-        }
         Stop::Refused(refusal) => {
             let _ = eprintln!(rt; "{refusal}");
+            tell_reason(rt, refusal, known);
         }
         Stop::Unread(file, error) => {
             let refusal = CommandRefusal::Failed(Failure::Read);
@@ -138,39 +129,68 @@ pub fn tell<R: Eprint>(rt: &R, stop: Stop<'_>, options: &ScriptOptions<'_>, text
     }
 }
 
-/// Tells why a command stops of which no part of the script is shown, and gives its status.
-pub fn stopped<R: Eprint>(rt: &R, stop: Stop<'_>, script: &str) -> ExitCode {
-    let explain = false;
-    tell(rt, stop, &ScriptOptions { script, explain }, b"");
+/// Tells why a command stops of which nothing is known beside, and gives its status.
+pub fn stopped<R: Eprint + AllocGlobal>(rt: &R, stop: Stop<'_>) -> ExitCode {
+    tell(rt, stop, &Known::nothing());
     ExitCode::FAILURE
 }
 
 /// Tells why a file beside the report isn't written, and whether the report is.
-pub fn tell_beside<R: Eprint>(
+pub fn tell_beside<R: Eprint + AllocGlobal>(
     rt: &R,
     stop: Stop<'_>,
     file: &str,
-    script: &str,
     report: &Result<u8, CommandRefusal>,
 ) {
     if let Stop::Refused(CommandRefusal::Failed(Failure::Closed)) = stop {
         return;
     }
-    stopped(rt, stop, script);
+    stopped(rt, stop);
     let _ = match report {
         Ok(_) => eprintln!(rt; "{file} is not written; the report is"),
         Err(_) => eprintln!(rt; "{file} is not written, and neither is the report"),
     };
 }
 
-/// Tells what the refusals of this number are.
-pub fn explain<R: Print + Eprint>(rt: &R, number: u8) -> ExitCode {
+/// Tells what the refusals of a number are, or what a name means, in letters of either case.
+pub fn explain<R: Print + Eprint + AllocGlobal>(rt: &R, what: &str) -> ExitCode {
+    if let Ok(number) = what.parse::<u8>() {
+        return explain_number(rt, number);
+    }
+    let written = match (
+        refusal_named(what.as_bytes()),
+        Ending::named(what.as_bytes()),
+    ) {
+        (Some(reason), Some(ending)) => println!(rt; "{reason}\n\n{ending}"),
+        (Some(reason), None) => println!(rt; "{reason}"),
+        (None, Some(ending)) => println!(rt; "{ending}"),
+        (None, None) => return unknown_name(rt, what),
+    };
+    is_out(rt, written)
+}
+
+fn explain_number<R: Print + Eprint + AllocGlobal>(rt: &R, number: u8) -> ExitCode {
     let Some(reason) = RefusalCause::of(number) else {
         let _ = eprintln!(rt; "nothing is refused {number}");
         return ExitCode::FAILURE;
     };
-    match println!(rt; "{reason}") {
+    let written = println!(rt; "{reason}");
+    is_out(rt, written)
+}
+
+/// Tells that nothing has this name, and which names are near.
+fn unknown_name<R: Eprint>(rt: &R, name: &str) -> ExitCode {
+    let near = NearNames(name.as_bytes());
+    if near.are_some() {
+        let _ = eprintln!(rt; "{name} is the name of no refusal, fault or trap; near are:{near}");
+        return ExitCode::FAILURE;
+    }
+    fault(rt, name, "is the name of no refusal, fault or trap")
+}
+
+fn is_out<R: Eprint + AllocGlobal>(rt: &R, written: io::Result<()>) -> ExitCode {
+    match written {
         Ok(()) => ExitCode::SUCCESS,
-        Err(error) => stopped(rt, Stop::writing(OUTPUT, error), ""),
+        Err(error) => stopped(rt, Stop::writing(OUTPUT, error)),
     }
 }

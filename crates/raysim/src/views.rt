@@ -1,15 +1,16 @@
 // Where other views of a run are written.
 
 use crate::told::Stop;
-use raysim_commands::{CommandRefusal, Form};
+use raysim_commands::{CommandRefusal, Contents, Form};
 use raysim_files::write_whole;
 use std::rt::Files;
 
-/// The files to which the timeline and the lineage are written.
+/// The files to which the timeline and the lineage are written, and how their long lists are.
 #[derive(Clone, Copy)]
 pub struct Views<'a> {
     pub timeline: Option<&'a str>,
     pub lineage: Option<&'a str>,
+    pub contents: Contents,
 }
 
 /// A file, and what is written to it.
@@ -25,20 +26,21 @@ impl<'a> Views<'a> {
         Views {
             timeline: None,
             lineage: None,
+            contents: Contents::Cut,
         }
     }
 
     /// The timeline's file.
     pub fn timeline(&self) -> Option<View<'a>> {
         let path = self.timeline?;
-        let form = Form::Timeline;
+        let form = Form::Timeline(self.contents);
         Some(View { path, form })
     }
 
     /// The lineage's file.
     pub fn lineage(&self) -> Option<View<'a>> {
         let path = self.lineage?;
-        let form = Form::Lineage;
+        let form = Form::Lineage(self.contents);
         Some(View { path, form })
     }
 }

@@ -18,6 +18,7 @@ use Rattle.protocol_board.specs.Reports.{json_text}
 use Rattle.report_laws.specs.Begins.{BeginsAsSerial, BeginsWith}
 use Rattle.report_laws.specs.Json.{SaysAsSerial}
 use Rattle.report_laws.proofs.Reports.{report_begins}
+use Rattle.summary_text.specs.Text.{summary_text}
 use Rattle.raysim_commands.specs.declared.form.Form.{Form}
 use Rattle.raysim_commands.specs.declared.form.Form.TheVariants as forms
 use Rattle.raysim_commands.specs.Scripts.{IsScript}
@@ -57,12 +58,17 @@ written_so forms.TextWithBooks script a report status typed begins told ends =
     subst (λ t. BeginsAsSerial script a.log t status) (sym told)
     (subst (λ n. BeginsAsSerial script a.log (report_text a.log ++ book_lines a.log) n) (sym ends)
     (longer script a.log (report_text a.log) (book_lines a.log) _ (report_begins script a.log typed begins).text))
-written_so forms.Log script a report status typed begins told ends = tt
-written_so forms.LogWithMessages script a report status typed begins told ends = tt
-written_so (forms.Why o) script a report status typed begins told ends = tt
-written_so forms.WhyMain script a report status typed begins told ends = tt
-written_so forms.Timeline script a report status typed begins told ends = tt
-written_so forms.Lineage script a report status typed begins told ends = tt
+written_so (forms.Log how) script a report status typed begins told ends = tt
+written_so (forms.LogWithMessages how) script a report status typed begins told ends = tt
+written_so (forms.Why how o) script a report status typed begins told ends = tt
+written_so (forms.WhyMain how) script a report status typed begins told ends = tt
+written_so (forms.Timeline how) script a report status typed begins told ends = tt
+written_so (forms.Lineage how) script a report status typed begins told ends = tt
+written_so forms.TextWithSummary script a report status typed begins told ends =
+    subst (λ t. BeginsAsSerial script a.log t status) (sym told)
+    (subst (λ n. BeginsAsSerial script a.log (report_text a.log ++ summary_text a.log a.messages) n) (sym ends)
+    (longer script a.log (report_text a.log) (summary_text a.log a.messages) _ (report_begins script a.log typed begins).text))
+written_so forms.State script a report status typed begins told ends = tt
 
 -- and so where the script was read from a text
 pub as_serial : (text : List ℕ) (form : Form) (script : Script) (c : RunState) (sent lines report : List ℕ) (status : ℕ) → IsScript text script →

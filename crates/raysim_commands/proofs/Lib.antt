@@ -7,4 +7,6 @@ pub mod Reading
 pub mod Refused
 mod Replayed
 pub mod Simulated
+pub mod Stating
 pub mod Trying
+pub mod Exporting

@@ -6,3 +6,5 @@ pub mod SerialReports
 pub mod SimReports
 pub mod ThreadReports
 pub mod Faults
+pub mod Exports
+pub mod States

@@ -7,11 +7,14 @@ use Rattle.history.specs.Report.{report_text}
 use Rattle.books.specs.Lines.{book_lines}
 use Rattle.report_laws.specs.Begins.{BeginsAsSerial}
 use Rattle.report_laws.specs.Json.{SaysAsSerial}
+use Rattle.log_words.specs.declared.contents.Contents.{Contents}
 use Rattle.log_text.specs.Text.{log_text}
 use Rattle.main_text.specs.Text.{main_text}
 use Rattle.why_text.specs.Text.{why_text}
 use Rattle.lineage_text.specs.Text.{lineage_text}
 use Rattle.message_text.specs.Text.{log_with_messages}
+use Rattle.state_text.specs.Text.{event_count, state_text}
+use Rattle.summary_text.specs.Text.{summary_text}
 use Rattle.timeline.specs.Text.{timeline_data}
 use Rattle.protocol.specs.Messages.{Letter}
 use Rattle.protocol.specs.Whole.{Whole}
@@ -33,33 +36,37 @@ abbrev pub account_of : RunState → List ℕ → List ℕ → Account
 account_of c sent lines = record { log = c.log; messages = c.whole.network; whole = c.whole; sent = sent; lines = lines }
 
 -- the timeline of a log with its messages, on one line
-abbrev pub timeline_text : List Entry → List Letter → List ℕ → List ℕ
-timeline_text log messages sent = compact_text (timeline_data log messages sent) ++ codes "\n"
+abbrev pub timeline_text : Contents → List Entry → List Letter → List ℕ → List ℕ
+timeline_text how log messages sent = compact_text (timeline_data how log messages sent) ++ codes "\n"
 
 -- a timeline is made of entries as the code has them, and the log is what they stand for
-abbrev pub IsTimelineOf : Account → List ℕ → Type 0
-IsTimelineOf a text = (entries : List Entry) × (entries ≡ a.log) × (text ≡ timeline_text entries a.messages a.sent)
+abbrev pub IsTimelineOf : Contents → Account → List ℕ → Type 0
+IsTimelineOf how a text = (entries : List Entry) × (entries ≡ a.log) × (text ≡ timeline_text how entries a.messages a.sent)
 
 abbrev pub IsReportIn : Form → Account → List ℕ → Type 0
 IsReportIn forms.Text a text = text ≡ report_text a.log
 IsReportIn forms.Json a text = text ≡ json_text a.log
 IsReportIn forms.TextWithBooks a text = text ≡ report_text a.log ++ book_lines a.log
-IsReportIn forms.Log a text = text ≡ log_text a.log
-IsReportIn forms.LogWithMessages a text = text ≡ log_with_messages a.log a.messages a.sent
-IsReportIn (forms.Why o) a text = text ≡ why_text a.log a.lines o
-IsReportIn forms.WhyMain a text = text ≡ main_text a.log a.lines a.whole
-IsReportIn forms.Timeline a text = IsTimelineOf a text
-IsReportIn forms.Lineage a text = text ≡ lineage_text a.log
+IsReportIn (forms.Log how) a text = text ≡ log_text how a.log
+IsReportIn (forms.LogWithMessages how) a text = text ≡ log_with_messages how a.log a.messages a.sent
+IsReportIn (forms.Why how o) a text = text ≡ why_text how a.log a.lines o
+IsReportIn (forms.WhyMain how) a text = text ≡ main_text how a.log a.lines a.whole
+IsReportIn (forms.Timeline how) a text = IsTimelineOf how a text
+IsReportIn (forms.Lineage how) a text = text ≡ lineage_text how a.log
+IsReportIn forms.TextWithSummary a text = text ≡ report_text a.log ++ summary_text a.log a.messages
+IsReportIn forms.State a text = text ≡ state_text a.log a.whole (event_count a.log)
 
--- as text, with the books behind it too, or as JSON it says of main what `serial` writes of the script: the whole of it, or a first
+-- as text, with the books or a summary behind it too, or as JSON it says of main what `serial` writes of the script: the whole of it, or a first
 -- part, with a fault's cause in the log
 abbrev pub IsAsSerialIn : Form → Script → List Entry → List ℕ → ℕ → Type 0
 IsAsSerialIn forms.Text script log text status = BeginsAsSerial script log text status
 IsAsSerialIn forms.Json script log text status = SaysAsSerial script log text status
 IsAsSerialIn forms.TextWithBooks script log text status = BeginsAsSerial script log text status
-IsAsSerialIn forms.Log script log text status = Unit {0}
-IsAsSerialIn forms.LogWithMessages script log text status = Unit {0}
-IsAsSerialIn (forms.Why o) script log text status = Unit {0}
-IsAsSerialIn forms.WhyMain script log text status = Unit {0}
-IsAsSerialIn forms.Timeline script log text status = Unit {0}
-IsAsSerialIn forms.Lineage script log text status = Unit {0}
+IsAsSerialIn (forms.Log how) script log text status = Unit {0}
+IsAsSerialIn (forms.LogWithMessages how) script log text status = Unit {0}
+IsAsSerialIn (forms.Why how o) script log text status = Unit {0}
+IsAsSerialIn (forms.WhyMain how) script log text status = Unit {0}
+IsAsSerialIn (forms.Timeline how) script log text status = Unit {0}
+IsAsSerialIn (forms.Lineage how) script log text status = Unit {0}
+IsAsSerialIn forms.TextWithSummary script log text status = BeginsAsSerial script log text status
+IsAsSerialIn forms.State script log text status = Unit {0}

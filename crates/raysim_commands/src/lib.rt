@@ -2,6 +2,7 @@
 #![tactic(auto)]
 
 mod checking;
+mod export_command;
 mod faults_command;
 mod form;
 mod migrate_command;
@@ -10,6 +11,7 @@ mod run_command;
 mod script;
 mod serial_command;
 mod sim_command;
+mod state_command;
 mod status;
 mod thread_inputs;
 mod thread_outputs;
@@ -17,9 +19,12 @@ mod thread_run;
 mod threads_command;
 
 pub use checking::check;
+pub use engine_text::Engine;
+pub use export_command::export;
 pub use fault_lists::{EndKind, FaultChoice, RunEnd, Tried, first_of, list_file};
 pub use faults_command::{TriedFaults, faults};
 pub use form::{Form, report};
+pub use log_words::Contents;
 pub use migrate_command::migrate;
 pub use open_gate::OpenGate;
 pub use protocol_board::Cluster;
@@ -28,6 +33,7 @@ pub use run_command::run;
 pub use script::{MOST_BYTES, compiled_script, read_script};
 pub use serial_command::serial;
 pub use sim_command::sim;
+pub use state_command::state;
 pub use status::exit_status;
 pub use threads_command::run_threaded;
 pub use values::FaultKind;

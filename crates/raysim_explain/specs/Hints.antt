@@ -1,5 +1,5 @@
 -- What somebody who writes other languages may have meant: read off the token at fault and the bytes around it.
-use Rattle.std.specs.Prelude.{Bool, List, None, Option, Some, [], codes, drop, if◌then◌else◌, nat_eq, nat_le, nat_lt, not, slice_get, take, ℕ, ◌&&◌, ◌+◌, ◌-◌, ◌||◌, ◌∷◌, length, fold}
+use Rattle.std.specs.Prelude.{Bool, List, None, Option, Some, [], codes, drop, if◌then◌else◌, nat_eq, nat_le, nat_lt, not, slice_get, take, true, ℕ, ◌&&◌, ◌+◌, ◌-◌, ◌||◌, ◌∷◌, length, fold}
 use Rattle.std.specs.Option.{unwrap_or}
 use Rattle.std.specs.Str.{bytes_eq}
 use Rattle.raysim_explain.specs.declared.hint.Hint.{Hint}
@@ -43,6 +43,23 @@ sign_hint first second =
 abbrev pub is_statement_begun : ℕ → Bool
 is_statement_begun before = nat_eq before 123 || (nat_eq before 125 || nat_eq before 59)
 
+-- a statement begins with it
+abbrev pub is_statement_word : List ℕ → Bool
+is_statement_word token =
+    if bytes_eq token (codes "let") || (bytes_eq token (codes "set") || bytes_eq token (codes "if")) then true
+    else bytes_eq token (codes "for") || (bytes_eq token (codes "print") || bytes_eq token (codes "return"))
+
+-- a value may end with it: _ ) ] or a small letter or a digit
+abbrev pub is_value_end : ℕ → Bool
+is_value_end b =
+    if nat_eq b 95 || (nat_eq b 41 || nat_eq b 93) then true
+    else if nat_lt 96 b && nat_lt b 123 then true
+    else nat_lt 47 b && nat_lt b 58
+
+-- a semicolon may be missing before a token
+abbrev pub lacks_semicolon : List ℕ → ℕ → Bool
+lacks_semicolon token before = if bytes_eq token (codes "}") then true else is_statement_word token && is_value_end before
+
 -- of a token at which a statement was to begin: = ( or a sign stands behind it
 abbrev pub statement_hint : ℕ → Option Hint
 statement_hint behind =
@@ -62,7 +79,7 @@ token_hint token before behind =
     else if bytes_eq token (codes "]") && nat_eq before 91 then Some EmptyList
     else if nat_eq before 44 && (bytes_eq token (codes "]") || bytes_eq token (codes ")")) then Some LastComma
     else if is_statement_begun before then statement_hint behind
-    else if bytes_eq token (codes "}") then Some Semicolon
+    else if lacks_semicolon token before then Some Semicolon
     else None
 
 -- of a name that is not in scope

@@ -2,6 +2,7 @@
 
 ghost use Rattle.std.specs.Prelude.{◌≡◌};
 ghost use Rattle.raysim_explain.specs.Hints.{byte_at, byte_before, byte_behind, hint_of, hint_words, is_blank, is_sum_sign, is_statement_begun, name_hint, sign_hint, statement_hint, token_hint};
+ghost use Rattle.raysim_explain.specs.Hints.{is_statement_word, is_value_end, lacks_semicolon};
 
 use std::fmt;
 
@@ -104,6 +105,39 @@ fn is_statement_begun(before: u8) -> bool
     before == b'{' || before == b'}' || before == b';'
 }
 
+/// Whether a statement begins with that word.
+fn is_statement_word(token: &[u8]) -> bool
+    ensures { result ≡ is_statement_word token.now }
+{
+    if token == b"let".as_slice() || token == b"set".as_slice() || token == b"if".as_slice() {
+        return true;
+    }
+    token == b"for".as_slice() || token == b"print".as_slice() || token == b"return".as_slice()
+}
+
+/// Whether a value may end with that byte.
+fn is_value_end(byte: u8) -> bool
+    ensures { result ≡ is_value_end byte }
+{
+    if byte == b'_' || byte == b')' || byte == b']' {
+        return true;
+    }
+    if byte > 96 && byte < 123 {
+        return true;
+    }
+    byte > 47 && byte < 58
+}
+
+/// Whether a semicolon may be missing before a token.
+fn lacks_semicolon(token: &[u8], before: u8) -> bool
+    ensures { result ≡ lacks_semicolon token.now before }
+{
+    if token == b"}".as_slice() {
+        return true;
+    }
+    is_statement_word(token) && is_value_end(before)
+}
+
 /// Of a name at which a statement was to begin.
 fn statement_hint(behind: u8) -> Option<Hint>
     ensures { result ≡ statement_hint behind }
@@ -148,7 +182,7 @@ fn token_hint(token: &[u8], before: u8, behind: u8) -> Option<Hint>
     if is_statement_begun(before) {
         return statement_hint(behind);
     }
-    if token == b"}".as_slice() {
+    if lacks_semicolon(token, before) {
         return Some(Hint::Semicolon);
     }
     None

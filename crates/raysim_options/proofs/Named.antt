@@ -21,7 +21,7 @@ use Rattle.clap.proofs.ValueTestLemmas.{accepts-Accepts}
 use Rattle.clap.proofs.SimpleLemmas.{is_nil}
 use Rattle.clap.proofs.WalkLemmas.{both}
 use Rattle.clap.proofs.OnLiterals.{clap_on_literals}
-use Rattle.raysim_options.specs.App.{explain_app, explained_app, faults_app, log_app, migrate_app, raysim_app, run_app, sim_app, why_app}
+use Rattle.raysim_options.specs.App.{explain_app, explained_app, export_app, faults_app, log_app, migrate_app, raysim_app, run_app, sim_app, state_app, why_app}
 use Rattle.raysim_options.specs.Meets.{HasText, MeetsAll, MeetsNeed, MeetsNamed, MeetsOne, MeetsParser}
 use Rattle.raysim_options.proofs.Faultless.{level_fits, level_parts}
 use Rattle.raysim_options.proofs.Rows.{IsFirst, Passes, RowFits, RowsFit, least, unsome}
@@ -288,7 +288,10 @@ kept name rows other h =
     (named_as (bytes_eq (codes "why") name) _ _ _ _ (unfilled why_app.top.rules (help_rule ∷ []) 1 rows)
     (named_as (bytes_eq (codes "faults") name) _ _ _ _ (unfilled faults_app.top.rules (help_rule ∷ []) 1 rows)
     (named_as (bytes_eq (codes "migrate") name) _ _ _ _ (unfilled migrate_app.top.rules (help_rule ∷ []) 1 rows)
-    (named_as (bytes_eq (codes "explain") name) _ _ _ _ (unfilled explain_app.top.rules (help_rule ∷ []) 1 rows) (not_named (bytes_eq (codes "help") name) _ (other_way name (codes "help") other)))))))))) h
+    (named_as (bytes_eq (codes "explain") name) _ _ _ _ (unfilled explain_app.top.rules (help_rule ∷ []) 1 rows)
+    (named_as (bytes_eq (codes "export") name) _ _ _ _ (unfilled export_app.top.rules (help_rule ∷ []) 1 rows)
+    (named_as (bytes_eq (codes "state") name) _ _ _ _ (unfilled state_app.top.rules (help_rule ∷ []) 1 rows)
+    (not_named (bytes_eq (codes "help") name) _ (other_way name (codes "help") other)))))))))))) h
 
 -- words without a fault name a subcommand
 pub names_one : (words : List Text) → fault_of raysim_app words ≡ [] → is_some (subcommand_of raysim_app words) ≡ true

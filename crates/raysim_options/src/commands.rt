@@ -2,8 +2,10 @@
 
 ghost use Rattle.std.specs.Prelude.{◌≡◌, ◌≤ℤ◌, IfOk, codes, pos, false};
 ghost use Rattle.clap.specs.Words.{app_of, rule_of, with_rule, with_subcommand};
-ghost use Rattle.raysim_options.specs.App.{raysim_app, script_app, explained_app, explain_app, faults_app, sim_app, run_app, log_app, why_app, migrate_app, by_events_app, needed};
-ghost use Rattle.raysim_options.specs.App.{optional, place, number, text, flag, first_app, second_app, third_app, fourth_app, with_cluster, with_files, with_trials, with_views, HasNoGlobals};
+ghost use Rattle.raysim_options.specs.App.{raysim_app, script_app, explained_app, explain_app, faults_app, sim_app, run_app, log_app, why_app, migrate_app, state_app, by_events_app, needed};
+ghost use Rattle.raysim_options.specs.App.{with_full, with_summary};
+ghost use Rattle.raysim_options.specs.App.{optional, number, text, flag, first_app, second_app, third_app, fourth_app, with_cluster, with_files, with_trials, with_views, HasNoGlobals};
+ghost use Rattle.raysim_options.specs.App.{export_app, fifth_app, sixth_app, needed_text};
 
 use clap::{Arg, ArgAction, Command};
 use std::alloc::{AllocError, Global};
@@ -17,8 +19,12 @@ pub const MOST_SLOTS: u8 = 64;
 /// How many threads may run a script.
 pub const MOST_THREADS: u8 = 8;
 
-/// The greatest number of a refusal.
-pub const MOST_REFUSAL: u8 = 50;
+/// What the help says of `--full` where views are written.
+const VIEWS_IN_FULL: &str =
+    "Writes all items of long lists in the timeline and the graph, of which else three are written";
+
+/// What the help says of `--full` where a run is told.
+const TOLD_IN_FULL: &str = "Writes all items of long lists, of which else three are written";
 
 /// A word that has to be there.
 fn needed<'a>(alloc: Global, name: &'a str, help: &'a str) -> Arg<'a>
@@ -26,14 +32,6 @@ fn needed<'a>(alloc: Global, name: &'a str, help: &'a str) -> Arg<'a>
     ensures local { result.global ≡ false }
 {
     Arg::new(alloc, name).required(true).help(help)
-}
-
-/// A number from 1 to `most` that has to be there.
-fn place<'a>(alloc: Global, name: &'a str, most: u8, help: &'a str) -> Arg<'a>
-    ensures rule { rule_of result ≡ place name.entry.now most }
-    ensures local { result.global ≡ false }
-{
-    needed(alloc, name, help).value_parser(clap::value_parser!(u8).range(1..=i64::from(most)))
 }
 
 /// An option with a number from 1 to `most`.
@@ -68,6 +66,14 @@ fn worded<'a>(alloc: Global, name: &'a str, value: &'a str, help: &'a str) -> Ar
         .long(name)
         .value_name(value)
         .help(help)
+}
+
+/// An option with a text that has to be there, which help calls `value`.
+fn needed_text<'a>(alloc: Global, name: &'a str, value: &'a str, help: &'a str) -> Arg<'a>
+    ensures rule { rule_of result ≡ needed_text name.entry.now }
+    ensures local { result.global ≡ false }
+{
+    worded(alloc, name, value, help).required(true)
 }
 
 /// A word that may be left out.
@@ -113,7 +119,7 @@ fn explained<'a>(alloc: Global, name: &'a str, about: &'a str) -> Result<Command
     ensures local { IfOk result HasNoGlobals }
 {
     let command = start(alloc, name, about)?;
-    let help = "Shows the place of a refusal: file, line, column and the line itself";
+    let help = "Shows the place of a refusal, what was expected there and what was found";
     add(command, flag(alloc, "explain", help))
 }
 
@@ -150,15 +156,37 @@ fn add_views<'a>(alloc: Global, command: Command<'a>) -> Result<Command<'a>, All
     add(command, text(alloc, "lineage", lineage))
 }
 
+fn add_full<'a>(
+    alloc: Global,
+    command: Command<'a>,
+    help: &'a str,
+) -> Result<Command<'a>, AllocError>
+    requires none { HasNoGlobals command }
+    ensures app { IfOk result (λ c. app_of c ≡ with_full (app_of command.entry)) }
+    ensures local { IfOk result HasNoGlobals }
+{
+    add(command, flag(alloc, "full", help))
+}
+
 /// A subcommand with a script and a list of events, on a cluster.
 fn by_events<'a>(alloc: Global, name: &'a str, about: &'a str) -> Result<Command<'a>, AllocError>
     ensures app { IfOk result (λ c. app_of c ≡ by_events_app name.entry.now) }
     ensures local { IfOk result HasNoGlobals }
 {
-    let command = start(alloc, name, about)?;
+    let command = explained(alloc, name, about)?;
     let events = "The file of events, one in each line";
     let command = add(command, needed(alloc, "events", events))?;
     add_cluster(alloc, command)
+}
+
+fn add_summary<'a>(alloc: Global, command: Command<'a>) -> Result<Command<'a>, AllocError>
+    requires none { HasNoGlobals command }
+    ensures app { IfOk result (λ c. app_of c ≡ with_summary (app_of command.entry)) }
+    ensures local { IfOk result HasNoGlobals }
+{
+    let help =
+        "Writes behind the report what the run came to: each function's tasks, the messages and the events";
+    add(command, flag(alloc, "summary", help))
 }
 
 pub(crate) fn sim<'a>(alloc: Global) -> Result<Command<'a>, AllocError>
@@ -171,7 +199,9 @@ pub(crate) fn sim<'a>(alloc: Global) -> Result<Command<'a>, AllocError>
     let command = add_views(alloc, command)?;
     let books =
         "Writes behind the report how many commits came from each seat, and the sum of their jobs";
-    add(command, flag(alloc, "books", books))
+    let command = add(command, flag(alloc, "books", books))?;
+    let command = add_full(alloc, command, VIEWS_IN_FULL)?;
+    add_summary(alloc, command)
 }
 
 fn migrate<'a>(alloc: Global) -> Result<Command<'a>, AllocError>
@@ -194,7 +224,7 @@ fn add_files<'a>(alloc: Global, command: Command<'a>) -> Result<Command<'a>, All
     add_json(alloc, command)
 }
 
-fn run<'a>(alloc: Global) -> Result<Command<'a>, AllocError>
+pub(crate) fn run<'a>(alloc: Global) -> Result<Command<'a>, AllocError>
     ensures app { IfOk result (λ c. app_of c ≡ run_app) }
     ensures local { IfOk result HasNoGlobals }
 {
@@ -205,7 +235,9 @@ fn run<'a>(alloc: Global) -> Result<Command<'a>, AllocError>
     let command = add(command, number(alloc, "threads", MOST_THREADS, threads))?;
     let command = add_cluster(alloc, command)?;
     let command = add_files(alloc, command)?;
-    add_views(alloc, command)
+    let command = add_views(alloc, command)?;
+    let command = add_full(alloc, command, VIEWS_IN_FULL)?;
+    add_summary(alloc, command)
 }
 
 fn log<'a>(alloc: Global) -> Result<Command<'a>, AllocError>
@@ -213,13 +245,14 @@ fn log<'a>(alloc: Global) -> Result<Command<'a>, AllocError>
     ensures local { IfOk result HasNoGlobals }
 {
     let about = "Tells what happened in a run, a line for each event and for what came of it";
-    let command = start(alloc, "log", about)?;
+    let command = explained(alloc, "log", about)?;
     let events =
         "The file of events, one in each line (if left out, the run goes on to its end by itself)";
     let command = add(command, optional(alloc, "events", events))?;
     let command = add_cluster(alloc, command)?;
     let messages = "Tells below each event the messages that it sent, too";
-    add(command, flag(alloc, "messages", messages))
+    let command = add(command, flag(alloc, "messages", messages))?;
+    add_full(alloc, command, TOLD_IN_FULL)
 }
 
 fn why<'a>(alloc: Global) -> Result<Command<'a>, AllocError>
@@ -227,12 +260,13 @@ fn why<'a>(alloc: Global) -> Result<Command<'a>, AllocError>
     ensures local { IfOk result HasNoGlobals }
 {
     let about = "Tells why an object of a run by a list of events is as it is";
-    let command = start(alloc, "why", about)?;
+    let command = explained(alloc, "why", about)?;
     let events = "The file of events, one in each line";
     let command = add(command, needed(alloc, "events", events))?;
     let object = "The object, as o1.2 (if left out, why main ended or what it waits for is told)";
     let command = add(command, optional(alloc, "object", object))?;
-    add_cluster(alloc, command)
+    let command = add_cluster(alloc, command)?;
+    add_full(alloc, command, TOLD_IN_FULL)
 }
 
 /// The options that say which faults are tried, and what is written of them.
@@ -257,7 +291,7 @@ fn faults<'a>(alloc: Global) -> Result<Command<'a>, AllocError>
 {
     let about =
         "Tries a fault at every place of a script's run, and tells which of them main doesn't survive";
-    let command = start(alloc, "faults", about)?;
+    let command = explained(alloc, "faults", about)?;
     let events =
         "The file of the run's events, one in each line (if left out, the run goes on to its end by itself)";
     let command = add(command, optional(alloc, "events", events))?;
@@ -265,14 +299,36 @@ fn faults<'a>(alloc: Global) -> Result<Command<'a>, AllocError>
     add_trials(alloc, command)
 }
 
+fn export<'a>(alloc: Global) -> Result<Command<'a>, AllocError>
+    ensures app { IfOk result (λ c. app_of c ≡ export_app) }
+    ensures local { IfOk result HasNoGlobals }
+{
+    let about = "Writes a script as a Python program that runs it on an engine of many machines";
+    let command = explained(alloc, "export", about)?;
+    let to = "The engine: dask or ray";
+    add(command, needed_text(alloc, "to", "ENGINE", to))
+}
+
 fn explain<'a>(alloc: Global) -> Result<Command<'a>, AllocError>
     ensures app { IfOk result (λ c. app_of c ≡ explain_app) }
     ensures local { IfOk result HasNoGlobals }
 {
-    let about = "Tells in words what a refusal's number means, with an example";
+    let about = "Tells in words what a refusal, a fault or a trap means, with an example";
     let command = Command::new(alloc, "explain").about(about);
-    let number = "The number after the word refused, from 1 to 50";
-    add(command, place(alloc, "number", MOST_REFUSAL, number))
+    let what = "The number after the word refused, or a name as NoWorker, OwnerDied or DivZero";
+    add(command, needed(alloc, "what", what))
+}
+
+fn state<'a>(alloc: Global) -> Result<Command<'a>, AllocError>
+    ensures app { IfOk result (λ c. app_of c ≡ state_app) }
+    ensures local { IfOk result HasNoGlobals }
+{
+    let about =
+        "Tells what is alive in a run by a list of events: nodes, workers, and objects with who holds them";
+    let command = by_events(alloc, "state", about)?;
+    let at =
+        "The number of the event behind which it is told, as log counts them (the last if left out)";
+    add(command, worded(alloc, "at", "N", at))
 }
 
 fn add_below<'a>(above: Command<'a>, below: Command<'a>) -> Result<Command<'a>, AllocError>
@@ -316,9 +372,21 @@ fn fourth<'a>(alloc: Global) -> Result<Command<'a>, AllocError>
     add_below(command, migrate(alloc)?)
 }
 
+fn fifth<'a>(alloc: Global) -> Result<Command<'a>, AllocError>
+    ensures { IfOk result (λ c. app_of c ≡ fifth_app) }
+{
+    add_below(fourth(alloc)?, explain(alloc)?)
+}
+
+fn sixth<'a>(alloc: Global) -> Result<Command<'a>, AllocError>
+    ensures { IfOk result (λ c. app_of c ≡ sixth_app) }
+{
+    add_below(fifth(alloc)?, export(alloc)?)
+}
+
 /// The command `raysim` with its subcommands.
 pub fn raysim<'a>(alloc: Global) -> Result<Command<'a>, AllocError>
     ensures { IfOk result (λ c. app_of c ≡ raysim_app) }
 {
-    add_below(fourth(alloc)?, explain(alloc)?)
+    add_below(sixth(alloc)?, state(alloc)?)
 }

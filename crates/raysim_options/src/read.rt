@@ -2,15 +2,17 @@
 
 ghost use Rattle.std.specs.Prelude.{◌≡◌, ◌≤◌, Some, codes, is_some, option_map};
 ghost use Rattle.clap.specs.Words.{first_of, found_of, rows_of};
-ghost use Rattle.raysim_options.specs.App.{faults_app, log_app, raysim_app, run_app, sim_app, why_app, migrate_app};
+ghost use Rattle.raysim_options.specs.App.{faults_app, log_app, raysim_app, run_app, sim_app, state_app, why_app, migrate_app};
 ghost use Rattle.raysim_options.specs.Meets.{HasText, IsWithin, MeetsAll, MeetsOne};
 ghost use Rattle.raysim_options.specs.Reads.{IsFaultsOptions, IsFlag, IsLogOptions, IsNumber, IsRequest, IsRunOptions, IsScriptOptions, IsSimOptions, IsWhyOptions, IsMigrateOptions};
-ghost use Rattle.raysim_options.specs.Reads.{asks_for_threads};
+ghost use Rattle.raysim_options.specs.Reads.{IsStateOptions, asks_for_threads};
+ghost use Rattle.raysim_options.specs.App.{export_app};
+ghost use Rattle.raysim_options.specs.Reads.{IsExportOptions};
 
-use crate::commands::{MOST_NODES, MOST_REFUSAL, MOST_SLOTS, MOST_THREADS};
+use crate::commands::{MOST_NODES, MOST_SLOTS, MOST_THREADS};
 use crate::{
-    FaultsOptions, LogOptions, MigrateOptions, Request, RunOptions, ScriptOptions, SimOptions,
-    WhyOptions,
+    ExportOptions, FaultsOptions, LogOptions, MigrateOptions, Request, RunOptions, ScriptOptions,
+    SimOptions, StateOptions, WhyOptions,
 };
 use clap::ArgMatches;
 
@@ -91,6 +93,9 @@ fn sim<'a>(matches: &ArgMatches<'a>) -> SimOptions<'a>
         timeline: text(matches, "timeline"),
         lineage: text(matches, "lineage"),
         books: flag(matches, "books"),
+        full: flag(matches, "full"),
+        explain: flag(matches, "explain"),
+        summary: flag(matches, "summary"),
     }
 }
 
@@ -103,6 +108,7 @@ fn migrate<'a>(matches: &ArgMatches<'a>) -> MigrateOptions<'a>
         events: needed(matches, "events"),
         nodes: number(matches, "nodes", MOST_NODES, 1),
         slots: number(matches, "slots", MOST_SLOTS, 4),
+        explain: flag(matches, "explain"),
     }
 }
 
@@ -122,6 +128,8 @@ fn run<'a>(matches: &ArgMatches<'a>) -> RunOptions<'a>
         timeline: text(matches, "timeline"),
         lineage: text(matches, "lineage"),
         explain: flag(matches, "explain"),
+        full: flag(matches, "full"),
+        summary: flag(matches, "summary"),
     }
 }
 
@@ -135,6 +143,8 @@ fn log<'a>(matches: &ArgMatches<'a>) -> LogOptions<'a>
         nodes: number(matches, "nodes", MOST_NODES, 1),
         slots: number(matches, "slots", MOST_SLOTS, 4),
         messages: flag(matches, "messages"),
+        full: flag(matches, "full"),
+        explain: flag(matches, "explain"),
     }
 }
 
@@ -148,6 +158,8 @@ fn why<'a>(matches: &ArgMatches<'a>) -> WhyOptions<'a>
         object: text(matches, "object"),
         nodes: number(matches, "nodes", MOST_NODES, 1),
         slots: number(matches, "slots", MOST_SLOTS, 4),
+        full: flag(matches, "full"),
+        explain: flag(matches, "explain"),
     }
 }
 
@@ -163,6 +175,32 @@ fn faults<'a>(matches: &ArgMatches<'a>) -> FaultsOptions<'a>
         of: text(matches, "of"),
         most: text(matches, "most"),
         out: text(matches, "out"),
+        explain: flag(matches, "explain"),
+    }
+}
+
+fn export<'a>(matches: &ArgMatches<'a>) -> ExportOptions<'a>
+    requires { MeetsAll export_app.top.rules (rows_of (found_of matches.now)) }
+    ensures { IsExportOptions (rows_of (found_of matches.now)) result }
+{
+    ExportOptions {
+        script: needed(matches, "script"),
+        to: needed(matches, "to"),
+        explain: flag(matches, "explain"),
+    }
+}
+
+fn state<'a>(matches: &ArgMatches<'a>) -> StateOptions<'a>
+    requires { MeetsAll state_app.top.rules (rows_of (found_of matches.now)) }
+    ensures { IsStateOptions (rows_of (found_of matches.now)) result }
+{
+    StateOptions {
+        script: needed(matches, "script"),
+        events: needed(matches, "events"),
+        nodes: number(matches, "nodes", MOST_NODES, 1),
+        slots: number(matches, "slots", MOST_SLOTS, 4),
+        explain: flag(matches, "explain"),
+        at: text(matches, "at"),
     }
 }
 
@@ -180,7 +218,9 @@ pub(crate) fn read<'a>(name: &str, matches: &ArgMatches<'a>) -> Request<'a>
         "why" => Request::Why(why(matches)),
         "faults" => Request::Faults(faults(matches)),
         "migrate" => Request::Migrate(migrate(matches)),
-        "explain" => Request::Explain(number(matches, "number", MOST_REFUSAL, 1)),
+        "explain" => Request::Explain(needed(matches, "what")),
+        "export" => Request::Export(export(matches)),
+        "state" => Request::State(state(matches)),
         _ => unreachable!(),
     }
 }

@@ -11,12 +11,13 @@ use crate::runners::Subject;
 use ids::ObjectId;
 use log_entries::Entry;
 use log_text::write_line;
-use log_words::{BirthIndex, Told, is_refusal_at};
+use log_words::{BirthIndex, Contents, Told, is_refusal_at};
 use std::alloc::{AllocError, Global};
 
 #[tactic(auto, unfolding(crate::specs::Text::line_if))]
 fn write_line_if(
     text: &mut String,
+    contents: Contents,
     shown: bool,
     index: &BirthIndex,
     log: &[Entry],
@@ -26,12 +27,12 @@ fn write_line_if(
 ) -> Result<(), AllocError>
     requires { told.now.events + 1 < 2 ^ 64 }
     ensures { IsIndexOf index.now log.now → OnOk result (string_bytes text.new
-        ≡ string_bytes text.old ++ line_if shown (births log.now) (told_of told.now) entry.now is_refused) }
+        ≡ string_bytes text.old ++ line_if contents shown (births log.now) (told_of told.now) entry.now is_refused) }
 {
     if !shown {
         return Ok(());
     }
-    write_line(text, index, log, told, entry, is_refused)
+    write_line(text, contents, index, log, told, entry, is_refused)
 }
 
 /// What a log says of one object: of its lines in words those that name the object or an attempt of its task, each below its
@@ -39,8 +40,13 @@ fn write_line_if(
 /// and evictions of its copies. Events keep their numbers.
 ///
 /// It is made of any log, a legal one or not; an object that the log does not name has no lines.
-pub fn story_text(alloc: Global, log: &[Entry], object: ObjectId) -> Result<String, AllocError>
-    ensures { IfOk result (λ text. string_bytes text ≡ story_text object log.now) }
+pub fn story_text(
+    alloc: Global,
+    contents: Contents,
+    log: &[Entry],
+    object: ObjectId,
+) -> Result<String, AllocError>
+    ensures { IfOk result (λ text. string_bytes text ≡ story_text contents object log.now) }
 {
     let mut text = String::new(alloc);
     let index = BirthIndex::of(alloc, log)?;
@@ -49,7 +55,9 @@ pub fn story_text(alloc: Global, log: &[Entry], object: ObjectId) -> Result<Stri
     for (place, entry) in log.iter().enumerate() {
         let is_refused = is_refusal_at(log, place + 1);
         let shown = is_shown(alloc, &subject, entry, &log[place + 1..])?;
-        write_line_if(&mut text, shown, &index, log, &told, entry, is_refused)?;
+        write_line_if(
+            &mut text, contents, shown, &index, log, &told, entry, is_refused,
+        )?;
         told.note(entry, is_refused)?;
     }
     Ok(text)

@@ -14,6 +14,7 @@ use Rattle.log_entries.specs.declared.event.Event.TheVariants as events
 use Rattle.event_log.specs.Entries.{Attempt, Entry}
 use Rattle.event_log.specs.Entries as entries
 use Rattle.history.specs.Texts.{fault_text}
+use Rattle.log_words.specs.declared.contents.Contents.{Contents}
 use Rattle.log_words.specs.Contents.{content_text}
 use Rattle.log_words.specs.Told.{Told, nothing_told}
 use Rattle.timeline.specs.declared.rows.Row.{Row}
@@ -54,9 +55,9 @@ all_plain : {X : Type 0} (f : X → List Data) → ((x : X) → ArePlain (f x)) 
 all_plain f h [] = refl
 all_plain f h (x ∷ xs) = appended (f x) (flat_map f xs) (h x) (all_plain f h xs)
 
-running_plain : (births : List Bearing) (clock : ℕ) (ending : List ℕ) (r : Row) (x : Option Running) → ArePlain (running_spans births clock ending r x)
-running_plain births clock ending r None = refl
-running_plain births clock ending r (Some x) = refl
+running_plain : (how : Contents) (births : List Bearing) (clock : ℕ) (ending : List ℕ) (r : Row) (x : Option Running) → ArePlain (running_spans how births clock ending r x)
+running_plain how births clock ending r None = refl
+running_plain how births clock ending r (Some x) = refl
 
 waiting_plain : (clock : ℕ) (name ending : List ℕ) (r : Row) (a : Attempt) (w : Option ℕ) → ArePlain (waiting_spans clock name ending r a w)
 waiting_plain clock name ending r a None = refl
@@ -66,37 +67,37 @@ waits_plain : (clock : ℕ) (name ending : List ℕ) (r : Row) (x : Option Runni
 waits_plain clock name ending r None = refl
 waits_plain clock name ending r (Some x) = waiting_plain clock name ending r x.attempt x.waits
 
-attempt_plain : (births : List Bearing) (clock : ℕ) (ending : List ℕ) (r : Row) → ArePlain (attempt_spans births clock ending r)
-attempt_plain births clock ending r = running_plain births clock ending r r.running
+attempt_plain : (how : Contents) (births : List Bearing) (clock : ℕ) (ending : List ℕ) (r : Row) → ArePlain (attempt_spans how births clock ending r)
+attempt_plain how births clock ending r = running_plain how births clock ending r r.running
 
 wait_plain : (clock : ℕ) (name ending : List ℕ) (r : Row) → ArePlain (wait_spans clock name ending r)
 wait_plain clock name ending r = waits_plain clock name ending r r.running
 
-both_plain : (births : List Bearing) (clock : ℕ) (name ending : List ℕ) (r : Row) → ArePlain (both_spans births clock name ending r)
-both_plain births clock name ending r =
-    appended (wait_spans clock name ending r) (attempt_spans births clock ending r) (wait_plain clock name ending r) (attempt_plain births clock ending r)
+both_plain : (how : Contents) (births : List Bearing) (clock : ℕ) (name ending : List ℕ) (r : Row) → ArePlain (both_spans how births clock name ending r)
+both_plain how births clock name ending r =
+    appended (wait_spans clock name ending r) (attempt_spans how births clock ending r) (wait_plain clock name ending r) (attempt_plain how births clock ending r)
 
-death_plain : (births : List Bearing) (clock : ℕ) (r : Row) → ArePlain (death_data births clock r)
-death_plain births clock r =
-    appended (both_spans births clock (codes "get") (codes "killed") r) (mark_data (codes "dies") (codes "t") r.node r.worker clock ∷ [])
-    (both_plain births clock (codes "get") (codes "killed") r) refl
+death_plain : (how : Contents) (births : List Bearing) (clock : ℕ) (r : Row) → ArePlain (death_data how births clock r)
+death_plain how births clock r =
+    appended (both_spans how births clock (codes "get") (codes "killed") r) (mark_data (codes "dies") (codes "t") r.node r.worker clock ∷ [])
+    (both_plain how births clock (codes "get") (codes "killed") r) refl
 
-event_plain : (births : List Bearing) (clock : ℕ) (e : Event) (r : Row) → ArePlain (event_data births clock e r)
-event_plain births clock (events.Kill w) r = chosen (w == r.worker) _ _ (death_plain births clock r) refl
-event_plain births clock (events.KillNode n) r = chosen (n == r.node) _ _ (death_plain births clock r) refl
-event_plain births clock _ r = refl
+event_plain : (how : Contents) (births : List Bearing) (clock : ℕ) (e : Event) (r : Row) → ArePlain (event_data how births clock e r)
+event_plain how births clock (events.Kill w) r = chosen (w == r.worker) _ _ (death_plain how births clock r) refl
+event_plain how births clock (events.KillNode n) r = chosen (n == r.node) _ _ (death_plain how births clock r) refl
+event_plain how births clock _ r = refl
 
-row_plain : (births : List Bearing) (clock : ℕ) (x : Entry) (refused : Bool) (r : Row) → ArePlain (row_data births clock x refused r)
-row_plain births clock (entries.Got a y c) refused r =
-    chosen (runs a r) _ _ (wait_plain clock (get_name y) (content_text c) r) refl
-row_plain births clock (entries.Ended a c) refused r = chosen (runs a r) _ _ (attempt_plain births clock (content_text c) r) refl
-row_plain births clock (entries.Faulted a y f) refused r =
-    chosen (runs a r) _ _ (both_plain births clock (get_name y) (fault_text f) r) refl
-row_plain births clock (entries.In e seat) refused r = chosen refused [] (event_data births clock e r) refl (event_plain births clock e r)
-row_plain births clock _ refused r = refl
+row_plain : (how : Contents) (births : List Bearing) (clock : ℕ) (x : Entry) (refused : Bool) (r : Row) → ArePlain (row_data how births clock x refused r)
+row_plain how births clock (entries.Got a y c) refused r =
+    chosen (runs a r) _ _ (wait_plain clock (get_name y) (content_text how c) r) refl
+row_plain how births clock (entries.Ended a c) refused r = chosen (runs a r) _ _ (attempt_plain how births clock (content_text how c) r) refl
+row_plain how births clock (entries.Faulted a y f) refused r =
+    chosen (runs a r) _ _ (both_plain how births clock (get_name y) (fault_text f) r) refl
+row_plain how births clock (entries.In e seat) refused r = chosen refused [] (event_data how births clock e r) refl (event_plain how births clock e r)
+row_plain how births clock _ refused r = refl
 
-open_plain : (births : List Bearing) (clock : ℕ) (r : Row) → ArePlain (open_data births clock r)
-open_plain births clock r = both_plain births clock (codes "get") (codes "open") r
+open_plain : (how : Contents) (births : List Bearing) (clock : ℕ) (r : Row) → ArePlain (open_data how births clock r)
+open_plain how births clock r = both_plain how births clock (codes "get") (codes "open") r
 
 event_marks_plain : (clock : ℕ) (e : Event) → ArePlain (event_marks clock e)
 event_marks_plain clock (events.Lose n o) = refl
@@ -108,11 +109,11 @@ marks_plain clock (entries.Opened w n) refused = refl
 marks_plain clock (entries.In e seat) refused = chosen refused [] (event_marks clock e) refl (event_marks_plain clock e)
 marks_plain clock _ refused = refl
 
-entry_plain : (births : List Bearing) (clock : ℕ) (rows : List Row) (x : Entry) (refused : Bool) → ArePlain (entry_data births clock rows x refused)
+entry_plain : (how : Contents) (births : List Bearing) (clock : ℕ) (rows : List Row) (x : Entry) (refused : Bool) → ArePlain (entry_data how births clock rows x refused)
 unfolding entry_data
-entry_plain births clock rows x refused =
-    appended (flat_map (row_data births clock x refused) rows) (entry_marks clock x refused)
-    (all_plain (row_data births clock x refused) (row_plain births clock x refused) rows) (marks_plain clock x refused)
+entry_plain how births clock rows x refused =
+    appended (flat_map (row_data how births clock x refused) rows) (entry_marks clock x refused)
+    (all_plain (row_data how births clock x refused) (row_plain how births clock x refused) rows) (marks_plain clock x refused)
 
 -- ---- messages
 
@@ -151,22 +152,22 @@ entry_arrows_plain letters sent arrivals rows clock (entries.In e seat) refused 
     chosen refused [] (event_arrows letters sent arrivals rows clock e) refl (event_arrows_plain letters sent arrivals rows clock e)
 entry_arrows_plain letters sent arrivals rows clock _ refused = refl
 
-whole_plain : (births : List Bearing) (letters : List Letter) (sent arrivals : List ℕ) (clock : ℕ) (rows : List Row) (x : Entry) (refused : Bool) →
-    ArePlain (whole_data births letters sent arrivals clock rows x refused)
+whole_plain : (how : Contents) (births : List Bearing) (letters : List Letter) (sent arrivals : List ℕ) (clock : ℕ) (rows : List Row) (x : Entry) (refused : Bool) →
+    ArePlain (whole_data how births letters sent arrivals clock rows x refused)
 unfolding whole_data
-whole_plain births letters sent arrivals clock rows x refused =
-    appended (entry_data births clock rows x refused) (entry_arrows letters sent arrivals rows clock x refused)
-    (entry_plain births clock rows x refused) (entry_arrows_plain letters sent arrivals rows clock x refused)
+whole_plain how births letters sent arrivals clock rows x refused =
+    appended (entry_data how births clock rows x refused) (entry_arrows letters sent arrivals rows clock x refused)
+    (entry_plain how births clock rows x refused) (entry_arrows_plain letters sent arrivals rows clock x refused)
 
-entries_plain : (births : List Bearing) (letters : List Letter) (sent arrivals : List ℕ) (told : Told) (rows : List Row) (log : List Entry) →
-    ArePlain (entries_data births letters sent arrivals told rows log)
-entries_plain births letters sent arrivals told rows [] = all_plain (open_data births told.events) (open_plain births told.events) rows
-entries_plain births letters sent arrivals told rows (x ∷ rest) =
+entries_plain : (how : Contents) (births : List Bearing) (letters : List Letter) (sent arrivals : List ℕ) (told : Told) (rows : List Row) (log : List Entry) →
+    ArePlain (entries_data how births letters sent arrivals told rows log)
+entries_plain how births letters sent arrivals told rows [] = all_plain (open_data how births told.events) (open_plain how births told.events) rows
+entries_plain how births letters sent arrivals told rows (x ∷ rest) =
     let now : Told = told_with told x rest in
     let refused : Bool = refused_next rest in
     let next : List Row = rows_after now rows x refused in
-    appended (whole_data births letters sent arrivals now.events rows x refused) (entries_data births letters sent arrivals now next rest)
-    (whole_plain births letters sent arrivals now.events rows x refused) (entries_plain births letters sent arrivals now next rest)
+    appended (whole_data how births letters sent arrivals now.events rows x refused) (entries_data how births letters sent arrivals now next rest)
+    (whole_plain how births letters sent arrivals now.events rows x refused) (entries_plain how births letters sent arrivals now next rest)
 
 names_plain : (n : ℕ) → ArePlain (names_of n)
 names_plain zero = refl
@@ -177,10 +178,10 @@ names_plain (suc n) = appended (names_of n) (node_names (suc n)) (names_plain n)
 beside_nothing : (t : Bool) → t ≡ false → (t || false) ≡ false
 beside_nothing t h = ap (λ b. b || false) h
 
-pub timeline_plain : (log : List Entry) (letters : List Letter) (sent : List ℕ) → has_float (timeline_data log letters sent) ≡ false
-timeline_plain log letters sent =
+pub timeline_plain : (how : Contents) (log : List Entry) (letters : List Letter) (sent : List ℕ) → has_float (timeline_data how log letters sent) ≡ false
+timeline_plain how log letters sent =
     let arrivals : List ℕ = arrivals_in letters sent log in
     let names : List Data = names_of (greatest_node letters log) in
-    let added : List Data = entries_data (births log) letters sent arrivals nothing_told [] log in
+    let added : List Data = entries_data how (births log) letters sent arrivals nothing_told [] log in
     beside_nothing _ (appended names added (names_plain (greatest_node letters log))
-    (entries_plain (births log) letters sent arrivals nothing_told [] log))
+    (entries_plain how (births log) letters sent arrivals nothing_told [] log))

@@ -5,6 +5,7 @@ use Rattle.serde_json.specs.Data.{Data}
 use Rattle.meaning.specs.Births.{Bearing}
 use Rattle.event_log.specs.Events.{refused_next}
 use Rattle.event_log.specs.Entries.{Entry}
+use Rattle.log_words.specs.declared.contents.Contents.{Contents}
 use Rattle.log_words.specs.Told.{Told}
 use Rattle.protocol_data.specs.declared.message.Letter.{Letter}
 use Rattle.timeline.specs.declared.rows.Row.{Row}
@@ -15,21 +16,21 @@ use Rattle.timeline.specs.Told.{told_with}
 use Rattle.timeline.specs.Arrows.{entry_arrows}
 
 -- the spans that end in the rows, then the rest
-unfoldable pub entry_data : List Bearing → ℕ → List Row → Entry → Bool → List Data
-entry_data births clock rows x refused = flat_map (row_data births clock x refused) rows ++ entry_marks clock x refused
+unfoldable pub entry_data : Contents → List Bearing → ℕ → List Row → Entry → Bool → List Data
+entry_data how births clock rows x refused = flat_map (row_data how births clock x refused) rows ++ entry_marks clock x refused
 
 unfoldable pub rows_after : Told → List Row → Entry → Bool → List Row
 rows_after told rows x refused = map (row_after told x refused) rows ++ new_rows x
 
 -- with what it adds of messages, where `arrivals` has for each the event that delivered it first
-unfoldable pub whole_data : List Bearing → List Letter → List ℕ → List ℕ → ℕ → List Row → Entry → Bool → List Data
-whole_data births letters sent arrivals clock rows x refused =
-    entry_data births clock rows x refused ++ entry_arrows letters sent arrivals rows clock x refused
+unfoldable pub whole_data : Contents → List Bearing → List Letter → List ℕ → List ℕ → ℕ → List Row → Entry → Bool → List Data
+whole_data how births letters sent arrivals clock rows x refused =
+    entry_data how births clock rows x refused ++ entry_arrows letters sent arrivals rows clock x refused
 
 -- `told` and `rows` are what stood before the entries
-abbrev pub entries_data : List Bearing → List Letter → List ℕ → List ℕ → Told → List Row → List Entry → List Data
-entries_data births letters sent arrivals told rows [] = flat_map (open_data births told.events) rows
-entries_data births letters sent arrivals told rows (x ∷ rest) =
-    whole_data births letters sent arrivals (told_with told x rest).events rows x (refused_next rest)
-    ++ entries_data births letters sent arrivals (told_with told x rest)
+abbrev pub entries_data : Contents → List Bearing → List Letter → List ℕ → List ℕ → Told → List Row → List Entry → List Data
+entries_data how births letters sent arrivals told rows [] = flat_map (open_data how births told.events) rows
+entries_data how births letters sent arrivals told rows (x ∷ rest) =
+    whole_data how births letters sent arrivals (told_with told x rest).events rows x (refused_next rest)
+    ++ entries_data how births letters sent arrivals (told_with told x rest)
     (rows_after (told_with told x rest) rows x (refused_next rest)) rest

@@ -5,6 +5,7 @@ use Rattle.meaning.specs.Values.{Birth, Put, Task}
 use Rattle.meaning.specs.Births.{Bearing, birth_at}
 use Rattle.event_log.specs.Entries.{Attempt}
 use Rattle.history.specs.Texts.{attempt_text}
+use Rattle.log_words.specs.declared.contents.Contents.{Contents}
 use Rattle.log_words.specs.Calls.{call_text}
 use Rattle.timeline.specs.declared.rows.Row.{Row}
 use Rattle.timeline.specs.declared.rows.Running.{Running}
@@ -21,20 +22,20 @@ span_data name category args since r clock =
     (member (codes "tid") (number (unsigned r.worker)) (member (codes "ts") (number (unsigned since)) no_members))))))))
 
 -- the call that an attempt runs; one of an object that was never born, which no legal log has, is named by itself
-abbrev pub called : Attempt → Option Birth → List ℕ
-called a (Some (Task g args depth retries)) = call_text g args
-called a (Some (Put v)) = attempt_text a
-called a None = attempt_text a
+abbrev pub called : Contents → Attempt → Option Birth → List ℕ
+called how a (Some (Task g args depth retries)) = call_text how g args
+called how a (Some (Put v)) = attempt_text a
+called how a None = attempt_text a
 
-abbrev pub running_spans : List Bearing → ℕ → List ℕ → Row → Option Running → List Data
-running_spans births clock ending r None = []
-running_spans births clock ending r (Some x) =
-    span_data (called x.attempt (birth_at births x.attempt.object)) (codes "attempt") (args_data x.attempt ending)
+abbrev pub running_spans : Contents → List Bearing → ℕ → List ℕ → Row → Option Running → List Data
+running_spans how births clock ending r None = []
+running_spans how births clock ending r (Some x) =
+    span_data (called how x.attempt (birth_at births x.attempt.object)) (codes "attempt") (args_data x.attempt ending)
     x.since r clock ∷ []
 
 -- the attempt that the row's worker runs, up to this event
-abbrev pub attempt_spans : List Bearing → ℕ → List ℕ → Row → List Data
-attempt_spans births clock ending r = running_spans births clock ending r r.running
+abbrev pub attempt_spans : Contents → List Bearing → ℕ → List ℕ → Row → List Data
+attempt_spans how births clock ending r = running_spans how births clock ending r r.running
 
 -- no wait that ends in the event in which it began is shown
 abbrev pub waiting_spans : ℕ → List ℕ → List ℕ → Row → Attempt → Option ℕ → List Data

@@ -15,7 +15,7 @@ use crate::spans::{add_attempt, add_wait};
 use history::kind_name;
 use ids::ObjectId;
 use log_entries::{Entry, Event};
-use log_words::{BirthIndex, write_content};
+use log_words::{BirthIndex, Contents, write_content};
 use serde_json::Value;
 use std::alloc::{AllocError, Global};
 use values::{Content, Fault};
@@ -26,11 +26,11 @@ fn get_name(alloc: Global, object: ObjectId) -> Result<String, AllocError>
     format!(in alloc; "get {object}")
 }
 
-fn content_name(alloc: Global, content: &Content) -> Result<String, AllocError>
-    ensures { IfOk result (λ s. string_bytes s ≡ content_text (content_of content.now)) }
+fn content_name(alloc: Global, contents: Contents, content: &Content) -> Result<String, AllocError>
+    ensures { IfOk result (λ s. string_bytes s ≡ content_text contents (content_of content.now)) }
 {
     let mut text = String::new(alloc);
-    write_content(&mut text, content)?;
+    write_content(&mut text, contents, content)?;
     Ok(text)
 }
 
@@ -46,6 +46,7 @@ fn fault_name(alloc: Global, fault: Fault) -> Result<String, AllocError>
 fn add_both(
     alloc: Global,
     all: &mut Vec<Value>,
+    contents: Contents,
     index: &BirthIndex,
     log: &[Entry],
     clock: usize,
@@ -54,25 +55,28 @@ fn add_both(
     row: &Row,
 ) -> Result<(), AllocError>
     ensures { IsIndexOf index.now log.now → OnOk result
-        (map view all.new.items ≡ map view all.old.items ++ both_spans (births log.now) clock name.now ending.now row.now) }
+        (map view all.new.items ≡ map view all.old.items ++ both_spans contents (births log.now) clock name.now ending.now row.now) }
 {
     add_wait(alloc, all, clock, name, ending, row)?;
-    add_attempt(alloc, all, index, log, clock, ending, row)
+    add_attempt(alloc, all, contents, index, log, clock, ending, row)
 }
 
 /// Adds what the death of the row's worker ends.
 fn add_death(
     alloc: Global,
     all: &mut Vec<Value>,
+    contents: Contents,
     index: &BirthIndex,
     log: &[Entry],
     clock: usize,
     row: &Row,
 ) -> Result<(), AllocError>
     ensures { IsIndexOf index.now log.now → OnOk result
-        (map view all.new.items ≡ map view all.old.items ++ death_data (births log.now) clock row.now) }
+        (map view all.new.items ≡ map view all.old.items ++ death_data contents (births log.now) clock row.now) }
 {
-    add_both(alloc, all, index, log, clock, "get", "killed", row)?;
+    add_both(
+        alloc, all, contents, index, log, clock, "get", "killed", row,
+    )?;
     all.push(mark_json(alloc, "dies", "t", row.node, row.worker.0, clock)?)?;
     Ok(())
 }
@@ -80,6 +84,7 @@ fn add_death(
 fn add_event(
     alloc: Global,
     all: &mut Vec<Value>,
+    contents: Contents,
     index: &BirthIndex,
     log: &[Entry],
     clock: usize,
@@ -87,18 +92,18 @@ fn add_event(
     row: &Row,
 ) -> Result<(), AllocError>
     ensures { IsIndexOf index.now log.now → OnOk result
-        (map view all.new.items ≡ map view all.old.items ++ event_data (births log.now) clock event.now row.now) }
+        (map view all.new.items ≡ map view all.old.items ++ event_data contents (births log.now) clock event.now row.now) }
 {
     match event {
         Event::Kill(worker) => {
             if worker.0 == row.worker.0 {
-                return add_death(alloc, all, index, log, clock, row);
+                return add_death(alloc, all, contents, index, log, clock, row);
             }
             Ok(())
         }
         Event::KillNode(node) => {
             if node.0 == row.node.0 {
-                return add_death(alloc, all, index, log, clock, row);
+                return add_death(alloc, all, contents, index, log, clock, row);
             }
             Ok(())
         }
@@ -110,6 +115,7 @@ fn add_event(
 pub fn add_row(
     alloc: Global,
     all: &mut Vec<Value>,
+    contents: Contents,
     index: &BirthIndex,
     log: &[Entry],
     clock: usize,
@@ -118,7 +124,7 @@ pub fn add_row(
     row: &Row,
 ) -> Result<(), AllocError>
     ensures { IsIndexOf index.now log.now → OnOk result
-        (map view all.new.items ≡ map view all.old.items ++ row_data (births log.now) clock entry.now is_refused row.now) }
+        (map view all.new.items ≡ map view all.old.items ++ row_data contents (births log.now) clock entry.now is_refused row.now) }
 {
     match entry {
         Entry::Got {
@@ -130,15 +136,24 @@ pub fn add_row(
                 return Ok(());
             }
             let name = get_name(alloc, *object)?;
-            let ending = content_name(alloc, &content.inner)?;
+            let ending = content_name(alloc, contents, &content.inner)?;
             add_wait(alloc, all, clock, name.as_str(), ending.as_str(), row)
         }
         Entry::Ended { attempt, content } => {
             if !runs(*attempt, row) {
                 return Ok(());
             }
-            let ending = content_name(alloc, &content.inner)?;
-            add_attempt(alloc, all, index, log, clock, ending.as_str(), row)
+            let ending = content_name(alloc, contents, &content.inner)?;
+            add_attempt(
+                alloc,
+                all,
+                contents,
+                index,
+                log,
+                clock,
+                ending.as_str(),
+                row,
+            )
         }
         Entry::Faulted {
             attempt,
@@ -153,6 +168,7 @@ pub fn add_row(
             add_both(
                 alloc,
                 all,
+                contents,
                 index,
                 log,
                 clock,
@@ -165,7 +181,7 @@ pub fn add_row(
             if is_refused {
                 return Ok(());
             }
-            add_event(alloc, all, index, log, clock, event, row)
+            add_event(alloc, all, contents, index, log, clock, event, row)
         }
         _ => Ok(()),
     }
@@ -175,13 +191,14 @@ pub fn add_row(
 pub fn add_open(
     alloc: Global,
     all: &mut Vec<Value>,
+    contents: Contents,
     index: &BirthIndex,
     log: &[Entry],
     clock: usize,
     row: &Row,
 ) -> Result<(), AllocError>
     ensures { IsIndexOf index.now log.now → OnOk result
-        (map view all.new.items ≡ map view all.old.items ++ open_data (births log.now) clock row.now) }
+        (map view all.new.items ≡ map view all.old.items ++ open_data contents (births log.now) clock row.now) }
 {
-    add_both(alloc, all, index, log, clock, "get", "open", row)
+    add_both(alloc, all, contents, index, log, clock, "get", "open", row)
 }

@@ -14,7 +14,7 @@ use crate::endings::{add_open, add_row};
 use crate::marks::add_marks;
 use crate::rows::{Row, rows_after};
 use log_entries::Entry;
-use log_words::{BirthIndex, Told, is_refusal_at};
+use log_words::{BirthIndex, Contents, Told, is_refusal_at};
 use protocol_data::Letter;
 use serde_json::Value;
 use std::alloc::{AllocError, Global};
@@ -22,6 +22,7 @@ use std::alloc::{AllocError, Global};
 fn add_rows(
     alloc: Global,
     all: &mut Vec<Value>,
+    contents: Contents,
     index: &BirthIndex,
     log: &[Entry],
     clock: usize,
@@ -30,10 +31,12 @@ fn add_rows(
     is_refused: bool,
 ) -> Result<(), AllocError>
     ensures { IsIndexOf index.now log.now → OnOk result (map view all.new.items
-        ≡ map view all.old.items ++ flat_map (row_data (births log.now) clock entry.now is_refused) rows.now) }
+        ≡ map view all.old.items ++ flat_map (row_data contents (births log.now) clock entry.now is_refused) rows.now) }
 {
     for row in rows {
-        add_row(alloc, all, index, log, clock, entry, is_refused, row)?;
+        add_row(
+            alloc, all, contents, index, log, clock, entry, is_refused, row,
+        )?;
     }
     Ok(())
 }
@@ -42,6 +45,7 @@ fn add_rows(
 fn add_entry(
     alloc: Global,
     all: &mut Vec<Value>,
+    contents: Contents,
     index: &BirthIndex,
     log: &[Entry],
     clock: usize,
@@ -50,9 +54,11 @@ fn add_entry(
     is_refused: bool,
 ) -> Result<(), AllocError>
     ensures { IsIndexOf index.now log.now → OnOk result (map view all.new.items
-        ≡ map view all.old.items ++ entry_data (births log.now) clock rows.now entry.now is_refused) }
+        ≡ map view all.old.items ++ entry_data contents (births log.now) clock rows.now entry.now is_refused) }
 {
-    add_rows(alloc, all, index, log, clock, rows, entry, is_refused)?;
+    add_rows(
+        alloc, all, contents, index, log, clock, rows, entry, is_refused,
+    )?;
     add_marks(alloc, all, clock, entry, is_refused)
 }
 
@@ -61,6 +67,7 @@ fn add_entry(
 fn add_whole(
     alloc: Global,
     all: &mut Vec<Value>,
+    contents: Contents,
     index: &BirthIndex,
     log: &[Entry],
     letters: &[Letter],
@@ -72,9 +79,11 @@ fn add_whole(
     is_refused: bool,
 ) -> Result<(), AllocError>
     ensures { IsIndexOf index.now log.now → OnOk result (map view all.new.items ≡ map view all.old.items
-        ++ whole_data (births log.now) letters.now sent.now arrivals.now clock rows.now entry.now is_refused) }
+        ++ whole_data contents (births log.now) letters.now sent.now arrivals.now clock rows.now entry.now is_refused) }
 {
-    add_entry(alloc, all, index, log, clock, rows, entry, is_refused)?;
+    add_entry(
+        alloc, all, contents, index, log, clock, rows, entry, is_refused,
+    )?;
     add_arrows(
         alloc, all, letters, sent, arrivals, rows, clock, entry, is_refused,
     )
@@ -83,16 +92,17 @@ fn add_whole(
 fn add_all_open(
     alloc: Global,
     all: &mut Vec<Value>,
+    contents: Contents,
     index: &BirthIndex,
     log: &[Entry],
     clock: usize,
     rows: &[Row],
 ) -> Result<(), AllocError>
     ensures { IsIndexOf index.now log.now → OnOk result
-        (map view all.new.items ≡ map view all.old.items ++ flat_map (open_data (births log.now) clock) rows.now) }
+        (map view all.new.items ≡ map view all.old.items ++ flat_map (open_data contents (births log.now) clock) rows.now) }
 {
     for row in rows {
-        add_open(alloc, all, index, log, clock, row)?;
+        add_open(alloc, all, contents, index, log, clock, row)?;
     }
     Ok(())
 }
@@ -101,13 +111,14 @@ fn add_all_open(
 pub fn add_entries(
     alloc: Global,
     all: &mut Vec<Value>,
+    contents: Contents,
     log: &[Entry],
     letters: &[Letter],
     sent: &[usize],
     arrivals: &[usize],
 ) -> Result<(), AllocError>
     ensures { OnOk result (map view all.new.items ≡ map view all.old.items
-        ++ entries_data (births log.now) letters.now sent.now arrivals.now nothing_told [] log.now) }
+        ++ entries_data contents (births log.now) letters.now sent.now arrivals.now nothing_told [] log.now) }
 {
     let index = BirthIndex::of(alloc, log)?;
     let mut told = Told::new(alloc);
@@ -118,6 +129,7 @@ pub fn add_entries(
         add_whole(
             alloc,
             all,
+            contents,
             &index,
             log,
             letters,
@@ -130,5 +142,5 @@ pub fn add_entries(
         )?;
         rows = rows_after(alloc, &told, entry, is_refused, &rows)?;
     }
-    add_all_open(alloc, all, &index, log, told.events, &rows)
+    add_all_open(alloc, all, contents, &index, log, told.events, &rows)
 }

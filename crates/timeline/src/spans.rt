@@ -12,7 +12,7 @@ ghost use Rattle.timeline.specs.Spans.{args_data, attempt_spans, called, span_da
 use crate::rows::Row;
 use ids::AttemptId;
 use log_entries::Entry;
-use log_words::{BirthIndex, write_call};
+use log_words::{BirthIndex, Contents, write_call};
 use serde_json::{Value, json};
 use std::alloc::{AllocError, Global};
 use task_spec::Birth;
@@ -57,8 +57,13 @@ fn span_json(
 }
 
 /// The call that an attempt runs.
-fn called(alloc: Global, attempt: AttemptId, birth: Option<&Birth>) -> Result<String, AllocError>
-    ensures { IfOk result (λ s. string_bytes s ≡ called attempt (option_map birth_of (option_copied birth.entry))) }
+fn called(
+    alloc: Global,
+    contents: Contents,
+    attempt: AttemptId,
+    birth: Option<&Birth>,
+) -> Result<String, AllocError>
+    ensures { IfOk result (λ s. string_bytes s ≡ called contents attempt (option_map birth_of (option_copied birth.entry))) }
 {
     let Some(
         Birth::Task {
@@ -71,7 +76,7 @@ fn called(alloc: Global, attempt: AttemptId, birth: Option<&Birth>) -> Result<St
         return attempt_name(alloc, attempt);
     };
     let mut text = String::new(alloc);
-    write_call(&mut text, function.as_str(), arguments)?;
+    write_call(&mut text, contents, function.as_str(), arguments)?;
     Ok(text)
 }
 
@@ -79,6 +84,7 @@ fn called(alloc: Global, attempt: AttemptId, birth: Option<&Birth>) -> Result<St
 pub fn add_attempt(
     alloc: Global,
     all: &mut Vec<Value>,
+    contents: Contents,
     index: &BirthIndex,
     log: &[Entry],
     clock: usize,
@@ -86,13 +92,13 @@ pub fn add_attempt(
     row: &Row,
 ) -> Result<(), AllocError>
     ensures { IsIndexOf index.now log.now → OnOk result
-        (map view all.new.items ≡ map view all.old.items ++ attempt_spans (births log.now) clock ending.now row.now) }
+        (map view all.new.items ≡ map view all.old.items ++ attempt_spans contents (births log.now) clock ending.now row.now) }
 {
     let Some(running) = &row.running else {
         return Ok(());
     };
     let attempt = running.attempt;
-    let name = called(alloc, attempt, index.birth(log, attempt.object))?;
+    let name = called(alloc, contents, attempt, index.birth(log, attempt.object))?;
     let args = args_json(alloc, attempt, ending)?;
     all.push(span_json(
         alloc,

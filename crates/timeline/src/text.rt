@@ -9,45 +9,49 @@ use crate::arrivals::arrivals_in;
 use crate::entries::add_entries;
 use crate::nodes::{greatest_node, node_names};
 use log_entries::Entry;
+use log_words::Contents;
 use protocol_data::Letter;
 use serde_json::{Value, json};
 use std::alloc::{AllocError, Global};
 
 fn trace_values(
     alloc: Global,
+    contents: Contents,
     log: &[Entry],
     letters: &[Letter],
     sent: &[usize],
 ) -> Result<Vec<Value>, AllocError>
-    ensures { IfOk result (λ all. map view all.items ≡ trace_data log.now letters.now sent.now) }
+    ensures { IfOk result (λ all. map view all.items ≡ trace_data contents log.now letters.now sent.now) }
 {
     let arrivals = arrivals_in(alloc, log, letters, sent)?;
     let mut all = node_names(alloc, greatest_node(log, letters))?;
-    add_entries(alloc, &mut all, log, letters, sent, &arrivals)?;
+    add_entries(alloc, &mut all, contents, log, letters, sent, &arrivals)?;
     Ok(all)
 }
 
 fn timeline_value(
     alloc: Global,
+    contents: Contents,
     log: &[Entry],
     letters: &[Letter],
     sent: &[usize],
 ) -> Result<Value, AllocError>
-    ensures { IfOk result (λ v. view v ≡ timeline_data log.now letters.now sent.now) }
+    ensures { IfOk result (λ v. view v ≡ timeline_data contents log.now letters.now sent.now) }
 {
-    let all = Value::Array(trace_values(alloc, log, letters, sent)?);
+    let all = Value::Array(trace_values(alloc, contents, log, letters, sent)?);
     json!(in alloc; {"displayTimeUnit": "ms", "traceEvents": all})
 }
 
 fn compact(
     alloc: Global,
+    contents: Contents,
     log: &[Entry],
     letters: &[Letter],
     sent: &[usize],
 ) -> Result<String, AllocError>
-    ensures { IfOk result (λ text. string_bytes text ≡ compact_text (timeline_data log.now letters.now sent.now)) }
+    ensures { IfOk result (λ text. string_bytes text ≡ compact_text (timeline_data contents log.now letters.now sent.now)) }
 {
-    timeline_value(alloc, log, letters, sent)?.to_string(alloc)
+    timeline_value(alloc, contents, log, letters, sent)?.to_string(alloc)
 }
 
 /// A run as Chrome's trace events, for its viewers and others that read them: one object on one line that ends with a line
@@ -68,13 +72,14 @@ fn compact(
 /// It is made of any log, a legal one or not. For each entry, and each message, it goes over the workers.
 pub fn timeline_json(
     alloc: Global,
+    contents: Contents,
     log: &[Entry],
     letters: &[Letter],
     sent: &[usize],
 ) -> Result<String, AllocError>
-    ensures { IfOk result (λ text. string_bytes text ≡ compact_text (timeline_data log.now letters.now sent.now) ++ codes "\n") }
+    ensures { IfOk result (λ text. string_bytes text ≡ compact_text (timeline_data contents log.now letters.now sent.now) ++ codes "\n") }
 {
-    let mut text = compact(alloc, log, letters, sent)?;
+    let mut text = compact(alloc, contents, log, letters, sent)?;
     text.push_str("\n")?;
     Ok(text)
 }

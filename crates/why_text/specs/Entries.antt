@@ -1,42 +1,40 @@
 -- What each entry says of an object.
-use Rattle.std.specs.Prelude.{ℕ, zero, suc, Bool, if◌then◌else◌, List, [], ◌++◌, codes}
+use Rattle.std.specs.Prelude.{ℕ, Bool, if◌then◌else◌, List, [], ◌++◌, codes}
 use Rattle.std.specs.Fmt.{decimal}
 use Rattle.report.specs.Values.{id_text}
 use Rattle.meaning.specs.Values.{Id, Birth, Outcome}
 use Rattle.meaning.specs.Births.{Bearing, same_id}
 use Rattle.event_log.specs.Entries.{Attempt, Fault, Entry, In, Begun, Born, Got, Ended, Accepted, Faulted, Resolved, Released}
+use Rattle.log_words.specs.declared.contents.Contents.{Contents}
 use Rattle.log_words.specs.Calls.{birth_text}
 use Rattle.log_words.specs.Contents.{content_text}
 use Rattle.log_words.specs.Faults.{fault_words}
 use Rattle.log_text.specs.Attempts.{named_text}
 use Rattle.story_text.specs.Mentions.{is_in_birth}
+use Rattle.why_text.specs.Again.{again_note}
 use Rattle.why_text.specs.Moments.{Moment, when_text}
 use Rattle.why_text.specs.Runs.{Subject}
 use Rattle.why_text.specs.Events.{event_sentence}
 use Rattle.why_text.specs.Notes.{fault_note, kept_note, owner_text, release_note}
 
 -- a1.0#0 (main) made o1.1 in event 2 (commit 1): remote(1) sq(7).
-abbrev pub made_text : List Bearing → Moment → Id → Attempt → Birth → List ℕ
-made_text births m o a b =
-    named_text births a ++ (codes " made " ++ (id_text o ++ (when_text m ++ (codes ": " ++ (birth_text b ++ codes ".\n")))))
+abbrev pub made_text : Contents → List Bearing → Moment → Id → Attempt → Birth → List ℕ
+made_text how births m o a b =
+    named_text births a ++ (codes " made " ++ (id_text o ++ (when_text m ++ (codes ": " ++ (birth_text how b ++ codes ".\n")))))
 
-abbrev pub again_note : ℕ → List ℕ
-again_note zero = []
-again_note (suc n) = codes ", since the one before it broke or its result was lost"
-
--- a1.1#0 (sq) began on w2 in event 4 (deliver 2).
-abbrev pub began_text : List Bearing → Moment → Attempt → ℕ → List ℕ
-began_text births m a w =
-    named_text births a ++ (codes " began on w" ++ (decimal w ++ (when_text m ++ (again_note a.number ++ codes ".\n"))))
+-- a1.1#1 (sq) began on w3 in event 10 (deliver 5, line 3), since w2 died in event 6 (kill 2, line 2).
+abbrev pub began_text : List Bearing → List ℕ → List Entry → Moment → Attempt → ℕ → List ℕ
+began_text births lines before m a w =
+    named_text births a ++ (codes " began on w" ++ (decimal w ++ (when_text m ++ (again_note lines before a ++ codes ".\n"))))
 
 -- a1.0#0 (main) got o1.1 in event 14 (deliver 7): 49.
-abbrev pub got_text : List Bearing → Moment → Attempt → Id → Outcome → List ℕ
-got_text births m a y c =
-    named_text births a ++ (codes " got " ++ (id_text y ++ (when_text m ++ (codes ": " ++ (content_text c ++ codes ".\n")))))
+abbrev pub got_text : Contents → List Bearing → Moment → Attempt → Id → Outcome → List ℕ
+got_text how births m a y c =
+    named_text births a ++ (codes " got " ++ (id_text y ++ (when_text m ++ (codes ": " ++ (content_text how c ++ codes ".\n")))))
 
 -- a1.1#0 (sq) ended in event 13 (commit 2): 49.
-abbrev pub ended_text : List Bearing → Moment → Attempt → Outcome → List ℕ
-ended_text births m a c = named_text births a ++ (codes " ended" ++ (when_text m ++ (codes ": " ++ (content_text c ++ codes ".\n"))))
+abbrev pub ended_text : Contents → List Bearing → Moment → Attempt → Outcome → List ℕ
+ended_text how births m a c = named_text births a ++ (codes " ended" ++ (when_text m ++ (codes ": " ++ (content_text how c ++ codes ".\n"))))
 
 unfoldable pub accepted_head : ℕ → List ℕ
 accepted_head w = codes "w" ++ (decimal w ++ codes " accepted ")
@@ -70,30 +68,30 @@ abbrev pub released_text : List ℕ → List Entry → Moment → Id → List �
 released_text lines before m o = released_head m o ++ (release_note lines before o ++ codes ".\n")
 
 -- it was made, or another was made with it
-abbrev pub birth_sentence : Id → List Bearing → Moment → Id → Attempt → Birth → List ℕ
-birth_sentence o births m p a b = if same_id p o then made_text births m p a b else (if is_in_birth o b then made_text births m p a b else [])
+abbrev pub birth_sentence : Contents → Id → List Bearing → Moment → Id → Attempt → Birth → List ℕ
+birth_sentence how o births m p a b = if same_id p o then made_text how births m p a b else (if is_in_birth o b then made_text how births m p a b else [])
 
 -- an attempt of its task got another object, or an attempt got this one
-abbrev pub got_sentence : Id → List Bearing → Moment → Attempt → Id → Outcome → List ℕ
-got_sentence o births m a y c = if same_id a.object o then got_text births m a y c else (if same_id y o then got_text births m a y c else [])
+abbrev pub got_sentence : Contents → Id → List Bearing → Moment → Attempt → Id → Outcome → List ℕ
+got_sentence how o births m a y c = if same_id a.object o then got_text how births m a y c else (if same_id y o then got_text how births m a y c else [])
 
 abbrev pub faulted_sentence : Id → List Bearing → List Entry → Moment → Attempt → Id → Fault → List ℕ
 faulted_sentence o births before m a y f =
     if same_id a.object o then faulted_text births before m a y f else (if same_id y o then faulted_text births before m a y f else [])
 
--- what came of an event; `before` are the entries before it, and `lines` are those of their events
-abbrev pub entry_sentence : Id → List Bearing → List ℕ → List Entry → Moment → Entry → List ℕ
-entry_sentence o births lines before m (Born p a b) = birth_sentence o births m p a b
-entry_sentence o births lines before m (Begun a w) = if same_id a.object o then began_text births m a w else []
-entry_sentence o births lines before m (Got a y c) = got_sentence o births m a y c
-entry_sentence o births lines before m (Ended a c) = if same_id a.object o then ended_text births m a c else []
-entry_sentence o births lines before m (Accepted a) = if same_id a.object o then accepted_text births before m a else []
-entry_sentence o births lines before m (Faulted a y f) = faulted_sentence o births before m a y f
-entry_sentence o births lines before m (Resolved p f) = if same_id p o then given_up_text m p f else []
-entry_sentence o births lines before m (Released p) = if same_id p o then released_text lines before m p else []
-entry_sentence o births lines before m _ = []
+-- what came of an event; `how` says whether long lists are cut, `before` are the entries before it, and `lines` are those of their events
+abbrev pub entry_sentence : Contents → Id → List Bearing → List ℕ → List Entry → Moment → Entry → List ℕ
+entry_sentence how o births lines before m (Born p a b) = birth_sentence how o births m p a b
+entry_sentence how o births lines before m (Begun a w) = if same_id a.object o then began_text births lines before m a w else []
+entry_sentence how o births lines before m (Got a y c) = got_sentence how o births m a y c
+entry_sentence how o births lines before m (Ended a c) = if same_id a.object o then ended_text how births m a c else []
+entry_sentence how o births lines before m (Accepted a) = if same_id a.object o then accepted_text births before m a else []
+entry_sentence how o births lines before m (Faulted a y f) = faulted_sentence o births before m a y f
+entry_sentence how o births lines before m (Resolved p f) = if same_id p o then given_up_text m p f else []
+entry_sentence how o births lines before m (Released p) = if same_id p o then released_text lines before m p else []
+entry_sentence how o births lines before m _ = []
 
 -- a refused event did nothing
-unfoldable pub sentence : Subject → List Bearing → List ℕ → List Entry → Moment → Entry → Bool → List ℕ
-sentence s births lines before m (In e seat) refused = if refused then [] else event_sentence s m e
-sentence s births lines before m x refused = entry_sentence s.object births lines before m x
+unfoldable pub sentence : Contents → Subject → List Bearing → List ℕ → List Entry → Moment → Entry → Bool → List ℕ
+sentence how s births lines before m (In e seat) refused = if refused then [] else event_sentence s m e
+sentence how s births lines before m x refused = entry_sentence how s.object births lines before m x

@@ -3,6 +3,7 @@ pub mod Moments
 pub mod Events
 pub mod Holders
 pub mod Notes
+pub mod Again
 pub mod Entries
 pub mod Ways
 pub mod Text

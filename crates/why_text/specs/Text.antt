@@ -9,18 +9,20 @@ use Rattle.event_log.specs.Events.{refused_next}
 use Rattle.event_log.specs.Words.{Lack, births}
 use Rattle.why_text.specs.declared.causes.Lack.{Lack as CodeLack}
 use Rattle.history.specs.Main.{first}
+use Rattle.log_words.specs.declared.contents.Contents.{Contents}
 use Rattle.log_words.specs.Faults.{fault_words}
 use Rattle.why_text.specs.Moments.{Moment, first_moment, moment_after}
 use Rattle.why_text.specs.Runs.{Subject, subject_of}
 use Rattle.why_text.specs.Entries.{sentence}
 use Rattle.why_text.specs.Ways.{next_cause}
 
--- the sentences of the entries from a place of the log on, where `m` is the moment before them, and `lines` are the lines of the events
-abbrev pub sentences : Subject → List Bearing → List ℕ → List Entry → ℕ → Moment → List Entry → List ℕ
-sentences s births lines log place m [] = []
-sentences s births lines log place m (x ∷ rest) =
-    sentence s births lines (take place log) (moment_after lines m x) x (refused_next rest)
-    ++ sentences s births lines log (place + 1) (moment_after lines m x) rest
+-- the sentences of the entries from a place of the log on, where `m` is the moment before them, `lines` are the lines of the events, and
+-- `how` says whether long lists are cut
+abbrev pub sentences : Contents → Subject → List Bearing → List ℕ → List Entry → ℕ → Moment → List Entry → List ℕ
+sentences how s births lines log place m [] = []
+sentences how s births lines log place m (x ∷ rest) =
+    sentence how s births lines (take place log) (moment_after lines m x) x (refused_next rest)
+    ++ sentences how s births lines log (place + 1) (moment_after lines m x) rest
 
 -- there is no such object
 unfoldable pub unborn_note : Id → Option Birth → List ℕ
@@ -28,8 +30,8 @@ unborn_note o (Some b) = []
 unborn_note o None = codes "There is no " ++ (id_text o ++ codes ".\n")
 
 -- what the log says of an object, entry by entry
-unfoldable pub account : List Entry → List ℕ → Id → List ℕ
-account log lines o = unborn_note o (birth_at (births log) o) ++ sentences (subject_of log o) (births log) lines log 0 first_moment log
+unfoldable pub account : Contents → List Entry → List ℕ → Id → List ℕ
+account how log lines o = unborn_note o (birth_at (births log) o) ++ sentences how (subject_of log o) (births log) lines log 0 first_moment log
 
 -- the object in which the fault of another began, where the entry says that the other has a fault
 unfoldable pub cause_in : Id → Entry → List Id
@@ -41,25 +43,25 @@ abbrev pub cause : List Entry → Id → Option Id
 cause log o = first (flat_map (cause_in o) log)
 
 -- where a fault began in another object, that one's account follows
-abbrev pub cause_text : List Entry → List ℕ → Id → Option Id → List ℕ
-cause_text log lines o None = []
-cause_text log lines o (Some z) = if same_id z o then [] else codes "\n" ++ account log lines z
+abbrev pub cause_text : Contents → List Entry → List ℕ → Id → Option Id → List ℕ
+cause_text how log lines o None = []
+cause_text how log lines o (Some z) = if same_id z o then [] else codes "\n" ++ account how log lines z
 
 -- an object's account, and that of the object in which its fault began; `lines` are the lines of the event file from which the events came
-unfoldable pub why_text : List Entry → List ℕ → Id → List ℕ
-why_text log lines o = account log lines o ++ cause_text log lines o (cause log o)
+unfoldable pub why_text : Contents → List Entry → List ℕ → Id → List ℕ
+why_text how log lines o = account how log lines o ++ cause_text how log lines o (cause log o)
 
 abbrev pub lack_of : CodeLack → Lack
 lack_of x = record { object = x.object; fault = x.fault }
 
 -- the accounts of the object and of each one on the way to z, so many at most
-unfoldable pub causes_text : List Entry → List ℕ → Id → ℕ → Id → List ℕ
-causes_text log lines z zero o = []
-causes_text log lines z (suc n) o =
-    account log lines o ++ (if same_id o z then [] else codes "\n" ++ causes_text log lines z n (next_cause log z o))
+unfoldable pub causes_text : Contents → List Entry → List ℕ → Id → ℕ → Id → List ℕ
+causes_text how log lines z zero o = []
+causes_text how log lines z (suc n) o =
+    account how log lines o ++ (if same_id o z then [] else codes "\n" ++ causes_text how log lines z n (next_cause log z o))
 
 -- why main ended with a fault: the accounts of the object that it was to get, and of each one on the way to the first cause
-unfoldable pub main_lack_text : List Entry → List ℕ → Lack → List ℕ
-main_lack_text log lines x =
+unfoldable pub main_lack_text : Contents → List Entry → List ℕ → Lack → List ℕ
+main_lack_text how log lines x =
     codes "Main ended with a fault: "
-    ++ (fault_words x.fault ++ (codes ".\n\n" ++ causes_text log lines x.fault.object (length log) x.object))
+    ++ (fault_words x.fault ++ (codes ".\n\n" ++ causes_text how log lines x.fault.object (length log) x.object))

@@ -14,7 +14,7 @@ use crate::moments::Moment;
 use crate::runs::Subject;
 use ids::ObjectId;
 use log_entries::Entry;
-use log_words::{BirthIndex, is_refusal_at};
+use log_words::{BirthIndex, Contents, is_refusal_at};
 use std::alloc::{AllocError, Global};
 use task_spec::Birth;
 
@@ -36,6 +36,7 @@ fn write_unborn(
 fn write_sentences(
     alloc: Global,
     text: &mut String,
+    contents: Contents,
     subject: &Subject,
     index: &BirthIndex,
     log: &[Entry],
@@ -44,7 +45,7 @@ fn write_sentences(
     requires { IsIndexOf index.now log.now }
     ensures { OnOk result (string_bytes text.new
         ≡ string_bytes text.old
-        ++ sentences (seen_of subject.now) (births log.now) lines.now log.now 0 first_moment log.now) }
+        ++ sentences contents (seen_of subject.now) (births log.now) lines.now log.now 0 first_moment log.now) }
 {
     let mut moment = Moment::first();
     for (place, entry) in log.iter().enumerate() {
@@ -52,7 +53,7 @@ fn write_sentences(
         moment = moment.after(lines, entry);
         let before = &log[..place];
         write_sentence(
-            alloc, text, subject, index, log, before, lines, &moment, entry, is_refused,
+            alloc, text, contents, subject, index, log, before, lines, &moment, entry, is_refused,
         )?;
     }
     Ok(())
@@ -63,14 +64,15 @@ fn write_sentences(
 pub fn write_account(
     alloc: Global,
     text: &mut String,
+    contents: Contents,
     log: &[Entry],
     lines: &[usize],
     object: ObjectId,
 ) -> Result<(), AllocError>
-    ensures { OnOk result (string_bytes text.new ≡ string_bytes text.old ++ account log.now lines.now object) }
+    ensures { OnOk result (string_bytes text.new ≡ string_bytes text.old ++ account contents log.now lines.now object) }
 {
     let index = BirthIndex::of(alloc, log)?;
     let subject = Subject::of(alloc, log, object)?;
     write_unborn(text, object, index.birth(log, object))?;
-    write_sentences(alloc, text, &subject, &index, log, lines)
+    write_sentences(alloc, text, contents, &subject, &index, log, lines)
 }

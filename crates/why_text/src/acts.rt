@@ -6,21 +6,23 @@ ghost use Rattle.task_spec.specs.Births.{birth_of};
 ghost use Rattle.event_log.specs.Words.{births};
 ghost use Rattle.log_words.specs.Index.{IsIndexOf};
 ghost use Rattle.why_text.specs.Moments.{moment_of};
-ghost use Rattle.why_text.specs.Entries.{accepted_head, accepted_text, again_note, began_text, ended_text, faulted_head, faulted_text, get_note};
+ghost use Rattle.why_text.specs.Entries.{accepted_head, accepted_text, began_text, ended_text, faulted_head, faulted_text, get_note};
 ghost use Rattle.why_text.specs.Entries.{given_up_text, got_text, made_text, released_head, released_text};
 
+use crate::again::write_again;
 use crate::moments::{Moment, write_when};
 use crate::notes::{write_fault_note, write_kept_note, write_owner_of, write_release_note};
 use ids::{AttemptId, ObjectId, WorkerId};
 use log_entries::Entry;
 use log_text::write_named;
-use log_words::{BirthIndex, write_birth, write_content, write_fault};
+use log_words::{BirthIndex, Contents, write_birth, write_content, write_fault};
 use std::alloc::{AllocError, Global};
 use task_spec::Birth;
 use values::{Content, Fault};
 
 pub fn write_made(
     text: &mut String,
+    contents: Contents,
     index: &BirthIndex,
     log: &[Entry],
     moment: &Moment,
@@ -29,45 +31,40 @@ pub fn write_made(
     birth: &Birth,
 ) -> Result<(), AllocError>
     ensures { IsIndexOf index.now log.now → OnOk result (string_bytes text.new ≡ string_bytes text.old
-        ++ made_text (births log.now) (moment_of moment.now) object attempt (birth_of birth.now)) }
+        ++ made_text contents (births log.now) (moment_of moment.now) object attempt (birth_of birth.now)) }
 {
     write_named(text, index, log, attempt)?;
     write!(text, " made {object}")?;
     write_when(text, moment)?;
     text.push_str(": ")?;
-    write_birth(text, birth)?;
+    write_birth(text, contents, birth)?;
     text.push_str(".\n")
 }
 
-fn write_again(text: &mut String, attempt: AttemptId) -> Result<(), AllocError>
-    ensures { OnOk result (string_bytes text.new ≡ string_bytes text.old ++ again_note attempt.number) }
-{
-    if attempt.number == 0 {
-        return Ok(());
-    }
-    text.push_str(", since the one before it broke or its result was lost")
-}
-
 pub fn write_began(
+    alloc: Global,
     text: &mut String,
     index: &BirthIndex,
     log: &[Entry],
+    before: &[Entry],
+    lines: &[usize],
     moment: &Moment,
     attempt: AttemptId,
     worker: WorkerId,
 ) -> Result<(), AllocError>
     ensures { IsIndexOf index.now log.now → OnOk result (string_bytes text.new ≡ string_bytes text.old
-        ++ began_text (births log.now) (moment_of moment.now) attempt worker) }
+        ++ began_text (births log.now) lines.now before.now (moment_of moment.now) attempt worker) }
 {
     write_named(text, index, log, attempt)?;
     write!(text, " began on {worker}")?;
     write_when(text, moment)?;
-    write_again(text, attempt)?;
+    write_again(alloc, text, before, lines, attempt)?;
     text.push_str(".\n")
 }
 
 pub fn write_got(
     text: &mut String,
+    contents: Contents,
     index: &BirthIndex,
     log: &[Entry],
     moment: &Moment,
@@ -76,18 +73,19 @@ pub fn write_got(
     content: &Content,
 ) -> Result<(), AllocError>
     ensures { IsIndexOf index.now log.now → OnOk result (string_bytes text.new ≡ string_bytes text.old
-        ++ got_text (births log.now) (moment_of moment.now) attempt object (content_of content.now)) }
+        ++ got_text contents (births log.now) (moment_of moment.now) attempt object (content_of content.now)) }
 {
     write_named(text, index, log, attempt)?;
     write!(text, " got {object}")?;
     write_when(text, moment)?;
     text.push_str(": ")?;
-    write_content(text, content)?;
+    write_content(text, contents, content)?;
     text.push_str(".\n")
 }
 
 pub fn write_ended(
     text: &mut String,
+    contents: Contents,
     index: &BirthIndex,
     log: &[Entry],
     moment: &Moment,
@@ -95,13 +93,13 @@ pub fn write_ended(
     content: &Content,
 ) -> Result<(), AllocError>
     ensures { IsIndexOf index.now log.now → OnOk result (string_bytes text.new ≡ string_bytes text.old
-        ++ ended_text (births log.now) (moment_of moment.now) attempt (content_of content.now)) }
+        ++ ended_text contents (births log.now) (moment_of moment.now) attempt (content_of content.now)) }
 {
     write_named(text, index, log, attempt)?;
     text.push_str(" ended")?;
     write_when(text, moment)?;
     text.push_str(": ")?;
-    write_content(text, content)?;
+    write_content(text, contents, content)?;
     text.push_str(".\n")
 }
 

@@ -12,7 +12,7 @@ use crate::ways::next_cause;
 use history::main_end::is_main;
 use ids::ObjectId;
 use log_entries::Entry;
-use log_words::write_fault;
+use log_words::{Contents, write_fault};
 use std::alloc::{AllocError, Global};
 use values::Fault;
 
@@ -63,13 +63,14 @@ fn cause(log: &[Entry], object: ObjectId) -> Option<ObjectId>
 fn write_cause(
     alloc: Global,
     text: &mut String,
+    contents: Contents,
     log: &[Entry],
     lines: &[usize],
     object: ObjectId,
     cause: Option<ObjectId>,
 ) -> Result<(), AllocError>
     ensures { OnOk result (string_bytes text.new
-        ≡ string_bytes text.old ++ cause_text log.now lines.now object cause) }
+        ≡ string_bytes text.old ++ cause_text contents log.now lines.now object cause) }
 {
     let Some(cause) = cause else {
         return Ok(());
@@ -78,25 +79,34 @@ fn write_cause(
         return Ok(());
     }
     text.push_str("\n")?;
-    write_account(alloc, text, log, lines, cause)
+    write_account(alloc, text, contents, log, lines, cause)
 }
 
 #[tactic(auto, unfolding(crate::specs::Text::why_text))]
 fn write_why(
     alloc: Global,
     text: &mut String,
+    contents: Contents,
     log: &[Entry],
     lines: &[usize],
     object: ObjectId,
 ) -> Result<(), AllocError>
-    ensures { OnOk result (string_bytes text.new ≡ string_bytes text.old ++ why_text log.now lines.now object) }
+    ensures { OnOk result (string_bytes text.new ≡ string_bytes text.old ++ why_text contents log.now lines.now object) }
 {
-    write_account(alloc, text, log, lines, object)?;
-    write_cause(alloc, text, log, lines, object, cause(log, object))
+    write_account(alloc, text, contents, log, lines, object)?;
+    write_cause(
+        alloc,
+        text,
+        contents,
+        log,
+        lines,
+        object,
+        cause(log, object),
+    )
 }
 
 /// Why an object is as it is, in sentences, in the order of the log: what made it and what was made with it, the attempts of its task and
-/// what they got, the deaths that broke them, the losses of its copies, who got it, and how it was given up or released, each with its
+/// what they got, why later ones were begun, the deaths that broke them, the losses of its copies, who got it, and how it was given up or released, each with its
 /// event and the event's line. Of an accepted result that is small it says that the owner keeps it, and of a release that what had the object
 /// went with its owner, and when. Where it has a fault that began in another object, the same of that one follows, behind an empty line.
 /// `lines` are the lines of the event file from which the events came, in their order; an event behind the last has no line.
@@ -104,14 +114,15 @@ fn write_why(
 /// It is made of any log, a legal one or not. An object that was never born has one sentence, that there is none.
 pub fn why_text(
     alloc: Global,
+    contents: Contents,
     log: &[Entry],
     lines: &[usize],
     object: ObjectId,
 ) -> Result<String, AllocError>
-    ensures { IfOk result (λ text. string_bytes text ≡ why_text log.now lines.now object) }
+    ensures { IfOk result (λ text. string_bytes text ≡ why_text contents log.now lines.now object) }
 {
     let mut text = String::new(alloc);
-    write_why(alloc, &mut text, log, lines, object)?;
+    write_why(alloc, &mut text, contents, log, lines, object)?;
     Ok(text)
 }
 
@@ -159,6 +170,7 @@ pub fn main_lack(log: &[Entry]) -> Option<Lack>
 fn write_causes(
     alloc: Global,
     text: &mut String,
+    contents: Contents,
     log: &[Entry],
     lines: &[usize],
     cause: ObjectId,
@@ -166,12 +178,12 @@ fn write_causes(
     first: ObjectId,
 ) -> Result<(), AllocError>
     ensures { OnOk result
-        (string_bytes text.new ≡ string_bytes text.old ++ causes_text log.now lines.now cause most first) }
+        (string_bytes text.new ≡ string_bytes text.old ++ causes_text contents log.now lines.now cause most first) }
 {
     let mut object = first;
     let mut left = most;
     while left > 0 {
-        write_account(alloc, text, log, lines, object)?;
+        write_account(alloc, text, contents, log, lines, object)?;
         if object.is(cause) {
             return Ok(());
         }
@@ -187,30 +199,41 @@ fn write_causes(
 fn write_way(
     alloc: Global,
     text: &mut String,
+    contents: Contents,
     log: &[Entry],
     lines: &[usize],
     fault: Fault,
     object: ObjectId,
 ) -> Result<(), AllocError>
     ensures { OnOk result (string_bytes text.new
-        ≡ string_bytes text.old ++ causes_text log.now lines.now fault.object (length log.now) object) }
+        ≡ string_bytes text.old ++ causes_text contents log.now lines.now fault.object (length log.now) object) }
 {
-    write_causes(alloc, text, log, lines, fault.object, log.len(), object)
+    write_causes(
+        alloc,
+        text,
+        contents,
+        log,
+        lines,
+        fault.object,
+        log.len(),
+        object,
+    )
 }
 
 /// Writes why main ended with the fault: why the object that it was to get is as it is, and each one on the way from there to the first cause.
 pub fn write_main_lack(
     alloc: Global,
     text: &mut String,
+    contents: Contents,
     log: &[Entry],
     lines: &[usize],
     lack: Lack,
 ) -> Result<(), AllocError>
-    ensures { OnOk result (string_bytes text.new ≡ string_bytes text.old ++ main_lack_text log.now lines.now (lack_of lack)) }
+    ensures { OnOk result (string_bytes text.new ≡ string_bytes text.old ++ main_lack_text contents log.now lines.now (lack_of lack)) }
 {
     text.push_str("Main ended with a fault: ")?;
     write_fault(text, lack.fault)?;
     text.push_str(".\n\n")?;
-    write_way(alloc, text, log, lines, lack.fault, lack.object)?;
+    write_way(alloc, text, contents, log, lines, lack.fault, lack.object)?;
     Ok(())
 }

@@ -19,7 +19,7 @@ use crate::moments::Moment;
 use crate::runs::Subject;
 use ids::{AttemptId, ObjectId};
 use log_entries::{Entry, Event};
-use log_words::BirthIndex;
+use log_words::{BirthIndex, Contents};
 use std::alloc::{AllocError, Global};
 use story_text::is_in_birth;
 use task_spec::Birth;
@@ -28,6 +28,7 @@ use values::{Content, Fault};
 fn write_birth_sentence(
     alloc: Global,
     text: &mut String,
+    contents: Contents,
     subject: ObjectId,
     index: &BirthIndex,
     log: &[Entry],
@@ -36,20 +37,21 @@ fn write_birth_sentence(
     attempt: AttemptId,
     birth: &Birth,
 ) -> Result<(), AllocError>
-    ensures { IsIndexOf index.now log.now → OnOk result (string_bytes text.new ≡ string_bytes text.old ++ birth_sentence subject
+    ensures { IsIndexOf index.now log.now → OnOk result (string_bytes text.new ≡ string_bytes text.old ++ birth_sentence contents subject
         (births log.now) (moment_of moment.now) object attempt (birth_of birth.now)) }
 {
     if object.is(subject) {
-        return write_made(text, index, log, moment, object, attempt, birth);
+        return write_made(text, contents, index, log, moment, object, attempt, birth);
     }
     if is_in_birth(alloc, subject, birth)? {
-        return write_made(text, index, log, moment, object, attempt, birth);
+        return write_made(text, contents, index, log, moment, object, attempt, birth);
     }
     Ok(())
 }
 
 fn write_got_sentence(
     text: &mut String,
+    contents: Contents,
     subject: ObjectId,
     index: &BirthIndex,
     log: &[Entry],
@@ -58,14 +60,14 @@ fn write_got_sentence(
     object: ObjectId,
     content: &Content,
 ) -> Result<(), AllocError>
-    ensures { IsIndexOf index.now log.now → OnOk result (string_bytes text.new ≡ string_bytes text.old ++ got_sentence subject
+    ensures { IsIndexOf index.now log.now → OnOk result (string_bytes text.new ≡ string_bytes text.old ++ got_sentence contents subject
         (births log.now) (moment_of moment.now) attempt object (content_of content.now)) }
 {
     if attempt.object.is(subject) {
-        return write_got(text, index, log, moment, attempt, object, content);
+        return write_got(text, contents, index, log, moment, attempt, object, content);
     }
     if object.is(subject) {
-        return write_got(text, index, log, moment, attempt, object, content);
+        return write_got(text, contents, index, log, moment, attempt, object, content);
     }
     Ok(())
 }
@@ -103,6 +105,7 @@ fn write_faulted_sentence(
 fn write_entry_sentence(
     alloc: Global,
     text: &mut String,
+    contents: Contents,
     subject: ObjectId,
     index: &BirthIndex,
     log: &[Entry],
@@ -111,7 +114,7 @@ fn write_entry_sentence(
     moment: &Moment,
     entry: &Entry,
 ) -> Result<(), AllocError>
-    ensures { IsIndexOf index.now log.now → OnOk result (string_bytes text.new ≡ string_bytes text.old ++ entry_sentence
+    ensures { IsIndexOf index.now log.now → OnOk result (string_bytes text.new ≡ string_bytes text.old ++ entry_sentence contents
         subject (births log.now) lines.now before.now (moment_of moment.now) entry.now) }
 {
     match entry {
@@ -122,6 +125,7 @@ fn write_entry_sentence(
         } => write_birth_sentence(
             alloc,
             text,
+            contents,
             subject,
             index,
             log,
@@ -132,7 +136,9 @@ fn write_entry_sentence(
         ),
         Entry::Begun { attempt, worker } => {
             if attempt.object.is(subject) {
-                return write_began(text, index, log, moment, *attempt, *worker);
+                return write_began(
+                    alloc, text, index, log, before, lines, moment, *attempt, *worker,
+                );
             }
             Ok(())
         }
@@ -142,6 +148,7 @@ fn write_entry_sentence(
             content,
         } => write_got_sentence(
             text,
+            contents,
             subject,
             index,
             log,
@@ -152,7 +159,7 @@ fn write_entry_sentence(
         ),
         Entry::Ended { attempt, content } => {
             if attempt.object.is(subject) {
-                return write_ended(text, index, log, moment, *attempt, &content.inner);
+                return write_ended(text, contents, index, log, moment, *attempt, &content.inner);
             }
             Ok(())
         }
@@ -207,6 +214,7 @@ fn write_event_unless(
 pub fn write_sentence(
     alloc: Global,
     text: &mut String,
+    contents: Contents,
     subject: &Subject,
     index: &BirthIndex,
     log: &[Entry],
@@ -216,7 +224,7 @@ pub fn write_sentence(
     entry: &Entry,
     is_refused: bool,
 ) -> Result<(), AllocError>
-    ensures { IsIndexOf index.now log.now → OnOk result (string_bytes text.new ≡ string_bytes text.old ++ sentence
+    ensures { IsIndexOf index.now log.now → OnOk result (string_bytes text.new ≡ string_bytes text.old ++ sentence contents
         (seen_of subject.now) (births log.now) lines.now before.now (moment_of moment.now) entry.now is_refused) }
 {
     if let Entry::In { event, .. } = entry {
@@ -224,6 +232,6 @@ pub fn write_sentence(
     }
     let object = subject.object;
     write_entry_sentence(
-        alloc, text, object, index, log, before, lines, moment, entry,
+        alloc, text, contents, object, index, log, before, lines, moment, entry,
     )
 }

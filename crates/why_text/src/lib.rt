@@ -3,6 +3,7 @@
 
 mod account;
 mod acts;
+mod again;
 mod causes;
 mod entries;
 mod events;
@@ -12,6 +13,7 @@ mod notes;
 mod runs;
 mod ways;
 
+pub use again::{runner_of, write_again};
 pub use causes::{Lack, main_lack, why_text, write_main_lack};
 pub use holders::death_of;
 pub use moments::{Moment, write_when};

@@ -4,7 +4,8 @@ use crate::case::{Case, Outcome};
 use crate::threaded::{ran_on_threads, threads_asked};
 use ids::ObjectId;
 use raysim_commands::{
-    Cluster, CommandRefusal, FaultChoice, Form, Tracked, check, faults, migrate, run, serial, sim,
+    Cluster, CommandRefusal, Contents, Engine, FaultChoice, Form, Tracked, check, export, faults,
+    migrate, run, serial, sim, state,
 };
 use script_syntax::{parse, print_program};
 use std::alloc::{AllocError, Global};
@@ -37,6 +38,28 @@ fn migrated(
     let mut events = Tracked::reader(case.events.as_bytes());
     let mut writer = Tracked::writer(written);
     Some(migrate(alloc, &mut reader, &mut events, cluster, &mut writer))
+}
+
+/// Tells what is alive behind the event of that number.
+fn told_state(
+    alloc: Global,
+    case: &Case,
+    at: usize,
+    written: &mut Vec<u8>,
+) -> Option<Result<u8, CommandRefusal>> {
+    let cluster = Cluster::new(case.nodes, case.slots)?;
+    let mut reader = Tracked::reader(case.script.as_bytes());
+    let mut events = Tracked::reader(case.events.as_bytes());
+    let mut writer = Tracked::writer(written);
+    Some(state(alloc, &mut reader, &mut events, cluster, at, &mut writer))
+}
+
+/// Behind which event a command tells the state, if it does.
+fn event_asked(command: &str) -> Option<usize> {
+    match command.strip_prefix("state --at ")?.parse::<usize>() {
+        Ok(at) => Some(at),
+        Err(_) => None,
+    }
 }
 
 /// The faults that are tried where a case names none.
@@ -119,6 +142,30 @@ fn ran(
     Some(run(alloc, &mut reader, cluster, form, &mut writer))
 }
 
+/// What stands before the name of a command where a case wants the script's own part of an exported program.
+const SCRIPT_OF: &str = "script of ";
+
+/// The engine that a command names, if it exports a script.
+fn engine_of(command: &str) -> Option<Engine> {
+    match command {
+        "export --to dask" => Some(Engine::Dask),
+        "export --to ray" => Some(Engine::Ray),
+        _ => None,
+    }
+}
+
+/// Writes a script as a program for an engine.
+fn exported(
+    alloc: Global,
+    engine: Engine,
+    script: &[u8],
+    written: &mut Vec<u8>,
+) -> Result<u8, CommandRefusal> {
+    let mut reader = Tracked::reader(script);
+    let mut writer = Tracked::writer(written);
+    export(alloc, &mut reader, engine, &mut writer)
+}
+
 /// Does what a command over a script alone says.
 fn done_with_script(
     alloc: Global,
@@ -126,6 +173,9 @@ fn done_with_script(
     script: &[u8],
     written: &mut Vec<u8>,
 ) -> Option<Result<u8, CommandRefusal>> {
+    if let Some(engine) = engine_of(command.strip_prefix(SCRIPT_OF).unwrap_or(command)) {
+        return Some(exported(alloc, engine, script, written));
+    }
     let mut reader = Tracked::reader(script);
     let mut writer = Tracked::writer(written);
     if command == "check" {
@@ -137,21 +187,41 @@ fn done_with_script(
     None
 }
 
-/// What a command over a script and a list of events writes.
-fn form_of(command: &str) -> Option<Form> {
+/// What a command over a script and a list of events writes, if that has no lists that may be cut.
+fn report_form(command: &str) -> Option<Form> {
     match command {
         "sim" => Some(Form::Text),
         "sim --json" => Some(Form::Json),
         "sim --books" => Some(Form::TextWithBooks),
-        "sim --timeline" => Some(Form::Timeline),
-        "sim --lineage" => Some(Form::Lineage),
-        "log" => Some(Form::Log),
-        "log --messages" => Some(Form::LogWithMessages),
-        "why" => Some(Form::WhyMain),
+        "sim --summary" => Some(Form::TextWithSummary),
+        "state" => Some(Form::State),
+        _ => None,
+    }
+}
+
+/// What a command over a script and a list of events tells, with long lists so.
+fn told_form(command: &str, contents: Contents) -> Option<Form> {
+    match command {
+        "sim --timeline" => Some(Form::Timeline(contents)),
+        "sim --lineage" => Some(Form::Lineage(contents)),
+        "log" => Some(Form::Log(contents)),
+        "log --messages" => Some(Form::LogWithMessages(contents)),
+        "why" => Some(Form::WhyMain(contents)),
         _ => {
             let object = ObjectId::read(command.strip_prefix("why ")?.as_bytes())?;
-            Some(Form::Why(object))
+            Some(Form::Why(contents, object))
         }
+    }
+}
+
+/// What a command over a script and a list of events writes; behind ` --full` lists are whole.
+fn form_of(command: &str) -> Option<Form> {
+    if let Some(form) = report_form(command) {
+        return Some(form);
+    }
+    match command.strip_suffix(" --full") {
+        Some(command) => told_form(command, Contents::Whole),
+        None => told_form(command, Contents::Cut),
     }
 }
 
@@ -160,10 +230,13 @@ fn form_of_run(command: &str) -> Option<Form> {
     match command {
         "run" => Some(Form::Text),
         "run --json" => Some(Form::Json),
-        "run --timeline" => Some(Form::Timeline),
-        "run --lineage" => Some(Form::Lineage),
-        "log of a run" => Some(Form::Log),
-        "log --messages of a run" => Some(Form::LogWithMessages),
+        "run --summary" => Some(Form::TextWithSummary),
+        "run --timeline" => Some(Form::Timeline(Contents::Cut)),
+        "run --lineage" => Some(Form::Lineage(Contents::Cut)),
+        "run --lineage --full" => Some(Form::Lineage(Contents::Whole)),
+        "log of a run" => Some(Form::Log(Contents::Cut)),
+        "log --messages of a run" => Some(Form::LogWithMessages(Contents::Cut)),
+        "log --full of a run" => Some(Form::Log(Contents::Whole)),
         _ => None,
     }
 }
@@ -185,6 +258,9 @@ fn done<R: Threads + Wait + Clock + AllocGlobal + Sync>(
     if command == "migrate" {
         return migrated(alloc, case, written);
     }
+    if let Some(at) = event_asked(command) {
+        return told_state(alloc, case, at, written);
+    }
     if let Some(choice) = faults_asked(command) {
         return tried(alloc, case, choice, written);
     }
@@ -192,6 +268,17 @@ fn done<R: Threads + Wait + Clock + AllocGlobal + Sync>(
         return ran_on_threads(rt, case, asked, written);
     }
     done_with_script(alloc, command, case.script.as_bytes(), written)
+}
+
+/// What a case compares of what was written: the script's own part of an exported program, where the command says so.
+fn wanted<'a>(command: &str, text: &'a str) -> &'a str {
+    if !command.starts_with(SCRIPT_OF) {
+        return text;
+    }
+    match text.split_once("# The script.\n") {
+        Some((_, part)) => part,
+        None => text,
+    }
 }
 
 /// What a command of the program comes to: a refusal is one line, with status 1.
@@ -206,7 +293,9 @@ fn outcome_of_command<R: Threads + Wait + Clock + AllocGlobal + Sync>(
     };
     let mut outcome = Outcome::new(alloc);
     match str::from_utf8(bytes.as_slice()) {
-        Ok(text) => outcome.written.push_str(text)?,
+        Ok(text) => outcome
+            .written
+            .push_str(wanted(case.command.as_str(), text))?,
         Err(_) => outcome.written.push_str("no text")?,
     }
     match answer {

@@ -6,6 +6,6 @@ use Rattle.log_text.proofs.text.log_text.Given as goal
 
 abbrev pub invariant-loop-place : goal.invariant-loop-place
 invariant-loop-place l = record {
-  written : string_bytes l.text ++ lines (births l.log) (told_of l.told) (drop l.place l.log) ≡ log_text l.log;
+  written : string_bytes l.text ++ lines l.contents (births l.log) (told_of l.told) (drop l.place l.log) ≡ log_text l.contents l.log;
   counted : l.told.events ≤ l.place;
 }

@@ -7,4 +7,4 @@ use Rattle.main_text.proofs.links.write_links.Given as goal
 abbrev pub invariant-loop-link : goal.invariant-loop-link
 invariant-loop-link l =
     IsIndexOf l.index l.log →
-    string_bytes l.text ≡ string_bytes l.fn.text ++ flat_map (link_text l.log l.lines l.whole) (take l.link-index l.links)
+    string_bytes l.text ≡ string_bytes l.fn.text ++ flat_map (link_text l.contents l.log l.lines l.whole) (take l.link-index l.links)

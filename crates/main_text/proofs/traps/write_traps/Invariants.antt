@@ -4,8 +4,8 @@ use Rattle.main_text.proofs.traps.write_traps.Given as goal
 
 abbrev pub invariant-loop-left : goal.invariant-loop-left
 invariant-loop-left l =
-    string_bytes l.text ++ traps_text l.whole.jobs l.log l.lines l.left l.attempt
-    ≡ string_bytes l.fn.text ++ traps_text l.whole.jobs l.log l.lines l.most l.fn.first
+    string_bytes l.text ++ traps_text l.contents l.whole.jobs l.log l.lines l.left l.attempt
+    ≡ string_bytes l.fn.text ++ traps_text l.contents l.whole.jobs l.log l.lines l.most l.fn.first
 
 abbrev pub decreases-loop-left : goal.decreases-loop-left
 decreases-loop-left l = l.left

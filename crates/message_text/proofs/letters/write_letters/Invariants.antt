@@ -4,4 +4,4 @@ use Rattle.message_text.proofs.letters.write_letters.Given as goal
 
 abbrev pub invariant-loop-place : goal.invariant-loop-place
 invariant-loop-place l =
-    string_bytes l.text ++ letters_text (l.before + l.place) (drop l.place l.letters) ≡ string_bytes l.fn.text ++ letters_text l.before l.letters
+    string_bytes l.text ++ letters_text l.contents (l.before + l.place) (drop l.place l.letters) ≡ string_bytes l.fn.text ++ letters_text l.contents l.before l.letters

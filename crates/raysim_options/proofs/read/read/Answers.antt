@@ -22,4 +22,4 @@ unreachable-requires c =
     let others = c.in_default in
     let name = c.args.name.now in
     none_named raysim_app.subs name (rows_of (found_of c.args.matches.now))
-    (others.not-check, (others.not-serial, (others.not-sim, (others.not-run, (others.not-log, (others.not-why, (others.not-faults, (others.not-migrate, (others.not-explain, tt))))))))) c.requires
+    (others.not-check, (others.not-serial, (others.not-sim, (others.not-run, (others.not-log, (others.not-why, (others.not-faults, (others.not-migrate, (others.not-explain, (others.not-export, (others.not-state, tt))))))))))) c.requires

@@ -7,7 +7,7 @@ use Rattle.story_text.proofs.text.story_text.Given as goal
 
 abbrev pub invariant-loop-place : goal.invariant-loop-place
 invariant-loop-place l = record {
-  written : string_bytes l.text ++ lines_about (seen_of l.subject) (births l.log) (told_of l.told) (drop l.place l.log)
-      ≡ lines_about (seen_of l.subject) (births l.log) nothing_told l.log;
+  written : string_bytes l.text ++ lines_about l.contents (seen_of l.subject) (births l.log) (told_of l.told) (drop l.place l.log)
+      ≡ lines_about l.contents (seen_of l.subject) (births l.log) nothing_told l.log;
   counted : l.told.events ≤ l.place;
 }

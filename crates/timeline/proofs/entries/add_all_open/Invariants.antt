@@ -8,4 +8,4 @@ use Rattle.timeline.proofs.entries.add_all_open.Given as goal
 
 abbrev pub invariant-loop-row : goal.invariant-loop-row
 invariant-loop-row l =
-    IsIndexOf l.index l.log → map view l.all.items ≡ map view l.fn.all.items ++ flat_map (open_data (births l.log) l.clock) (take l.row-index l.rows)
+    IsIndexOf l.index l.log → map view l.all.items ≡ map view l.fn.all.items ++ flat_map (open_data l.contents (births l.log) l.clock) (take l.row-index l.rows)

@@ -9,4 +9,4 @@ use Rattle.timeline.proofs.entries.add_rows.Given as goal
 abbrev pub invariant-loop-row : goal.invariant-loop-row
 invariant-loop-row l =
     IsIndexOf l.index l.log →
-    map view l.all.items ≡ map view l.fn.all.items ++ flat_map (row_data (births l.log) l.clock l.entry l.is_refused) (take l.row-index l.rows)
+    map view l.all.items ≡ map view l.fn.all.items ++ flat_map (row_data l.contents (births l.log) l.clock l.entry l.is_refused) (take l.row-index l.rows)

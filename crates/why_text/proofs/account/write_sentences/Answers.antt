@@ -8,7 +8,7 @@ use Rattle.why_text.proofs.account.write_sentences.Goals as goal
 pub loop-place-preserved : goal.loop-place-preserved
 loop-place-preserved c = record {
   written =
-      next_sentence (seen_of c.args.subject.now) (births c.args.log.now) c.args.lines.now c.args.log.now c.loop-place.place
+      next_sentence c.args.contents (seen_of c.args.subject.now) (births c.args.log.now) c.args.lines.now c.args.log.now c.loop-place.place
       (moment_of c.loop-place.moment) (moment_of c.after-moment.result) c.index-log-place.result c.is_refusal_at-is_refused.result
       (string_bytes c.loop-place.text) (string_bytes c.write_sentence.new.text) _
       c.loop-place-test.true c.index-log-place.is c.after-moment.ensures.moment c.is_refusal_at-is_refused.ensures

@@ -9,7 +9,7 @@ abbrev pub invariant-loop-place : goal.invariant-loop-place
 invariant-loop-place l = record {
   written :
       string_bytes l.text
-      ++ sentences (seen_of l.subject) (births l.log) l.lines l.log l.place (moment_of l.moment) (drop l.place l.log)
-      ≡ string_bytes l.fn.text ++ sentences (seen_of l.subject) (births l.log) l.lines l.log 0 first_moment l.log;
+      ++ sentences l.contents (seen_of l.subject) (births l.log) l.lines l.log l.place (moment_of l.moment) (drop l.place l.log)
+      ≡ string_bytes l.fn.text ++ sentences l.contents (seen_of l.subject) (births l.log) l.lines l.log 0 first_moment l.log;
   counted : l.moment.number ≤ l.place;
 }

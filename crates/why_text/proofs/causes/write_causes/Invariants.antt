@@ -4,8 +4,8 @@ use Rattle.why_text.proofs.causes.write_causes.Given as goal
 
 abbrev pub invariant-loop-left : goal.invariant-loop-left
 invariant-loop-left l =
-    string_bytes l.text ++ causes_text l.log l.lines l.cause l.left l.object
-    ≡ string_bytes l.fn.text ++ causes_text l.log l.lines l.cause l.most l.fn.first
+    string_bytes l.text ++ causes_text l.contents l.log l.lines l.cause l.left l.object
+    ≡ string_bytes l.fn.text ++ causes_text l.contents l.log l.lines l.cause l.most l.fn.first
 
 abbrev pub decreases-loop-left : goal.decreases-loop-left
 decreases-loop-left l = l.left

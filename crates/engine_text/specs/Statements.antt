@@ -1,0 +1,49 @@
+-- How statements are written in Python: on lines of their own, each behind a margin.
+use Rattle.std.specs.Prelude.{ℕ, List, [], ◌++◌, codes}
+use Rattle.meaning.specs.Values.{Name}
+use Rattle.meaning.specs.Syntax.{Expr, Stmt, Let, Set, Print, Return, If, For, Block, done, step}
+use Rattle.engine_text.specs.Expressions.{variable_name, expression_text}
+
+abbrev pub deeper : List ℕ → List ℕ
+deeper margin = margin ++ codes "    "
+
+-- v_x = 1
+abbrev pub assignment_text : List ℕ → Name → Expr → List ℕ
+assignment_text margin x e = margin ++ (variable_name x ++ (codes " = " ++ (expression_text e ++ codes "\n")))
+
+-- return 1, and the like
+abbrev pub word_text : List ℕ → List ℕ → Expr → List ℕ → List ℕ
+word_text margin word e end = margin ++ (word ++ (expression_text e ++ end))
+
+abbrev pub loop_name : Name → List ℕ
+loop_name x = codes "for " ++ (variable_name x ++ codes " in turns(")
+
+abbrev pub bounds_text : Expr → Expr → List ℕ
+bounds_text from to = expression_text from ++ (codes ", " ++ (expression_text to ++ codes "):\n"))
+
+-- for v_x in turns(0, 1):
+abbrev pub loop_head : List ℕ → Name → Expr → Expr → List ℕ
+loop_head margin x from to = margin ++ (loop_name x ++ bounds_text from to)
+
+abbrev mutual
+  pub statement_text : List ℕ → Stmt → List ℕ
+  statement_text margin (Let x e) = assignment_text margin x e
+  statement_text margin (Set x e) = assignment_text margin x e
+  statement_text margin (Print e) = word_text margin (codes "show(") e (codes ")\n")
+  statement_text margin (Return e) = word_text margin (codes "return ") e (codes "\n")
+  statement_text margin (If e a b) = word_text margin (codes "if ") e (codes ":\n") ++ (block_text margin a ++ else_text margin b)
+  statement_text margin (For x from to body) = loop_head margin x from to ++ block_text margin body
+
+  pub lines_text : List ℕ → Block → List ℕ
+  lines_text margin done = []
+  lines_text margin (step s rest) = statement_text margin s ++ lines_text margin rest
+
+  -- the block in a statement that has a margin
+  pub block_text : List ℕ → Block → List ℕ
+  block_text margin done = deeper margin ++ codes "pass\n"
+  block_text margin (step s rest) = statement_text (deeper margin) s ++ lines_text (deeper margin) rest
+
+  -- nothing where nothing is done
+  pub else_text : List ℕ → Block → List ℕ
+  else_text margin done = []
+  else_text margin (step s rest) = margin ++ (codes "else:\n" ++ (statement_text (deeper margin) s ++ lines_text (deeper margin) rest))

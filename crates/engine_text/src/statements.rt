@@ -1,0 +1,162 @@
+// Statements, each on lines of its own behind a margin.
+
+ghost use Rattle.std.specs.Prelude.{◌≡◌, ◌++◌, IfOk, OnOk, string_bytes};
+ghost use Rattle.script_check.specs.Trees.{expr_of, statement_of, statements_of};
+ghost use Rattle.engine_text.specs.Statements.{assignment_text, block_text, bounds_text, deeper, else_text, lines_text, loop_head, loop_name, statement_text, word_text};
+
+use crate::calls::write_variable_name;
+use crate::expressions::write_expression;
+use script_check::{CheckedExpr, CheckedStatement};
+use std::alloc::{AllocError, Global};
+
+/// The margin of a block that stands in a statement with this one.
+fn deeper(alloc: Global, margin: &str) -> Result<String, AllocError>
+    ensures { IfOk result (λ m. string_bytes m ≡ deeper margin.now) }
+{
+    let mut deep = String::new(alloc);
+    deep.push_str(margin)?;
+    deep.push_str("    ")?;
+    Ok(deep)
+}
+
+fn write_assignment(
+    text: &mut String,
+    margin: &str,
+    name: &str,
+    expr: &CheckedExpr,
+) -> Result<(), AllocError>
+    ensures { OnOk result (string_bytes text.new ≡ string_bytes text.old ++ assignment_text margin.now name.now (expr_of expr.now)) }
+{
+    text.push_str(margin)?;
+    write_variable_name(text, name)?;
+    text.push_str(" = ")?;
+    write_expression(text, expr)?;
+    text.push_str("\n")
+}
+
+/// A line of a word, an expression and an end.
+fn write_word(
+    text: &mut String,
+    margin: &str,
+    word: &str,
+    expr: &CheckedExpr,
+    end: &str,
+) -> Result<(), AllocError>
+    ensures { OnOk result (string_bytes text.new ≡ string_bytes text.old ++ word_text margin.now word.now (expr_of expr.now) end.now) }
+{
+    text.push_str(margin)?;
+    text.push_str(word)?;
+    write_expression(text, expr)?;
+    text.push_str(end)
+}
+
+fn write_loop_name(text: &mut String, name: &str) -> Result<(), AllocError>
+    ensures { OnOk result (string_bytes text.new ≡ string_bytes text.old ++ loop_name name.now) }
+{
+    text.push_str("for ")?;
+    write_variable_name(text, name)?;
+    text.push_str(" in turns(")
+}
+
+fn write_bounds(text: &mut String, from: &CheckedExpr, to: &CheckedExpr) -> Result<(), AllocError>
+    ensures { OnOk result (string_bytes text.new ≡ string_bytes text.old ++ bounds_text (expr_of from.now) (expr_of to.now)) }
+{
+    write_expression(text, from)?;
+    text.push_str(", ")?;
+    write_expression(text, to)?;
+    text.push_str("):\n")
+}
+
+fn write_loop_head(
+    text: &mut String,
+    margin: &str,
+    name: &str,
+    from: &CheckedExpr,
+    to: &CheckedExpr,
+) -> Result<(), AllocError>
+    ensures { OnOk result
+        (string_bytes text.new ≡ string_bytes text.old ++ loop_head margin.now name.now (expr_of from.now) (expr_of to.now)) }
+{
+    text.push_str(margin)?;
+    write_loop_name(text, name)?;
+    write_bounds(text, from, to)
+}
+
+/// Writes a statement.
+#[cycle(statements)]
+fn write_statement(
+    alloc: Global,
+    text: &mut String,
+    margin: &str,
+    statement: &CheckedStatement,
+) -> Result<(), AllocError>
+    ensures { OnOk result (string_bytes text.new ≡ string_bytes text.old ++ statement_text margin.now (statement_of statement.now)) }
+{
+    match statement {
+        CheckedStatement::Let(name, expr) => write_assignment(text, margin, name.as_str(), expr),
+        CheckedStatement::Set(name, expr) => write_assignment(text, margin, name.as_str(), expr),
+        CheckedStatement::Print(expr) => write_word(text, margin, "show(", expr, ")\n"),
+        CheckedStatement::Return(expr) => write_word(text, margin, "return ", expr, "\n"),
+        CheckedStatement::If(condition, first, second) => {
+            write_word(text, margin, "if ", condition, ":\n")?;
+            write_block(alloc, text, margin, &first.statements)?;
+            write_else(alloc, text, margin, &second.statements)
+        }
+        CheckedStatement::For(name, from, to, body) => {
+            write_loop_head(text, margin, name.as_str(), from, to)?;
+            write_block(alloc, text, margin, &body.statements)
+        }
+    }
+}
+
+/// Statements one after another.
+#[cycle(statements)]
+fn write_lines(
+    alloc: Global,
+    text: &mut String,
+    margin: &str,
+    statements: &[CheckedStatement],
+) -> Result<(), AllocError>
+    ensures { OnOk result (string_bytes text.new ≡ string_bytes text.old ++ lines_text margin.now (statements_of statements.now)) }
+{
+    for statement in statements {
+        write_statement(alloc, text, margin, statement)?;
+    }
+    Ok(())
+}
+
+/// Writes the block that stands in a statement with this margin. Python wants a line where there is no statement.
+#[cycle(statements)]
+pub(crate) fn write_block(
+    alloc: Global,
+    text: &mut String,
+    margin: &str,
+    statements: &[CheckedStatement],
+) -> Result<(), AllocError>
+    ensures { OnOk result (string_bytes text.new ≡ string_bytes text.old ++ block_text margin.now (statements_of statements.now)) }
+{
+    let margin = deeper(alloc, margin)?;
+    if statements.is_empty() {
+        text.push_str(margin.as_str())?;
+        return text.push_str("pass\n");
+    }
+    write_lines(alloc, text, margin.as_str(), statements)
+}
+
+/// What is done where a condition is 0, if anything is.
+#[cycle(statements)]
+fn write_else(
+    alloc: Global,
+    text: &mut String,
+    margin: &str,
+    statements: &[CheckedStatement],
+) -> Result<(), AllocError>
+    ensures { OnOk result (string_bytes text.new ≡ string_bytes text.old ++ else_text margin.now (statements_of statements.now)) }
+{
+    if statements.is_empty() {
+        return Ok(());
+    }
+    text.push_str(margin)?;
+    text.push_str("else:\n")?;
+    write_block(alloc, text, margin, statements)
+}

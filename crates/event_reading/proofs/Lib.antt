@@ -1,0 +1,4 @@
+pub mod Bytes
+pub mod Going
+pub mod Saying
+pub mod Reading

@@ -1,0 +1,25 @@
+use Rattle.std.proofs.Common.{subst}
+use Rattle.event_files.specs.Recorded.{IsRecorded, recorded_in, recorded_text}
+use Rattle.event_files.proofs.Histories.{reads_recorded}
+use Rattle.event_reading.specs.Known.{IfKnown, left_of}
+use Rattle.event_reading.specs.Rows.{IsNextRow}
+use Rattle.event_reading.proofs.Saying.{recorded_short, long_bad, said_next, unended_bad}
+use Rattle.event_reading.proofs.next_line.next_recorded.Goals as goal
+
+pub returns-in-Whole-clause-next : goal.returns-in-Whole-clause-next
+returns-in-Whole-clause-next g c =
+    let row = subst (λ w. IfKnown (left_of c.args.ahead.now.items (g.R.Source.left c.args.reader.now))
+    (left_of c.next_row.new.ahead.items (g.R.Source.left c.next_row.new.reader)) (IsNextRow 70 w)) c.in-Whole.is c.in_ok-next_row.ensures.row in
+    said_next IsRecorded recorded_text recorded_in reads_recorded _ _ c.in-Whole.line.items c.as_slice.result.now c.said_recorded.result c.as_slice.ensures.value row c.said_recorded.ensures
+
+pub returns-in-Unended-clause-next : goal.returns-in-Unended-clause-next
+returns-in-Unended-clause-next g c =
+    let row = subst (λ w. IfKnown (left_of c.args.ahead.now.items (g.R.Source.left c.args.reader.now))
+    (left_of c.next_row.new.ahead.items (g.R.Source.left c.next_row.new.reader)) (IsNextRow 70 w)) c.in-Unended.is c.in_ok-next_row.ensures.row in
+    unended_bad IsRecorded recorded_text _ _ row
+
+pub returns-in-Long-clause-next : goal.returns-in-Long-clause-next
+returns-in-Long-clause-next g c =
+    let row = subst (λ w. IfKnown (left_of c.args.ahead.now.items (g.R.Source.left c.args.reader.now))
+    (left_of c.next_row.new.ahead.items (g.R.Source.left c.next_row.new.reader)) (IsNextRow 70 w)) c.in-Long.is c.in_ok-next_row.ensures.row in
+    long_bad IsRecorded recorded_text _ _ _ recorded_short row

@@ -1,0 +1,81 @@
+-- What is read of files, and why one is refused.
+use Rattle.std.specs.Prelude.{◌≡◌, ℕ, Bool, true, List, Option, drop, IfSome}
+use Rattle.event_files.specs.Files.{IsBadAt, IsFile}
+use Rattle.event_files.specs.Lines.{IsLine, line_text}
+use Rattle.event_files.specs.Numbering.{line_numbers, numbers_from}
+use Rattle.event_files.specs.Recorded.{IsEventFile, IsFileRefusal, IsRecordedRefusal}
+use Rattle.event_files.specs.declared.error.EventError.TheVariants as errors
+use Rattle.event_files.specs.declared.event_file.EventFile.{EventFile}
+use Rattle.event_files.specs.declared.event_file.EventFile.TheVariants as files
+use Rattle.event_files.specs.declared.line.Line.{Line}
+use Rattle.raysim_streams.specs.declared.CommandRefusal.{CommandRefusal}
+use Rattle.raysim_streams.specs.declared.CommandRefusal.TheVariants.{At, NoMemory, Stopped, BadLine, WrongJob, Failed}
+use Rattle.raysim_streams.specs.declared.Failure.TheVariants.{Read, Write, Closed}
+use Rattle.event_reading.specs.declared.kept.Kept.{Kept}
+use Rattle.event_reading.specs.declared.events.KeptEvents.{KeptEvents}
+use Rattle.event_reading.specs.Kept.{IsKeptOf, IsKeptSo}
+
+-- the bytes are lines that say these things, of which this is kept; the first line has that number
+pub record AreKept {A : Type 0} (is : A → Type 0) (text : A → List ℕ) (first : ℕ) (bytes : List ℕ) (k : Kept A) : Type 0 where
+  pub all : List A
+  pub numbers : List ℕ
+  pub is_file : IsFile is text bytes all
+  pub numbered : numbers ≡ numbers_from first true bytes
+  pub are_kept : IsKeptOf all numbers k
+
+-- the bytes are a file of format 1, of which this is kept
+abbrev pub AreLinesKept : List ℕ → Kept Line → Type 0
+AreLinesKept bytes k = AreKept IsLine line_text 1 bytes k
+
+-- why lines are refused: the first that is none of the format, or a read failed
+abbrev pub ExplainsRows : {A : Type 0} → (A → Type 0) → (A → List ℕ) → Option (List ℕ) → Bool → CommandRefusal → Type 0
+ExplainsRows is text bytes failed (BadLine n) = IfSome bytes (λ b. IsBadAt is text b n)
+ExplainsRows is text bytes failed NoMemory = Unit {0}
+ExplainsRows is text bytes failed (Failed Read) = failed ≡ true
+ExplainsRows is text bytes failed (Failed Write) = ⊥
+ExplainsRows is text bytes failed (Failed Closed) = ⊥
+ExplainsRows is text bytes failed (At code span) = ⊥
+ExplainsRows is text bytes failed (Stopped code) = ⊥
+ExplainsRows is text bytes failed (WrongJob n) = ⊥
+
+-- why what stands behind the first line of format 2 is refused; its lines are counted from 2
+abbrev pub ExplainsBehind : Option (List ℕ) → Bool → CommandRefusal → Type 0
+ExplainsBehind bytes failed (BadLine n) = IfSome bytes (λ b. IsRecordedRefusal b (errors.BadLine n))
+ExplainsBehind bytes failed NoMemory = Unit {0}
+ExplainsBehind bytes failed (Failed Read) = failed ≡ true
+ExplainsBehind bytes failed (Failed Write) = ⊥
+ExplainsBehind bytes failed (Failed Closed) = ⊥
+ExplainsBehind bytes failed (At code span) = ⊥
+ExplainsBehind bytes failed (Stopped code) = ⊥
+ExplainsBehind bytes failed (WrongJob n) = ⊥
+
+-- the numbers of a file's lines that say something; the first line of format 2 tells the format alone
+abbrev pub said_numbers : EventFile → List ℕ → List ℕ
+said_numbers (files.Lines lines) bytes = line_numbers bytes
+said_numbers (files.Recorded events) bytes = drop 1 (line_numbers bytes)
+
+-- of what the lines of these numbers say this is kept, of the same format
+abbrev pub IsKeptFile : EventFile → List ℕ → EventFile → List ℕ → Bool → ℕ → Type 0
+IsKeptFile (files.Lines all) numbers (files.Lines says) kept is_whole events = IsKeptSo is_whole all numbers says kept events
+IsKeptFile (files.Recorded all) numbers (files.Recorded says) kept is_whole events = IsKeptSo is_whole all numbers says kept events
+IsKeptFile (files.Lines all) numbers (files.Recorded says) kept is_whole events = ⊥
+IsKeptFile (files.Recorded all) numbers (files.Lines says) kept is_whole events = ⊥
+
+-- the bytes are an event file that says this in lines of these numbers, of which that is kept
+pub record AreEventsKept (bytes : List ℕ) (k : KeptEvents) : Type 0 where
+  pub all : EventFile
+  pub numbers : List ℕ
+  pub is_file : IsEventFile bytes all
+  pub numbered : numbers ≡ said_numbers all bytes
+  pub are_kept : IsKeptFile all numbers k.says k.numbers k.is_whole k.events
+
+-- why an event file is refused
+abbrev pub ExplainsFile : Option (List ℕ) → Bool → CommandRefusal → Type 0
+ExplainsFile bytes failed (BadLine n) = IfSome bytes (λ b. IsFileRefusal b (errors.BadLine n))
+ExplainsFile bytes failed NoMemory = Unit {0}
+ExplainsFile bytes failed (Failed Read) = failed ≡ true
+ExplainsFile bytes failed (Failed Write) = ⊥
+ExplainsFile bytes failed (Failed Closed) = ⊥
+ExplainsFile bytes failed (At code span) = ⊥
+ExplainsFile bytes failed (Stopped code) = ⊥
+ExplainsFile bytes failed (WrongJob n) = ⊥

@@ -1,0 +1,4 @@
+pub mod Known
+pub mod Rows
+pub mod Kept
+pub mod Files

@@ -1,0 +1,33 @@
+// Files of format 2.
+
+ghost use Rattle.std.specs.Prelude.{◌≡◌, IfOk, IfErr, IfSome};
+ghost use Rattle.event_files.specs.Recorded.{IsRecorded, recorded_text};
+ghost use Rattle.event_reading.specs.Known.{left_of};
+ghost use Rattle.event_reading.specs.Files.{AreKept, ExplainsBehind};
+
+use crate::kept::Kept;
+use crate::next_line::{Next, next_recorded};
+use event_files::RecordedEvent;
+use raysim_streams::{CommandRefusal, Source};
+use std::alloc::Global;
+
+/// The lines that are left behind the first line, where some bytes were read ahead.
+pub fn events_left<R: Source>(
+    alloc: Global,
+    reader: &mut R,
+    ahead: &mut Vec<u8>,
+) -> Result<Kept<RecordedEvent>, CommandRefusal>
+    ensures read { IfOk result (λ kept. IfSome (left_of ahead.old.items (R.left reader.old)) (λ bytes. AreKept IsRecorded recorded_text 2 bytes kept)) }
+    ensures refused { IfErr result (ExplainsBehind (left_of ahead.old.items (R.left reader.old)) (R.has_failed reader.new)) }
+{
+    let mut kept = Kept::new(alloc);
+    for number in 2..u64::MAX {
+        match next_recorded(alloc, reader, ahead)? {
+            Next::End => return Ok(kept),
+            Next::Passed => continue,
+            Next::Bad => return Err(CommandRefusal::BadLine { line: number }),
+            Next::Said(said) => kept.keep(said, number as usize, true)?,
+        }
+    }
+    Err(CommandRefusal::NoMemory)
+}

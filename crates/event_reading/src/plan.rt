@@ -1,0 +1,54 @@
+// Plans.
+
+ghost use Rattle.std.specs.Prelude.{◌≡◌, IfOk, IfErr, IfSome};
+ghost use Rattle.event_files.specs.Files.{IsFile};
+ghost use Rattle.event_files.specs.Plans.{IsPlanLine, plan_line_text};
+ghost use Rattle.event_reading.specs.Files.{ExplainsRows};
+ghost use Rattle.event_reading.specs.Known.{left_of};
+
+use crate::next_line::{Next, next_plan_line};
+use event_files::RunPlan;
+use raysim_streams::{CommandRefusal, Source};
+use sequence::Seq;
+use std::alloc::Global;
+
+/// How many lines a plan may have that say something; one with more is refused for want of memory.
+pub const MOST_PLANNED: usize = 262_144;
+
+/// The lines that are left, where some bytes were read ahead.
+fn plan_left<R: Source>(
+    alloc: Global,
+    reader: &mut R,
+    ahead: &mut Vec<u8>,
+) -> Result<RunPlan, CommandRefusal>
+    ensures read { IfOk result (λ plan. IfSome (left_of ahead.old.items (R.left reader.old)) (λ bytes. IsFile IsPlanLine plan_line_text bytes plan.lines)) }
+    ensures refused { IfErr result (ExplainsRows IsPlanLine plan_line_text (left_of ahead.old.items (R.left reader.old)) (R.has_failed reader.new)) }
+{
+    let mut lines = Seq::new(alloc);
+    for number in 1..u64::MAX {
+        match next_plan_line(alloc, reader, ahead)? {
+            Next::End => return Ok(RunPlan { lines }),
+            Next::Passed => continue,
+            Next::Bad => return Err(CommandRefusal::BadLine { line: number }),
+            Next::Said(line) => {
+                if lines.len() >= MOST_PLANNED {
+                    return Err(CommandRefusal::NoMemory);
+                }
+                lines.push(line)?;
+            }
+        }
+    }
+    Err(CommandRefusal::NoMemory)
+}
+
+/// Reads a plan. Nothing is kept of the lines that are passed over.
+///
+/// Else the refusal says why: `BadLine` with the number of the first line that is none of a plan, behind which nothing is read; `NoMemory`,
+/// which is also answered where there are more than `MOST_PLANNED` lines that say something; or `Failed` where a read failed.
+pub fn read_plan_file<R: Source>(alloc: Global, reader: &mut R) -> Result<RunPlan, CommandRefusal>
+    ensures read { IfOk result (λ plan. IfSome (R.left reader.old) (λ bytes. IsFile IsPlanLine plan_line_text bytes plan.lines)) }
+    ensures refused { IfErr result (ExplainsRows IsPlanLine plan_line_text (R.left reader.old) (R.has_failed reader.new)) }
+{
+    let mut ahead = Vec::new(alloc);
+    plan_left(alloc, reader, &mut ahead)
+}

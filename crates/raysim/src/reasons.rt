@@ -1,0 +1,157 @@
+// What is told below a refusal's first line.
+
+use raysim_commands::CommandRefusal;
+use raysim_explain::{RefusalCause, Shown};
+use refusal_reasons::{Letters, ListKind, Refused, refused_line, script_reason};
+
+/// How the events of a run come.
+#[derive(Clone, Copy, Debug, PartialEq, Eq)]
+pub enum Course {
+    /// The run is driven, turn by turn.
+    Driven,
+    /// Threads take turns.
+    OnThreads,
+    /// They are those of a list.
+    Replayed,
+}
+
+/// A list of events or a plan: its file and what it holds.
+#[derive(Clone, Copy)]
+pub struct List<'a, 'b> {
+    pub kind: ListKind,
+    pub file: &'a str,
+    pub text: &'b [u8],
+}
+
+/// What is known where a command stops: the script's file and its text, the list beside it, how the events come, and whether a refusal's place is asked
+/// for.
+#[derive(Clone, Copy)]
+pub struct Known<'a, 'b> {
+    pub explain: bool,
+    pub script: &'a str,
+    pub text: &'b [u8],
+    pub list: Option<List<'a, 'b>>,
+    pub course: Option<Course>,
+}
+
+impl Known<'_, '_> {
+    /// Nothing is known, nor asked for.
+    pub fn nothing() -> Known<'static, 'static> {
+        Known {
+            explain: false,
+            script: "",
+            text: b"",
+            list: None,
+            course: None,
+        }
+    }
+}
+
+/// Tells what there is to tell below the first line of a refusal.
+pub fn tell_reason<R: Eprint + AllocGlobal>(
+    rt: &R,
+    refusal: CommandRefusal,
+    known: &Known<'_, '_>,
+) {
+    match refusal {
+        CommandRefusal::Stopped { code } => tell_limit(rt, code, known.course),
+        CommandRefusal::At { code, span } if known.explain => {
+            let shown = Shown {
+                file: known.script,
+                code,
+                text: known.text,
+                start: span.start,
+                end: span.end,
+            };
+            let _ = eprintln!(rt; "{shown}");
+            tell_words(rt, code);
+            tell_of_script(rt, code, span.start, span.end, known.text);
+        }
+        CommandRefusal::BadLine { line } if known.explain => {
+            if let Some(list) = known.list {
+                tell_line(rt, 40, line, &list);
+            }
+        }
+        CommandRefusal::WrongJob { line } if known.explain => {
+            if let Some(list) = known.list {
+                tell_line(rt, 42, line, &list);
+            }
+        }
+        _ => {}
+    }
+}
+
+/// Tells the name of a refusal, and what was wrong.
+fn tell_words<R: Eprint>(rt: &R, code: u16) {
+    let Ok(number) = u8::try_from(code) else {
+        return;
+    };
+    if let Some(reason) = RefusalCause::of(number) {
+        let (name, cause) = (reason.name(), reason.cause());
+        let _ = eprintln!(rt; "    {name}: {cause}");
+    }
+}
+
+/// Tells what was expected in a script, and what was found.
+fn tell_of_script<R: Eprint + AllocGlobal>(
+    rt: &R,
+    code: u16,
+    start: usize,
+    end: usize,
+    text: &[u8],
+) {
+    if let Some(told) = script_reason(rt.alloc(), text, code, start, end) {
+        let told = told.as_str();
+        let _ = eprintln!(rt; "{told}");
+    }
+}
+
+/// Tells which line of which file is refused, and why.
+fn tell_line<R: Eprint>(rt: &R, code: u16, number: u64, list: &List<'_, '_>) {
+    let file = list.file;
+    let kind = match list.kind {
+        ListKind::Plan => "the plan",
+        _ => "the list of events",
+    };
+    let _ = eprintln!(rt; "{kind} {file}, line {number}:");
+    let Some(Refused { line, reason }) = refused_line(list.kind, list.text, number) else {
+        tell_words(rt, code);
+        return;
+    };
+    let shown = Letters(line);
+    let _ = eprintln!(rt; "    {shown}");
+    tell_words(rt, code);
+    match reason {
+        Some(reason) if code == 40 => {
+            let _ = eprintln!(rt; "    why: {reason}");
+        }
+        _ => {}
+    }
+}
+
+/// Tells which limit a run met, and what to do.
+fn tell_limit<R: Eprint>(rt: &R, code: u16, course: Option<Course>) {
+    let Some(course) = course else {
+        return;
+    };
+    let (limit, remedy) = match (code, course) {
+        (37, Course::OnThreads) => (
+            "1,024 workers in all, 1,000,000 objects, or 64 nodes: the next event would have passed one of them",
+            "get some results before the next tasks are begun, or give each task more to do",
+        ),
+        (37, _) => (
+            "1,024 workers in all, or 1,000,000 objects: the next event would have passed one of them",
+            "get some results before the next tasks are begun, or give each task more to do",
+        ),
+        (41, Course::Driven) => (
+            "100,000 turns, and the run was not over behind them",
+            "give each task more to do, so that there are fewer; or run on threads (--threads), which take any number of turns",
+        ),
+        (41, _) => (
+            "100,000 events, those of settle lines counted",
+            "give each task more to do, so that there are fewer: each takes some ten events",
+        ),
+        _ => return,
+    };
+    let _ = eprintln!(rt; "limit: {limit}\nwhat to do: {remedy}");
+}

@@ -1,0 +1,40 @@
+use Rattle.std.proofs.Common.{rules, subst}
+use Rattle.script_check.specs.Trees.{script_of}
+use Rattle.raysim_commands.specs.Scripts.{IsRefusalOf, IsScript}
+use Rattle.raysim_commands.proofs.Begun.{always_err}
+use Rattle.raysim_commands.proofs.Refused.{explains_read}
+use Rattle.raysim_commands.proofs.Simulated.{explains_script}
+use Rattle.raysim_commands.proofs.Stating.{state_begun_so, state_told_so}
+use Rattle.raysim_commands.proofs.state_command.state.Goals as goal
+
+pub returns-in_err-text-clause-refused : goal.returns-in_err-text-clause-refused
+returns-in_err-text-clause-refused g c =
+    let events = g.E.Source.left c.args.events.now in
+    let failed = g.E.Source.has_failed c.args.events.now in
+    let why = explains_script c.args.cluster _ events _ failed _ _ (c.in_err-text.ensures.refused (g.W.Sink.has_failed c.args.writer.now)) in
+    search (rules, why)
+
+pub returns-in-Err-clause-refused : goal.returns-in-Err-clause-refused
+returns-in-Err-clause-refused g c =
+    let is = subst (λ t. IsRefusalOf t c.in-Err.refusal) c.as_slice.ensures.value c.in-Err.ensures.refused in
+    explains_script c.args.cluster _ _ _ _ _ c.in-Err.refusal (explains_read _ c.in_ok-text.text.items _ _ c.in-Err.refusal c.in_ok-text.ensures.ok is)
+
+pub returns-in_err-put_all-clause-beginning : goal.returns-in_err-put_all-clause-beginning
+returns-in_err-put_all-clause-beginning g c =
+    let script = script_of c.in-Ok.script in
+    let is = subst (λ t. IsScript t script) c.as_slice.ensures.value c.in-Ok.ensures.found in
+    let said = c.in-Ok-read_events.ensures.read in
+    let told = c.in-Ok-state_script.ensures.told in
+    let begun =
+    state_begun_so c.args.cluster c.args.at _ _ c.in_ok-text.text.items script c.in-Ok-read_events.found.says c.in-Ok-read_events.found.numbers
+    _ _ _ _ _ c.in_ok-text.ensures.ok is said told c.as_bytes.ensures.value c.in_err-put_all.ensures.beginning in
+    always_err c.from_residual-in_err-put_all.result _ begun
+
+pub returns-clause-told : goal.returns-clause-told
+returns-clause-told g c =
+    let script = script_of c.in-Ok.script in
+    let is = subst (λ t. IsScript t script) c.as_slice.ensures.value c.in-Ok.ensures.found in
+    let said = c.in-Ok-read_events.ensures.read in
+    let told = c.in-Ok-state_script.ensures.told in
+    state_told_so c.args.cluster c.args.at _ _ c.in_ok-text.text.items script c.in-Ok-read_events.found.says c.in-Ok-read_events.found.numbers
+    _ _ _ _ _ c.in_ok-text.ensures.ok is said told c.as_bytes.ensures.value c.in_ok-put_all.ensures.ok

@@ -1,0 +1,209 @@
+// How it is told why a line is none of its format.
+
+use crate::letters::Letters;
+use std::fmt;
+
+/// What stands in a place of an event.
+#[derive(Clone, Copy, Debug, PartialEq, Eq)]
+pub enum Field {
+    Worker,
+    Node,
+    Job,
+    Message,
+    Object,
+}
+
+impl Field {
+    /// The greatest number of such a one.
+    pub(crate) fn most(self) -> u64 {
+        match self {
+            Field::Worker | Field::Node => 4_294_967_295,
+            _ => u64::MAX,
+        }
+    }
+
+    fn name(self) -> &'static str {
+        match self {
+            Field::Worker => "worker",
+            Field::Node => "node",
+            Field::Job => "job",
+            Field::Message => "message",
+            Field::Object => "object",
+        }
+    }
+}
+
+/// Why a word is no number.
+#[derive(Clone, Copy, Debug, PartialEq, Eq)]
+pub enum NumberFault {
+    LeadingZero,
+    TooLarge,
+    /// A letter, and digits behind it.
+    LetterInFront,
+    NoNumber,
+}
+
+/// Why a line is none of its format. Its text says it in a sentence without an end.
+#[derive(Clone, Copy, Debug)]
+pub enum LineReason<'a> {
+    NoLineFeed,
+    CarriageReturn,
+    Tab,
+    Unprintable(u8),
+    /// Spaces alone.
+    Blank,
+    SpaceInFront,
+    SpaceAtEnd,
+    TwoSpaces,
+    /// A file of format 2 where one of format 1 is wanted.
+    SecondFormat,
+    /// The first line of a file of format 2, but not in the first line.
+    LateFormat,
+    /// The first word is `raysim`.
+    OtherFormat,
+    /// The first word is a number, in a file of format 1.
+    NumberInFront(&'a [u8]),
+    /// The first word is no seat.
+    NoSeat(&'a [u8]),
+    /// The first word is no number of commits.
+    NoCommits(&'a [u8]),
+    /// The line is a number alone.
+    NoEvent(&'a [u8]),
+    /// The name of no event, and the name that is near, if there is one.
+    Unknown(&'a [u8], Option<&'static str>),
+    /// An event that is the run's own, in a plan.
+    OfTheRun(&'a [u8]),
+    /// A settle line in a file of format 2.
+    SettleInHistory,
+    /// How the event is written.
+    WrongForm(&'static str),
+    Number(Field, &'a [u8], NumberFault),
+    NoObject(&'a [u8]),
+}
+
+/// Tells why a word is no number of such a one.
+fn tell_number<W: fmt::Write>(
+    f: &mut fmt::Formatter<W>,
+    field: Field,
+    word: &[u8],
+    fault: NumberFault,
+) -> fmt::Result {
+    let name = field.name();
+    let word = Letters(word);
+    match fault {
+        NumberFault::LeadingZero => write!(f, "{word} is no number: it has a leading zero"),
+        NumberFault::TooLarge => {
+            let most = field.most();
+            write!(
+                f,
+                "{word} is too large: the number of a {name} is at most {most}"
+            )
+        }
+        NumberFault::LetterInFront => {
+            write!(
+                f,
+                "{word} is no number: a {name} is written by its number alone"
+            )
+        }
+        NumberFault::NoNumber => {
+            write!(f, "{word} is no number: a {name} is written by its number")
+        }
+    }
+}
+
+/// Tells that a word is the name of no event.
+fn tell_unknown<W: fmt::Write>(
+    f: &mut fmt::Formatter<W>,
+    word: &[u8],
+    near: Option<&'static str>,
+) -> fmt::Result {
+    let word = Letters(word);
+    write!(f, "there is no event {word}")?;
+    if let Some(name) = near {
+        write!(f, ", but {name}")?;
+    }
+    f.write_str(
+        "; there are claim, commit, deliver, tick, notice, notice-node, evict, lose, kill, kill-node, join and settle",
+    )
+}
+
+impl fmt::Display for LineReason<'_> {
+    fn fmt<W: fmt::Write>(&self, f: &mut fmt::Formatter<W>) -> fmt::Result {
+        match self {
+            LineReason::NoLineFeed => f.write_str("no line feed stands at its end"),
+            LineReason::CarriageReturn => {
+                f.write_str("a carriage return stands in it: lines end with a line feed alone")
+            }
+            LineReason::Tab => f.write_str(
+                "a tab stands in it: one space stands between two words",
+            ),
+            LineReason::Unprintable(byte) => {
+                write!(
+                    f,
+                    "the byte {byte} stands in it, which is no letter, digit or sign of ASCII"
+                )
+            }
+            LineReason::Blank => {
+                f.write_str(
+                    "it has spaces alone: an empty line is passed over, or one that begins with #",
+                )
+            }
+            LineReason::SpaceInFront => f.write_str("a space stands in front"),
+            LineReason::SpaceAtEnd => f.write_str("a space stands at its end"),
+            LineReason::TwoSpaces => {
+                f.write_str("two spaces stand beside one another: one stands between two words")
+            }
+            LineReason::SecondFormat => f.write_str("the file is of format 2 already"),
+            LineReason::LateFormat => f.write_str("raysim 2 stands in the first line alone"),
+            LineReason::OtherFormat => {
+                f.write_str(
+                    "raysim begins only the first line of a file of format 2, which is raysim 2",
+                )
+            }
+            LineReason::NumberInFront(word) => {
+                let word = Letters(*word);
+                write!(
+                    f,
+                    "{word} stands in front of the event: so it does in a plan, and in a file whose first line is raysim 2"
+                )
+            }
+            LineReason::NoSeat(word) => {
+                let word = Letters(*word);
+                write!(
+                    f,
+                    "{word} is no seat: a line of a file of format 2 begins with one, from 0 to 8"
+                )
+            }
+            LineReason::NoCommits(word) => {
+                let word = Letters(*word);
+                write!(
+                    f,
+                    "{word} is no number of commits, with which a line of a plan begins"
+                )
+            }
+            LineReason::NoEvent(word) => {
+                let word = Letters(*word);
+                write!(f, "no event stands behind {word}")
+            }
+            LineReason::Unknown(word, near) => tell_unknown(f, *word, *near),
+            LineReason::OfTheRun(word) => {
+                let word = Letters(*word);
+                write!(
+                    f,
+                    "{word} stands in no plan: the run does that by itself; there are tick, notice, notice-node, evict, lose, kill, kill-node and join"
+                )
+            }
+            LineReason::SettleInHistory => {
+                f.write_str(
+                    "a file of format 2 has no settle lines: all of its events are written out",
+                )
+            }
+            LineReason::WrongForm(form) => write!(f, "it is written {form}"),
+            LineReason::Number(field, word, fault) => tell_number(f, *field, *word, *fault),
+            LineReason::NoObject(word) => {
+                let word = Letters(*word);
+                write!(f, "{word} is no object: one is written as o1.2")
+            }
+        }
+    }
+}

@@ -1,0 +1,257 @@
+// Statements and functions, in the order in which the checker looks at them. Whether a body may end with no return isn't looked at: a script in which
+// one may has no earlier fault, and of that one its name says all.
+
+use crate::expressions::{kind_met, kind_of};
+use crate::kind::Kind;
+use crate::scope::{Scene, Variable, declare, find, fresh, twice, variable_kind};
+use crate::stop::{Fault, Stop, stop_at};
+use crate::wanted::Wanted;
+use script_syntax::{Block, Expr, Function, Name, Span, Statement, ValueType, parse};
+use std::alloc::Global;
+
+/// How many expressions or statements stand inside one another at most: more than any script that is parsed has.
+const MOST_LEVELS: u32 = 100_000;
+
+/// What stays the same within a function.
+#[derive(Clone, Copy)]
+struct Within<'s> {
+    alloc: Global,
+    text: &'s [u8],
+    functions: &'s [Function],
+    function: &'s Function,
+}
+
+impl<'s> Within<'s> {
+    fn scene(self, scope: &'s [Variable]) -> Scene<'s> {
+        Scene {
+            alloc: self.alloc,
+            text: self.text,
+            functions: self.functions,
+            scope,
+        }
+    }
+}
+
+fn check_number(
+    within: Within<'_>,
+    scope: &[Variable],
+    expr: &Expr,
+    purpose: &'static str,
+) -> Result<(), Stop> {
+    let scene = within.scene(scope);
+    let _ = kind_met(scene, expr, Wanted::Number, purpose, MOST_LEVELS)?;
+    Ok(())
+}
+
+fn check_let(
+    within: Within<'_>,
+    scope: &mut Vec<Variable>,
+    name: &Name,
+    expr: &Expr,
+) -> Result<(), Stop> {
+    fresh(within.scene(scope), name)?;
+    let kind = kind_of(within.scene(scope), expr, MOST_LEVELS)?;
+    declare(scope, name, kind)
+}
+
+fn check_set(within: Within<'_>, scope: &[Variable], name: &Name, expr: &Expr) -> Result<(), Stop> {
+    let scene = within.scene(scope);
+    let wanted = Wanted::Exactly(variable_kind(scene, name)?);
+    let _ = kind_met(scene, expr, wanted, "as the variable", MOST_LEVELS)?;
+    Ok(())
+}
+
+fn check_print(
+    within: Within<'_>,
+    scope: &[Variable],
+    span: Span,
+    expr: &Expr,
+) -> Result<(), Stop> {
+    let alloc = within.alloc;
+    if within.function.name.text.as_str() != "main" {
+        let name = within.function.name.text.as_str();
+        let told = format!(in alloc; "    found: a print in {name}")?;
+        return Err(stop_at(14, span, told));
+    }
+    let scene = within.scene(scope);
+    let purpose = "since it is printed";
+    let _ = kind_met(scene, expr, Wanted::NoReference, purpose, MOST_LEVELS)?;
+    Ok(())
+}
+
+/// The stop at several results where one is wanted.
+fn several(alloc: Global, count: usize, span: Span) -> Stop {
+    match format!(in alloc; "    expected: 1\n    found: {count}") {
+        Ok(told) => stop_at(18, span, told),
+        Err(_) => Stop::Unsure,
+    }
+}
+
+fn check_return(
+    within: Within<'_>,
+    scope: &[Variable],
+    span: Span,
+    expr: &Expr,
+    others: &[Expr],
+) -> Result<(), Stop> {
+    if !others.is_empty() {
+        return Err(several(within.alloc, others.len().saturating_add(1), span));
+    }
+    let wanted = Wanted::Exactly(Kind::of(within.alloc, &within.function.result)?);
+    let purpose = "as the function's result";
+    let _ = kind_met(within.scene(scope), expr, wanted, purpose, MOST_LEVELS)?;
+    Ok(())
+}
+
+/// Looks at a statement, in which so many others stand inside one another at most.
+#[cycle(statements)]
+fn check_statement(
+    within: Within<'_>,
+    scope: &mut Vec<Variable>,
+    statement: &Statement,
+    levels: u32,
+) -> Result<(), Stop> {
+    if levels == 0 {
+        return Err(Stop::Unsure);
+    }
+    let inner = levels - 1;
+    match statement {
+        Statement::Let(name, expr) => check_let(within, scope, name, expr),
+        Statement::LetCall(_, others, called, _) => {
+            let count = others.len().saturating_add(1);
+            Err(several(within.alloc, count, called.span))
+        }
+        Statement::LetRemote(_, others, _, called, _) => {
+            let count = others.len().saturating_add(1);
+            Err(several(within.alloc, count, called.span))
+        }
+        Statement::Set(name, expr) => check_set(within, scope, name, expr),
+        Statement::If(condition, first, second) => {
+            check_number(within, scope, condition, "as a condition")?;
+            check_block(within, scope, first, inner)?;
+            match second {
+                Some(block) => check_block(within, scope, block, inner),
+                None => Ok(()),
+            }
+        }
+        Statement::For(name, from, to, body) => {
+            fresh(within.scene(scope), name)?;
+            check_number(within, scope, from, "as a loop's bound")?;
+            check_number(within, scope, to, "as a loop's bound")?;
+            let outer = scope.len();
+            declare(scope, name, Kind::number(within.alloc))?;
+            check_block(within, scope, body, inner)?;
+            scope.truncate(outer);
+            Ok(())
+        }
+        Statement::Print(span, expr) => check_print(within, scope, *span, expr),
+        Statement::Return(span, expr, others) => {
+            check_return(within, scope, *span, expr, others)
+        }
+    }
+}
+
+/// Looks at the statements of a block, whose variables go out of scope at its end.
+#[cycle(statements)]
+fn check_block(
+    within: Within<'_>,
+    scope: &mut Vec<Variable>,
+    block: &Block,
+    levels: u32,
+) -> Result<(), Stop> {
+    let outer = scope.len();
+    for statement in &block.statements {
+        check_statement(within, scope, statement, levels)?;
+    }
+    scope.truncate(outer);
+    Ok(())
+}
+
+fn check_function(within: Within<'_>) -> Result<(), Stop> {
+    let function = within.function;
+    if !function.others.is_empty() {
+        let count = function.others.len().saturating_add(1);
+        return Err(several(within.alloc, count, function.name.span));
+    }
+    let mut scope = Vec::new(within.alloc);
+    for parameter in &function.parameters {
+        fresh(within.scene(&scope), &parameter.name)?;
+        let kind = Kind::of(within.alloc, &parameter.kind)?;
+        declare(&mut scope, &parameter.name, kind)?;
+    }
+    check_block(within, &mut scope, &function.body, MOST_LEVELS)
+}
+
+/// That no function has the name of one before it.
+fn check_names(alloc: Global, text: &[u8], functions: &[Function]) -> Result<(), Stop> {
+    for (i, function) in functions.iter().enumerate() {
+        if let Some(first) = find(&functions[..i], function.name.text.as_str()) {
+            return Err(twice(alloc, text, &function.name, first.name.span));
+        }
+    }
+    Ok(())
+}
+
+/// What is told where main isn't as it has to be.
+fn main_fault(functions: &[Function]) -> Option<&'static str> {
+    let Some(main) = find(functions, "main") else {
+        return Some("no function is called main");
+    };
+    let ValueType::Int = main.result else {
+        return Some("the result of main is not int");
+    };
+    if !main.parameters.is_empty() {
+        return Some("main has parameters");
+    }
+    if !main.others.is_empty() {
+        return Some("main has several results");
+    }
+    None
+}
+
+fn check_main(alloc: Global, functions: &[Function]) -> Result<(), Stop> {
+    let Some(found) = main_fault(functions) else {
+        return Ok(());
+    };
+    let told = format!(in alloc; "    expected: fn main() -> int\n    found: {found}")?;
+    Err(stop_at(13, Span { start: 0, end: 0 }, told))
+}
+
+fn check_functions(alloc: Global, text: &[u8], functions: &[Function]) -> Result<(), Stop> {
+    check_names(alloc, text, functions)?;
+    check_main(alloc, functions)?;
+    for function in functions {
+        check_function(Within {
+            alloc,
+            text,
+            functions,
+            function,
+        })?;
+    }
+    Ok(())
+}
+
+/// What is told of the fault of a script for which it is refused with this number, at these bytes, if anything is.
+pub(crate) fn told_of_tree(alloc: Global, text: &[u8], code: u16, span: Span) -> Option<String> {
+    let Ok(program) = parse(alloc, text) else {
+        return None;
+    };
+    match check_functions(alloc, text, &program.functions) {
+        Err(
+            Stop::Fault(
+                Fault {
+                    code: found,
+                    span: place,
+                    told,
+                },
+            ),
+        ) => {
+            if found == code && place == span && !told.is_empty() {
+                Some(told)
+            } else {
+                None
+            }
+        }
+        _ => None,
+    }
+}

@@ -1,0 +1,8 @@
+use Rattle.state_text.proofs.Below.{begun_told, further_told}
+use Rattle.state_text.proofs.workers.write_workers.Goals as goal
+
+pub loop-place-init : goal.loop-place-init
+loop-place-init c = λ h. begun_told _ _
+
+pub loop-place-preserved : goal.loop-place-preserved
+loop-place-preserved c = λ h. further_told _ _ _ _ _ (c.loop-place.invariant h) (c.in_ok-write_worker_at.ensures h)

@@ -1,0 +1,7 @@
+pub mod Below
+pub mod Copies
+pub mod Nodes
+pub mod Workers
+pub mod Holders
+pub mod Objects
+pub mod Text

@@ -1,0 +1,218 @@
+// The copies in a node's store.
+
+ghost use Rattle.std.specs.Prelude.{◌≡◌, ◌++◌, OnOk, Some, string_bytes, ◌<◌};
+ghost use Rattle.std.specs.List.{find};
+ghost use Rattle.state_text.specs.Copies.{copies_of, copies_text, copy_lines, copy_note, has_primary};
+ghost use Rattle.state_text.specs.Copies.{has_secondary, made_copies, object_copies, owned_copies, primary_line};
+ghost use Rattle.state_text.specs.Copies.{row_copies, secondary_line, worker_copies};
+
+use crate::standing::worker_count;
+use ids::{AttemptId, ObjectId, WorkerId};
+use protocol_data::{Maker, Object, Store, Whole, Worker};
+use std::alloc::AllocError;
+
+fn has_primary(store: &Store, object: ObjectId, number: u32) -> bool
+    ensures { result ≡ has_primary store.now object number }
+{
+    match store.primaries.find(object, Some(number)) {
+        None => false,
+        Some(_) => true,
+    }
+}
+
+fn has_secondary(store: &Store, object: ObjectId, number: u32) -> bool
+    ensures { result ≡ has_secondary store.now object number }
+{
+    match store.secondaries.find(object, number) {
+        None => false,
+        Some(_) => true,
+    }
+}
+
+/// Writes of which attempt the content is; nothing for what was put.
+#[tactic(auto, unfolding(crate::specs::Copies::copy_note))]
+fn write_note(
+    text: &mut String,
+    is_made: bool,
+    object: ObjectId,
+    number: u32,
+) -> Result<(), AllocError>
+    ensures { OnOk result (string_bytes text.new ≡ string_bytes text.old ++ copy_note is_made object number) }
+{
+    if !is_made {
+        return text.push_str("\n");
+    }
+    let attempt = AttemptId { object, number };
+    write!(text, " by {attempt}\n")
+}
+
+fn write_primary(
+    text: &mut String,
+    node: usize,
+    store: &Store,
+    is_made: bool,
+    object: ObjectId,
+    number: u32,
+) -> Result<(), AllocError>
+    ensures { OnOk result (string_bytes text.new ≡ string_bytes text.old ++ primary_line node store.now is_made object number) }
+{
+    if !has_primary(store, object, number) {
+        return Ok(());
+    }
+    write!(text, "n{node}: primary copy of {object}")?;
+    write_note(text, is_made, object, number)
+}
+
+fn write_secondary(
+    text: &mut String,
+    node: usize,
+    store: &Store,
+    is_made: bool,
+    object: ObjectId,
+    number: u32,
+) -> Result<(), AllocError>
+    ensures { OnOk result (string_bytes text.new ≡ string_bytes text.old ++ secondary_line node store.now is_made object number) }
+{
+    if !has_secondary(store, object, number) {
+        return Ok(());
+    }
+    write!(text, "n{node}: secondary copy of {object}")?;
+    write_note(text, is_made, object, number)
+}
+
+/// Writes the copies of that attempt's content.
+#[tactic(auto, unfolding(crate::specs::Copies::copy_lines))]
+fn write_copy(
+    text: &mut String,
+    node: usize,
+    store: &Store,
+    is_made: bool,
+    object: ObjectId,
+    number: u32,
+) -> Result<(), AllocError>
+    ensures { OnOk result (string_bytes text.new ≡ string_bytes text.old ++ copy_lines node store.now is_made object number) }
+{
+    write_primary(text, node, store, is_made, object, number)?;
+    write_secondary(text, node, store, is_made, object, number)
+}
+
+/// Writes the copies of the contents of the attempts below that number.
+fn write_earlier(
+    text: &mut String,
+    node: usize,
+    store: &Store,
+    object: ObjectId,
+    number: u32,
+) -> Result<(), AllocError>
+    ensures { OnOk result (string_bytes text.new ≡ string_bytes text.old ++ made_copies node store.now object number) }
+{
+    for earlier in 0..number {
+        write_copy(text, node, store, true, object, earlier)?;
+    }
+    Ok(())
+}
+
+fn write_object_copies(
+    text: &mut String,
+    node: usize,
+    store: &Store,
+    object: ObjectId,
+    row: &Object,
+) -> Result<(), AllocError>
+    ensures { OnOk result (string_bytes text.new ≡ string_bytes text.old ++ object_copies node store.now object row.now.maker) }
+{
+    match &row.maker {
+        Maker::WasPut => write_copy(text, node, store, false, object, 0),
+        Maker::ByTask(task) => {
+            write_earlier(text, node, store, object, task.number)?;
+            write_copy(text, node, store, true, object, task.number)
+        }
+    }
+}
+
+/// Writes the copies of the object at that place of the worker's.
+#[tactic(auto, unfolding(crate::specs::Copies::row_copies))]
+fn write_row_copies(
+    text: &mut String,
+    node: usize,
+    store: &Store,
+    owner: WorkerId,
+    worker: &Worker,
+    place: usize,
+) -> Result<(), AllocError>
+    ensures { OnOk result (string_bytes text.new ≡ string_bytes text.old ++ row_copies node store.now owner worker.now.objects place) }
+{
+    if place >= worker.objects.len() {
+        return Ok(());
+    }
+    let object = ObjectId {
+        owner,
+        serial: place as u64 + 1,
+    };
+    write_object_copies(text, node, store, object, worker.objects.row(place))
+}
+
+fn write_copies_of(
+    text: &mut String,
+    node: usize,
+    store: &Store,
+    owner: WorkerId,
+    worker: &Worker,
+) -> Result<(), AllocError>
+    ensures { OnOk result (string_bytes text.new ≡ string_bytes text.old ++ copies_of node store.now owner worker.now) }
+{
+    for place in 0..worker.objects.len() {
+        write_row_copies(text, node, store, owner, worker, place)?;
+    }
+    Ok(())
+}
+
+/// Writes the copies of what the worker at that place owns.
+#[tactic(auto, unfolding(crate::specs::Copies::worker_copies))]
+fn write_worker_copies(
+    text: &mut String,
+    node: usize,
+    store: &Store,
+    whole: &Whole,
+    place: u32,
+) -> Result<(), AllocError>
+    requires { place < 4294967295 }
+    ensures { OnOk result (string_bytes text.new ≡ string_bytes text.old ++ worker_copies node store.now whole.now place) }
+{
+    let Some(worker) = whole.workers.items.get(place as usize) else {
+        return Ok(());
+    };
+    write_copies_of(text, node, store, WorkerId(place + 1), worker)
+}
+
+/// Writes the copies of what each worker owns.
+fn write_owned_copies(
+    text: &mut String,
+    node: usize,
+    store: &Store,
+    whole: &Whole,
+) -> Result<(), AllocError>
+    ensures { OnOk result (string_bytes text.new ≡ string_bytes text.old ++ owned_copies node store.now whole.now) }
+{
+    for place in 0..worker_count(whole) {
+        write_worker_copies(text, node, store, whole, place)?;
+    }
+    Ok(())
+}
+
+/// Writes the copies in the node's store, in order of the ids of their objects, main's own first.
+pub fn write_copies(
+    text: &mut String,
+    node: usize,
+    store: &Store,
+    whole: &Whole,
+) -> Result<(), AllocError>
+    ensures { OnOk result (string_bytes text.new ≡ string_bytes text.old ++ copies_text node store.now whole.now) }
+{
+    let main = ObjectId {
+        owner: WorkerId(1),
+        serial: 0,
+    };
+    write_copy(text, node, store, true, main, 0)?;
+    write_owned_copies(text, node, store, whole)
+}

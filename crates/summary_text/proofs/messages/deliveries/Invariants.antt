@@ -1,0 +1,9 @@
+use Rattle.std.proofs.Common.{◌≡◌, ◌+◌, ◌≤◌, drop}
+use Rattle.summary_text.specs.Messages.{deliveries}
+use Rattle.summary_text.proofs.messages.deliveries.Given as goal
+
+abbrev pub invariant-loop-place : goal.invariant-loop-place
+invariant-loop-place l = record {
+  found : l.count + deliveries l.kind l.letters (drop l.place l.log) ≡ deliveries l.kind l.letters l.log;
+  few : l.count ≤ l.place;
+}

@@ -1,0 +1,7 @@
+pub mod Below
+pub mod Columns
+pub mod Functions
+pub mod Messages
+pub mod Events
+pub mod Opened
+pub mod Text

@@ -1,0 +1,72 @@
+-- The lines of messages.
+use Rattle.std.specs.Prelude.{Bool, List, None, Option, Some, [], codes, false, if◌then◌else◌, ℕ, ◌+◌, ◌++◌, ◌==◌, ◌∷◌}
+use Rattle.std.specs.Fmt.{decimal}
+use Rattle.meaning.specs.Meaning.{same_name}
+use Rattle.meaning.specs.Values.{Name}
+use Rattle.event_log.specs.Entries.{Deliver, Entry, In}
+use Rattle.event_log.specs.Events.{from_one, refused_next}
+use Rattle.message_text.specs.Messages.{kind_text}
+use Rattle.protocol_data.specs.declared.message.Letter.{Letter}
+
+abbrev pub is_of_kind : Name → Letter → Bool
+is_of_kind kind l = same_name (kind_text l.message) kind
+
+abbrev pub sent_count : Name → List Letter → ℕ
+sent_count kind [] = 0
+sent_count kind (l ∷ ls) = (if is_of_kind kind l then 1 else 0) + sent_count kind ls
+
+abbrev pub is_kind_at : Name → Option Letter → Bool
+is_kind_at kind None = false
+is_kind_at kind (Some l) = is_of_kind kind l
+
+abbrev pub delivers : Name → List Letter → Entry → Bool
+delivers kind letters (In (Deliver k) seat) = is_kind_at kind (from_one letters k)
+delivers kind letters _ = false
+
+-- an event that was refused delivers nothing
+abbrev pub is_delivery : Name → List Letter → Entry → Bool → Bool
+is_delivery kind letters x refused = if refused then false else delivers kind letters x
+
+-- each time that one is delivered
+abbrev pub deliveries : Name → List Letter → List Entry → ℕ
+deliveries kind letters [] = 0
+deliveries kind letters (x ∷ rest) = (if is_delivery kind letters x (refused_next rest) then 1 else 0) + deliveries kind letters rest
+
+-- message Ask: 3 sent, 3 delivered
+unfoldable pub kind_words : Name → ℕ → ℕ → List ℕ
+kind_words kind sent delivered =
+    codes "message " ++ (kind ++ (codes ": " ++ (decimal sent ++ (codes " sent, " ++ (decimal delivered ++ codes " delivered\n")))))
+
+abbrev pub kind_note : Name → ℕ → ℕ → List ℕ
+kind_note kind sent delivered = if sent == 0 then [] else kind_words kind sent delivered
+
+-- there is no line of a kind of which none was sent
+unfoldable pub kind_line : List Entry → List Letter → Name → List ℕ
+kind_line log letters kind = kind_note kind (sent_count kind letters) (deliveries kind letters log)
+
+-- what asks for workers, and gives work
+abbrev pub lease_kinds : List Entry → List Letter → List ℕ
+lease_kinds log ls =
+    kind_line log ls (codes "Ask")
+    ++ (kind_line log ls (codes "Give")
+    ++ (kind_line log ls (codes "Elsewhere")
+    ++ (kind_line log ls (codes "Wait") ++ (kind_line log ls (codes "Back") ++ kind_line log ls (codes "Push")))))
+
+-- what says how attempts stopped, and where objects are
+abbrev pub end_kinds : List Entry → List Letter → List ℕ
+end_kinds log ls =
+    kind_line log ls (codes "Finished")
+    ++ (kind_line log ls (codes "FinishedAck")
+    ++ (kind_line log ls (codes "Failed")
+    ++ (kind_line log ls (codes "Where") ++ (kind_line log ls (codes "At") ++ kind_line log ls (codes "Gone")))))
+
+-- what moves copies, and says who holds what
+abbrev pub copy_kinds : List Entry → List Letter → List ℕ
+copy_kinds log ls =
+    kind_line log ls (codes "Fetch")
+    ++ (kind_line log ls (codes "Copy")
+    ++ (kind_line log ls (codes "Missing")
+    ++ (kind_line log ls (codes "Hold") ++ (kind_line log ls (codes "HoldAck") ++ kind_line log ls (codes "Unhold")))))
+
+unfoldable pub messages_text : List Entry → List Letter → List ℕ
+messages_text log ls = lease_kinds log ls ++ (end_kinds log ls ++ copy_kinds log ls)

@@ -1,0 +1,216 @@
+// What is counted of a function.
+
+ghost use Rattle.std.specs.Prelude.{◌≡◌, ◌&&◌, List, option_copied};
+ghost use Rattle.std.specs.Option.{option_map};
+ghost use Rattle.task_spec.specs.Births.{birth_of};
+ghost use Rattle.event_log.specs.Entries.{Entry as Logged};
+ghost use Rattle.history.specs.Attempts.{AreStatesOf};
+ghost use Rattle.log_words.specs.Index.{IsIndexOf};
+ghost use Rattle.summary_text.specs.Columns.{begins, begins_after, born_in, column_count, ends, faults, is_born_of, is_counted};
+ghost use Rattle.summary_text.specs.Columns.{is_behind, is_further, is_made_by, is_of, resolves, was_accepted};
+
+use history::AttemptStates;
+use ids::{AttemptId, ObjectId};
+use log_entries::Entry;
+use log_words::BirthIndex;
+use task_spec::Birth;
+
+/// What is counted of a function.
+#[derive(Clone, Copy, PartialEq, Eq, Debug)]
+pub enum Column {
+    /// The tasks that were made.
+    Tasks,
+    /// The attempts that began.
+    Attempts,
+    /// Those that began since the one before broke: its worker died.
+    AfterDeaths,
+    /// Those that began since the result of the one before, which was accepted, was lost.
+    AfterLosses,
+    /// The attempts that ended with a content.
+    Results,
+    /// The attempts that ended with a fault.
+    Faults,
+    /// The tasks whose objects were given up.
+    GivenUp,
+}
+
+/// Whether what was born so is a task of the function.
+fn is_of(birth: Option<&Birth>, function: &str) -> bool
+    ensures { result ≡ is_of function.now (option_map birth_of (option_copied birth.entry)) }
+{
+    match birth {
+        Some(Birth::Task { function: name, .. }) => name.as_str() == function,
+        _ => false,
+    }
+}
+
+/// Whether the birth is that of a task of the function.
+pub fn is_born_of(birth: &Birth, function: &str) -> bool
+    ensures { result ≡ is_born_of function.now (birth_of birth.now) }
+{
+    match birth {
+        Birth::Task { function: name, .. } => name.as_str() == function,
+        Birth::Put(_) => false,
+    }
+}
+
+/// Whether a task of the function makes the object.
+fn is_made_by(index: &BirthIndex, log: &[Entry], object: ObjectId, function: &str) -> bool
+    ensures { IsIndexOf index.now log.now → result ≡ is_made_by log.now function.now object }
+{
+    is_of(index.birth(log, object), function)
+}
+
+/// Whether the attempt's owner learned that it ended.
+fn was_accepted(states: &AttemptStates, attempt: AttemptId) -> bool
+    ensures { (log : List Logged) → AreStatesOf states.now log → result ≡ was_accepted log attempt }
+{
+    states.name(attempt) == "accepted"
+}
+
+/// Whether the attempt comes behind another of its task that was accepted, or wasn't.
+fn is_behind(states: &AttemptStates, attempt: AttemptId, accepted: bool) -> bool
+    ensures { (log : List Logged) → AreStatesOf states.now log → result ≡ is_behind log attempt accepted }
+{
+    if attempt.number == 0 {
+        return false;
+    }
+    let before = AttemptId {
+        object: attempt.object,
+        number: attempt.number - 1,
+    };
+    was_accepted(states, before) == accepted
+}
+
+fn is_born(entry: &Entry, function: &str) -> bool
+    ensures { result ≡ born_in function.now entry.now }
+{
+    match entry {
+        Entry::Born { birth, .. } => is_born_of(&birth.inner, function),
+        _ => false,
+    }
+}
+
+fn begins(index: &BirthIndex, log: &[Entry], entry: &Entry, function: &str) -> bool
+    ensures { IsIndexOf index.now log.now → result ≡ begins log.now function.now entry.now }
+{
+    match entry {
+        Entry::Begun { attempt, .. } => is_made_by(index, log, attempt.object, function),
+        _ => false,
+    }
+}
+
+/// Whether the attempt is of a task of the function.
+fn is_attempt_of(index: &BirthIndex, log: &[Entry], attempt: AttemptId, function: &str) -> bool
+    ensures { IsIndexOf index.now log.now → result ≡ is_made_by log.now function.now attempt.object }
+{
+    is_made_by(index, log, attempt.object, function)
+}
+
+fn both(first: bool, second: bool) -> bool
+    ensures { result ≡ (first && second) }
+{
+    first && second
+}
+
+/// Whether the attempt is of the function, and comes behind another that was accepted, or wasn't.
+fn is_further(
+    index: &BirthIndex,
+    states: &AttemptStates,
+    log: &[Entry],
+    attempt: AttemptId,
+    function: &str,
+    accepted: bool,
+) -> bool
+    ensures { IsIndexOf index.now log.now → AreStatesOf states.now log.now → result ≡ is_further log.now function.now accepted attempt }
+{
+    let behind = is_behind(states, attempt, accepted);
+    let made = is_attempt_of(index, log, attempt, function);
+    both(behind, made)
+}
+
+fn begins_after(
+    index: &BirthIndex,
+    states: &AttemptStates,
+    log: &[Entry],
+    entry: &Entry,
+    function: &str,
+    accepted: bool,
+) -> bool
+    ensures { IsIndexOf index.now log.now → AreStatesOf states.now log.now → result ≡ begins_after log.now function.now accepted entry.now }
+{
+    match entry {
+        Entry::Begun { attempt, .. } => is_further(
+            index, states, log, *attempt, function, accepted,
+        ),
+        _ => false,
+    }
+}
+
+fn ends(index: &BirthIndex, log: &[Entry], entry: &Entry, function: &str) -> bool
+    ensures { IsIndexOf index.now log.now → result ≡ ends log.now function.now entry.now }
+{
+    match entry {
+        Entry::Ended { attempt, .. } => is_made_by(index, log, attempt.object, function),
+        _ => false,
+    }
+}
+
+fn faults(index: &BirthIndex, log: &[Entry], entry: &Entry, function: &str) -> bool
+    ensures { IsIndexOf index.now log.now → result ≡ faults log.now function.now entry.now }
+{
+    match entry {
+        Entry::Faulted { attempt, .. } => is_made_by(index, log, attempt.object, function),
+        _ => false,
+    }
+}
+
+fn resolves(index: &BirthIndex, log: &[Entry], entry: &Entry, function: &str) -> bool
+    ensures { IsIndexOf index.now log.now → result ≡ resolves log.now function.now entry.now }
+{
+    match entry {
+        Entry::Resolved { object, .. } => is_made_by(index, log, *object, function),
+        _ => false,
+    }
+}
+
+/// Whether the entry counts for the function.
+fn is_counted(
+    index: &BirthIndex,
+    states: &AttemptStates,
+    log: &[Entry],
+    column: Column,
+    function: &str,
+    entry: &Entry,
+) -> bool
+    ensures { IsIndexOf index.now log.now → AreStatesOf states.now log.now → result ≡ is_counted log.now column function.now entry.now }
+{
+    match column {
+        Column::Tasks => is_born(entry, function),
+        Column::Attempts => begins(index, log, entry, function),
+        Column::AfterDeaths => begins_after(index, states, log, entry, function, false),
+        Column::AfterLosses => begins_after(index, states, log, entry, function, true),
+        Column::Results => ends(index, log, entry, function),
+        Column::Faults => faults(index, log, entry, function),
+        Column::GivenUp => resolves(index, log, entry, function),
+    }
+}
+
+/// How many entries count for the function.
+pub fn column_count(
+    index: &BirthIndex,
+    states: &AttemptStates,
+    log: &[Entry],
+    column: Column,
+    function: &str,
+) -> usize
+    ensures { IsIndexOf index.now log.now → AreStatesOf states.now log.now → result ≡ column_count log.now column function.now log.now }
+{
+    let mut count = 0;
+    for entry in log {
+        if is_counted(index, states, log, column, function, entry) {
+            count += 1;
+        }
+    }
+    count
+}

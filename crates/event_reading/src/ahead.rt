@@ -32,7 +32,8 @@ pub fn next_byte<R: Source>(
     reader: &mut R,
     ahead: &mut Vec<u8>,
 ) -> Result<Option<u8>, CommandRefusal>
-    ensures taken { IfOk result (λ byte. IfKnown (left_of ahead.old.items (R.left reader.old)) (left_of ahead.new.items (R.left reader.new)) (IsNextByte byte)) }
+    ensures taken { IfOk result (λ byte. IfKnown (left_of ahead.old.items (R.left reader.old)) (left_of ahead.new.items (R.left reader.new))
+        (IsNextByte byte)) }
     ensures refused { IfErr result (IsReadRefusal (R.has_failed reader.new)) }
 {
     if let Some(byte) = ahead.pop() {
@@ -50,7 +51,8 @@ fn begin<R: Source>(
     reader: &mut R,
     ahead: &mut Vec<u8>,
 ) -> Result<Vec<u8>, CommandRefusal>
-    ensures begun { IfOk result (λ front. IfKnown (left_of ahead.old.items (R.left reader.old)) (left_of ahead.new.items (R.left reader.new)) (IsBegun front.items)) }
+    ensures begun { IfOk result (λ front. IfKnown (left_of ahead.old.items (R.left reader.old)) (left_of ahead.new.items (R.left reader.new))
+        (IsBegun front.items)) }
     ensures refused { IfErr result (IsReadRefusal (R.has_failed reader.new)) }
 {
     let mut front = Vec::new(alloc);
@@ -81,7 +83,8 @@ pub fn is_header_taken<R: Source>(
     reader: &mut R,
     ahead: &mut Vec<u8>,
 ) -> Result<bool, CommandRefusal>
-    ensures taken { IfOk result (λ taken. IfKnown (left_of ahead.old.items (R.left reader.old)) (left_of ahead.new.items (R.left reader.new)) (IsHeaderTaken taken)) }
+    ensures taken { IfOk result (λ taken. IfKnown (left_of ahead.old.items (R.left reader.old)) (left_of ahead.new.items (R.left reader.new))
+        (IsHeaderTaken taken)) }
     ensures refused { IfErr result (IsReadRefusal (R.has_failed reader.new)) }
 {
     let front = begin(alloc, reader, ahead)?;

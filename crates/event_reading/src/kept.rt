@@ -37,7 +37,8 @@ impl<T: Drop> Kept<T> {
 
     /// Keeps what the line of that number says, unless there are events enough.
     pub fn keep(&mut self, said: T, number: usize, is_event: bool) -> Result<(), AllocError>
-        ensures { OnOk result ((all : List T) (numbers : List ℕ) → IsKeptOf all numbers self.old → IsKeptOf (all ++ said ∷ []) (numbers ++ number ∷ []) self.new) }
+        ensures { OnOk result ((all : List T) (numbers : List ℕ) → IsKeptOf all numbers self.old →
+            IsKeptOf (all ++ said ∷ []) (numbers ++ number ∷ []) self.new) }
     {
         if self.events > MOST_EVENTS {
             self.is_whole = false;

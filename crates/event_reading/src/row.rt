@@ -116,7 +116,8 @@ pub fn next_row<R: Source>(
     ahead: &mut Vec<u8>,
     most: usize,
 ) -> Result<Row, CommandRefusal>
-    ensures row { IfOk result (λ row. IfKnown (left_of ahead.old.items (R.left reader.old)) (left_of ahead.new.items (R.left reader.new)) (IsNextRow most row)) }
+    ensures row { IfOk result (λ row. IfKnown (left_of ahead.old.items (R.left reader.old)) (left_of ahead.new.items (R.left reader.new))
+        (IsNextRow most row)) }
     ensures refused { IfErr result (IsReadRefusal (R.has_failed reader.new)) }
 {
     let Some(first) = next_byte(reader, ahead)? else {

@@ -18,6 +18,7 @@ use Rattle.event_files.proofs.Rows.{IsReadTo, Reads, begins, ends, goes_past, go
 use Rattle.event_files.proofs.Readers.{reads_plans}
 use Rattle.raysim_streams.specs.declared.CommandRefusal.{CommandRefusal}
 use Rattle.raysim_streams.specs.declared.CommandRefusal.TheVariants.{At, NoMemory, Stopped, BadLine, WrongJob, Failed}
+use Rattle.raysim_streams.specs.Settled.{Counts}
 use Rattle.raysim_streams.specs.declared.Failure.TheVariants.{Read, Write, Closed}
 use Rattle.event_reading.specs.declared.kept.Kept.{Kept}
 use Rattle.event_reading.specs.declared.next_line.Next.TheVariants as nexts
@@ -218,33 +219,33 @@ pub at_first : (known after : Option (List ℕ)) (ahead : List ℕ) (taken t : B
 at_first known after ahead taken t e f h =
     subst (λ x. IfKnown (left_of [] known) after (IsHeaderTaken x)) f (subst (λ l. IfKnown (left_of l known) after (IsHeaderTaken taken)) e h)
 
-pub behind_refused : (known after : Option (List ℕ)) (failed : Bool) (r : CommandRefusal) → IfKnown (left_of [] known) after (IsHeaderTaken true) →
-    ExplainsBehind after failed r → ExplainsFile known failed r
-behind_refused None after failed (BadLine n) h k = tt
-behind_refused (Some b) None failed (BadLine n) h k = absurd h
-behind_refused (Some b) (Some x) failed (BadLine n) h k =
+pub behind_refused : (known after : Option (List ℕ)) (reads : Counts) (r : CommandRefusal) → IfKnown (left_of [] known) after (IsHeaderTaken true) →
+    ExplainsBehind after reads r → ExplainsFile known reads r
+behind_refused None after reads (BadLine n) h k = tt
+behind_refused (Some b) None reads (BadLine n) h k = absurd h
+behind_refused (Some b) (Some x) reads (BadLine n) h k =
     subst (λ o. IsRefusalBehind o b (errors.BadLine n)) (sym (ap (behind header) h ∙ behind-append header x)) k
-behind_refused known after failed NoMemory h k = tt
-behind_refused known after failed (Failed Read) h k = k
-behind_refused known after failed (Failed Write) h k = k
-behind_refused known after failed (Failed Closed) h k = k
-behind_refused known after failed (At code span) h k = k
-behind_refused known after failed (Stopped code) h k = k
-behind_refused known after failed (WrongJob n) h k = k
+behind_refused known after reads NoMemory h k = tt
+behind_refused known after reads (Failed Read) h k = k
+behind_refused known after reads (Failed Write) h k = k
+behind_refused known after reads (Failed Closed) h k = k
+behind_refused known after reads (At code span) h k = k
+behind_refused known after reads (Stopped code) h k = k
+behind_refused known after reads (WrongJob n) h k = k
 
-pub lines_refused : (known after : Option (List ℕ)) (failed : Bool) (r : CommandRefusal) → IfKnown (left_of [] known) after (IsHeaderTaken false) →
-    ExplainsRows IsLine line_text after failed r → ExplainsFile known failed r
-lines_refused None after failed (BadLine n) h k = tt
-lines_refused (Some b) None failed (BadLine n) h k = absurd h
-lines_refused (Some b) (Some x) failed (BadLine n) h k =
+pub lines_refused : (known after : Option (List ℕ)) (reads : Counts) (r : CommandRefusal) → IfKnown (left_of [] known) after (IsHeaderTaken false) →
+    ExplainsRows IsLine line_text after reads r → ExplainsFile known reads r
+lines_refused None after reads (BadLine n) h k = tt
+lines_refused (Some b) None reads (BadLine n) h k = absurd h
+lines_refused (Some b) (Some x) reads (BadLine n) h k =
     subst (λ o. IsRefusalBehind o b (errors.BadLine n)) (sym h.1) (subst (λ z. IsBadAt IsLine line_text z n) h.0 k)
-lines_refused known after failed NoMemory h k = tt
-lines_refused known after failed (Failed Read) h k = k
-lines_refused known after failed (Failed Write) h k = k
-lines_refused known after failed (Failed Closed) h k = k
-lines_refused known after failed (At code span) h k = k
-lines_refused known after failed (Stopped code) h k = k
-lines_refused known after failed (WrongJob n) h k = k
+lines_refused known after reads NoMemory h k = tt
+lines_refused known after reads (Failed Read) h k = k
+lines_refused known after reads (Failed Write) h k = k
+lines_refused known after reads (Failed Closed) h k = k
+lines_refused known after reads (At code span) h k = k
+lines_refused known after reads (Stopped code) h k = k
+lines_refused known after reads (WrongJob n) h k = k
 
 pub history_kept : (known after : Option (List ℕ)) (k : Kept RecordedEvent) → IfKnown (left_of [] known) after (IsHeaderTaken true) →
     IfSome after (λ x. AreKept IsRecorded recorded_text 2 x k) → IfSome known (λ b. AreEventsKept b (record {

@@ -11,6 +11,7 @@ use Rattle.event_files.specs.declared.line.Line.{Line}
 use Rattle.raysim_streams.specs.declared.CommandRefusal.{CommandRefusal}
 use Rattle.raysim_streams.specs.declared.CommandRefusal.TheVariants.{At, NoMemory, Stopped, BadLine, WrongJob, Failed}
 use Rattle.raysim_streams.specs.declared.Failure.TheVariants.{Read, Write, Closed}
+use Rattle.raysim_streams.specs.Settled.{Counts, FailedIn}
 use Rattle.event_reading.specs.declared.kept.Kept.{Kept}
 use Rattle.event_reading.specs.declared.events.KeptEvents.{KeptEvents}
 use Rattle.event_reading.specs.Kept.{IsKeptOf, IsKeptSo}
@@ -28,26 +29,26 @@ abbrev pub AreLinesKept : List ℕ → Kept Line → Type 0
 AreLinesKept bytes k = AreKept IsLine line_text 1 bytes k
 
 -- why lines are refused: the first that is none of the format, or a read failed
-abbrev pub ExplainsRows : {A : Type 0} → (A → Type 0) → (A → List ℕ) → Option (List ℕ) → Bool → CommandRefusal → Type 0
-ExplainsRows is text bytes failed (BadLine n) = IfSome bytes (λ b. IsBadAt is text b n)
-ExplainsRows is text bytes failed NoMemory = Unit {0}
-ExplainsRows is text bytes failed (Failed Read) = failed ≡ true
-ExplainsRows is text bytes failed (Failed Write) = ⊥
-ExplainsRows is text bytes failed (Failed Closed) = ⊥
-ExplainsRows is text bytes failed (At code span) = ⊥
-ExplainsRows is text bytes failed (Stopped code) = ⊥
-ExplainsRows is text bytes failed (WrongJob n) = ⊥
+abbrev pub ExplainsRows : {A : Type 0} → (A → Type 0) → (A → List ℕ) → Option (List ℕ) → Counts → CommandRefusal → Type 0
+ExplainsRows is text bytes reads (BadLine n) = IfSome bytes (λ b. IsBadAt is text b n)
+ExplainsRows is text bytes reads NoMemory = Unit {0}
+ExplainsRows is text bytes reads (Failed Read) = FailedIn reads
+ExplainsRows is text bytes reads (Failed Write) = ⊥
+ExplainsRows is text bytes reads (Failed Closed) = ⊥
+ExplainsRows is text bytes reads (At code span) = ⊥
+ExplainsRows is text bytes reads (Stopped code) = ⊥
+ExplainsRows is text bytes reads (WrongJob n) = ⊥
 
 -- why what stands behind the first line of format 2 is refused; its lines are counted from 2
-abbrev pub ExplainsBehind : Option (List ℕ) → Bool → CommandRefusal → Type 0
-ExplainsBehind bytes failed (BadLine n) = IfSome bytes (λ b. IsRecordedRefusal b (errors.BadLine n))
-ExplainsBehind bytes failed NoMemory = Unit {0}
-ExplainsBehind bytes failed (Failed Read) = failed ≡ true
-ExplainsBehind bytes failed (Failed Write) = ⊥
-ExplainsBehind bytes failed (Failed Closed) = ⊥
-ExplainsBehind bytes failed (At code span) = ⊥
-ExplainsBehind bytes failed (Stopped code) = ⊥
-ExplainsBehind bytes failed (WrongJob n) = ⊥
+abbrev pub ExplainsBehind : Option (List ℕ) → Counts → CommandRefusal → Type 0
+ExplainsBehind bytes reads (BadLine n) = IfSome bytes (λ b. IsRecordedRefusal b (errors.BadLine n))
+ExplainsBehind bytes reads NoMemory = Unit {0}
+ExplainsBehind bytes reads (Failed Read) = FailedIn reads
+ExplainsBehind bytes reads (Failed Write) = ⊥
+ExplainsBehind bytes reads (Failed Closed) = ⊥
+ExplainsBehind bytes reads (At code span) = ⊥
+ExplainsBehind bytes reads (Stopped code) = ⊥
+ExplainsBehind bytes reads (WrongJob n) = ⊥
 
 -- the numbers of a file's lines that say something; the first line of format 2 tells the format alone
 abbrev pub said_numbers : EventFile → List ℕ → List ℕ
@@ -70,12 +71,12 @@ pub record AreEventsKept (bytes : List ℕ) (k : KeptEvents) : Type 0 where
   pub are_kept : IsKeptFile all numbers k.says k.numbers k.is_whole k.events
 
 -- why an event file is refused
-abbrev pub ExplainsFile : Option (List ℕ) → Bool → CommandRefusal → Type 0
-ExplainsFile bytes failed (BadLine n) = IfSome bytes (λ b. IsFileRefusal b (errors.BadLine n))
-ExplainsFile bytes failed NoMemory = Unit {0}
-ExplainsFile bytes failed (Failed Read) = failed ≡ true
-ExplainsFile bytes failed (Failed Write) = ⊥
-ExplainsFile bytes failed (Failed Closed) = ⊥
-ExplainsFile bytes failed (At code span) = ⊥
-ExplainsFile bytes failed (Stopped code) = ⊥
-ExplainsFile bytes failed (WrongJob n) = ⊥
+abbrev pub ExplainsFile : Option (List ℕ) → Counts → CommandRefusal → Type 0
+ExplainsFile bytes reads (BadLine n) = IfSome bytes (λ b. IsFileRefusal b (errors.BadLine n))
+ExplainsFile bytes reads NoMemory = Unit {0}
+ExplainsFile bytes reads (Failed Read) = FailedIn reads
+ExplainsFile bytes reads (Failed Write) = ⊥
+ExplainsFile bytes reads (Failed Closed) = ⊥
+ExplainsFile bytes reads (At code span) = ⊥
+ExplainsFile bytes reads (Stopped code) = ⊥
+ExplainsFile bytes reads (WrongJob n) = ⊥

@@ -6,6 +6,7 @@ use Rattle.event_files.specs.Recorded.{header}
 use Rattle.raysim_streams.specs.declared.CommandRefusal.{CommandRefusal}
 use Rattle.raysim_streams.specs.declared.CommandRefusal.TheVariants.{At, NoMemory, Stopped, BadLine, WrongJob, Failed}
 use Rattle.raysim_streams.specs.declared.Failure.TheVariants.{Read, Write, Closed}
+use Rattle.raysim_streams.specs.Settled.{Counts, FailedIn}
 use Rattle.event_reading.specs.declared.row.LineEnd.{LineEnd}
 use Rattle.event_reading.specs.declared.row.LineEnd.TheVariants as ends
 
@@ -51,12 +52,12 @@ pub record IsRestOfLine (end : LineEnd) (taken b r : List ℕ) : Type 0 where
   pub in_a_line : has 10 taken ≡ false
 
 -- why there is no byte
-abbrev pub IsReadRefusal : Bool → CommandRefusal → Type 0
-IsReadRefusal failed NoMemory = Unit {0}
-IsReadRefusal failed (Failed Read) = failed ≡ true
-IsReadRefusal failed (Failed Write) = ⊥
-IsReadRefusal failed (Failed Closed) = ⊥
-IsReadRefusal failed (At code span) = ⊥
-IsReadRefusal failed (Stopped code) = ⊥
-IsReadRefusal failed (BadLine n) = ⊥
-IsReadRefusal failed (WrongJob n) = ⊥
+abbrev pub IsReadRefusal : Counts → CommandRefusal → Type 0
+IsReadRefusal reads NoMemory = Unit {0}
+IsReadRefusal reads (Failed Read) = FailedIn reads
+IsReadRefusal reads (Failed Write) = ⊥
+IsReadRefusal reads (Failed Closed) = ⊥
+IsReadRefusal reads (At code span) = ⊥
+IsReadRefusal reads (Stopped code) = ⊥
+IsReadRefusal reads (BadLine n) = ⊥
+IsReadRefusal reads (WrongJob n) = ⊥

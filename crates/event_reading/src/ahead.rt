@@ -14,7 +14,8 @@ fn read_ahead<R: Source>(reader: &mut R, ahead: &mut Vec<u8>) -> Result<bool, Co
     requires { ahead.old.items ≡ [] }
     ensures ahead { IfOk result (λ more. IfKnown (R.left reader.old) (left_of ahead.new.items (R.left reader.new)) (IsReadAhead more)) }
     ensures some { IfOk result (λ more. more ≡ true → 0 < vec_len ahead.new) }
-    ensures refused { IfErr result (IsReadRefusal (R.has_failed reader.new)) }
+    ensures refused { IfErr result (IsReadRefusal (R.failures reader.old, R.failures reader.new)) }
+    ensures unfailed { OnOk result (R.failures reader.new ≡ R.failures reader.old) }
 {
     let mut chunk = [0u8; 4096];
     let n = reader.read_some(&mut chunk)?;
@@ -34,7 +35,8 @@ pub fn next_byte<R: Source>(
 ) -> Result<Option<u8>, CommandRefusal>
     ensures taken { IfOk result (λ byte. IfKnown (left_of ahead.old.items (R.left reader.old)) (left_of ahead.new.items (R.left reader.new))
         (IsNextByte byte)) }
-    ensures refused { IfErr result (IsReadRefusal (R.has_failed reader.new)) }
+    ensures refused { IfErr result (IsReadRefusal (R.failures reader.old, R.failures reader.new)) }
+    ensures unfailed { OnOk result (R.failures reader.new ≡ R.failures reader.old) }
 {
     if let Some(byte) = ahead.pop() {
         return Ok(Some(byte));
@@ -53,7 +55,8 @@ fn begin<R: Source>(
 ) -> Result<Vec<u8>, CommandRefusal>
     ensures begun { IfOk result (λ front. IfKnown (left_of ahead.old.items (R.left reader.old)) (left_of ahead.new.items (R.left reader.new))
         (IsBegun front.items)) }
-    ensures refused { IfErr result (IsReadRefusal (R.has_failed reader.new)) }
+    ensures refused { IfErr result (IsReadRefusal (R.failures reader.old, R.failures reader.new)) }
+    ensures unfailed { OnOk result (R.failures reader.new ≡ R.failures reader.old) }
 {
     let mut front = Vec::new(alloc);
     while front.len() < HEADER.len() {
@@ -85,7 +88,8 @@ pub fn is_header_taken<R: Source>(
 ) -> Result<bool, CommandRefusal>
     ensures taken { IfOk result (λ taken. IfKnown (left_of ahead.old.items (R.left reader.old)) (left_of ahead.new.items (R.left reader.new))
         (IsHeaderTaken taken)) }
-    ensures refused { IfErr result (IsReadRefusal (R.has_failed reader.new)) }
+    ensures refused { IfErr result (IsReadRefusal (R.failures reader.old, R.failures reader.new)) }
+    ensures unfailed { OnOk result (R.failures reader.new ≡ R.failures reader.old) }
 {
     let front = begin(alloc, reader, ahead)?;
     if front.as_slice() == HEADER.as_slice() {

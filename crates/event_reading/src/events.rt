@@ -1,6 +1,6 @@
 // Event files of both formats.
 
-ghost use Rattle.std.specs.Prelude.{◌≡◌, IfOk, IfErr, IfSome};
+ghost use Rattle.std.specs.Prelude.{◌≡◌, IfOk, OnOk, IfErr, IfSome};
 ghost use Rattle.event_reading.specs.Files.{AreEventsKept, ExplainsFile};
 
 use crate::ahead::is_header_taken;
@@ -32,7 +32,8 @@ pub fn read_event_file<R: Source>(
     reader: &mut R,
 ) -> Result<KeptEvents, CommandRefusal>
     ensures read { IfOk result (λ kept. IfSome (R.left reader.old) (λ bytes. AreEventsKept bytes kept)) }
-    ensures refused { IfErr result (ExplainsFile (R.left reader.old) (R.has_failed reader.new)) }
+    ensures refused { IfErr result (ExplainsFile (R.left reader.old) (R.failures reader.old, R.failures reader.new)) }
+    ensures unfailed { OnOk result (R.failures reader.new ≡ R.failures reader.old) }
 {
     let mut ahead = Vec::new(alloc);
     if is_header_taken(alloc, reader, &mut ahead)? {

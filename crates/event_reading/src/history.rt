@@ -1,6 +1,6 @@
 // Files of format 2.
 
-ghost use Rattle.std.specs.Prelude.{◌≡◌, IfOk, IfErr, IfSome};
+ghost use Rattle.std.specs.Prelude.{◌≡◌, IfOk, OnOk, IfErr, IfSome};
 ghost use Rattle.event_files.specs.Recorded.{IsRecorded, recorded_text};
 ghost use Rattle.event_reading.specs.Known.{left_of};
 ghost use Rattle.event_reading.specs.Files.{AreKept, ExplainsBehind};
@@ -18,7 +18,8 @@ pub fn events_left<R: Source>(
     ahead: &mut Vec<u8>,
 ) -> Result<Kept<RecordedEvent>, CommandRefusal>
     ensures read { IfOk result (λ kept. IfSome (left_of ahead.old.items (R.left reader.old)) (λ bytes. AreKept IsRecorded recorded_text 2 bytes kept)) }
-    ensures refused { IfErr result (ExplainsBehind (left_of ahead.old.items (R.left reader.old)) (R.has_failed reader.new)) }
+    ensures refused { IfErr result (ExplainsBehind (left_of ahead.old.items (R.left reader.old)) (R.failures reader.old, R.failures reader.new)) }
+    ensures unfailed { OnOk result (R.failures reader.new ≡ R.failures reader.old) }
 {
     let mut kept = Kept::new(alloc);
     for number in 2..u64::MAX {

@@ -1,6 +1,6 @@
 // Files of format 1.
 
-ghost use Rattle.std.specs.Prelude.{◌≡◌, IfOk, IfErr, IfSome};
+ghost use Rattle.std.specs.Prelude.{◌≡◌, IfOk, OnOk, IfErr, IfSome};
 ghost use Rattle.event_files.specs.Lines.{IsLine, line_text};
 ghost use Rattle.event_reading.specs.Known.{IfKnown, left_of};
 ghost use Rattle.event_reading.specs.Files.{AreLinesKept, ExplainsRows};
@@ -22,7 +22,8 @@ pub fn lines_left<R: Source>(
     ahead: &mut Vec<u8>,
 ) -> Result<Kept<Line>, CommandRefusal>
     ensures read { IfOk result (λ kept. IfSome (left_of ahead.old.items (R.left reader.old)) (λ bytes. AreLinesKept bytes kept)) }
-    ensures refused { IfErr result (ExplainsRows IsLine line_text (left_of ahead.old.items (R.left reader.old)) (R.has_failed reader.new)) }
+    ensures refused { IfErr result (ExplainsRows IsLine line_text (left_of ahead.old.items (R.left reader.old)) (R.failures reader.old, R.failures reader.new)) }
+    ensures unfailed { OnOk result (R.failures reader.new ≡ R.failures reader.old) }
 {
     let mut kept = Kept::new(alloc);
     let mut room = MOST_SETTLED;
@@ -46,7 +47,8 @@ pub fn lines_left<R: Source>(
 /// which is also answered where settle lines have more than `MOST_SETTLED` bytes; or `Failed` where a read failed.
 pub fn read_lines<R: Source>(alloc: Global, reader: &mut R) -> Result<Kept<Line>, CommandRefusal>
     ensures read { IfOk result (λ kept. IfSome (R.left reader.old) (λ bytes. AreLinesKept bytes kept)) }
-    ensures refused { IfErr result (ExplainsRows IsLine line_text (R.left reader.old) (R.has_failed reader.new)) }
+    ensures refused { IfErr result (ExplainsRows IsLine line_text (R.left reader.old) (R.failures reader.old, R.failures reader.new)) }
+    ensures unfailed { OnOk result (R.failures reader.new ≡ R.failures reader.old) }
 {
     let mut ahead = Vec::new(alloc);
     lines_left(alloc, reader, &mut ahead)

@@ -1,6 +1,6 @@
 // What the next line of each format says.
 
-ghost use Rattle.std.specs.Prelude.{◌≡◌, ℕ, List, IfOk, IfErr};
+ghost use Rattle.std.specs.Prelude.{◌≡◌, ℕ, List, IfOk, OnOk, IfErr};
 ghost use Rattle.event_files.specs.Lines.{IsLine, line_text};
 ghost use Rattle.event_files.specs.Plans.{IsPlanLine, plan_line_in, plan_line_text};
 ghost use Rattle.event_files.specs.Reading.{line_in};
@@ -74,7 +74,8 @@ pub fn next_plan_line<R: Source>(
 ) -> Result<Next<PlanLine>, CommandRefusal>
     ensures next { IfOk result (λ next. IfKnown (left_of ahead.old.items (R.left reader.old)) (left_of ahead.new.items (R.left reader.new))
         (IsNextLine IsPlanLine plan_line_text plan_line_in next)) }
-    ensures refused { IfErr result (IsReadRefusal (R.has_failed reader.new)) }
+    ensures refused { IfErr result (IsReadRefusal (R.failures reader.old, R.failures reader.new)) }
+    ensures unfailed { OnOk result (R.failures reader.new ≡ R.failures reader.old) }
 {
     match next_row(alloc, reader, ahead, LONGEST)? {
         Row::End => Ok(Next::End),
@@ -93,7 +94,8 @@ pub fn next_recorded<R: Source>(
 ) -> Result<Next<RecordedEvent>, CommandRefusal>
     ensures next { IfOk result (λ next. IfKnown (left_of ahead.old.items (R.left reader.old)) (left_of ahead.new.items (R.left reader.new))
         (IsNextLine IsRecorded recorded_text recorded_in next)) }
-    ensures refused { IfErr result (IsReadRefusal (R.has_failed reader.new)) }
+    ensures refused { IfErr result (IsReadRefusal (R.failures reader.old, R.failures reader.new)) }
+    ensures unfailed { OnOk result (R.failures reader.new ≡ R.failures reader.old) }
 {
     match next_row(alloc, reader, ahead, LONGEST)? {
         Row::End => Ok(Next::End),
@@ -114,7 +116,8 @@ fn long_line<R: Source>(
 ) -> Result<Next<Line>, CommandRefusal>
     ensures next { IfOk result (λ next. IfKnown (left_of ahead.old.items (R.left reader.old)) (left_of ahead.new.items (R.left reader.new))
         (λ b r. (whole : List ℕ) → IsCut 70 begun.items whole b → IsNextLine IsLine line_text line_in next whole r)) }
-    ensures refused { IfErr result (IsReadRefusal (R.has_failed reader.new)) }
+    ensures refused { IfErr result (IsReadRefusal (R.failures reader.old, R.failures reader.new)) }
+    ensures unfailed { OnOk result (R.failures reader.new ≡ R.failures reader.old) }
 {
     let Some(_workers) = behind(b"settle but ", begun.as_slice()) else {
         return Ok(Next::Bad);
@@ -139,7 +142,8 @@ pub fn next_line<R: Source>(
 ) -> Result<Next<Line>, CommandRefusal>
     ensures next { IfOk result (λ next. IfKnown (left_of ahead.old.items (R.left reader.old)) (left_of ahead.new.items (R.left reader.new))
         (IsNextLine IsLine line_text line_in next)) }
-    ensures refused { IfErr result (IsReadRefusal (R.has_failed reader.new)) }
+    ensures refused { IfErr result (IsReadRefusal (R.failures reader.old, R.failures reader.new)) }
+    ensures unfailed { OnOk result (R.failures reader.new ≡ R.failures reader.old) }
 {
     match next_row(alloc, reader, ahead, LONGEST)? {
         Row::End => Ok(Next::End),

@@ -1,6 +1,6 @@
 // Plans.
 
-ghost use Rattle.std.specs.Prelude.{◌≡◌, IfOk, IfErr, IfSome};
+ghost use Rattle.std.specs.Prelude.{◌≡◌, IfOk, OnOk, IfErr, IfSome};
 ghost use Rattle.event_files.specs.Files.{IsFile};
 ghost use Rattle.event_files.specs.Plans.{IsPlanLine, plan_line_text};
 ghost use Rattle.event_reading.specs.Files.{ExplainsRows};
@@ -22,7 +22,8 @@ fn plan_left<R: Source>(
     ahead: &mut Vec<u8>,
 ) -> Result<RunPlan, CommandRefusal>
     ensures read { IfOk result (λ plan. IfSome (left_of ahead.old.items (R.left reader.old)) (λ bytes. IsFile IsPlanLine plan_line_text bytes plan.lines)) }
-    ensures refused { IfErr result (ExplainsRows IsPlanLine plan_line_text (left_of ahead.old.items (R.left reader.old)) (R.has_failed reader.new)) }
+    ensures refused { IfErr result (ExplainsRows IsPlanLine plan_line_text (left_of ahead.old.items (R.left reader.old)) (R.failures reader.old, R.failures reader.new)) }
+    ensures unfailed { OnOk result (R.failures reader.new ≡ R.failures reader.old) }
 {
     let mut lines = Seq::new(alloc);
     for number in 1..u64::MAX {
@@ -47,7 +48,8 @@ fn plan_left<R: Source>(
 /// which is also answered where there are more than `MOST_PLANNED` lines that say something; or `Failed` where a read failed.
 pub fn read_plan_file<R: Source>(alloc: Global, reader: &mut R) -> Result<RunPlan, CommandRefusal>
     ensures read { IfOk result (λ plan. IfSome (R.left reader.old) (λ bytes. IsFile IsPlanLine plan_line_text bytes plan.lines)) }
-    ensures refused { IfErr result (ExplainsRows IsPlanLine plan_line_text (R.left reader.old) (R.has_failed reader.new)) }
+    ensures refused { IfErr result (ExplainsRows IsPlanLine plan_line_text (R.left reader.old) (R.failures reader.old, R.failures reader.new)) }
+    ensures unfailed { OnOk result (R.failures reader.new ≡ R.failures reader.old) }
 {
     let mut ahead = Vec::new(alloc);
     plan_left(alloc, reader, &mut ahead)

@@ -1,6 +1,6 @@
 // Lines, as far as they are kept.
 
-ghost use Rattle.std.specs.Prelude.{◌≡◌, ◌≢◌, ◌∷◌, List, ℕ, IfOk, IfErr};
+ghost use Rattle.std.specs.Prelude.{◌≡◌, ◌≢◌, ◌∷◌, List, ℕ, IfOk, OnOk, IfErr};
 ghost use Rattle.event_reading.specs.Known.{IfKnown, IsReadRefusal, IsRestOfLine, left_of};
 ghost use Rattle.event_reading.specs.Rows.{IsLineRead, IsNextRow};
 
@@ -43,7 +43,8 @@ pub fn read_on<R: Source>(
 ) -> Result<LineEnd, CommandRefusal>
     ensures read { IfOk result (λ end. IfKnown (left_of ahead.old.items (R.left reader.old)) (left_of ahead.new.items (R.left reader.new))
         (IsLineRead most line.old.items line.new.items end)) }
-    ensures refused { IfErr result (IsReadRefusal (R.has_failed reader.new)) }
+    ensures refused { IfErr result (IsReadRefusal (R.failures reader.old, R.failures reader.new)) }
+    ensures unfailed { OnOk result (R.failures reader.new ≡ R.failures reader.old) }
 {
     while line.len() <= most {
         let Some(byte) = next_byte(reader, ahead)? else {
@@ -61,7 +62,8 @@ pub fn read_on<R: Source>(
 fn pass_over<R: Source>(reader: &mut R, ahead: &mut Vec<u8>) -> Result<LineEnd, CommandRefusal>
     ensures passed { IfOk result (λ end. IfKnown (left_of ahead.old.items (R.left reader.old)) (left_of ahead.new.items (R.left reader.new))
         (λ b r. (taken : List ℕ) × IsRestOfLine end taken b r)) }
-    ensures refused { IfErr result (IsReadRefusal (R.has_failed reader.new)) }
+    ensures refused { IfErr result (IsReadRefusal (R.failures reader.old, R.failures reader.new)) }
+    ensures unfailed { OnOk result (R.failures reader.new ≡ R.failures reader.old) }
 {
     for _count in 0..u64::MAX {
         let Some(byte) = next_byte(reader, ahead)? else {
@@ -78,7 +80,8 @@ fn pass_over<R: Source>(reader: &mut R, ahead: &mut Vec<u8>) -> Result<LineEnd, 
 fn passed_row<R: Source>(reader: &mut R, ahead: &mut Vec<u8>) -> Result<Row, CommandRefusal>
     ensures passed { (most : ℕ) → IfOk result (λ row. IfKnown (left_of ahead.old.items (R.left reader.old)) (left_of ahead.new.items (R.left reader.new))
         (λ b r. IsNextRow most row (35 ∷ b) r)) }
-    ensures refused { IfErr result (IsReadRefusal (R.has_failed reader.new)) }
+    ensures refused { IfErr result (IsReadRefusal (R.failures reader.old, R.failures reader.new)) }
+    ensures unfailed { OnOk result (R.failures reader.new ≡ R.failures reader.old) }
 {
     match pass_over(reader, ahead)? {
         LineEnd::Feed => Ok(Row::Passed),
@@ -98,7 +101,8 @@ fn said_row<R: Source>(
     requires { (first ≢ 10) × (first ≢ 35) }
     ensures said { IfOk result (λ row. IfKnown (left_of ahead.old.items (R.left reader.old)) (left_of ahead.new.items (R.left reader.new))
         (λ b r. IsNextRow most row (first ∷ b) r)) }
-    ensures refused { IfErr result (IsReadRefusal (R.has_failed reader.new)) }
+    ensures refused { IfErr result (IsReadRefusal (R.failures reader.old, R.failures reader.new)) }
+    ensures unfailed { OnOk result (R.failures reader.new ≡ R.failures reader.old) }
 {
     let mut line = Vec::new(alloc);
     line.push(first)?;
@@ -118,7 +122,8 @@ pub fn next_row<R: Source>(
 ) -> Result<Row, CommandRefusal>
     ensures row { IfOk result (λ row. IfKnown (left_of ahead.old.items (R.left reader.old)) (left_of ahead.new.items (R.left reader.new))
         (IsNextRow most row)) }
-    ensures refused { IfErr result (IsReadRefusal (R.has_failed reader.new)) }
+    ensures refused { IfErr result (IsReadRefusal (R.failures reader.old, R.failures reader.new)) }
+    ensures unfailed { OnOk result (R.failures reader.new ≡ R.failures reader.old) }
 {
     let Some(first) = next_byte(reader, ahead)? else {
         return Ok(Row::End);

@@ -5,4 +5,4 @@ mod replayed;
 mod trying;
 
 pub use replayed::{Replayed, replay_lines};
-pub use trying::try_lists;
+pub use trying::{TrialWatcher, try_lists};

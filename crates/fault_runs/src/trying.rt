@@ -8,9 +8,20 @@ use crate::replayed::replay_lines;
 use fault_lists::{FaultList, RunEnd, Tried, attempts_in, end_of, event_lines, event_list};
 use log_entries::{Entry, Event};
 use protocol_board::Cluster;
+use run_watch::Unwatched;
 use segment::{Compiled, NoMemory, ScriptName};
 use sequence::Seq;
 use std::alloc::Global;
+
+/// What looks on while lists are tried.
+pub trait TrialWatcher {
+    /// So many of so many lists were tried.
+    fn tried(&mut self, count: usize, all: usize);
+}
+
+impl TrialWatcher for Unwatched {
+    fn tried(&mut self, _count: usize, _all: usize) {}
+}
 
 /// How a run ended, by its log and whether it was stopped.
 fn end_or_stop(is_stopped: bool, log: &[Entry]) -> RunEnd
@@ -50,13 +61,14 @@ fn try_list<S: ScriptName>(
 }
 
 /// Replays each list of the history's events, on a run of the script that begins on the cluster, one after the other, and answers of each how main ended
-/// and how many attempts there were.
-pub fn try_lists<S: ScriptName>(
+/// and how many attempts there were. The watcher is told behind each list, and changes nothing.
+pub fn try_lists<S: ScriptName, L: TrialWatcher>(
     alloc: Global,
     script: &Compiled,
     cluster: Cluster,
     events: &[Event],
     lists: &[FaultList],
+    watcher: &mut L,
 ) -> Result<Seq<Tried>, NoMemory>
     requires { script_of script.now ≡ S.script }
     ensures { IfOk result (AreTried S.script cluster events.now lists.now) }
@@ -67,6 +79,7 @@ pub fn try_lists<S: ScriptName>(
         let Ok(()) = all.push(tried) else {
             return Err(NoMemory);
         };
+        watcher.tried(all.len(), lists.len());
     }
     Ok(all)
 }

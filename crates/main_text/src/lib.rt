@@ -8,4 +8,6 @@ mod parties;
 mod text;
 mod traps;
 
+pub use links::write_links;
+pub use parties::{write_node, write_worker, write_workers};
 pub use text::main_text;

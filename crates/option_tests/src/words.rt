@@ -175,11 +175,15 @@ fn reads_what_is_to_be_told(rt: HostRuntime) -> Result<(), Fail> {
     let Request::Why(why) = options(alloc, w.as_slice())? else {
         return Err(Fail::from("a why"));
     };
-    assert_eq!(rt; why.events, "events");
+    assert_eq!(rt; why.events, Some("events"));
     assert_eq!(rt; why.object, Some("o1.1"));
     assert_eq!(rt; why.slots, 4);
     let w = words(alloc, &["raysim", "why", "sq.ray"])?;
-    assert!(rt; options(alloc, w.as_slice()).is_err());
+    let Request::Why(why) = options(alloc, w.as_slice())? else {
+        return Err(Fail::from("a why"));
+    };
+    assert_eq!(rt; why.events, None);
+    assert_eq!(rt; why.object, None);
     let w = words(
         alloc,
         &[
@@ -190,6 +194,8 @@ fn reads_what_is_to_be_told(rt: HostRuntime) -> Result<(), Fail> {
             "--timeline",
             "t",
             "--lineage=l",
+            "--page",
+            "p",
         ],
     )?;
     let Request::Sim(sim) = options(alloc, w.as_slice())? else {
@@ -197,6 +203,12 @@ fn reads_what_is_to_be_told(rt: HostRuntime) -> Result<(), Fail> {
     };
     assert_eq!(rt; sim.timeline, Some("t"));
     assert_eq!(rt; sim.lineage, Some("l"));
+    assert_eq!(rt; sim.page, Some("p"));
+    let w = words(alloc, &["raysim", "log", "a.ray", "--page=p"])?;
+    let Request::Log(log) = options(alloc, w.as_slice())? else {
+        return Err(Fail::from("a log with its page"));
+    };
+    assert_eq!(rt; log.page, Some("p"));
     Ok(())
 }
 
@@ -318,5 +330,29 @@ fn reads_a_summary(rt: HostRuntime) -> Result<(), Fail> {
             "error: the argument '--summary' cannot be used with '--books'"
         )
     );
+    Ok(())
+}
+
+#[test]
+fn reads_what_is_told_on_the_way(rt: HostRuntime) -> Result<(), Fail> {
+    let alloc = rt.alloc();
+    let w = words(
+        alloc,
+        &["raysim", "run", "sq.ray", "--progress", "--stream"],
+    )?;
+    let Request::Run(run) = options(alloc, w.as_slice())? else {
+        return Err(Fail::from("a run"));
+    };
+    assert!(rt; run.progress && run.stream && !run.on_threads);
+    let w = words(alloc, &["raysim", "run", "sq.ray"])?;
+    let Request::Run(run) = options(alloc, w.as_slice())? else {
+        return Err(Fail::from("a run"));
+    };
+    assert!(rt; !run.progress && !run.stream);
+    let w = words(alloc, &["raysim", "faults", "sq.ray", "--progress"])?;
+    let Request::Faults(faults) = options(alloc, w.as_slice())? else {
+        return Err(Fail::from("faults"));
+    };
+    assert!(rt; faults.progress);
     Ok(())
 }

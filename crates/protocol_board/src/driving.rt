@@ -15,6 +15,7 @@ use crate::unfinished::Unfinished;
 use kept_frames::Frames;
 use log_entries::{Event, Refusal};
 use protocol_core::Reply;
+use run_watch::Watcher;
 use segment::{Compiled, Done, Job, ScriptName};
 use sequence::Seq;
 use std::alloc::Global;
@@ -114,15 +115,16 @@ fn take_turn<S: ScriptName>(
 
 /// Drives the run until the settle rule names no event: turn by turn the event that it names is applied, and where that gives out a job,
 /// the job is run, and what was done on it is committed in the same turn. An attempt that waits goes on from its frame. Behind each event,
-/// how many messages were sent so far is put at the end of `sent`.
+/// how many messages were sent so far is put at the end of `sent`. The watcher looks on behind each turn, and changes nothing.
 ///
 /// It stops where an event is refused, where memory runs out while a job runs (`NoMemory`), and with `TooLong` after 100,000 turns. The
 /// log then has what was applied.
-pub fn drive<S: ScriptName>(
+pub fn drive<S: ScriptName, W: Watcher>(
     alloc: Global,
     board: &mut Board<S>,
     sent: &mut Seq<usize>,
     script: &Compiled,
+    watcher: &mut W,
 ) -> Result<(), Unfinished>
     requires { script_of script.now ≡ S.script }
     ensures ends { OnOk result (EndsSo S.script (course_of board.old sent.old) (course_of board.new sent.new)) }
@@ -136,6 +138,7 @@ pub fn drive<S: ScriptName>(
             return Ok(());
         };
         take_turn(alloc, board, sent, script, &mut frames, event)?;
+        watcher.look(board.log());
     }
     match board.next(&nobody) {
         Some(_) => Err(Unfinished::TooLong),

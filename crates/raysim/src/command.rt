@@ -3,6 +3,7 @@
 ghost use Rattle.raysim_options.specs.Reads.{AreThreads, IsCluster};
 
 use crate::faults::over_each_place;
+use crate::life::{Asked, ErrorsGo};
 use crate::outputs::{Paths, are_fit};
 use crate::replays::{Replayed, migrate_events, over_events, state_at};
 use crate::scripts::{Command, over_script};
@@ -10,7 +11,7 @@ use crate::threads::over_threads;
 use crate::told::{explain, fault, no_memory};
 use crate::views::Views;
 use clap::error::ErrorKind;
-use ids::ObjectId;
+use ids::{NodeId, ObjectId, WorkerId, read_number};
 use raysim_commands::{Cluster, Contents, Engine, Form};
 use raysim_options::{
     ExportOptions, FaultsOptions, LogOptions, MigrateOptions, Request, RunOptions, ScriptOptions,
@@ -25,6 +26,7 @@ use std::thread::Threads;
 pub fn answer<R: Files + Print + Eprint + AllocGlobal + Threads + Wait + Clock + Sync>(
     rt: &R,
     words: &[String],
+    errors: ErrorsGo,
 ) -> ExitCode {
     let request = match options(rt.alloc(), words) {
         Ok(request) => request,
@@ -38,10 +40,10 @@ pub fn answer<R: Files + Print + Eprint + AllocGlobal + Threads + Wait + Clock +
         Request::Check(options) => over_script(rt, &Command::Check, &options, &Views::none()),
         Request::Serial(options) => over_script(rt, &Command::Serial, &options, &Views::none()),
         Request::Sim(options) => over_sim(rt, &options),
-        Request::Run(options) => over_run(rt, &options),
-        Request::Log(options) => over_log(rt, &options),
-        Request::Why(options) => over_why(rt, &options),
-        Request::Faults(options) => over_faults(rt, &options),
+        Request::Run(options) => over_run(rt, &options, errors),
+        Request::Log(options) => over_log(rt, &options, errors),
+        Request::Why(options) => over_why(rt, &options, errors),
+        Request::Faults(options) => over_faults(rt, &options, errors),
         Request::Migrate(options) => over_migrate(rt, &options),
         Request::Explain(what) => explain(rt, what),
         Request::Export(options) => over_export(rt, &options),
@@ -49,7 +51,7 @@ pub fn answer<R: Files + Print + Eprint + AllocGlobal + Threads + Wait + Clock +
     }
 }
 
-fn over_export<R: Files + Print + Eprint + AllocGlobal>(
+fn over_export<R: Files + Print + Eprint + AllocGlobal + Clock>(
     rt: &R,
     options: &ExportOptions<'_>,
 ) -> ExitCode {
@@ -117,6 +119,7 @@ fn log_form(options: &LogOptions<'_>) -> Form {
 fn over_run<R: Files + Print + Eprint + AllocGlobal + Threads + Wait + Clock + Sync>(
     rt: &R,
     options: &RunOptions<'_>,
+    errors: ErrorsGo,
 ) -> ExitCode
     requires cluster { IsCluster options.now.nodes options.now.slots }
     requires threads { AreThreads options.now.threads }
@@ -128,25 +131,32 @@ fn over_run<R: Files + Print + Eprint + AllocGlobal + Threads + Wait + Clock + S
         history: options.history,
         timeline: options.timeline,
         lineage: options.lineage,
+        page: options.page,
     };
     if !are_fit(rt, &paths) {
         return ExitCode::FAILURE;
     }
     let cluster = cluster_of(options.nodes, options.slots);
     let form = run_form(options);
+    let asked = Asked::of(errors, options.progress, options.stream);
     let views = Views {
         timeline: options.timeline,
         lineage: options.lineage,
+        page: options.page,
         contents: contents_of(options.full),
+        so_far: options.so_far,
     };
+    if options.on_threads && options.so_far {
+        return fault(rt, "--so-far", "is for no run on threads");
+    }
     if options.on_threads {
-        return over_threads(rt, options, cluster, form, &views);
+        return over_threads(rt, options, cluster, form, &views, asked);
     }
     let script = ScriptOptions {
         script: options.script,
         explain: options.explain,
     };
-    over_script(rt, &Command::Run(cluster, form), &script, &views)
+    over_script(rt, &Command::Run(cluster, form, asked), &script, &views)
 }
 
 fn over_sim<R: Files + Print + Eprint + AllocGlobal>(rt: &R, options: &SimOptions<'_>) -> ExitCode
@@ -159,6 +169,7 @@ fn over_sim<R: Files + Print + Eprint + AllocGlobal>(rt: &R, options: &SimOption
         history: None,
         timeline: options.timeline,
         lineage: options.lineage,
+        page: options.page,
     };
     if !are_fit(rt, &paths) {
         return ExitCode::FAILURE;
@@ -172,19 +183,23 @@ fn over_sim<R: Files + Print + Eprint + AllocGlobal>(rt: &R, options: &SimOption
     let views = Views {
         timeline: options.timeline,
         lineage: options.lineage,
+        page: options.page,
         contents: contents_of(options.full),
+        so_far: options.so_far,
     };
     over_events(rt, &replayed, sim_form(options), &views)
 }
 
-fn over_faults<R: Files + Print + Eprint + AllocGlobal>(
+fn over_faults<R: Files + Print + Eprint + AllocGlobal + Clock>(
     rt: &R,
     options: &FaultsOptions<'_>,
+    errors: ErrorsGo,
 ) -> ExitCode
     requires { IsCluster options.now.nodes options.now.slots }
 {
     let cluster = cluster_of(options.nodes, options.slots);
-    over_each_place(rt, options, cluster)
+    let asked = Asked::of(errors, options.progress, false);
+    over_each_place(rt, options, cluster, asked)
 }
 
 fn over_migrate<R: Files + Print + Eprint + AllocGlobal>(
@@ -202,11 +217,34 @@ fn over_migrate<R: Files + Print + Eprint + AllocGlobal>(
     migrate_events(rt, &replayed)
 }
 
-fn over_log<R: Files + Print + Eprint + AllocGlobal>(rt: &R, options: &LogOptions<'_>) -> ExitCode
+fn over_log<R: Files + Print + Eprint + AllocGlobal + Clock>(
+    rt: &R,
+    options: &LogOptions<'_>,
+    errors: ErrorsGo,
+) -> ExitCode
     requires { IsCluster options.now.nodes options.now.slots }
 {
+    let paths = Paths {
+        script: options.script,
+        beside: options.events,
+        beside_name: "the list of events",
+        history: None,
+        timeline: None,
+        lineage: None,
+        page: options.page,
+    };
+    if !are_fit(rt, &paths) {
+        return ExitCode::FAILURE;
+    }
     let cluster = cluster_of(options.nodes, options.slots);
     let form = log_form(options);
+    let views = Views {
+        timeline: None,
+        lineage: None,
+        page: options.page,
+        contents: contents_of(options.full),
+        so_far: false,
+    };
     if let Some(events) = options.events {
         let replayed = Replayed {
             script: options.script,
@@ -214,34 +252,102 @@ fn over_log<R: Files + Print + Eprint + AllocGlobal>(rt: &R, options: &LogOption
             cluster,
             explain: options.explain,
         };
-        return over_events(rt, &replayed, form, &Views::none());
+        return over_events(rt, &replayed, form, &views);
     }
     let script = ScriptOptions {
         script: options.script,
         explain: options.explain,
     };
-    over_script(rt, &Command::Run(cluster, form), &script, &Views::none())
+    let asked = Asked::of(errors, false, false);
+    over_script(rt, &Command::Run(cluster, form, asked), &script, &views)
 }
 
-fn over_why<R: Files + Print + Eprint + AllocGlobal>(rt: &R, options: &WhyOptions<'_>) -> ExitCode
+/// The number that the text writes, if it is one of 32 bits.
+fn number_in(text: &[u8]) -> Option<u32> {
+    u32::try_from(read_number(text)?).ok()
+}
+
+/// What is told of an object, a worker or a node.
+fn form_of(contents: Contents, text: &str) -> Option<Form> {
+    match text.as_bytes() {
+        [b'w', number @ ..] => {
+            let worker = WorkerId(number_in(number)?);
+            Some(Form::WhyWorker(contents, worker))
+        }
+        [b'n', number @ ..] => {
+            let node = NodeId(number_in(number)?);
+            Some(Form::WhyNode(contents, node))
+        }
+        name => Some(Form::Why(contents, ObjectId::read(name)?)),
+    }
+}
+
+/// Tells why something is as it is, in a run that is driven.
+fn why_driven<R: Files + Print + Eprint + AllocGlobal + Clock>(
+    rt: &R,
+    options: &WhyOptions<'_>,
+    form: Form,
+    errors: ErrorsGo,
+) -> ExitCode
+    requires { IsCluster options.now.nodes options.now.slots }
+{
+    let cluster = cluster_of(options.nodes, options.slots);
+    let script = ScriptOptions {
+        script: options.script,
+        explain: options.explain,
+    };
+    let asked = Asked::of(errors, false, false);
+    over_script(
+        rt,
+        &Command::Run(cluster, form, asked),
+        &script,
+        &Views::none(),
+    )
+}
+
+fn why_replayed<R: Files + Print + Eprint + AllocGlobal>(
+    rt: &R,
+    options: &WhyOptions<'_>,
+    events: &str,
+    form: Form,
+) -> ExitCode
     requires { IsCluster options.now.nodes options.now.slots }
 {
     let replayed = Replayed {
         script: options.script,
-        events: options.events,
+        events,
         cluster: cluster_of(options.nodes, options.slots),
         explain: options.explain,
     };
+    over_events(rt, &replayed, form, &Views::none())
+}
+
+/// The first word behind the script may be left out, and is no file where it names an object, a worker or a node.
+fn over_why<R: Files + Print + Eprint + AllocGlobal + Clock>(
+    rt: &R,
+    options: &WhyOptions<'_>,
+    errors: ErrorsGo,
+) -> ExitCode
+    requires { IsCluster options.now.nodes options.now.slots }
+{
     let contents = contents_of(options.full);
-    let Some(text) = options.object else {
-        return over_events(rt, &replayed, Form::WhyMain(contents), &Views::none());
+    let main = Form::WhyMain(contents);
+    let Some(first) = options.events else {
+        return why_driven(rt, options, main, errors);
     };
-    match ObjectId::read(text.as_bytes()) {
-        Some(object) => {
-            let form = Form::Why(contents, object);
-            over_events(rt, &replayed, form, &Views::none())
-        }
-        None => fault(rt, text, "is no object: one is written as o1.2"),
+    let Some(name) = options.object else {
+        return match form_of(contents, first) {
+            Some(form) => why_driven(rt, options, form, errors),
+            None => why_replayed(rt, options, first, main),
+        };
+    };
+    match form_of(contents, name) {
+        Some(form) => why_replayed(rt, options, first, form),
+        None => fault(
+            rt,
+            name,
+            "is no object, worker or node: they are written as o1.2, w3 and n1",
+        ),
     }
 }
 

@@ -1,7 +1,9 @@
 // A fault at every place of a run.
 
+use crate::heads::tell_misfits;
 use crate::inputs;
-use crate::inputs::{first_bytes, read_script_file};
+use crate::inputs::{ReadEvents, first_bytes, read_script_file};
+use crate::life::{Asked, TrialLife};
 use crate::reasons::{Course, Known, List};
 use crate::replays::Texts;
 use crate::told::{OUTPUT, Stop, fault, no_memory, stopped, tell};
@@ -14,7 +16,7 @@ use raysim_options::FaultsOptions;
 use refusal_reasons::ListKind;
 use std::alloc::{AllocError, Global};
 use std::process::ExitCode;
-use std::rt::Files;
+use std::rt::{Clock, Files};
 use std::{fs, io};
 
 /// The ends whose first lists are written.
@@ -88,10 +90,11 @@ fn choice_of(names: &str) -> Option<FaultChoice> {
 }
 
 /// Tries a fault at every place of a run, writes the table, and the lists where they are asked for; why it stops, where it does, is told.
-pub fn over_each_place<R: Files + Print + Eprint + AllocGlobal>(
+pub fn over_each_place<R: Files + Print + Eprint + AllocGlobal + Clock>(
     rt: &R,
     options: &FaultsOptions<'_>,
     cluster: Cluster,
+    asked: Asked,
 ) -> ExitCode {
     let mut trial = Trial {
         choice: USUAL,
@@ -122,14 +125,15 @@ pub fn over_each_place<R: Files + Print + Eprint + AllocGlobal>(
             Err(error) => return stopped(rt, Stop::writing(folder, error)),
         }
     }
-    try_faults(rt, options, cluster, trial)
+    try_faults(rt, options, cluster, trial, asked)
 }
 
-fn try_faults<R: Files + Print + Eprint + AllocGlobal>(
+fn try_faults<R: Files + Print + Eprint + AllocGlobal + Clock>(
     rt: &R,
     options: &FaultsOptions<'_>,
     cluster: Cluster,
     trial: Trial,
+    asked: Asked,
 ) -> ExitCode {
     let Some(texts) = read_texts(rt, options) else {
         return ExitCode::FAILURE;
@@ -143,9 +147,10 @@ fn try_faults<R: Files + Print + Eprint + AllocGlobal>(
         trial.choice,
         trial.most,
         &mut Tracked::writer(&mut output),
+        &mut TrialLife::new(rt, asked),
     );
     let error = output.error();
-    match done {
+    let ending = match done {
         Ok(tried) => write_lists(rt, options, &tried),
         Err(refusal) => {
             let (text, events) = (texts.script.as_slice(), texts.events.as_slice());
@@ -153,7 +158,12 @@ fn try_faults<R: Files + Print + Eprint + AllocGlobal>(
             tell(rt, stop, &known_of(options, text, events));
             ExitCode::FAILURE
         }
+    };
+    if let Some(file) = options.events {
+        let (front, text) = (texts.front.as_slice(), texts.script.as_slice());
+        tell_misfits(rt, file, front, cluster, options.script, text);
     }
+    ending
 }
 
 /// What is known of a trial that stops.
@@ -175,7 +185,7 @@ fn known_of<'a, 'b>(
         script: options.script,
         text,
         list,
-        course: Some(Course::Replayed),
+        course: Some(Course::Tried),
     }
 }
 
@@ -192,7 +202,11 @@ fn read_texts<R: Files + Eprint + AllocGlobal>(
         }
     };
     match read_events(rt, options, script.as_slice()) {
-        Ok(events) => Some(Texts { script, events }),
+        Ok(ReadEvents { events, front }) => Some(Texts {
+            script,
+            events,
+            front,
+        }),
         Err(stop) => {
             let shown = shown_bytes(rt, options);
             tell(
@@ -217,12 +231,15 @@ fn read_events<'a, R: Files + AllocGlobal>(
     rt: &R,
     options: &FaultsOptions<'a>,
     script: &[u8],
-) -> Result<Vec<u8>, Stop<'a>> {
+) -> Result<ReadEvents, Stop<'a>> {
     if let Some(path) = options.events {
         return inputs::read_events(rt, script, path);
     }
     match settled(rt.alloc()) {
-        Ok(events) => Ok(events),
+        Ok(events) => Ok(ReadEvents {
+            events,
+            front: Vec::new(rt.alloc()),
+        }),
         Err(_) => Err(Stop::Refused(CommandRefusal::NoMemory)),
     }
 }

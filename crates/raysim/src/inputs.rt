@@ -1,5 +1,6 @@
 // Files that are read.
 
+use crate::heads::Fronted;
 use crate::kept::{events_text, lines_text, plan_text};
 use crate::told::Stop;
 use event_reading::{read_event_file, read_lines, read_plan_file};
@@ -27,22 +28,34 @@ pub fn read_script_file<'a, R: Files + AllocGlobal>(
     }
 }
 
+/// A list of events as a text of the same lines, and how its file begins.
+#[derive(Drop)]
+pub struct ReadEvents {
+    pub events: Vec<u8>,
+    pub front: Vec<u8>,
+}
+
 /// Reads a list of events of either format, as far as a replay may go, and gives it as a text of the same lines. Where it can't be read, or is
 /// refused, the script's refusal counts, if it has one.
 pub fn read_events<'a, R: Files + AllocGlobal>(
     rt: &R,
     script: &[u8],
     path: &'a str,
-) -> Result<Vec<u8>, Stop<'a>> {
+) -> Result<ReadEvents, Stop<'a>> {
     let mut file = open(rt, script, path)?;
-    let read = read_event_file(rt.alloc(), &mut Tracked::reader(&mut file));
+    let mut fronted = Fronted::new(rt.alloc(), &mut file);
+    let read = read_event_file(rt.alloc(), &mut Tracked::reader(&mut fronted));
+    let front = fronted.into_front();
     match read {
-        Ok(kept) => in_memory(events_text(rt.alloc(), &kept)),
+        Ok(kept) => {
+            let events = in_memory(events_text(rt.alloc(), &kept))?;
+            Ok(ReadEvents { events, front })
+        }
         Err(refusal) => Err(behind(rt, script, Stop::of_reader(refusal, path, file.error()))),
     }
 }
 
-/// The same of a list of events of format 1.
+/// Reads a list of events of format 1 alike.
 pub fn read_plain_events<'a, R: Files + AllocGlobal>(
     rt: &R,
     script: &[u8],

@@ -1,7 +1,7 @@
 // Whether the files that a command writes are fit to be written, which is asked before anything is read or run.
 
 use crate::told::{Stop, stopped};
-use raysim_files::{Place, first_clash, place_of, try_output};
+use raysim_files::{FilePlace, first_clash, place_of, try_output};
 use std::rt::Files;
 
 /// The files that a command reads and writes.
@@ -14,6 +14,7 @@ pub struct Paths<'a> {
     pub history: Option<&'a str>,
     pub timeline: Option<&'a str>,
     pub lineage: Option<&'a str>,
+    pub page: Option<&'a str>,
 }
 
 /// The system's name for the standard output.
@@ -24,7 +25,7 @@ const KEPT: usize = 3;
 
 impl<'a> Paths<'a> {
     /// What each name stands for: of those that are not written to, and then of the outputs.
-    fn places<R: Files>(&self, rt: &R) -> [Place<'a>; 6] {
+    fn places<R: Files>(&self, rt: &R) -> [FilePlace<'a>; 7] {
         [
             place_of(rt, self.script),
             place(rt, self.beside),
@@ -32,6 +33,7 @@ impl<'a> Paths<'a> {
             place(rt, self.history),
             place(rt, self.timeline),
             place(rt, self.lineage),
+            place(rt, self.page),
         ]
     }
 
@@ -40,20 +42,24 @@ impl<'a> Paths<'a> {
         match at {
             3 => ("--history", self.history.unwrap_or("")),
             4 => ("--timeline", self.timeline.unwrap_or("")),
-            _ => ("--lineage", self.lineage.unwrap_or("")),
+            5 => ("--lineage", self.lineage.unwrap_or("")),
+            _ => ("--page", self.page.unwrap_or("")),
         }
     }
 
     /// Whether a file is written beside the report.
     fn has_outputs(&self) -> bool {
-        self.history.is_some() || self.timeline.is_some() || self.lineage.is_some()
+        self.history.is_some()
+            || self.timeline.is_some()
+            || self.lineage.is_some()
+            || self.page.is_some()
     }
 }
 
-fn place<'a, R: Files>(rt: &R, path: Option<&'a str>) -> Place<'a> {
+fn place<'a, R: Files>(rt: &R, path: Option<&'a str>) -> FilePlace<'a> {
     match path {
         Some(path) => place_of(rt, path),
-        None => Place::Other,
+        None => FilePlace::Other,
     }
 }
 
@@ -67,7 +73,10 @@ pub fn are_fit<R: Files + Eprint + AllocGlobal>(rt: &R, paths: &Paths<'_>) -> bo
         tell_clash(rt, paths, clash.earlier, clash.later);
         return false;
     }
-    is_fit(rt, paths.history) && is_fit(rt, paths.timeline) && is_fit(rt, paths.lineage)
+    is_fit(rt, paths.history)
+        && is_fit(rt, paths.timeline)
+        && is_fit(rt, paths.lineage)
+        && is_fit(rt, paths.page)
 }
 
 /// Tells that an output is another file, too.

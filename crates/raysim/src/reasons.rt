@@ -1,18 +1,21 @@
 // What is told below a refusal's first line.
 
-use raysim_commands::CommandRefusal;
+use crate::limits::tell_limit;
+use raysim_commands::{Cluster, CommandRefusal};
 use raysim_explain::{RefusalCause, Shown};
 use refusal_reasons::{Letters, ListKind, Refused, refused_line, script_reason};
 
 /// How the events of a run come.
 #[derive(Clone, Copy, Debug, PartialEq, Eq)]
 pub enum Course {
-    /// The run is driven, turn by turn.
-    Driven,
+    /// The run is driven on this cluster, turn by turn.
+    Driven(Cluster),
     /// Threads take turns.
     OnThreads,
-    /// They are those of a list.
-    Replayed,
+    /// They are those of a list, on this cluster.
+    Replayed(Cluster),
+    /// They are those of a run and of others with a fault in it.
+    Tried,
 }
 
 /// A list of events or a plan: its file and what it holds.
@@ -54,7 +57,7 @@ pub fn tell_reason<R: Eprint + AllocGlobal>(
     known: &Known<'_, '_>,
 ) {
     match refusal {
-        CommandRefusal::Stopped { code } => tell_limit(rt, code, known.course),
+        CommandRefusal::Stopped { code } => tell_limit(rt, code, known),
         CommandRefusal::At { code, span } if known.explain => {
             let shown = Shown {
                 file: known.script,
@@ -127,31 +130,4 @@ fn tell_line<R: Eprint>(rt: &R, code: u16, number: u64, list: &List<'_, '_>) {
         }
         _ => {}
     }
-}
-
-/// Tells which limit a run met, and what to do.
-fn tell_limit<R: Eprint>(rt: &R, code: u16, course: Option<Course>) {
-    let Some(course) = course else {
-        return;
-    };
-    let (limit, remedy) = match (code, course) {
-        (37, Course::OnThreads) => (
-            "1,024 workers in all, 1,000,000 objects, or 64 nodes: the next event would have passed one of them",
-            "get some results before the next tasks are begun, or give each task more to do",
-        ),
-        (37, _) => (
-            "1,024 workers in all, or 1,000,000 objects: the next event would have passed one of them",
-            "get some results before the next tasks are begun, or give each task more to do",
-        ),
-        (41, Course::Driven) => (
-            "100,000 turns, and the run was not over behind them",
-            "give each task more to do, so that there are fewer; or run on threads (--threads), which take any number of turns",
-        ),
-        (41, _) => (
-            "100,000 events, those of settle lines counted",
-            "give each task more to do, so that there are fewer: each takes some ten events",
-        ),
-        _ => return,
-    };
-    let _ = eprintln!(rt; "limit: {limit}\nwhat to do: {remedy}");
 }

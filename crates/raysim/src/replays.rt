@@ -1,8 +1,11 @@
 // Commands over a script and a list of events.
 
-use crate::inputs::{first_bytes, read_events, read_plain_events, read_script_file};
+use crate::heads::tell_misfits;
+use crate::inputs::{ReadEvents, first_bytes, read_events, read_plain_events, read_script_file};
+use crate::limits::print_so_far;
+use crate::pages::is_page_written;
 use crate::reasons::{Course, Known, List};
-use crate::told::{Printed, tell, tell_beside};
+use crate::told::{Printed, Stop, tell, tell_beside};
 use crate::views::{View, Views, write_done};
 use raysim_commands::{Cluster, CommandRefusal, Form, Tracked, migrate, sim, state};
 use raysim_files::Noted;
@@ -33,16 +36,23 @@ impl<'a> Replayed<'a> {
             script: self.script,
             text,
             list: Some(list),
-            course: Some(Course::Replayed),
+            course: Some(Course::Replayed(self.cluster)),
         }
+    }
+
+    /// Tells where the list says that it was recorded of another run.
+    fn tell_misfits<R: Eprint + AllocGlobal>(&self, rt: &R, texts: &Texts) {
+        let (front, text) = (texts.front.as_slice(), texts.script.as_slice());
+        tell_misfits(rt, self.events, front, self.cluster, self.script, text);
     }
 }
 
-/// What was read of both files.
+/// What was read of both files, and how the list's begins.
 #[derive(Drop)]
 pub struct Texts {
     pub script: Vec<u8>,
     pub events: Vec<u8>,
+    pub front: Vec<u8>,
 }
 
 /// Replays a list of events and writes what is asked for, and other views behind it, also where that could not be written; why it stops, where it
@@ -56,15 +66,32 @@ pub fn over_events<R: Files + Print + Eprint + AllocGlobal>(
     let Some(texts) = read_texts(rt, replayed, ListKind::Events) else {
         return ExitCode::FAILURE;
     };
-    let printed = print_replay(rt, replayed.cluster, &texts, form);
+    let ending = print_all(rt, replayed, &texts, &form, views);
+    replayed.tell_misfits(rt, &texts);
+    ending
+}
+
+/// Replays what was read, and writes what is asked for.
+fn print_all<R: Files + Print + Eprint + AllocGlobal>(
+    rt: &R,
+    replayed: &Replayed<'_>,
+    texts: &Texts,
+    form: &Form,
+    views: &Views<'_>,
+) -> ExitCode {
+    let printed = print_replay(rt, replayed.cluster, texts, form);
     if let Some(stop) = printed.stop() {
         let (text, events) = (texts.script.as_slice(), texts.events.as_slice());
-        tell(rt, stop, &replayed.known(ListKind::Events, text, events));
+        let known = replayed.known(ListKind::Events, text, events);
+        tell(rt, stop, &known);
+        if views.so_far {
+            print_so_far(rt, &printed.done, &known, *form);
+        }
         if !stop.is_of_writing() {
             return printed.ending();
         }
     }
-    if are_written(rt, replayed, &texts, views, &printed.done) {
+    if are_written(rt, replayed, texts, views, &printed.done) {
         return printed.ending();
     }
     ExitCode::FAILURE
@@ -104,6 +131,7 @@ pub fn state_at<R: Files + Print + Eprint + AllocGlobal>(
         let (text, events) = (texts.script.as_slice(), texts.events.as_slice());
         tell(rt, stop, &replayed.known(ListKind::Events, text, events));
     }
+    replayed.tell_misfits(rt, &texts);
     printed.ending()
 }
 
@@ -112,7 +140,7 @@ fn print_replay<R: Print + AllocGlobal>(
     rt: &R,
     cluster: Cluster,
     texts: &Texts,
-    form: Form,
+    form: &Form,
 ) -> Printed {
     let mut output = Noted::new(io::writer(rt));
     let done = sim(
@@ -120,7 +148,7 @@ fn print_replay<R: Print + AllocGlobal>(
         &mut Tracked::reader(texts.script.as_slice()),
         &mut Tracked::reader(texts.events.as_slice()),
         cluster,
-        form,
+        *form,
         &mut Tracked::writer(&mut output),
     );
     let error = output.error();
@@ -161,6 +189,17 @@ fn print_state<R: Print + AllocGlobal>(
     Printed { done, error }
 }
 
+/// Reads a list of events of format 1, which says of no run.
+fn read_first_format<'a, R: Files + AllocGlobal>(
+    rt: &R,
+    script: &[u8],
+    path: &'a str,
+) -> Result<ReadEvents, Stop<'a>> {
+    let events = read_plain_events(rt, script, path)?;
+    let front = Vec::new(rt.alloc());
+    Ok(ReadEvents { events, front })
+}
+
 /// Reads both files, or tells why they can't be read.
 fn read_texts<R: Files + Eprint + AllocGlobal>(
     rt: &R,
@@ -175,11 +214,15 @@ fn read_texts<R: Files + Eprint + AllocGlobal>(
         }
     };
     let events = match kind {
-        ListKind::FirstFormat => read_plain_events(rt, script.as_slice(), replayed.events),
+        ListKind::FirstFormat => read_first_format(rt, script.as_slice(), replayed.events),
         _ => read_events(rt, script.as_slice(), replayed.events),
     };
     match events {
-        Ok(events) => Some(Texts { script, events }),
+        Ok(ReadEvents { events, front }) => Some(Texts {
+            script,
+            events,
+            front,
+        }),
         Err(stop) => {
             let shown = if replayed.explain {
                 first_bytes(rt, replayed.events)
@@ -206,7 +249,9 @@ pub fn are_written<R: Files + Eprint + AllocGlobal>(
 ) -> bool {
     let timeline = is_written(rt, replayed, texts, &views.timeline(), report);
     let lineage = is_written(rt, replayed, texts, &views.lineage(), report);
-    timeline && lineage
+    let (script, events) = (texts.script.as_slice(), texts.events.as_slice());
+    let page = is_page_written(rt, script, events, replayed.cluster, views, report);
+    timeline && lineage && page
 }
 
 /// Does the replay once more, and writes a view of it, if one is asked for; says whether it is out.

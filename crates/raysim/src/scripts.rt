@@ -1,28 +1,33 @@
 // Commands over a script alone.
 
 use crate::inputs::read_script_file;
+use crate::life::{Asked, Life};
+use crate::limits::print_so_far;
+use crate::pages::{TO_ITS_END, is_page_written};
 use crate::reasons::{Course, Known};
 use crate::told::{Printed, tell, tell_beside};
 use crate::views::{View, Views, write_done};
-use raysim_commands::{Cluster, CommandRefusal, Engine, Form, Tracked, check, export, run, serial};
+use raysim_commands::{
+    Cluster, CommandRefusal, Engine, Form, Tracked, Unwatched, Watcher, check, export, run, serial,
+};
 use raysim_files::Noted;
 use raysim_options::ScriptOptions;
 use std::io;
 use std::process::ExitCode;
-use std::rt::Files;
+use std::rt::{Clock, Files};
 
 /// A command over a script.
 #[derive(Clone, Copy)]
 pub enum Command {
     Check,
     Serial,
-    Run(Cluster, Form),
+    Run(Cluster, Form, Asked),
     Export(Engine),
 }
 
 /// Does a command, and tells why it stops where it does. Other views of a run are written behind its report, and also where that could not be
 /// written.
-pub fn over_script<R: Files + Print + Eprint + AllocGlobal>(
+pub fn over_script<R: Files + Print + Eprint + AllocGlobal + Clock>(
     rt: &R,
     command: &Command,
     options: &ScriptOptions<'_>,
@@ -31,13 +36,15 @@ pub fn over_script<R: Files + Print + Eprint + AllocGlobal>(
     let text = match read_script_file(rt, options.script) {
         Ok(text) => text,
         Err(stop) => {
-            tell(rt, stop, &known_of(options, b""));
+            tell(rt, stop, &known_of(command, options, b""));
             return ExitCode::FAILURE;
         }
     };
     let printed = print_done(rt, command, text.as_slice());
     if let Some(stop) = printed.stop() {
-        tell(rt, stop, &known_of(options, text.as_slice()));
+        let known = known_of(command, options, text.as_slice());
+        tell(rt, stop, &known);
+        tell_so_far(rt, command, &printed, &known, views);
         if !stop.is_of_writing() {
             return printed.ending();
         }
@@ -48,27 +55,64 @@ pub fn over_script<R: Files + Print + Eprint + AllocGlobal>(
     ExitCode::FAILURE
 }
 
+/// Prints the report of a run that was stopped by a limit, up to there, where that is asked for.
+fn tell_so_far<R: Print + Eprint + AllocGlobal>(
+    rt: &R,
+    command: &Command,
+    printed: &Printed,
+    known: &Known<'_, '_>,
+    views: &Views<'_>,
+) {
+    if let Command::Run(_, form, _) = command {
+        if views.so_far {
+            print_so_far(rt, &printed.done, known, *form);
+        }
+    }
+}
+
 /// What is known of a command that stops.
-fn known_of<'a, 'b>(options: &ScriptOptions<'a>, text: &'b [u8]) -> Known<'a, 'b> {
+fn known_of<'a, 'b>(
+    command: &Command,
+    options: &ScriptOptions<'a>,
+    text: &'b [u8],
+) -> Known<'a, 'b> {
+    let course = match command {
+        Command::Run(cluster, _, _) => Some(Course::Driven(*cluster)),
+        _ => None,
+    };
     Known {
         explain: options.explain,
         script: options.script,
         text,
         list: None,
-        course: Some(Course::Driven),
+        course,
     }
 }
 
 /// Does a command, and prints what it gives.
-fn print_done<R: Print + AllocGlobal>(rt: &R, command: &Command, text: &[u8]) -> Printed {
+fn print_done<R: Print + Eprint + AllocGlobal + Clock>(
+    rt: &R,
+    command: &Command,
+    text: &[u8],
+) -> Printed {
     let mut output = Noted::new(io::writer(rt));
     let mut reader = Tracked::reader(text);
     let mut writer = Tracked::writer(&mut output);
     let done = match command {
         Command::Check => check(rt.alloc(), &mut reader, &mut writer),
         Command::Serial => serial(rt.alloc(), &mut reader, &mut writer),
-        Command::Run(cluster, form) => {
-            run(rt.alloc(), &mut reader, *cluster, *form, &mut writer)
+        Command::Run(cluster, form, asked) => {
+            let mut life = Life::new(rt, *asked);
+            let done = run(
+                rt.alloc(),
+                &mut reader,
+                *cluster,
+                *form,
+                &mut writer,
+                &mut life,
+            );
+            life.close();
+            done
         }
         Command::Export(engine) => export(rt.alloc(), &mut reader, *engine, &mut writer),
     };
@@ -84,12 +128,13 @@ fn are_written<R: Files + Eprint + AllocGlobal>(
     views: &Views<'_>,
     report: &Result<u8, CommandRefusal>,
 ) -> bool {
-    let Command::Run(cluster, _) = command else {
+    let Command::Run(cluster, _, _) = command else {
         return true;
     };
     let timeline = is_written(rt, *cluster, text, &views.timeline(), report);
     let lineage = is_written(rt, *cluster, text, &views.lineage(), report);
-    timeline && lineage
+    let page = is_page_written(rt, text, TO_ITS_END, *cluster, views, report);
+    timeline && lineage && page
 }
 
 /// Does the run once more, and writes a view of it, if one is asked for; says whether it is out.
@@ -110,6 +155,7 @@ fn is_written<R: Files + Eprint + AllocGlobal>(
         cluster,
         view.form,
         &mut Tracked::writer(&mut shown),
+        &mut Unwatched,
     );
     match write_done(rt, view.path, done, shown.as_slice()) {
         Ok(()) => true,

@@ -2,13 +2,15 @@
 
 ghost use Rattle.raysim_options.specs.Reads.{AreThreads};
 
+use crate::heads::{headed, tell_length};
 use crate::inputs;
 use crate::inputs::{first_bytes, read_script_file};
+use crate::life::{Asked, SharedLife};
 use crate::reasons::{Course, Known, List};
 use crate::replays::{Replayed, Texts, are_written};
 use crate::told::{Printed, Stop, stopped, tell, tell_beside};
 use crate::views::{Views, in_memory, write_done};
-use raysim_commands::{Cluster, CommandRefusal, Form, OpenGate, Tracked, put_all, run_threaded};
+use raysim_commands::{Cluster, CommandRefusal, Form, Tracked, put_all, run_threaded};
 use raysim_files::Noted;
 use raysim_options::RunOptions;
 use refusal_reasons::ListKind;
@@ -34,6 +36,7 @@ pub fn over_threads<R: Files + Print + Eprint + AllocGlobal + Threads + Wait + C
     cluster: Cluster,
     form: Form,
     views: &Views<'_>,
+    asked: Asked,
 ) -> ExitCode
     requires { AreThreads options.now.threads }
 {
@@ -63,6 +66,7 @@ pub fn over_threads<R: Files + Print + Eprint + AllocGlobal + Threads + Wait + C
         plan.as_slice(),
         cluster,
         form,
+        asked,
     ) {
         Ok(unwritten) => write_all(rt, options, script, unwritten, cluster, views),
         Err(stop) => {
@@ -113,18 +117,20 @@ fn read_plan<'a, R: Files + AllocGlobal>(
 }
 
 /// Runs the script, in memory.
-fn run_in_memory<'a, R: AllocGlobal + Threads + Wait + Clock + Sync>(
+fn run_in_memory<'a, R: Eprint + AllocGlobal + Threads + Wait + Clock + Sync>(
     rt: &R,
     options: &RunOptions<'a>,
     script: &[u8],
     plan: &[u8],
     cluster: Cluster,
     form: Form,
+    asked: Asked,
 ) -> Result<Unwritten, Stop<'a>>
     requires { AreThreads options.now.threads }
 {
     let mut history = Vec::new(rt.alloc());
     let mut report = Vec::new(rt.alloc());
+    let life = SharedLife::new(rt, asked);
     let done = run_threaded(
         rt,
         rt.alloc(),
@@ -133,10 +139,11 @@ fn run_in_memory<'a, R: AllocGlobal + Threads + Wait + Clock + Sync>(
         cluster,
         form,
         options.threads,
-        &OpenGate,
+        &life,
         &mut Tracked::writer(&mut history),
         &mut Tracked::writer(&mut report),
     );
+    life.close();
     match done {
         Ok(status) => Ok(Unwritten {
             history,
@@ -168,7 +175,7 @@ fn write_all<R: Files + Print + Eprint + AllocGlobal>(
     views: &Views<'_>,
 ) -> ExitCode {
     let events = unwritten.history;
-    let history = keep_history(rt, options, events.as_slice());
+    let history = keep_history(rt, options, cluster, script.as_slice(), events.as_slice());
     let printed = print_report(rt, unwritten.report.as_slice(), unwritten.status);
     if let Some(stop) = printed.stop() {
         stopped(rt, stop);
@@ -177,27 +184,39 @@ fn write_all<R: Files + Print + Eprint + AllocGlobal>(
         let path = options.history.unwrap_or("");
         tell_beside(rt, stop, path, &printed.done);
     }
+    if let Some(path) = options.history {
+        tell_length(rt, path, events.as_slice());
+    }
     let replayed = Replayed {
         script: options.script,
         events: "its history",
         cluster,
         explain: false,
     };
-    let texts = Texts { script, events };
+    let texts = Texts {
+        script,
+        events,
+        front: Vec::new(rt.alloc()),
+    };
     if are_written(rt, &replayed, &texts, views, &printed.done) && history.is_ok() {
         return printed.ending();
     }
     ExitCode::FAILURE
 }
 
-/// Writes the history, if that is asked for.
+/// Writes the history with the lines that say of which run it is, if that is asked for.
 fn keep_history<'a, R: Files + AllocGlobal>(
     rt: &R,
     options: &RunOptions<'a>,
+    cluster: Cluster,
+    script: &[u8],
     history: &[u8],
 ) -> Result<(), Stop<'a>> {
-    match options.history {
-        Some(path) => write_done(rt, path, Ok(0), history),
-        None => Ok(()),
+    let Some(path) = options.history else {
+        return Ok(());
+    };
+    match headed(rt.alloc(), cluster, options.threads, script, history) {
+        Ok(whole) => write_done(rt, path, Ok(0), whole.as_slice()),
+        Err(_) => Err(Stop::Refused(CommandRefusal::NoMemory)),
     }
 }

@@ -5,12 +5,15 @@ use raysim_commands::{CommandRefusal, Contents, Form};
 use raysim_files::write_whole;
 use std::rt::Files;
 
-/// The files to which the timeline and the lineage are written, and how their long lists are.
+/// The files to which the timeline, the lineage and the page are written, how their long lists are, and whether the report is written as far as it
+/// goes where a run is stopped by a limit.
 #[derive(Clone, Copy)]
 pub struct Views<'a> {
     pub timeline: Option<&'a str>,
     pub lineage: Option<&'a str>,
+    pub page: Option<&'a str>,
     pub contents: Contents,
+    pub so_far: bool,
 }
 
 /// A file, and what is written to it.
@@ -26,7 +29,9 @@ impl<'a> Views<'a> {
         Views {
             timeline: None,
             lineage: None,
+            page: None,
             contents: Contents::Cut,
+            so_far: false,
         }
     }
 

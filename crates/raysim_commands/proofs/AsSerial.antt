@@ -69,6 +69,9 @@ written_so forms.TextWithSummary script a report status typed begins told ends =
     (subst (λ n. BeginsAsSerial script a.log (report_text a.log ++ summary_text a.log a.messages) n) (sym ends)
     (longer script a.log (report_text a.log) (summary_text a.log a.messages) _ (report_begins script a.log typed begins).text))
 written_so forms.State script a report status typed begins told ends = tt
+written_so (forms.WhyWorker how w) script a report status typed begins told ends = tt
+written_so (forms.WhyNode how n) script a report status typed begins told ends = tt
+written_so forms.Limit script a report status typed begins told ends = tt
 
 -- and so where the script was read from a text
 pub as_serial : (text : List ℕ) (form : Form) (script : Script) (c : RunState) (sent lines report : List ℕ) (status : ℕ) → IsScript text script →

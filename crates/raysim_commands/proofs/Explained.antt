@@ -1,13 +1,13 @@
 -- Why a run on threads is refused.
-use Rattle.std.proofs.Common.{ℕ, Bool, false, List, Option, inl}
+use Rattle.std.proofs.Common.{ℕ, List, Option, inl}
 use Rattle.raysim_streams.specs.declared.Failure.TheVariants.{Read, Write, Closed}
 use Rattle.raysim_streams.specs.declared.CommandRefusal.{CommandRefusal}
 use Rattle.raysim_streams.specs.declared.CommandRefusal.TheVariants.{At, NoMemory, Stopped, BadLine, WrongJob, Failed}
-use Rattle.raysim_commands.specs.Scripts.{Explains}
+use Rattle.raysim_commands.specs.Scripts.{Counts, Explains}
 use Rattle.raysim_commands.specs.ThreadReports.{ExplainsInputs}
 
 -- a script is refused for the other commands' causes
-pub explains_script : (text plan : Option (List ℕ)) (a b : Bool) (r : CommandRefusal) → Explains text a false r → ExplainsInputs text plan a b r
+pub explains_script : (text plan : Option (List ℕ)) (a b : Counts) (r : CommandRefusal) → Explains text a (0, 0) r → ExplainsInputs text plan a b r
 explains_script text plan a b (At code span) h = h
 explains_script text plan a b NoMemory h = tt
 explains_script text plan a b (Stopped code) h = absurd h

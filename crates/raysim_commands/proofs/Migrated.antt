@@ -26,7 +26,7 @@ use Rattle.raysim_streams.specs.declared.Failure.TheVariants.{Read, Write, Close
 use Rattle.raysim_streams.specs.declared.CommandRefusal.{CommandRefusal}
 use Rattle.raysim_streams.specs.declared.CommandRefusal.TheVariants.{At, NoMemory, Stopped, BadLine, WrongJob, Failed}
 use Rattle.raysim_commands.specs.Migrations.{ExplainsLines, ExplainsMigration, IsHistoryOf, IsLinesFile, IsLinesStop, IsMigrated, IsMigrationBegun}
-use Rattle.raysim_commands.specs.Scripts.{Explains, IsAllowed, IsScript}
+use Rattle.raysim_commands.specs.Scripts.{Counts, Explains, IsAllowed, IsScript}
 use Rattle.raysim_commands.specs.SimReports.{IfBoth, first_play}
 
 -- ---- no line of format 1 says which job a claim gives
@@ -159,7 +159,7 @@ migration_begun_so size (Some t) (Some e) text script lines history bytes before
 -- ---- why nothing is
 
 -- a script is refused for the other commands' causes
-pub explains_no_script : (size : Size) (known events : Option (List ℕ)) (a b w : Bool) (r : CommandRefusal) → Explains known a w r →
+pub explains_no_script : (size : Size) (known events : Option (List ℕ)) (a b w : Counts) (r : CommandRefusal) → Explains known a w r →
     ExplainsMigration size known events a b w r
 explains_no_script size known events a b w (At code span) h = h
 explains_no_script size known events a b w NoMemory h = tt
@@ -175,14 +175,14 @@ allowed : (known : Option (List ℕ)) (text : List ℕ) (script : Script) → If
 allowed None text script same is = tt
 allowed (Some t) text script same is = (script, subst (λ b. IsScript b script) same is)
 
-bad_line : OneIsBad → (size : Size) (known events : Option (List ℕ)) (a b w : Bool) (n : ℕ) → IfSome known IsAllowed → ExplainsLines events b (BadLine n) →
+bad_line : OneIsBad → (size : Size) (known events : Option (List ℕ)) (a b w : Counts) (n : ℕ) → IfSome known IsAllowed → ExplainsLines events b (BadLine n) →
     ExplainsMigration size known events a b w (BadLine n)
 bad_line one size None events a b w n is h = tt
 bad_line one size (Some t) None a b w n is h = tt
 bad_line one size (Some t) (Some e) a b w n is h = record { allowed = is; bad = h; of_recorded = first_is_bad one e n h }
 
 -- the lines aren't read
-pub explains_no_lines : OneIsBad → (size : Size) (known events : Option (List ℕ)) (text : List ℕ) (script : Script) (a b w : Bool) (r : CommandRefusal) →
+pub explains_no_lines : OneIsBad → (size : Size) (known events : Option (List ℕ)) (text : List ℕ) (script : Script) (a b w : Counts) (r : CommandRefusal) →
     IfSome known (λ t. text ≡ t) → IsScript text script → ExplainsLines events b r → ExplainsMigration size known events a b w r
 explains_no_lines one size known events text script a b w (BadLine n) same is h = bad_line one size known events a b w n (allowed known text script same is) h
 explains_no_lines one size known events text script a b w NoMemory same is h = tt
@@ -193,7 +193,7 @@ explains_no_lines one size known events text script a b w (At code span) same is
 explains_no_lines one size known events text script a b w (Stopped code) same is h = absurd h
 explains_no_lines one size known events text script a b w (WrongJob n) same is h = absurd h
 
-too_long : (size : Size) (known events : Option (List ℕ)) (text : List ℕ) (script : Script) (lines : List Line) (a b w : Bool) (code : ℕ) →
+too_long : (size : Size) (known events : Option (List ℕ)) (text : List ℕ) (script : Script) (lines : List Line) (a b w : Counts) (code : ℕ) →
     IfSome known (λ t. text ≡ t) → IsScript text script → IfSome events (λ e. IsLinesFile e lines) → IsLinesStop script size lines (Stopped code) →
     ExplainsMigration size known events a b w (Stopped code)
 too_long size None events text script lines a b w code same is ls h = tt
@@ -202,7 +202,7 @@ too_long size (Some t) (Some e) text script lines a b w code same is ls h =
     (h.0, script, files.Lines lines, line_numbers e, subst (λ x. IsScript x script) same is, (ls, refl), h.1)
 
 -- the lines' replay stops
-pub explains_stop : (size : Size) (known events : Option (List ℕ)) (text : List ℕ) (script : Script) (lines : List Line) (a b w : Bool) (r : CommandRefusal) →
+pub explains_stop : (size : Size) (known events : Option (List ℕ)) (text : List ℕ) (script : Script) (lines : List Line) (a b w : Counts) (r : CommandRefusal) →
     IfSome known (λ t. text ≡ t) → IsScript text script → IfSome events (λ e. IsLinesFile e lines) → IsLinesStop script size lines r →
     ExplainsMigration size known events a b w r
 explains_stop size known events text script lines a b w (Stopped code) same is ls h = too_long size known events text script lines a b w code same is ls h

@@ -1,5 +1,5 @@
 -- Refusals have their causes.
-use Rattle.std.proofs.Common.{◌≡◌, ℕ, Bool, List, Option, None, Some, inl, inr, sym, subst}
+use Rattle.std.proofs.Common.{◌≡◌, ℕ, List, Option, None, Some, inl, inr, sym, subst}
 use Rattle.std.specs.Prelude.{IfSome}
 use Rattle.meaning.specs.Syntax.{Script}
 use Rattle.script_tokens.specs.declared.error.SyntaxError.{SyntaxError}
@@ -13,7 +13,7 @@ use Rattle.script_check.specs.declared.error.CheckError.{CheckError}
 use Rattle.script_check.specs.declared.error.CheckError.TheVariants as faults
 use Rattle.raysim_streams.specs.declared.CommandRefusal.{CommandRefusal}
 use Rattle.raysim_streams.specs.declared.CommandRefusal.TheVariants.{At, NoMemory, Stopped, BadLine, WrongJob, Failed}
-use Rattle.raysim_commands.specs.Scripts.{IsNoScript, IsRefusalOf, IsNoScriptFor, syntax_refusal, check_refusal, Explains}
+use Rattle.raysim_commands.specs.Scripts.{IsNoScript, IsRefusalOf, IsNoScriptFor, Counts, syntax_refusal, check_refusal, Explains}
 use Rattle.protocol_board.specs.Cores.{Size}
 use Rattle.raysim_commands.specs.RunReports.{ExplainsRun}
 
@@ -80,7 +80,7 @@ of_text text r (inl (e, h, same)) = subst IsOfText (sym same) (of_text_syntax e)
 of_text text r (inr (e, h, same)) = subst IsOfText (sym same) (of_text_check e)
 
 -- what was read, where it is known, explains the refusal
-pub explains_read : (known : Option (List ℕ)) (text : List ℕ) (read_failed write_failed : Bool) (r : CommandRefusal) → IfSome known (λ bytes. text ≡ bytes) → IsRefusalOf text r → Explains known read_failed write_failed r
+pub explains_read : (known : Option (List ℕ)) (text : List ℕ) (reads writes : Counts) (r : CommandRefusal) → IfSome known (λ bytes. text ≡ bytes) → IsRefusalOf text r → Explains known reads writes r
 explains_read None text a b (At code span) h k = tt
 explains_read (Some bytes) text a b (At code span) h k = subst (λ t. IsNoScriptFor t (At code span)) h (record { none = no_script text code span k; told = k })
 explains_read known text a b NoMemory h k = tt
@@ -90,7 +90,7 @@ explains_read known text a b (WrongJob line) h k = absurd (of_text text (WrongJo
 explains_read known text a b (Failed failure) h k = absurd (of_text text (Failed failure) k)
 
 -- `run` refuses for the other commands' causes
-pub explains_as_others : (size : Size) (known : Option (List ℕ)) (read_failed write_failed : Bool) (r : CommandRefusal) → Explains known read_failed write_failed r → ExplainsRun size known read_failed write_failed r
+pub explains_as_others : (size : Size) (known : Option (List ℕ)) (reads writes : Counts) (r : CommandRefusal) → Explains known reads writes r → ExplainsRun size known reads writes r
 explains_as_others size known a b (At code span) h = h
 explains_as_others size known a b NoMemory h = h
 explains_as_others size known a b (Stopped code) h = absurd h

@@ -1,5 +1,5 @@
 -- What `sim` reads, refuses and writes.
-use Rattle.std.proofs.Common.{◌≡◌, ◌∙◌, ◌⊎◌, ◌<◌, ◌*◌, ℕ, Bool, List, Option, None, Some, inl, inr, subst, sym, take, length, arith}
+use Rattle.std.proofs.Common.{◌≡◌, ◌∙◌, ◌⊎◌, ◌<◌, ◌*◌, ℕ, List, Option, None, Some, inl, inr, subst, sym, take, length, arith}
 use Rattle.std.specs.Prelude.{IfSome}
 use Rattle.std.specs.Io.KnownBytes.{Appends}
 use Rattle.meaning.specs.Syntax.{Script}
@@ -13,7 +13,7 @@ use Rattle.raysim_streams.specs.declared.Failure.TheVariants.{Read, Write, Close
 use Rattle.raysim_streams.specs.declared.CommandRefusal.{CommandRefusal}
 use Rattle.raysim_streams.specs.declared.CommandRefusal.TheVariants.{At, NoMemory, Stopped, BadLine, WrongJob, Failed}
 use Rattle.raysim_commands.specs.declared.form.Form.{Form}
-use Rattle.raysim_commands.specs.Scripts.{Explains, IsScript}
+use Rattle.raysim_commands.specs.Scripts.{Counts, Explains, IsScript}
 use Rattle.raysim_commands.specs.SimReports.{AreEvents, ExplainsSim, IfBoth, IsSimBegun, IsSimReportOf, IsSimReported, first_play, lines_in_file}
 use Rattle.raysim_commands.proofs.AsSerial.{as_serial}
 use Rattle.raysim_commands.proofs.Reading.{known_whole}
@@ -46,8 +46,8 @@ of_read P known text shown same value bound h =
     of_known P known text (known_whole known text 18446744073709551615 same less) (subst P value h)
 
 -- `sim` refuses a script for the other commands' causes
-pub explains_script : (size : Size) (known events : Option (List ℕ)) (script_failed events_failed write_failed : Bool) (r : CommandRefusal) →
-    Explains known script_failed write_failed r → ExplainsSim size known events script_failed events_failed write_failed r
+pub explains_script : (size : Size) (known events : Option (List ℕ)) (script_reads event_reads writes : Counts) (r : CommandRefusal) →
+    Explains known script_reads writes r → ExplainsSim size known events script_reads event_reads writes r
 explains_script size known events a b w (At code span) h = h
 explains_script size known events a b w NoMemory h = tt
 explains_script size known events a b w (Stopped code) h = absurd h

@@ -4,7 +4,9 @@ pub mod RunReports
 pub mod Scripts
 pub mod SerialReports
 pub mod SimReports
+pub mod SoFar
 pub mod ThreadReports
 pub mod Faults
 pub mod Exports
 pub mod States
+pub mod Pages

@@ -1,5 +1,5 @@
 -- What `migrate` writes.
-use Rattle.std.specs.Prelude.{◌≡◌, ◌⊎◌, ◌++◌, ℕ, Bool, true, List, Option, take, IfSome}
+use Rattle.std.specs.Prelude.{◌≡◌, ◌⊎◌, ◌++◌, ℕ, List, Option, take, IfSome}
 use Rattle.std.specs.Io.KnownBytes.{Appends}
 use Rattle.meaning.specs.Syntax.{Script}
 use Rattle.event_log.specs.Entries.{Entry}
@@ -14,7 +14,7 @@ use Rattle.protocol_board.specs.Replays.{Play, PlaysFile}
 use Rattle.raysim_streams.specs.declared.Failure.TheVariants.{Read, Write, Closed}
 use Rattle.raysim_streams.specs.declared.CommandRefusal.{CommandRefusal}
 use Rattle.raysim_streams.specs.declared.CommandRefusal.TheVariants.{At, NoMemory, Stopped as Stops, BadLine, WrongJob, Failed}
-use Rattle.raysim_commands.specs.Scripts.{IsAllowed, IsScript}
+use Rattle.raysim_commands.specs.Scripts.{Counts, FailedIn, IsAllowed, IsScript}
 use Rattle.raysim_commands.specs.SimReports.{ExplainsSim, IfBoth, IsReplayed, IsTooLong, first_play}
 
 -- the bytes are an event file of format 1 with these lines
@@ -61,17 +61,17 @@ pub record IsNoLine (n : ℕ) (text events : List ℕ) : Type 0 where
   pub of_recorded : (rest : List ℕ) → events ≡ header ++ rest → n ≡ 1
 
 -- why `migrate` refuses: as `sim` does, but that it takes files of format 1 alone, whose claims name no jobs
-abbrev pub ExplainsMigration : Size → Option (List ℕ) → Option (List ℕ) → Bool → Bool → Bool → CommandRefusal → Type 0
-ExplainsMigration size text events script_failed events_failed write_failed (BadLine n) = IfBoth text events (IsNoLine n)
-ExplainsMigration size text events script_failed events_failed write_failed (WrongJob n) = ⊥
-ExplainsMigration size text events script_failed events_failed write_failed (At code span) =
-    ExplainsSim size text events script_failed events_failed write_failed (At code span)
-ExplainsMigration size text events script_failed events_failed write_failed NoMemory =
-    ExplainsSim size text events script_failed events_failed write_failed NoMemory
-ExplainsMigration size text events script_failed events_failed write_failed (Stops code) =
-    ExplainsSim size text events script_failed events_failed write_failed (Stops code)
-ExplainsMigration size text events script_failed events_failed write_failed (Failed failure) =
-    ExplainsSim size text events script_failed events_failed write_failed (Failed failure)
+abbrev pub ExplainsMigration : Size → Option (List ℕ) → Option (List ℕ) → Counts → Counts → Counts → CommandRefusal → Type 0
+ExplainsMigration size text events script_reads event_reads writes (BadLine n) = IfBoth text events (IsNoLine n)
+ExplainsMigration size text events script_reads event_reads writes (WrongJob n) = ⊥
+ExplainsMigration size text events script_reads event_reads writes (At code span) =
+    ExplainsSim size text events script_reads event_reads writes (At code span)
+ExplainsMigration size text events script_reads event_reads writes NoMemory =
+    ExplainsSim size text events script_reads event_reads writes NoMemory
+ExplainsMigration size text events script_reads event_reads writes (Stops code) =
+    ExplainsSim size text events script_reads event_reads writes (Stops code)
+ExplainsMigration size text events script_reads event_reads writes (Failed failure) =
+    ExplainsSim size text events script_reads event_reads writes (Failed failure)
 
 -- ---- on the way
 
@@ -85,12 +85,12 @@ IsLinesStop script size lines (WrongJob n) = ⊥
 IsLinesStop script size lines (Failed failure) = ⊥
 
 -- why the lines aren't read
-abbrev pub ExplainsLines : Option (List ℕ) → Bool → CommandRefusal → Type 0
-ExplainsLines events failed (BadLine n) = IfSome events (λ e. IsBadAt IsLine line_text e n)
-ExplainsLines events failed NoMemory = Unit {0}
-ExplainsLines events failed (Failed Read) = failed ≡ true
-ExplainsLines events failed (Failed Write) = ⊥
-ExplainsLines events failed (Failed Closed) = ⊥
-ExplainsLines events failed (At code span) = ⊥
-ExplainsLines events failed (Stops code) = ⊥
-ExplainsLines events failed (WrongJob n) = ⊥
+abbrev pub ExplainsLines : Option (List ℕ) → Counts → CommandRefusal → Type 0
+ExplainsLines events reads (BadLine n) = IfSome events (λ e. IsBadAt IsLine line_text e n)
+ExplainsLines events reads NoMemory = Unit {0}
+ExplainsLines events reads (Failed Read) = FailedIn reads
+ExplainsLines events reads (Failed Write) = ⊥
+ExplainsLines events reads (Failed Closed) = ⊥
+ExplainsLines events reads (At code span) = ⊥
+ExplainsLines events reads (Stops code) = ⊥
+ExplainsLines events reads (WrongJob n) = ⊥

@@ -11,8 +11,10 @@ use Rattle.log_words.specs.declared.contents.Contents.{Contents}
 use Rattle.log_text.specs.Text.{log_text}
 use Rattle.main_text.specs.Text.{main_text}
 use Rattle.why_text.specs.Text.{why_text}
+use Rattle.limit_text.specs.Text.{limit_text}
 use Rattle.lineage_text.specs.Text.{lineage_text}
 use Rattle.message_text.specs.Text.{log_with_messages}
+use Rattle.party_text.specs.Text.{node_account, worker_account}
 use Rattle.state_text.specs.Text.{event_count, state_text}
 use Rattle.summary_text.specs.Text.{summary_text}
 use Rattle.timeline.specs.Text.{timeline_data}
@@ -55,6 +57,9 @@ IsReportIn (forms.Timeline how) a text = IsTimelineOf how a text
 IsReportIn (forms.Lineage how) a text = text ≡ lineage_text how a.log
 IsReportIn forms.TextWithSummary a text = text ≡ report_text a.log ++ summary_text a.log a.messages
 IsReportIn forms.State a text = text ≡ state_text a.log a.whole (event_count a.log)
+IsReportIn (forms.WhyWorker how w) a text = text ≡ worker_account how a.log a.lines a.whole w
+IsReportIn (forms.WhyNode how n) a text = text ≡ node_account how a.log a.lines a.whole n
+IsReportIn forms.Limit a text = text ≡ limit_text a.log a.lines
 
 -- as text, with the books or a summary behind it too, or as JSON it says of main what `serial` writes of the script: the whole of it, or a first
 -- part, with a fault's cause in the log
@@ -70,3 +75,6 @@ IsAsSerialIn (forms.Timeline how) script log text status = Unit {0}
 IsAsSerialIn (forms.Lineage how) script log text status = Unit {0}
 IsAsSerialIn forms.TextWithSummary script log text status = BeginsAsSerial script log text status
 IsAsSerialIn forms.State script log text status = Unit {0}
+IsAsSerialIn (forms.WhyWorker how w) script log text status = Unit {0}
+IsAsSerialIn (forms.WhyNode how n) script log text status = Unit {0}
+IsAsSerialIn forms.Limit script log text status = Unit {0}

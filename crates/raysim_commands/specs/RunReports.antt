@@ -1,5 +1,5 @@
 -- What `run` writes, and its status.
-use Rattle.std.specs.Prelude.{◌≡◌, ◌⊎◌, ℕ, Bool, List, [], Option, take, IfSome}
+use Rattle.std.specs.Prelude.{◌≡◌, ◌⊎◌, ℕ, List, [], Option, take, IfSome}
 use Rattle.std.specs.Io.KnownBytes.{Appends}
 use Rattle.meaning.specs.Syntax.{Script}
 use Rattle.history.specs.Main.{status_of}
@@ -11,7 +11,7 @@ use Rattle.protocol_board.specs.Drives.{Course, EndsSo, StopsSo}
 use Rattle.raysim_streams.specs.declared.CommandRefusal.{CommandRefusal}
 use Rattle.raysim_streams.specs.declared.CommandRefusal.TheVariants.{At, NoMemory, Stopped as Stops, BadLine, WrongJob, Failed}
 use Rattle.raysim_commands.specs.declared.form.Form.{Form}
-use Rattle.raysim_commands.specs.Scripts.{IsScript, Explains}
+use Rattle.raysim_commands.specs.Scripts.{Counts, IsScript, Explains}
 use Rattle.raysim_commands.specs.Reports.{IsReportIn, IsAsSerialIn, account_of}
 
 -- a run on such a cluster, as it begins
@@ -54,11 +54,11 @@ IsRunBegun size form text before after = (after ≡ before) ⊎
     × Appends before after (take k report))
 
 -- why `run` refuses: as the other commands, or what was read, where it is known, is a script whose run stops so
-abbrev pub ExplainsRun : Size → Option (List ℕ) → Bool → Bool → CommandRefusal → Type 0
-ExplainsRun size text read_failed write_failed (Stops code) =
+abbrev pub ExplainsRun : Size → Option (List ℕ) → Counts → Counts → CommandRefusal → Type 0
+ExplainsRun size text reads writes (Stops code) =
     IfSome text (λ bytes. (script : Script) × IsScript bytes script × IsRunStop script size (Stops code))
-ExplainsRun size text read_failed write_failed (At code span) = Explains text read_failed write_failed (At code span)
-ExplainsRun size text read_failed write_failed NoMemory = Explains text read_failed write_failed NoMemory
-ExplainsRun size text read_failed write_failed (BadLine line) = Explains text read_failed write_failed (BadLine line)
-ExplainsRun size text read_failed write_failed (WrongJob line) = Explains text read_failed write_failed (WrongJob line)
-ExplainsRun size text read_failed write_failed (Failed failure) = Explains text read_failed write_failed (Failed failure)
+ExplainsRun size text reads writes (At code span) = Explains text reads writes (At code span)
+ExplainsRun size text reads writes NoMemory = Explains text reads writes NoMemory
+ExplainsRun size text reads writes (BadLine line) = Explains text reads writes (BadLine line)
+ExplainsRun size text reads writes (WrongJob line) = Explains text reads writes (WrongJob line)
+ExplainsRun size text reads writes (Failed failure) = Explains text reads writes (Failed failure)

@@ -1,5 +1,5 @@
 -- What a command says of a script's text.
-use Rattle.std.specs.Prelude.{◌≡◌, ◌⊎◌, ℕ, Bool, true, List, Option, IfSome, Result, Ok, Err}
+use Rattle.std.specs.Prelude.{◌≡◌, ◌⊎◌, ℕ, List, Option, IfSome, Result, Ok, Err}
 use Rattle.meaning.specs.Syntax.{Script}
 use Rattle.script_tokens.specs.declared.error.SyntaxError.{SyntaxError}
 use Rattle.script_tokens.specs.declared.error.SyntaxError.TheVariants as syntax
@@ -9,6 +9,7 @@ use Rattle.script_syntax.specs.Refusals.{IsRefusalOfText}
 use Rattle.script_check.specs.Rules.{IsCheckedOf}
 use Rattle.script_check.specs.declared.error.CheckError.{CheckError}
 use Rattle.script_check.specs.declared.error.CheckError.TheVariants as faults
+pub use Rattle.raysim_streams.specs.Settled.{Counts, FailedIn}
 use Rattle.raysim_streams.specs.declared.Failure.{Failure}
 use Rattle.raysim_streams.specs.declared.Failure.TheVariants.{Read, Write, Closed}
 use Rattle.raysim_streams.specs.declared.CommandRefusal.{CommandRefusal}
@@ -67,20 +68,20 @@ pub record IsNoScriptFor (text : List ℕ) (r : CommandRefusal) : Type 0 where
   pub none : IsNoScript text
   pub told : IsRefusalOf text r
 
--- the stream that a failure names has failed
-abbrev pub HasFailed : Bool → Bool → Failure → Type 0
-HasFailed read_failed write_failed Read = read_failed ≡ true
-HasFailed read_failed write_failed Write = write_failed ≡ true
-HasFailed read_failed write_failed Closed = write_failed ≡ true
+-- the stream that a failure names failed within the call
+abbrev pub HasFailed : Counts → Counts → Failure → Type 0
+HasFailed reads writes Read = FailedIn reads
+HasFailed reads writes Write = FailedIn writes
+HasFailed reads writes Closed = FailedIn writes
 
--- why a command refuses: what was read, where it is known, is no script; or a read or a write failed
-abbrev pub Explains : Option (List ℕ) → Bool → Bool → CommandRefusal → Type 0
-Explains text read_failed write_failed (At code span) = IfSome text (λ bytes. IsNoScriptFor bytes (At code span))
-Explains text read_failed write_failed NoMemory = Unit {0}
-Explains text read_failed write_failed (Stopped code) = ⊥
-Explains text read_failed write_failed (BadLine line) = ⊥
-Explains text read_failed write_failed (WrongJob line) = ⊥
-Explains text read_failed write_failed (Failed failure) = HasFailed read_failed write_failed failure
+-- why a command refuses: what was read, where it is known, is no script; or a read or a write failed within the call
+abbrev pub Explains : Option (List ℕ) → Counts → Counts → CommandRefusal → Type 0
+Explains text reads writes (At code span) = IfSome text (λ bytes. IsNoScriptFor bytes (At code span))
+Explains text reads writes NoMemory = Unit {0}
+Explains text reads writes (Stopped code) = ⊥
+Explains text reads writes (BadLine line) = ⊥
+Explains text reads writes (WrongJob line) = ⊥
+Explains text reads writes (Failed failure) = HasFailed reads writes failure
 
 -- a refusal before anything was written
 abbrev pub IsUnwritten : CommandRefusal → Type 0

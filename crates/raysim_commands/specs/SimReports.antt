@@ -1,5 +1,5 @@
 -- What `sim` writes, and its status.
-use Rattle.std.specs.Prelude.{◌≡◌, ◌⊎◌, ℕ, Bool, true, List, [], Option, Some, None, map, take, drop, IfSome}
+use Rattle.std.specs.Prelude.{◌≡◌, ◌⊎◌, ℕ, List, [], Option, Some, None, map, take, drop, IfSome}
 use Rattle.std.specs.Io.KnownBytes.{Appends}
 use Rattle.meaning.specs.Syntax.{Script}
 use Rattle.event_files.specs.declared.error.EventError.TheVariants as errors
@@ -19,7 +19,7 @@ use Rattle.raysim_streams.specs.declared.CommandRefusal.{CommandRefusal}
 use Rattle.raysim_streams.specs.declared.CommandRefusal.TheVariants.{At, NoMemory, Stopped as Stops, BadLine, WrongJob, Failed}
 use Rattle.raysim_commands.specs.declared.form.Form.{Form}
 use Rattle.raysim_commands.specs.Reports.{IsReportIn, IsAsSerialIn, account_of}
-use Rattle.raysim_commands.specs.Scripts.{IsAllowed, IsScript, IsNoScriptFor}
+use Rattle.raysim_commands.specs.Scripts.{Counts, FailedIn, IsAllowed, IsScript, IsNoScriptFor}
 
 -- the numbers of a file's lines that say something; the first line of format 2 tells the format alone
 abbrev pub said_numbers : EventFile → List ℕ → List ℕ
@@ -108,17 +108,17 @@ IsWrongLine size n text events =
 abbrev pub IsBadLine : ℕ → List ℕ → List ℕ → Type 0
 IsBadLine n text events = IsAllowed text × IsFileRefusal events (errors.BadLine n)
 
--- why `sim` refuses; whether a read of the script, a read of the events, or a write has failed
-abbrev pub ExplainsSim : Size → Option (List ℕ) → Option (List ℕ) → Bool → Bool → Bool → CommandRefusal → Type 0
-ExplainsSim size text events script_failed events_failed write_failed (At code span) = IfSome text (λ t. IsNoScriptFor t (At code span))
-ExplainsSim size text events script_failed events_failed write_failed NoMemory = Unit {0}
-ExplainsSim size text events script_failed events_failed write_failed (Stops code) = IfBoth text events (IsStopped size code)
-ExplainsSim size text events script_failed events_failed write_failed (BadLine n) = IfBoth text events (IsBadLine n)
-ExplainsSim size text events script_failed events_failed write_failed (WrongJob n) = IfBoth text events (IsWrongLine size n)
-ExplainsSim size text events script_failed events_failed write_failed (Failed Read) =
-    (script_failed ≡ true) ⊎ ((events_failed ≡ true) × IfSome text IsAllowed)
-ExplainsSim size text events script_failed events_failed write_failed (Failed Write) = write_failed ≡ true
-ExplainsSim size text events script_failed events_failed write_failed (Failed Closed) = write_failed ≡ true
+-- why `sim` refuses; the failures of reading the script, of reading the events and of writing, before the call and after it
+abbrev pub ExplainsSim : Size → Option (List ℕ) → Option (List ℕ) → Counts → Counts → Counts → CommandRefusal → Type 0
+ExplainsSim size text events script_reads event_reads writes (At code span) = IfSome text (λ t. IsNoScriptFor t (At code span))
+ExplainsSim size text events script_reads event_reads writes NoMemory = Unit {0}
+ExplainsSim size text events script_reads event_reads writes (Stops code) = IfBoth text events (IsStopped size code)
+ExplainsSim size text events script_reads event_reads writes (BadLine n) = IfBoth text events (IsBadLine n)
+ExplainsSim size text events script_reads event_reads writes (WrongJob n) = IfBoth text events (IsWrongLine size n)
+ExplainsSim size text events script_reads event_reads writes (Failed Read) =
+    FailedIn script_reads ⊎ (FailedIn event_reads × IfSome text IsAllowed)
+ExplainsSim size text events script_reads event_reads writes (Failed Write) = FailedIn writes
+ExplainsSim size text events script_reads event_reads writes (Failed Closed) = FailedIn writes
 
 -- ---- on the way
 
@@ -138,12 +138,12 @@ IsStopOf script size says numbers (WrongJob n) = IsWrongJob script size says num
 IsStopOf script size says numbers (Failed failure) = ⊥
 
 -- why an event file isn't read
-abbrev pub ExplainsEvents : Option (List ℕ) → Bool → CommandRefusal → Type 0
-ExplainsEvents events failed (BadLine n) = IfSome events (λ e. IsFileRefusal e (errors.BadLine n))
-ExplainsEvents events failed (WrongJob n) = ⊥
-ExplainsEvents events failed NoMemory = Unit {0}
-ExplainsEvents events failed (Failed Read) = failed ≡ true
-ExplainsEvents events failed (Failed Write) = ⊥
-ExplainsEvents events failed (Failed Closed) = ⊥
-ExplainsEvents events failed (At code span) = ⊥
-ExplainsEvents events failed (Stops code) = ⊥
+abbrev pub ExplainsEvents : Option (List ℕ) → Counts → CommandRefusal → Type 0
+ExplainsEvents events reads (BadLine n) = IfSome events (λ e. IsFileRefusal e (errors.BadLine n))
+ExplainsEvents events reads (WrongJob n) = ⊥
+ExplainsEvents events reads NoMemory = Unit {0}
+ExplainsEvents events reads (Failed Read) = FailedIn reads
+ExplainsEvents events reads (Failed Write) = ⊥
+ExplainsEvents events reads (Failed Closed) = ⊥
+ExplainsEvents events reads (At code span) = ⊥
+ExplainsEvents events reads (Stops code) = ⊥

@@ -1,5 +1,5 @@
 -- What a run on threads writes, and its status.
-use Rattle.std.specs.Prelude.{◌≡◌, ◌≤◌, ◌⊎◌, ℕ, Bool, true, List, [], Option, length, take, IfSome}
+use Rattle.std.specs.Prelude.{◌≡◌, ◌≤◌, ◌⊎◌, ℕ, List, [], Option, length, take, IfSome}
 use Rattle.std.specs.Io.KnownBytes.{Appends}
 use Rattle.meaning.specs.Syntax.{Script}
 use Rattle.event_log.specs.Entries.{Entry}
@@ -21,7 +21,7 @@ use Rattle.raysim_streams.specs.declared.CommandRefusal.{CommandRefusal}
 use Rattle.raysim_streams.specs.declared.CommandRefusal.TheVariants.{At, NoMemory, Stopped as Stops, BadLine, WrongJob, Failed}
 use Rattle.raysim_commands.specs.declared.form.Form.{Form}
 use Rattle.raysim_commands.specs.Reports.{IsAsSerialIn, IsReportIn, account_of}
-use Rattle.raysim_commands.specs.Scripts.{IsAllowed, IsNoScriptFor, IsScript}
+use Rattle.raysim_commands.specs.Scripts.{Counts, FailedIn, IsAllowed, IsNoScriptFor, IsScript}
 use Rattle.raysim_commands.specs.SimReports.{IfBoth, first_play}
 use Rattle.histories.specs.Recorded.{recorded_in}
 
@@ -113,41 +113,41 @@ IsBegun size threads form text plan recorded recorded_now held held_now =
 abbrev pub IsBadPlan : ℕ → List ℕ → List ℕ → Type 0
 IsBadPlan n text plan = IsAllowed text × IsBadAt IsPlanLine plan_line_text plan n
 
--- why `run` refuses; whether a read of the script, a read of the plan, a write of the history, or a write of the report has failed
-abbrev pub ExplainsThreads : Size → Option (List ℕ) → Option (List ℕ) → Bool → Bool → Bool → Bool → CommandRefusal → Type 0
-ExplainsThreads size text plan script_failed plan_failed history_failed report_failed (At code span) = IfSome text (λ t. IsNoScriptFor t (At code span))
-ExplainsThreads size text plan script_failed plan_failed history_failed report_failed NoMemory = Unit {0}
-ExplainsThreads size text plan script_failed plan_failed history_failed report_failed (Stops code) = IfSome text (IsStoppedRun size code)
-ExplainsThreads size text plan script_failed plan_failed history_failed report_failed (BadLine n) = IfBoth text plan (IsBadPlan n)
-ExplainsThreads size text plan script_failed plan_failed history_failed report_failed (WrongJob n) = ⊥
-ExplainsThreads size text plan script_failed plan_failed history_failed report_failed (Failed Read) =
-    (script_failed ≡ true) ⊎ ((plan_failed ≡ true) × IfSome text IsAllowed)
-ExplainsThreads size text plan script_failed plan_failed history_failed report_failed (Failed Write) = (report_failed ≡ true) ⊎ (history_failed ≡ true)
-ExplainsThreads size text plan script_failed plan_failed history_failed report_failed (Failed Closed) = (report_failed ≡ true) ⊎ (history_failed ≡ true)
+-- why `run` refuses; the failures of reading the script, of reading the plan, of writing the history and of writing the report, before the call and after it
+abbrev pub ExplainsThreads : Size → Option (List ℕ) → Option (List ℕ) → Counts → Counts → Counts → Counts → CommandRefusal → Type 0
+ExplainsThreads size text plan script_reads plan_reads history_writes report_writes (At code span) = IfSome text (λ t. IsNoScriptFor t (At code span))
+ExplainsThreads size text plan script_reads plan_reads history_writes report_writes NoMemory = Unit {0}
+ExplainsThreads size text plan script_reads plan_reads history_writes report_writes (Stops code) = IfSome text (IsStoppedRun size code)
+ExplainsThreads size text plan script_reads plan_reads history_writes report_writes (BadLine n) = IfBoth text plan (IsBadPlan n)
+ExplainsThreads size text plan script_reads plan_reads history_writes report_writes (WrongJob n) = ⊥
+ExplainsThreads size text plan script_reads plan_reads history_writes report_writes (Failed Read) =
+    FailedIn script_reads ⊎ (FailedIn plan_reads × IfSome text IsAllowed)
+ExplainsThreads size text plan script_reads plan_reads history_writes report_writes (Failed Write) = FailedIn report_writes ⊎ FailedIn history_writes
+ExplainsThreads size text plan script_reads plan_reads history_writes report_writes (Failed Closed) = FailedIn report_writes ⊎ FailedIn history_writes
 
 -- ---- on the way
 
 -- why a plan isn't read
-abbrev pub ExplainsPlan : Option (List ℕ) → Bool → CommandRefusal → Type 0
-ExplainsPlan plan failed (BadLine n) = IfSome plan (λ p. IsBadAt IsPlanLine plan_line_text p n)
-ExplainsPlan plan failed (WrongJob n) = ⊥
-ExplainsPlan plan failed NoMemory = Unit {0}
-ExplainsPlan plan failed (Failed Read) = failed ≡ true
-ExplainsPlan plan failed (Failed Write) = ⊥
-ExplainsPlan plan failed (Failed Closed) = ⊥
-ExplainsPlan plan failed (At code span) = ⊥
-ExplainsPlan plan failed (Stops code) = ⊥
+abbrev pub ExplainsPlan : Option (List ℕ) → Counts → CommandRefusal → Type 0
+ExplainsPlan plan reads (BadLine n) = IfSome plan (λ p. IsBadAt IsPlanLine plan_line_text p n)
+ExplainsPlan plan reads (WrongJob n) = ⊥
+ExplainsPlan plan reads NoMemory = Unit {0}
+ExplainsPlan plan reads (Failed Read) = FailedIn reads
+ExplainsPlan plan reads (Failed Write) = ⊥
+ExplainsPlan plan reads (Failed Closed) = ⊥
+ExplainsPlan plan reads (At code span) = ⊥
+ExplainsPlan plan reads (Stops code) = ⊥
 
 -- why script and plan aren't read
-abbrev pub ExplainsInputs : Option (List ℕ) → Option (List ℕ) → Bool → Bool → CommandRefusal → Type 0
-ExplainsInputs text plan script_failed plan_failed (At code span) = IfSome text (λ t. IsNoScriptFor t (At code span))
-ExplainsInputs text plan script_failed plan_failed NoMemory = Unit {0}
-ExplainsInputs text plan script_failed plan_failed (Stops code) = ⊥
-ExplainsInputs text plan script_failed plan_failed (BadLine n) = IfBoth text plan (IsBadPlan n)
-ExplainsInputs text plan script_failed plan_failed (WrongJob n) = ⊥
-ExplainsInputs text plan script_failed plan_failed (Failed Read) = (script_failed ≡ true) ⊎ ((plan_failed ≡ true) × IfSome text IsAllowed)
-ExplainsInputs text plan script_failed plan_failed (Failed Write) = ⊥
-ExplainsInputs text plan script_failed plan_failed (Failed Closed) = ⊥
+abbrev pub ExplainsInputs : Option (List ℕ) → Option (List ℕ) → Counts → Counts → CommandRefusal → Type 0
+ExplainsInputs text plan script_reads plan_reads (At code span) = IfSome text (λ t. IsNoScriptFor t (At code span))
+ExplainsInputs text plan script_reads plan_reads NoMemory = Unit {0}
+ExplainsInputs text plan script_reads plan_reads (Stops code) = ⊥
+ExplainsInputs text plan script_reads plan_reads (BadLine n) = IfBoth text plan (IsBadPlan n)
+ExplainsInputs text plan script_reads plan_reads (WrongJob n) = ⊥
+ExplainsInputs text plan script_reads plan_reads (Failed Read) = FailedIn script_reads ⊎ (FailedIn plan_reads × IfSome text IsAllowed)
+ExplainsInputs text plan script_reads plan_reads (Failed Write) = ⊥
+ExplainsInputs text plan script_reads plan_reads (Failed Closed) = ⊥
 
 -- a refusal for a failed write
 abbrev pub IsOfWriting : CommandRefusal → Type 0

@@ -10,8 +10,8 @@ use std::alloc::Global;
 
 /// Reads a script's text, and writes `ok` where the text is a script that the rules allow. The status is then 0.
 ///
-/// Else the refusal says why: `At` where the text is no such script, `NoMemory`, or `Failed` where a read or a write failed. After
-/// a failed write a beginning of the text is out; before any other refusal nothing is written.
+/// Else the refusal says why: `At` where the text is no such script, `NoMemory`, or `Failed` where a read or a write failed within the call.
+/// After a failed write a beginning of the text is out; before any other refusal nothing is written.
 pub fn check<R: Source, W: Sink>(
     alloc: Global,
     reader: &mut R,
@@ -20,7 +20,8 @@ pub fn check<R: Source, W: Sink>(
     ensures status { IfOk result (λ status. status ≡ 0) }
     ensures allowed { OnOk result (IfSome (R.left reader.old) IsAllowed) }
     ensures written { OnOk result (Appends (W.held writer.old) (W.held writer.new) (codes "ok\n")) }
-    ensures refused { IfErr result (λ refusal. Explains (R.left reader.old) (R.has_failed reader.new) (W.has_failed writer.new) refusal) }
+    ensures refused { IfErr result (λ refusal. Explains (R.left reader.old)
+        (R.failures reader.old, R.failures reader.new) (W.failures writer.old, W.failures writer.new) refusal) }
     ensures unwritten { IfErr result (λ refusal. IsUnwritten refusal → W.held writer.new ≡ W.held writer.old) }
     ensures beginning { IfErr result (λ refusal. (k : ℕ) × Appends (W.held writer.old) (W.held writer.new) (take k (codes "ok\n"))) }
 {

@@ -12,7 +12,7 @@ use std::alloc::Global;
 /// Reads a script's text, and writes a Python program that runs the script on an engine. The status is then 0.
 ///
 /// Else the refusal says why: `At` where the text is no script that the rules allow, `NoMemory`, or `Failed` where a read or a write
-/// failed. After a failed write a beginning of the program is out; before any other refusal nothing is written.
+/// failed within the call. After a failed write a beginning of the program is out; before any other refusal nothing is written.
 pub fn export<R: Source, W: Sink>(
     alloc: Global,
     reader: &mut R,
@@ -21,7 +21,8 @@ pub fn export<R: Source, W: Sink>(
 ) -> Result<u8, CommandRefusal>
     ensures status { IfOk result (λ status. status ≡ 0) }
     ensures exported { OnOk result (IfSome (R.left reader.old) (λ text. IsExported engine text (W.held writer.old) (W.held writer.new))) }
-    ensures refused { IfErr result (λ refusal. Explains (R.left reader.old) (R.has_failed reader.new) (W.has_failed writer.new) refusal) }
+    ensures refused { IfErr result (λ refusal. Explains (R.left reader.old)
+        (R.failures reader.old, R.failures reader.new) (W.failures writer.old, W.failures writer.new) refusal) }
     ensures unwritten { IfErr result (λ refusal. IsUnwritten refusal → W.held writer.new ≡ W.held writer.old) }
     ensures beginning { IfErr result (λ refusal. IfSome (R.left reader.old) (λ text.
         IsBegunExport engine text (W.held writer.old) (W.held writer.new))) }

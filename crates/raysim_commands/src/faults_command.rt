@@ -11,7 +11,7 @@ use crate::sim_command::{EventLines, number_of, read_events, stop_refusal};
 use fault_lists::{
     FaultChoice, Tried, attempts_in, events_in, fault_lists, first_lists, status_of_all, table_text,
 };
-use fault_runs::try_lists;
+use fault_runs::{TrialWatcher, try_lists};
 use log_entries::Event;
 use protocol_board::{Cluster, Core, Replay};
 use raysim_streams::{CommandRefusal, Sink, Source, put_all};
@@ -37,13 +37,14 @@ struct ToldFaults {
 }
 
 /// Tries the lists of the run of a script by these lines.
-fn try_script<S: ScriptName>(
+fn try_script<S: ScriptName, L: TrialWatcher>(
     alloc: Global,
     script: &Compiled,
     events: &EventLines,
     cluster: Cluster,
     choice: FaultChoice,
     most: usize,
+    watcher: &mut L,
 ) -> Result<ToldFaults, CommandRefusal>
     requires { script_of script.now ≡ S.script }
     ensures told { IfOk result (λ told. AreFaultsOf (script_of script.now) cluster choice most events.now.says
@@ -59,7 +60,8 @@ fn try_script<S: ScriptName>(
     let history = events_in(alloc, log)?;
     let lists = fault_lists(alloc, log, u32::from(cluster.nodes()), choice)?;
     let first = first_lists(lists.as_slice(), most);
-    let Ok(tried) = try_lists::<S>(alloc, script, cluster, history.as_slice(), first) else {
+    let Ok(tried) = try_lists::<S, L>(alloc, script, cluster, history.as_slice(), first, watcher)
+    else {
         return Err(CommandRefusal::NoMemory);
     };
     let table = table_text(alloc, lists.len(), attempts_in(log), tried.as_slice())?;
@@ -80,8 +82,8 @@ fn try_script<S: ScriptName>(
 /// from ending as the serial run does, but for the death of main's own worker; else 2.
 ///
 /// Else the refusal says why, as for `sim`, of the run without a fault. After a failed write a beginning of the table is out; before any other refusal
-/// nothing is written.
-pub fn faults<R: Source, E: Source, W: Sink>(
+/// nothing is written. The watcher is told behind each list, and changes nothing.
+pub fn faults<R: Source, E: Source, W: Sink, L: TrialWatcher>(
     alloc: Global,
     reader: &mut R,
     events: &mut E,
@@ -89,11 +91,12 @@ pub fn faults<R: Source, E: Source, W: Sink>(
     choice: FaultChoice,
     most: usize,
     writer: &mut W,
+    watcher: &mut L,
 ) -> Result<TriedFaults, CommandRefusal>
     ensures told { IfOk result (λ faults. IfBoth (R.left reader.old) (E.left events.old) (λ text file.
         AreFaultsTold cluster choice most text file faults (W.held writer.old) (W.held writer.new))) }
     ensures refused { IfErr result (λ refusal. ExplainsSim cluster (R.left reader.old) (E.left events.old)
-        (R.has_failed reader.new) (E.has_failed events.new) (W.has_failed writer.new) refusal) }
+        (R.failures reader.old, R.failures reader.new) (E.failures events.old, E.failures events.new) (W.failures writer.old, W.failures writer.new) refusal) }
     ensures unwritten { IfErr result (λ refusal. IsUnwritten refusal → W.held writer.new ≡ W.held writer.old) }
     ensures beginning { IfErr result (λ refusal. IfBoth (R.left reader.old) (E.left events.old) (λ text file.
         (W.held writer.new ≡ W.held writer.old) ⊎ AreFaultsBegun cluster choice most text file (W.held writer.old) (W.held writer.new))) }
@@ -107,7 +110,9 @@ pub fn faults<R: Source, E: Source, W: Sink>(
         Ok(found) => found,
         Err(refusal) => return Err(refusal),
     };
-    let told = match try_script::<Brand>(alloc, &script, &found, cluster, choice, most) {
+    let told = match try_script::<Brand, L>(
+        alloc, &script, &found, cluster, choice, most, watcher,
+    ) {
         Ok(told) => told,
         Err(refusal) => return Err(refusal),
     };

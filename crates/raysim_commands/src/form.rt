@@ -9,12 +9,14 @@ ghost use Rattle.state_text.specs.Text.{event_count, state_text};
 ghost use Rattle.summary_text.specs.Text.{summary_text};
 
 use books::book_lines;
-use ids::ObjectId;
+use ids::{NodeId, ObjectId, WorkerId};
+use limit_text::limit_text;
 use lineage_text::lineage_text;
 use log_text::log_text;
 use log_words::Contents;
 use main_text::main_text;
 use message_text::log_with_messages;
+use party_text::{node_text, worker_text};
 use protocol_board::Board;
 use segment::ScriptName;
 use sequence::Seq;
@@ -49,6 +51,12 @@ pub enum Form {
     TextWithSummary,
     /// What is alive in it (docs/state.md).
     State,
+    /// Why the worker is as it is, in sentences.
+    WhyWorker(Contents, WorkerId),
+    /// Why the node is as it is, in sentences.
+    WhyNode(Contents, NodeId),
+    /// Which limit it met, and in which event, or which event was the last.
+    Limit,
 }
 
 /// The report, and behind it the books of the seats.
@@ -133,5 +141,21 @@ pub fn report<S: ScriptName>(
         Form::Lineage(contents) => lineage_text(alloc, contents, board.log()),
         Form::TextWithSummary => report_with_summary(alloc, board),
         Form::State => state_now(alloc, board),
+        Form::WhyWorker(contents, worker) => {
+            let whole = board.whole();
+            worker_text(
+                alloc,
+                contents,
+                board.log(),
+                lines.as_slice(),
+                whole,
+                worker,
+            )
+        }
+        Form::WhyNode(contents, node) => {
+            let whole = board.whole();
+            node_text(alloc, contents, board.log(), lines.as_slice(), whole, node)
+        }
+        Form::Limit => limit_text(alloc, board.log(), lines.as_slice()),
     }
 }

@@ -22,7 +22,7 @@ use std::marker::Brand;
 /// The lines of an event file of format 1. The first line of a file of format 2 is none of format 1.
 fn read_lines<E: Source>(alloc: Global, reader: &mut E) -> Result<Seq<Line>, CommandRefusal>
     ensures read { IfOk result (λ lines. IfSome (E.left reader.old) (λ bytes. IsFile IsLine line_text bytes lines)) }
-    ensures refused { IfErr result (λ refusal. ExplainsLines (E.left reader.old) (E.has_failed reader.new) refusal) }
+    ensures refused { IfErr result (λ refusal. ExplainsLines (E.left reader.old) (E.failures reader.old, E.failures reader.new) refusal) }
 {
     let text = read_at_most(alloc, reader, usize::MAX)?;
     match parse_events(alloc, text.as_slice()) {
@@ -72,7 +72,7 @@ pub fn migrate<R: Source, E: Source, W: Sink>(
     ensures migrated { IfOk result (λ status. IfBoth (R.left reader.old) (E.left events.old) (λ text file.
         IsMigrated cluster text file (W.held writer.old) (W.held writer.new))) }
     ensures refused { IfErr result (λ refusal. ExplainsMigration cluster (R.left reader.old) (E.left events.old)
-        (R.has_failed reader.new) (E.has_failed events.new) (W.has_failed writer.new) refusal) }
+        (R.failures reader.old, R.failures reader.new) (E.failures events.old, E.failures events.new) (W.failures writer.old, W.failures writer.new) refusal) }
     ensures unwritten { IfErr result (λ refusal. IsUnwritten refusal → W.held writer.new ≡ W.held writer.old) }
     ensures beginning { IfErr result (λ refusal. IfBoth (R.left reader.old) (E.left events.old) (λ text file.
         (W.held writer.new ≡ W.held writer.old) ⊎ IsMigrationBegun cluster text file (W.held writer.old) (W.held writer.new))) }

@@ -9,6 +9,7 @@ use crate::form::{Form, report};
 use crate::script::{compiled_script, read_script};
 use protocol_board::{Board, Cluster, Core, drive};
 use raysim_streams::{CommandRefusal, Sink, Source, put_all};
+use run_watch::Watcher;
 use segment::{Compiled, ScriptName};
 use sequence::Seq;
 use std::alloc::Global;
@@ -22,11 +23,12 @@ struct RunReport {
 }
 
 /// The report of a script's run.
-fn run_script<S: ScriptName>(
+fn run_script<S: ScriptName, L: Watcher>(
     alloc: Global,
     script: &Compiled,
     cluster: Cluster,
     form: Form,
+    watcher: &mut L,
 ) -> Result<RunReport, CommandRefusal>
     requires { script_of script.now ≡ S.script }
     ensures reported { IfOk result (λ report. IsReportOf (script_of script.now) cluster form (string_bytes report.text) report.status) }
@@ -35,7 +37,7 @@ fn run_script<S: ScriptName>(
     let core = Core::<S>::new(alloc, script.script(), cluster)?;
     let mut board = Board::new(core);
     let mut sent = Seq::new(alloc);
-    if let Err(unfinished) = drive(alloc, &mut board, &mut sent, script) {
+    if let Err(unfinished) = drive(alloc, &mut board, &mut sent, script, watcher) {
         return Err(CommandRefusal::Stopped {
             code: unfinished.number(),
         });
@@ -52,17 +54,20 @@ fn run_script<S: ScriptName>(
 ///
 /// Else the refusal says why: `At` where the text is no script that the rules allow, `NoMemory`, `Stopped` where the run stops before
 /// its end, with the number that an event of it is refused (37 at a limit), or with 41 after 100,000 turns; or `Failed` where a read or a
-/// write failed. After a failed write a beginning of the report is out; before any other refusal nothing is written.
-pub fn run<R: Source, W: Sink>(
+/// write failed within the call. After a failed write a beginning of the report is out; before any other refusal nothing is written. The
+/// watcher looks on while the run goes on, and changes nothing.
+pub fn run<R: Source, W: Sink, L: Watcher>(
     alloc: Global,
     reader: &mut R,
     cluster: Cluster,
     form: Form,
     writer: &mut W,
+    watcher: &mut L,
 ) -> Result<u8, CommandRefusal>
     ensures reported { IfOk result (λ status. IfSome (R.left reader.old) (λ text.
         IsRunReported cluster form text status (W.held writer.old) (W.held writer.new))) }
-    ensures refused { IfErr result (λ refusal. ExplainsRun cluster (R.left reader.old) (R.has_failed reader.new) (W.has_failed writer.new) refusal) }
+    ensures refused { IfErr result (λ refusal. ExplainsRun cluster (R.left reader.old)
+        (R.failures reader.old, R.failures reader.new) (W.failures writer.old, W.failures writer.new) refusal) }
     ensures unwritten { IfErr result (λ refusal. IsUnwritten refusal → W.held writer.new ≡ W.held writer.old) }
     ensures beginning { IfErr result (λ refusal. IfSome (R.left reader.old) (λ text.
         IsRunBegun cluster form text (W.held writer.old) (W.held writer.new))) }
@@ -72,10 +77,11 @@ pub fn run<R: Source, W: Sink>(
         Ok(script) => script,
         Err(refusal) => return Err(refusal),
     };
-    let report = match run_script::<Brand>(alloc, &script, cluster, form) {
+    let report = match run_script::<Brand, L>(alloc, &script, cluster, form, watcher) {
         Ok(report) => report,
         Err(refusal) => return Err(refusal),
     };
+    watcher.close();
     put_all(writer, report.text.as_bytes())?;
     Ok(report.status)
 }

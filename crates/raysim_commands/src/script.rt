@@ -1,8 +1,8 @@
 // A script, from its text.
 
-ghost use Rattle.std.specs.Prelude.{◌≡◌, Bool, IfOk, IfErr, IfSome};
+ghost use Rattle.std.specs.Prelude.{◌≡◌, IfOk, IfErr, IfSome};
 ghost use Rattle.script_check.specs.Trees.{script_of};
-ghost use Rattle.raysim_commands.specs.Scripts.{IsScript, IsRefusalOf, IsUnwritten, Explains, syntax_refusal, check_refusal};
+ghost use Rattle.raysim_commands.specs.Scripts.{Counts, IsScript, IsRefusalOf, IsUnwritten, Explains, syntax_refusal, check_refusal};
 
 use raysim_streams::{CommandRefusal, Source, read_at_most};
 use script_check::{CheckError, Checked, check};
@@ -16,7 +16,8 @@ pub const MOST_BYTES: usize = 65_536;
 /// The text of a script. One of more than 65,536 bytes is refused 4 at 0..0, and all but one byte of the rest stays unread.
 pub fn read_script<R: Source>(alloc: Global, reader: &mut R) -> Result<Vec<u8>, CommandRefusal>
     ensures ok { IfOk result (λ all. IfSome (R.left reader.old) (λ bytes. all.items ≡ bytes)) }
-    ensures refused { (written : Bool) → IfErr result (λ refusal. Explains (R.left reader.old) (R.has_failed reader.new) written refusal) }
+    ensures refused { (writes : Counts) → IfErr result (λ refusal. Explains (R.left reader.old)
+        (R.failures reader.old, R.failures reader.new) writes refusal) }
     ensures unwritten { IfErr result IsUnwritten }
 {
     let text = read_at_most(alloc, reader, MOST_BYTES + 1)?;

@@ -51,14 +51,15 @@ fn serial_report(alloc: Global, script: &Checked) -> Result<SerialReport, Comman
 /// each print, then `main value V` or `main trap T`. The status is 0 for a value and 1 for a trap.
 ///
 /// Else the refusal says why: `At` where the text is no script that the rules allow, `NoMemory`, or `Failed` where a read or a write
-/// failed. After a failed write a beginning of the report is out; before any other refusal nothing is written.
+/// failed within the call. After a failed write a beginning of the report is out; before any other refusal nothing is written.
 pub fn serial<R: Source, W: Sink>(
     alloc: Global,
     reader: &mut R,
     writer: &mut W,
 ) -> Result<u8, CommandRefusal>
     ensures reported { IfOk result (λ status. IfSome (R.left reader.old) (λ text. IsReported text status (W.held writer.old) (W.held writer.new))) }
-    ensures refused { IfErr result (λ refusal. Explains (R.left reader.old) (R.has_failed reader.new) (W.has_failed writer.new) refusal) }
+    ensures refused { IfErr result (λ refusal. Explains (R.left reader.old)
+        (R.failures reader.old, R.failures reader.new) (W.failures writer.old, W.failures writer.new) refusal) }
     ensures unwritten { IfErr result (λ refusal. IsUnwritten refusal → W.held writer.new ≡ W.held writer.old) }
     ensures beginning { IfErr result (λ refusal. IfSome (R.left reader.old) (λ text. IsBegun text (W.held writer.old) (W.held writer.new))) }
 {

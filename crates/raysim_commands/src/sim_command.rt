@@ -40,7 +40,7 @@ pub(crate) fn number_of(numbers: &Seq<usize>, line: usize) -> usize
 }
 
 /// The numbers in the file of lines that are counted without those that are passed over.
-fn lines_in_file(
+pub(crate) fn lines_in_file(
     alloc: Global,
     numbers: &Seq<usize>,
     lines: &Seq<usize>,
@@ -75,7 +75,11 @@ fn without_first(numbers: &mut Seq<usize>)
 }
 
 /// The numbers of a file's lines that say something.
-fn said_numbers(alloc: Global, says: &EventFile, text: &[u8]) -> Result<Seq<usize>, AllocError>
+pub(crate) fn said_numbers(
+    alloc: Global,
+    says: &EventFile,
+    text: &[u8],
+) -> Result<Seq<usize>, AllocError>
     ensures { IfOk result (λ numbers. numbers ≡ said_numbers says.now text.now) }
 {
     let mut numbers = line_numbers(alloc, text)?;
@@ -119,7 +123,7 @@ pub(crate) fn read_events<E: Source>(
     reader: &mut E,
 ) -> Result<EventLines, CommandRefusal>
     ensures read { IfOk result (λ events. IfSome (E.left reader.old) (λ bytes. AreEvents bytes events.says events.numbers)) }
-    ensures refused { IfErr result (λ refusal. ExplainsEvents (E.left reader.old) (E.has_failed reader.new) refusal) }
+    ensures refused { IfErr result (λ refusal. ExplainsEvents (E.left reader.old) (E.failures reader.old, E.failures reader.new) refusal) }
 {
     let text = read_at_most(alloc, reader, usize::MAX)?;
     match parse_event_file(alloc, text.as_slice()) {
@@ -138,9 +142,9 @@ pub(crate) fn read_events<E: Source>(
 ///
 /// Else the refusal says why: `At` where the text is no script that the rules allow, `BadLine` where a line is none of an event file,
 /// `Stopped` with 41 where the events are more than 100,000, `WrongJob` where a claim gave another job than its line of a recorded history
-/// says, `NoMemory`, or `Failed` where a read or a write failed. The script is read and checked before the events are read, and these are
-/// read whole before the first is applied. After a failed write a beginning of the report is out; before any other refusal nothing is
-/// written.
+/// says, `NoMemory`, or `Failed` where a read or a write failed within the call. The script is read and checked before the events are read,
+/// and these are read whole before the first is applied. After a failed write a beginning of the report is out; before any other refusal
+/// nothing is written.
 pub fn sim<R: Source, E: Source, W: Sink>(
     alloc: Global,
     reader: &mut R,
@@ -152,7 +156,7 @@ pub fn sim<R: Source, E: Source, W: Sink>(
     ensures reported { IfOk result (λ status. IfBoth (R.left reader.old) (E.left events.old) (λ text file.
         IsSimReported cluster form text file status (W.held writer.old) (W.held writer.new))) }
     ensures refused { IfErr result (λ refusal. ExplainsSim cluster (R.left reader.old) (E.left events.old)
-        (R.has_failed reader.new) (E.has_failed events.new) (W.has_failed writer.new) refusal) }
+        (R.failures reader.old, R.failures reader.new) (E.failures events.old, E.failures events.new) (W.failures writer.old, W.failures writer.new) refusal) }
     ensures unwritten { IfErr result (λ refusal. IsUnwritten refusal → W.held writer.new ≡ W.held writer.old) }
     ensures beginning { IfErr result (λ refusal. IfBoth (R.left reader.old) (E.left events.old) (λ text file.
         (W.held writer.new ≡ W.held writer.old) ⊎ IsSimBegun cluster form text file (W.held writer.old) (W.held writer.new))) }

@@ -95,7 +95,7 @@ pub fn state<R: Source, E: Source, W: Sink>(
     ensures told { IfOk result (λ status. IfBoth (R.left reader.old) (E.left events.old) (λ text file.
         IsStateTold cluster at text file status (W.held writer.old) (W.held writer.new))) }
     ensures refused { IfErr result (λ refusal. ExplainsSim cluster (R.left reader.old) (E.left events.old)
-        (R.has_failed reader.new) (E.has_failed events.new) (W.has_failed writer.new) refusal) }
+        (R.failures reader.old, R.failures reader.new) (E.failures events.old, E.failures events.new) (W.failures writer.old, W.failures writer.new) refusal) }
     ensures unwritten { IfErr result (λ refusal. IsUnwritten refusal → W.held writer.new ≡ W.held writer.old) }
     ensures beginning { IfErr result (λ refusal. IfBoth (R.left reader.old) (E.left events.old) (λ text file.
         (W.held writer.new ≡ W.held writer.old) ⊎ IsStateBegun cluster at text file (W.held writer.old) (W.held writer.new))) }

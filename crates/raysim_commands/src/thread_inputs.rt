@@ -1,6 +1,6 @@
 // What a run on threads reads.
 
-ghost use Rattle.std.specs.Prelude.{◌≡◌, Bool, IfOk, IfErr, IfSome};
+ghost use Rattle.std.specs.Prelude.{◌≡◌, IfOk, IfErr, IfSome};
 ghost use Rattle.script_check.specs.Trees.{script_of};
 ghost use Rattle.raysim_commands.specs.Scripts.{IsScript, IsUnwritten};
 ghost use Rattle.raysim_commands.specs.ThreadReports.{ExplainsInputs, ExplainsPlan, IsPlan};
@@ -21,7 +21,7 @@ pub struct Inputs {
 /// The lines of a plan.
 fn read_plan<P: Source>(alloc: Global, reader: &mut P) -> Result<RunPlan, CommandRefusal>
     ensures read { IfOk result (λ plan. IfSome (P.left reader.old) (λ bytes. IsPlan bytes plan.lines)) }
-    ensures refused { IfErr result (λ refusal. ExplainsPlan (P.left reader.old) (P.has_failed reader.new) refusal) }
+    ensures refused { IfErr result (λ refusal. ExplainsPlan (P.left reader.old) (P.failures reader.old, P.failures reader.new) refusal) }
 {
     let text = read_at_most(alloc, reader, usize::MAX)?;
     match parse_plan(alloc, text.as_slice()) {
@@ -40,7 +40,7 @@ pub fn read_inputs<A: Source, P: Source>(
     ensures script { IfOk result (λ inputs. IfSome (A.left reader.old) (λ text. IsScript text (script_of inputs.script))) }
     ensures plan { IfOk result (λ inputs. IfSome (P.left plan.old) (λ bytes. IsPlan bytes inputs.plan.lines)) }
     ensures refused { IfErr result (λ refusal. ExplainsInputs (A.left reader.old) (P.left plan.old)
-        (A.has_failed reader.new) (P.has_failed plan.new) refusal) }
+        (A.failures reader.old, A.failures reader.new) (P.failures plan.old, P.failures plan.new) refusal) }
 {
     let text = read_script(alloc, reader)?;
     let script = match compiled_script(alloc, text.as_slice()) {

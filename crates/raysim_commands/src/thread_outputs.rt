@@ -1,7 +1,8 @@
 // What a run on threads writes.
 
-ghost use Rattle.std.specs.Prelude.{◌≡◌, ◌⊎◌, true, OnOk, OnErr, IfErr, string_bytes};
+ghost use Rattle.std.specs.Prelude.{◌≡◌, ◌⊎◌, OnOk, OnErr, IfErr, string_bytes};
 ghost use Rattle.std.specs.Io.KnownBytes.{Appends};
+ghost use Rattle.raysim_commands.specs.Scripts.{FailedIn};
 ghost use Rattle.raysim_commands.specs.ThreadReports.{AreBegun, IsOfWriting};
 
 use crate::thread_run::Outputs;
@@ -15,7 +16,8 @@ pub fn write_outputs<H: Sink, W: Sink>(
 ) -> Result<(), CommandRefusal>
     ensures history { OnOk result (Appends (H.held history.old) (H.held history.new) (string_bytes out.now.history)) }
     ensures report { OnOk result (Appends (W.held writer.old) (W.held writer.new) (string_bytes out.now.report)) }
-    ensures failed { IfErr result (λ refusal. IsOfWriting refusal × ((W.has_failed writer.new ≡ true) ⊎ (H.has_failed history.new ≡ true))) }
+    ensures failed { IfErr result (λ refusal. IsOfWriting refusal
+        × (FailedIn (W.failures writer.old, W.failures writer.new) ⊎ FailedIn (H.failures history.old, H.failures history.new))) }
     ensures beginning { OnErr result (AreBegun (string_bytes out.now.history) (string_bytes out.now.report)
         (H.held history.old) (H.held history.new) (W.held writer.old) (W.held writer.new)) }
 {

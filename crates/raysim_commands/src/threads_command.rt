@@ -24,9 +24,9 @@ use std::thread::Threads;
 /// ends with a value, 1 where it ends with a trap, and 2 where it is open or has a fault.
 ///
 /// Else the refusal says why: `At` where the text is no script that the rules allow, `BadLine` where a line is none of a plan, `Stopped` with
-/// 37 where the run was given up at a limit, `NoMemory`, or `Failed` where a read or a write failed. The script is read and checked before the
-/// plan is read. After a failed write a beginning of the history is out, or the history and a beginning of the report; before any other refusal
-/// nothing is written.
+/// 37 where the run was given up at a limit, `NoMemory`, or `Failed` where a read or a write failed within the call. The script is read and
+/// checked before the plan is read. After a failed write a beginning of the history is out, or the history and a beginning of the report;
+/// before any other refusal nothing is written.
 pub fn run_threaded<
     A: Source,
     P: Source,
@@ -50,7 +50,8 @@ pub fn run_threaded<
     ensures reported { IfOk result (λ status. IfBoth (A.left reader.old) (P.left plan.old) (λ text bytes. AreWritten cluster threads form text bytes status
         (H.held history.old) (H.held history.new) (W.held writer.old) (W.held writer.new))) }
     ensures refused { IfErr result (λ refusal. ExplainsThreads cluster (A.left reader.old) (P.left plan.old)
-        (A.has_failed reader.new) (P.has_failed plan.new) (H.has_failed history.new) (W.has_failed writer.new) refusal) }
+        (A.failures reader.old, A.failures reader.new) (P.failures plan.old, P.failures plan.new)
+        (H.failures history.old, H.failures history.new) (W.failures writer.old, W.failures writer.new) refusal) }
     ensures unwritten { IfErr result (λ refusal. IsUnwritten refusal →
         AreUnwritten (H.held history.old) (H.held history.new) (W.held writer.old) (W.held writer.new)) }
     ensures beginning { IfErr result (λ refusal. IfBoth (A.left reader.old) (P.left plan.old) (λ text bytes. IsBegun cluster threads form text bytes

@@ -8,5 +8,5 @@ mod whole;
 
 pub use clash::{Clash, first_clash};
 pub use noted::Noted;
-pub use place::{Place, place_of};
+pub use place::{FilePlace, place_of};
 pub use whole::{try_output, write_whole};

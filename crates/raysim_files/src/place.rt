@@ -10,7 +10,7 @@ use std::rt::Files;
 
 /// What a name stands for, as far as a write would lose it. A file has one node, whatever names and links lead to it.
 #[derive(Clone, Copy)]
-pub enum Place<'a> {
+pub enum FilePlace<'a> {
     /// Nothing that a write would lose: a device, a pipe, a folder, or what can't be looked at.
     Other,
     /// A regular file.
@@ -27,16 +27,16 @@ pub enum Place<'a> {
 }
 
 /// Whether two names stand for one file.
-pub(crate) fn is_one_file(one: &Place<'_>, other: &Place<'_>) -> bool
+pub(crate) fn is_one_file(one: &FilePlace<'_>, other: &FilePlace<'_>) -> bool
     ensures { IsTrue result ↔ IsOneFile one.now other.now }
 {
     match (*one, *other) {
-        (Place::File { device, node }, Place::File { device: d, node: n }) => {
+        (FilePlace::File { device, node }, FilePlace::File { device: d, node: n }) => {
             device == d && node == n
         }
         (
-            Place::New { device, node, name },
-            Place::New {
+            FilePlace::New { device, node, name },
+            FilePlace::New {
                 device: d,
                 node: n,
                 name: other_name,
@@ -56,25 +56,25 @@ pub(crate) fn split(path: &str) -> (&str, &str) {
 }
 
 /// What a path stands for, through all links.
-pub fn place_of<'a, R: Files>(rt: &R, path: &'a str) -> Place<'a> {
+pub fn place_of<'a, R: Files>(rt: &R, path: &'a str) -> FilePlace<'a> {
     match fs::metadata(rt, path) {
-        Ok(found) if found.is_file() => Place::File {
+        Ok(found) if found.is_file() => FilePlace::File {
             device: found.dev(),
             node: found.ino(),
         },
         Err(error) if error.kind() == ErrorKind::NotFound => new_place(rt, path),
-        _ => Place::Other,
+        _ => FilePlace::Other,
     }
 }
 
-fn new_place<'a, R: Files>(rt: &R, path: &'a str) -> Place<'a> {
+fn new_place<'a, R: Files>(rt: &R, path: &'a str) -> FilePlace<'a> {
     let (folder, name) = split(path);
     match fs::metadata(rt, folder) {
-        Ok(found) => Place::New {
+        Ok(found) => FilePlace::New {
             device: found.dev(),
             node: found.ino(),
             name,
         },
-        Err(_) => Place::Other,
+        Err(_) => FilePlace::Other,
     }
 }

@@ -3,8 +3,8 @@
 ghost use Rattle.std.specs.Prelude.{◌≡◌, ◌≤ℤ◌, IfOk, codes, pos, false};
 ghost use Rattle.clap.specs.Words.{app_of, rule_of, with_rule, with_subcommand};
 ghost use Rattle.raysim_options.specs.App.{raysim_app, script_app, explained_app, explain_app, faults_app, sim_app, run_app, log_app, why_app, migrate_app, state_app, by_events_app, needed};
-ghost use Rattle.raysim_options.specs.App.{with_full, with_summary};
-ghost use Rattle.raysim_options.specs.App.{optional, number, text, flag, first_app, second_app, third_app, fourth_app, with_cluster, with_files, with_trials, with_views, HasNoGlobals};
+ghost use Rattle.raysim_options.specs.App.{run_inputs_app, with_full, with_progress, with_so_far, with_stream, with_summary};
+ghost use Rattle.raysim_options.specs.App.{optional, number, text, flag, first_app, second_app, third_app, fourth_app, with_cluster, with_files, with_page, with_trials, with_views, HasNoGlobals};
 ghost use Rattle.raysim_options.specs.App.{export_app, fifth_app, sixth_app, needed_text};
 
 use clap::{Arg, ArgAction, Command};
@@ -21,7 +21,7 @@ pub const MOST_THREADS: u8 = 8;
 
 /// What the help says of `--full` where views are written.
 const VIEWS_IN_FULL: &str =
-    "Writes all items of long lists in the timeline and the graph, of which else three are written";
+    "Writes all items of long lists in timeline, graph and page, of which else three are written";
 
 /// What the help says of `--full` where a run is told.
 const TOLD_IN_FULL: &str = "Writes all items of long lists, of which else three are written";
@@ -143,6 +143,15 @@ fn add_json<'a>(alloc: Global, command: Command<'a>) -> Result<Command<'a>, Allo
     add(command, flag(alloc, "json", help))
 }
 
+fn add_page<'a>(alloc: Global, command: Command<'a>) -> Result<Command<'a>, AllocError>
+    requires none { HasNoGlobals command }
+    ensures app { IfOk result (λ c. app_of c ≡ with_page (app_of command.entry)) }
+    ensures local { IfOk result HasNoGlobals }
+{
+    let page = "Where the run is written as a page for a browser (nowhere if left out)";
+    add(command, text(alloc, "page", page))
+}
+
 fn add_views<'a>(alloc: Global, command: Command<'a>) -> Result<Command<'a>, AllocError>
     requires none { HasNoGlobals command }
     ensures app { IfOk result (λ c. app_of c ≡ with_views (app_of command.entry)) }
@@ -153,7 +162,8 @@ fn add_views<'a>(alloc: Global, command: Command<'a>) -> Result<Command<'a>, All
     let command = add(command, text(alloc, "timeline", timeline))?;
     let lineage =
         "Where the graph of the run's objects is written, for Graphviz (nowhere if left out)";
-    add(command, text(alloc, "lineage", lineage))
+    let command = add(command, text(alloc, "lineage", lineage))?;
+    add_page(alloc, command)
 }
 
 fn add_full<'a>(
@@ -189,6 +199,34 @@ fn add_summary<'a>(alloc: Global, command: Command<'a>) -> Result<Command<'a>, A
     add(command, flag(alloc, "summary", help))
 }
 
+fn add_so_far<'a>(alloc: Global, command: Command<'a>) -> Result<Command<'a>, AllocError>
+    requires none { HasNoGlobals command }
+    ensures app { IfOk result (λ c. app_of c ≡ with_so_far (app_of command.entry)) }
+    ensures local { IfOk result HasNoGlobals }
+{
+    let help = "Writes the report of a run that is stopped by a limit too, up to there";
+    add(command, flag(alloc, "so-far", help))
+}
+
+fn add_progress<'a>(alloc: Global, command: Command<'a>) -> Result<Command<'a>, AllocError>
+    requires none { HasNoGlobals command }
+    ensures app { IfOk result (λ c. app_of c ≡ with_progress (app_of command.entry)) }
+    ensures local { IfOk result HasNoGlobals }
+{
+    let help =
+        "Tells on standard error how far it is, from the start on (if left out, on a terminal alone, after two seconds)";
+    add(command, flag(alloc, "progress", help))
+}
+
+fn add_stream<'a>(alloc: Global, command: Command<'a>) -> Result<Command<'a>, AllocError>
+    requires none { HasNoGlobals command }
+    ensures app { IfOk result (λ c. app_of c ≡ with_stream (app_of command.entry)) }
+    ensures local { IfOk result HasNoGlobals }
+{
+    let help = "Writes what main prints on standard error as it comes, before the report";
+    add(command, flag(alloc, "stream", help))
+}
+
 pub(crate) fn sim<'a>(alloc: Global) -> Result<Command<'a>, AllocError>
     ensures app { IfOk result (λ c. app_of c ≡ sim_app) }
     ensures local { IfOk result HasNoGlobals }
@@ -201,7 +239,8 @@ pub(crate) fn sim<'a>(alloc: Global) -> Result<Command<'a>, AllocError>
         "Writes behind the report how many commits came from each seat, and the sum of their jobs";
     let command = add(command, flag(alloc, "books", books))?;
     let command = add_full(alloc, command, VIEWS_IN_FULL)?;
-    add_summary(alloc, command)
+    let command = add_summary(alloc, command)?;
+    add_so_far(alloc, command)
 }
 
 fn migrate<'a>(alloc: Global) -> Result<Command<'a>, AllocError>
@@ -224,8 +263,9 @@ fn add_files<'a>(alloc: Global, command: Command<'a>) -> Result<Command<'a>, All
     add_json(alloc, command)
 }
 
-pub(crate) fn run<'a>(alloc: Global) -> Result<Command<'a>, AllocError>
-    ensures app { IfOk result (λ c. app_of c ≡ run_app) }
+/// The subcommand `run`, with what it is run on, and the files beside it.
+fn run_inputs<'a>(alloc: Global) -> Result<Command<'a>, AllocError>
+    ensures app { IfOk result (λ c. app_of c ≡ run_inputs_app) }
     ensures local { IfOk result HasNoGlobals }
 {
     let about = "Runs a script, each remote call as a task, and writes the run's report";
@@ -234,10 +274,20 @@ pub(crate) fn run<'a>(alloc: Global) -> Result<Command<'a>, AllocError>
         "How many threads run the tasks, from 1 to 8 (if left out, 2 with a plan or a history, else the run is driven, one task after the other)";
     let command = add(command, number(alloc, "threads", MOST_THREADS, threads))?;
     let command = add_cluster(alloc, command)?;
-    let command = add_files(alloc, command)?;
+    add_files(alloc, command)
+}
+
+pub(crate) fn run<'a>(alloc: Global) -> Result<Command<'a>, AllocError>
+    ensures app { IfOk result (λ c. app_of c ≡ run_app) }
+    ensures local { IfOk result HasNoGlobals }
+{
+    let command = run_inputs(alloc)?;
     let command = add_views(alloc, command)?;
     let command = add_full(alloc, command, VIEWS_IN_FULL)?;
-    add_summary(alloc, command)
+    let command = add_summary(alloc, command)?;
+    let command = add_so_far(alloc, command)?;
+    let command = add_progress(alloc, command)?;
+    add_stream(alloc, command)
 }
 
 fn log<'a>(alloc: Global) -> Result<Command<'a>, AllocError>
@@ -252,18 +302,21 @@ fn log<'a>(alloc: Global) -> Result<Command<'a>, AllocError>
     let command = add_cluster(alloc, command)?;
     let messages = "Tells below each event the messages that it sent, too";
     let command = add(command, flag(alloc, "messages", messages))?;
-    add_full(alloc, command, TOLD_IN_FULL)
+    let command = add_full(alloc, command, TOLD_IN_FULL)?;
+    add_page(alloc, command)
 }
 
 fn why<'a>(alloc: Global) -> Result<Command<'a>, AllocError>
     ensures app { IfOk result (λ c. app_of c ≡ why_app) }
     ensures local { IfOk result HasNoGlobals }
 {
-    let about = "Tells why an object of a run by a list of events is as it is";
+    let about = "Tells why an object, a worker or a node of a run is as it is, or why main ended";
     let command = explained(alloc, "why", about)?;
-    let events = "The file of events, one in each line";
-    let command = add(command, needed(alloc, "events", events))?;
-    let object = "The object, as o1.2 (if left out, why main ended or what it waits for is told)";
+    let events =
+        "The file of events, one in each line (if left out, the run goes on to its end by itself)";
+    let command = add(command, optional(alloc, "events", events))?;
+    let object =
+        "The object, worker or node, as o1.2, w3 or n1 (if left out, why main ended or what it waits for is told)";
     let command = add(command, optional(alloc, "object", object))?;
     let command = add_cluster(alloc, command)?;
     add_full(alloc, command, TOLD_IN_FULL)
@@ -296,7 +349,8 @@ fn faults<'a>(alloc: Global) -> Result<Command<'a>, AllocError>
         "The file of the run's events, one in each line (if left out, the run goes on to its end by itself)";
     let command = add(command, optional(alloc, "events", events))?;
     let command = add_cluster(alloc, command)?;
-    add_trials(alloc, command)
+    let command = add_trials(alloc, command)?;
+    add_progress(alloc, command)
 }
 
 fn export<'a>(alloc: Global) -> Result<Command<'a>, AllocError>

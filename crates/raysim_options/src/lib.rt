@@ -50,9 +50,9 @@ pub struct ScriptOptions<'a> {
 }
 
 /// The options of `sim`: the script, the list of events, how many nodes there are and how many slots each has (both from 1
-/// to 64, by default 1 and 4), whether the report is JSON, where the run's timeline and its lineage are written, whether the books of the
-/// seats or a summary are written behind the report, which is no JSON then, whether timeline and lineage have all items of long lists, and whether a
-/// refusal's place is shown.
+/// to 64, by default 1 and 4), whether the report is JSON, where the run's timeline, its lineage and its page are written, whether the
+/// books of the seats or a summary are written behind the report, which is no JSON then, whether these have all items of long lists, whether a
+/// refusal's place is shown, and whether the report is written as far as it goes where the run is stopped.
 #[derive(Drop)]
 pub struct SimOptions<'a> {
     pub script: &'a str,
@@ -62,10 +62,12 @@ pub struct SimOptions<'a> {
     pub json: bool,
     pub timeline: Option<&'a str>,
     pub lineage: Option<&'a str>,
+    pub page: Option<&'a str>,
     pub books: bool,
     pub full: bool,
     pub explain: bool,
     pub summary: bool,
+    pub so_far: bool,
 }
 
 /// The options of `migrate`: the script, the list of events, nodes and slots as for `sim`, and whether a refusal's place is shown.
@@ -80,7 +82,7 @@ pub struct MigrateOptions<'a> {
 
 /// The options of `faults`: the script, the list of events if the run isn't to go on to its end by itself, nodes and slots as for `sim`, and, as far as the
 /// words have them, which kinds of faults are tried, how many lists at most, and the folder in which lists are written; and whether a refusal's place is
-/// shown.
+/// shown, and whether it is told how many were tried while it goes on.
 #[derive(Drop)]
 pub struct FaultsOptions<'a> {
     pub script: &'a str,
@@ -91,12 +93,14 @@ pub struct FaultsOptions<'a> {
     pub most: Option<&'a str>,
     pub out: Option<&'a str>,
     pub explain: bool,
+    pub progress: bool,
 }
 
 /// The options of `run`: the script; whether it is run on threads, which it is where a number of threads, a plan or a history is asked for;
 /// how many they are (from 1 to 8, by default 2); nodes and slots as for `sim`; a plan of events to apply; where the events applied are
-/// recorded; whether the report is JSON; where the timeline and the lineage are written; whether a refusal's place is shown; whether timeline
-/// and lineage have all items of long lists; and whether a summary is written behind the report, which is no JSON then.
+/// recorded; whether the report is JSON; where the timeline, the lineage and the page are written; whether a refusal's place is shown; whether
+/// these have all items of long lists; whether a summary is written behind the report, which is no JSON then; whether the report is written as
+/// far as it goes where the run is stopped; and whether it is told how far the run is, and what main prints, while it goes on.
 #[derive(Drop)]
 pub struct RunOptions<'a> {
     pub script: &'a str,
@@ -109,13 +113,17 @@ pub struct RunOptions<'a> {
     pub json: bool,
     pub timeline: Option<&'a str>,
     pub lineage: Option<&'a str>,
+    pub page: Option<&'a str>,
     pub explain: bool,
     pub full: bool,
     pub summary: bool,
+    pub so_far: bool,
+    pub progress: bool,
+    pub stream: bool,
 }
 
 /// The options of `log`: the script, the list of events if the run isn't to be driven, nodes and slots as for `sim`, whether the
-/// messages are told too, whether all items of long lists are told, and whether a refusal's place is shown.
+/// messages are told too, whether all items of long lists are told, whether a refusal's place is shown, and where the run's page is written.
 #[derive(Drop)]
 pub struct LogOptions<'a> {
     pub script: &'a str,
@@ -125,14 +133,15 @@ pub struct LogOptions<'a> {
     pub messages: bool,
     pub full: bool,
     pub explain: bool,
+    pub page: Option<&'a str>,
 }
 
-/// The options of `why`: the script, the list of events, the object if it isn't main that is asked about, nodes and slots as for `sim`, whether all
-/// items of long lists are told, and whether a refusal's place is shown.
+/// The options of `why`: the script, the list of events if the run isn't to be driven, the object, worker or node if it isn't main that is asked
+/// about, nodes and slots as for `sim`, whether all items of long lists are told, and whether a refusal's place is shown.
 #[derive(Drop)]
 pub struct WhyOptions<'a> {
     pub script: &'a str,
-    pub events: &'a str,
+    pub events: Option<&'a str>,
     pub object: Option<&'a str>,
     pub nodes: u8,
     pub slots: u8,

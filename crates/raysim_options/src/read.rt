@@ -92,10 +92,12 @@ fn sim<'a>(matches: &ArgMatches<'a>) -> SimOptions<'a>
         json: flag(matches, "json"),
         timeline: text(matches, "timeline"),
         lineage: text(matches, "lineage"),
+        page: text(matches, "page"),
         books: flag(matches, "books"),
         full: flag(matches, "full"),
         explain: flag(matches, "explain"),
         summary: flag(matches, "summary"),
+        so_far: flag(matches, "so-far"),
     }
 }
 
@@ -127,9 +129,13 @@ fn run<'a>(matches: &ArgMatches<'a>) -> RunOptions<'a>
         json: flag(matches, "json"),
         timeline: text(matches, "timeline"),
         lineage: text(matches, "lineage"),
+        page: text(matches, "page"),
         explain: flag(matches, "explain"),
         full: flag(matches, "full"),
         summary: flag(matches, "summary"),
+        so_far: flag(matches, "so-far"),
+        progress: flag(matches, "progress"),
+        stream: flag(matches, "stream"),
     }
 }
 
@@ -145,6 +151,7 @@ fn log<'a>(matches: &ArgMatches<'a>) -> LogOptions<'a>
         messages: flag(matches, "messages"),
         full: flag(matches, "full"),
         explain: flag(matches, "explain"),
+        page: text(matches, "page"),
     }
 }
 
@@ -154,7 +161,7 @@ fn why<'a>(matches: &ArgMatches<'a>) -> WhyOptions<'a>
 {
     WhyOptions {
         script: needed(matches, "script"),
-        events: needed(matches, "events"),
+        events: text(matches, "events"),
         object: text(matches, "object"),
         nodes: number(matches, "nodes", MOST_NODES, 1),
         slots: number(matches, "slots", MOST_SLOTS, 4),
@@ -176,6 +183,7 @@ fn faults<'a>(matches: &ArgMatches<'a>) -> FaultsOptions<'a>
         most: text(matches, "most"),
         out: text(matches, "out"),
         explain: flag(matches, "explain"),
+        progress: flag(matches, "progress"),
     }
 }
 

@@ -1,7 +1,7 @@
-// What a read or a write that failed is called, and when one has.
+// What a read or a write that failed is called, and when one has failed.
 
-ghost use Rattle.std.specs.Prelude.{◌≡◌, true, OnErr, OnOk};
-ghost use Rattle.raysim_streams.specs.Settled.{failure_by, settled};
+ghost use Rattle.std.specs.Prelude.{◌≡◌, OnErr, OnOk};
+ghost use Rattle.raysim_streams.specs.Settled.{failure_by, one_more, settled};
 
 use std::io;
 use std::io::ErrorKind;
@@ -34,25 +34,26 @@ fn failure_by(kind: ErrorKind, side: Failure) -> Failure
     }
 }
 
-/// What a read or a write comes to, where `least` bytes at least were to move. `failed` is set where it failed, and nowhere else.
+/// What a read or a write comes to, where `least` bytes at least were to move. Where it failed `failures` has one more, modulo 2^64, and
+/// nowhere else.
 pub fn settle(
     done: io::Result<usize>,
     least: usize,
     side: Failure,
-    failed: &mut bool,
+    failures: &mut u64,
 ) -> Result<usize, Failure>
     ensures settled { result ≡ settled done least side }
-    ensures failed { OnErr result (failed.new ≡ true) }
-    ensures unfailed { OnOk result (failed.new ≡ failed.old) }
+    ensures failed { OnErr result (failures.new ≡ one_more failures.old) }
+    ensures unfailed { OnOk result (failures.new ≡ failures.old) }
 {
     match done {
         Ok(n) if n >= least => Ok(n),
         Ok(_) => {
-            *failed = true;
+            *failures = failures.wrapping_add(1);
             Err(side)
         }
         Err(error) => {
-            *failed = true;
+            *failures = failures.wrapping_add(1);
             Err(failure_by(error.kind(), side))
         }
     }

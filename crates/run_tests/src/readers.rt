@@ -1,6 +1,8 @@
 // Readers that fail.
 
-use raysim_commands::{Cluster, CommandRefusal, Failure, Form, Tracked, check, run, serial};
+use raysim_commands::{
+    Cluster, CommandRefusal, Failure, Form, Tracked, Unwatched, check, run, serial,
+};
 use std::io;
 use std::io::Read;
 use std::test::Fail;
@@ -26,7 +28,14 @@ fn a_failed_read_is_no_script(rt: HostRuntime) -> Result<(), Fail> {
     let Some(cluster) = Cluster::new(1, 4) else {
         return Err("there is no such cluster".into());
     };
-    let ran = run(alloc, &mut input, cluster, Form::Text, &mut sink);
+    let ran = run(
+        alloc,
+        &mut input,
+        cluster,
+        Form::Text,
+        &mut sink,
+        &mut Unwatched,
+    );
     assert!(rt; ran == Err(CommandRefusal::Failed(Failure::Read)));
     assert!(rt; out.is_empty());
     let texts = format!(in alloc;

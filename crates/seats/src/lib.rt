@@ -4,6 +4,7 @@
 
 mod choice;
 mod end;
+mod gate;
 mod outs;
 mod run_name;
 mod shared;
@@ -14,10 +15,11 @@ mod turning;
 mod working;
 
 pub use end::Ended;
+pub use gate::Gate;
 pub use outs::JobOut;
 pub use run_name::RunName;
 pub use shared::Shared;
 pub use threads::run_on_threads;
 pub use turn::Turn;
 pub use turning::Turning;
-pub use working::{Gate, work};
+pub use working::work;

@@ -16,6 +16,7 @@ ghost use Rattle.seats.specs.Turns.{turn_counted};
 ghost use Rattle.seats.specs.Views.{told_of};
 
 use crate::end::Ended;
+use crate::gate::Gate;
 use crate::run_name::RunName;
 use crate::tally::{tally_of, turn_tally};
 use crate::turn::Turn;
@@ -306,6 +307,11 @@ impl<
     /// Gives the run up for want of memory: each later turn is at its end.
     pub fn give_up<R: Wait>(&self, rt: &R) {
         self.locked.lock(rt).give_up();
+    }
+
+    /// Shows the log so far to the gate, under the lock.
+    pub fn show<K: Gate, R: Wait>(&self, rt: &R, gate: &K) {
+        gate.look(self.locked.lock(rt).turning.log());
     }
 
     /// Claims the worker's next part of its task.

@@ -8,9 +8,10 @@ ghost use Rattle.seat_books.specs.Holdings.{SameParts};
 ghost use Rattle.seat_books.specs.Seats.{AreParts};
 
 use crate::end::Ended;
+use crate::gate::Gate;
 use crate::run_name::RunName;
 use crate::shared::Shared;
-use crate::working::{Gate, work};
+use crate::working::work;
 use event_files::RunPlan;
 use protocol_board::Board;
 use seat_books::{Blanks, Seat};

@@ -3,6 +3,7 @@
 ghost use Rattle.std.specs.Prelude.{◌≡◌};
 ghost use Rattle.script_check.specs.Trees.{script_of};
 
+use crate::gate::Gate;
 use crate::run_name::RunName;
 use crate::shared::Shared;
 use crate::turn::Turn;
@@ -19,10 +20,24 @@ use std::time::Duration;
 /// How many microseconds a thread sleeps before it asks again, where it must wait for another's job.
 const PAUSE: u64 = 100;
 
-/// What is told of a job before it is run.
-pub trait Gate {
-    /// The job of that number is about to be run.
-    fn enter(&self, job: u64);
+/// Shows the log, if that is asked for.
+fn show<
+    S: ScriptName,
+    P: RunName,
+    E: Ledger,
+    G: Ledger,
+    C: Ledger,
+    J: Ledger,
+    V: Ledger,
+    H: Ledger,
+    D: Ledger,
+    M: Ledger,
+    K: Gate,
+    R: Wait,
+>(rt: &R, shared: &Shared<S, P, E, G, C, J, V, H, D, M>, gate: &K) {
+    if gate.is_watching() {
+        shared.show(rt, gate);
+    }
 }
 
 /// Runs the job outside the lock, from the frame of its attempt if this thread kept it, and commits what was done on it.
@@ -56,6 +71,7 @@ fn run_job<
     match frames.run(alloc, script, job) {
         Ok(done) => {
             shared.commit(rt, alloc, seat, done);
+            show(rt, shared, gate);
         }
         Err(_) => shared.give_up(rt),
     }

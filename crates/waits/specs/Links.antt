@@ -218,3 +218,7 @@ chain c (suc n) (Some l) = l ∷ chain c n (next_link c l)
 -- as many as there may be: a worker has three at most before the next one's, and a run 1,024 workers
 unfoldable pub links : Whole → List Link
 links c = chain c 4096 (Some (worker_link c 1))
+
+-- so of any worker's attempt
+unfoldable pub worker_links : Whole → ℕ → List Link
+worker_links c w = chain c 4096 (Some (worker_link c w))

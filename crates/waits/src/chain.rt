@@ -1,7 +1,7 @@
 // Link by link.
 
 ghost use Rattle.std.specs.Prelude.{◌≡◌, ◌++◌, ◌∷◌, [], IfOk, OnOk};
-ghost use Rattle.waits.specs.Links.{chain, links, next_link};
+ghost use Rattle.waits.specs.Links.{chain, links, next_link, worker_links};
 
 use crate::asks::{ask_link, attempt_link};
 use crate::ends::{end_link, hold_link};
@@ -65,6 +65,17 @@ pub fn links(alloc: Global, whole: &Whole) -> Result<Vec<Link>, AllocError>
 {
     let mut found = Vec::new(alloc);
     let first = worker_link(whole, WorkerId(1));
+    add_links(&mut found, whole, Some(first), MOST_LINKS)?;
+    Ok(found)
+}
+
+/// For what the worker's attempt waits, and what keeps that from coming, link by link, as `links` has it of main.
+#[tactic(auto, unfolding(crate::specs::Links::worker_links))]
+pub fn worker_links(alloc: Global, whole: &Whole, worker: WorkerId) -> Result<Vec<Link>, AllocError>
+    ensures { IfOk result (λ found. found.items ≡ worker_links whole.now worker) }
+{
+    let mut found = Vec::new(alloc);
+    let first = worker_link(whole, worker);
     add_links(&mut found, whole, Some(first), MOST_LINKS)?;
     Ok(found)
 }

@@ -12,6 +12,6 @@ mod slots;
 mod stops;
 mod topics;
 
-pub use chain::links;
+pub use chain::{links, worker_links};
 pub use link::Link;
-pub use lookups::{holders_at, letter_at};
+pub use lookups::{holders_at, letter_at, node_at, worker_at};

@@ -32,7 +32,7 @@ pub fn worker_at(whole: &Whole, worker: WorkerId) -> Option<&Worker>
 }
 
 /// The node of that number.
-fn node_at(whole: &Whole, node: NodeId) -> Option<&Node>
+pub fn node_at(whole: &Whole, node: NodeId) -> Option<&Node>
     ensures { MatchOption result (node_at whole.now node ≡ None) (λ x. node_at whole.now node ≡ Some x.now) }
 {
     item_at(&whole.nodes, u64::from(node.0))

@@ -41,6 +41,7 @@ pub fn write_made(
     text.push_str(".\n")
 }
 
+/// Writes where an attempt began, and why, if it is a later one; `before` are the entries before.
 pub fn write_began(
     alloc: Global,
     text: &mut String,
@@ -83,6 +84,7 @@ pub fn write_got(
     text.push_str(".\n")
 }
 
+/// Writes with what an attempt ended.
 pub fn write_ended(
     text: &mut String,
     contents: Contents,
@@ -111,6 +113,7 @@ fn write_accepted_head(text: &mut String, attempt: AttemptId) -> Result<(), Allo
     write!(text, "{owner} accepted ")
 }
 
+/// Writes that the owner learned how an attempt ended; `before` are the entries before.
 pub fn write_accepted(
     text: &mut String,
     index: &BirthIndex,
@@ -153,6 +156,7 @@ fn write_faulted_head(
     Ok(())
 }
 
+/// Writes with which fault an attempt ended, and at which get; `before` are the entries before.
 pub fn write_faulted(
     alloc: Global,
     text: &mut String,
@@ -174,6 +178,7 @@ pub fn write_faulted(
     text.push_str(".\n")
 }
 
+/// Writes that its owner gave the object up.
 pub fn write_given_up(
     text: &mut String,
     moment: &Moment,

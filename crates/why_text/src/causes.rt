@@ -106,10 +106,11 @@ fn write_why(
 }
 
 /// Why an object is as it is, in sentences, in the order of the log: what made it and what was made with it, the attempts of its task and
-/// what they got, why later ones were begun, the deaths that broke them, the losses of its copies, who got it, and how it was given up or released, each with its
-/// event and the event's line. Of an accepted result that is small it says that the owner keeps it, and of a release that what had the object
-/// went with its owner, and when. Where it has a fault that began in another object, the same of that one follows, behind an empty line.
-/// `lines` are the lines of the event file from which the events came, in their order; an event behind the last has no line.
+/// what they got, why later ones were begun, the deaths that broke them, the losses of its copies, who got it, and how it was given up or
+/// released, each with its event and the event's line. Of an accepted result that is small it says that the owner keeps it, and of a release
+/// that what had the object went with its owner, and when. Where it has a fault that began in another object, the same of that one follows,
+/// behind an empty line. `lines` are the lines of the event file from which the events came, in their order; an event behind the last has no
+/// line.
 ///
 /// It is made of any log, a legal one or not. An object that was never born has one sentence, that there is none.
 pub fn why_text(

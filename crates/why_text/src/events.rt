@@ -167,7 +167,8 @@ fn write_owner(text: &mut String, object: ObjectId, dies: bool) -> Result<(), Al
 }
 
 #[tactic(auto, unfolding(crate::specs::Events::dead_node_text))]
-fn write_dead_node(text: &mut String, node: NodeId) -> Result<(), AllocError>
+/// Writes that the node died.
+pub fn write_dead_node(text: &mut String, node: NodeId) -> Result<(), AllocError>
     ensures { OnOk result (string_bytes text.new ≡ string_bytes text.old ++ dead_node_text node) }
 {
     write!(text, "{node} died")
@@ -202,7 +203,8 @@ fn write_dead_worker_note(text: &mut String, dead: WorkerId) -> Result<(), Alloc
     write!(text, " that {dead} was dead.\n")
 }
 
-fn write_notice(
+/// Writes that the worker learned of the other's death.
+pub fn write_notice(
     text: &mut String,
     moment: &Moment,
     worker: WorkerId,
@@ -222,7 +224,8 @@ fn write_dead_node_note(text: &mut String, dead: NodeId) -> Result<(), AllocErro
     write!(text, " that {dead} was dead.\n")
 }
 
-fn write_node_notice(
+/// Writes that the worker learned of the node's death.
+pub fn write_node_notice(
     text: &mut String,
     moment: &Moment,
     worker: WorkerId,
@@ -247,7 +250,8 @@ fn write_copies_head(
     write!(text, "{node}{did}{object}")
 }
 
-fn write_copies(
+/// Writes what became of the object's copies at the node; `did` is ` lost its copies of `, or another such.
+pub fn write_copies(
     text: &mut String,
     moment: &Moment,
     node: NodeId,

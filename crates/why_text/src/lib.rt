@@ -13,7 +13,10 @@ mod notes;
 mod runs;
 mod ways;
 
+pub use acts::{write_accepted, write_began, write_ended, write_faulted, write_given_up};
 pub use again::{runner_of, write_again};
 pub use causes::{Lack, main_lack, why_text, write_main_lack};
+pub use events::{write_copies, write_dead_node, write_node_notice, write_notice};
 pub use holders::death_of;
 pub use moments::{Moment, write_when};
+pub use runs::{has_ended, is_killed_in, is_node};

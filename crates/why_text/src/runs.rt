@@ -42,7 +42,8 @@ fn is_end_of(attempt: AttemptId, entry: &Entry) -> bool
     }
 }
 
-fn has_ended(log: &[Entry], attempt: AttemptId) -> bool
+/// Whether the log says that the attempt ended.
+pub fn has_ended(log: &[Entry], attempt: AttemptId) -> bool
     ensures { result ≡ list_any (is_end_of attempt) log.now }
 {
     for entry in log {
@@ -67,7 +68,7 @@ fn is_kill(worker: u32, entry: &Entry) -> bool
 }
 
 /// Whether an event that kills the worker was taken.
-fn is_killed_in(log: &[Entry], worker: u32) -> bool
+pub fn is_killed_in(log: &[Entry], worker: u32) -> bool
     ensures { result ≡ is_killed_in worker log.now }
 {
     for (place, entry) in log.iter().enumerate() {

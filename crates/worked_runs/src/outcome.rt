@@ -2,10 +2,10 @@
 
 use crate::case::{Case, Outcome};
 use crate::threaded::{ran_on_threads, threads_asked};
-use ids::ObjectId;
+use ids::{NodeId, ObjectId, WorkerId, read_number};
 use raysim_commands::{
-    Cluster, CommandRefusal, Contents, Engine, FaultChoice, Form, Tracked, check, export, faults,
-    migrate, run, serial, sim, state,
+    Cluster, CommandRefusal, Contents, Engine, FaultChoice, Form, SoFar, Tracked, Unwatched, check,
+    export, faults, migrate, put_all, run, run_so_far, serial, sim, sim_so_far, state,
 };
 use script_syntax::{parse, print_program};
 use std::alloc::{AllocError, Global};
@@ -122,6 +122,7 @@ fn tried(
         choice,
         most,
         &mut writer,
+        &mut Unwatched,
     );
     match done {
         Ok(faults) => Some(Ok(faults.status)),
@@ -139,7 +140,14 @@ fn ran(
     let cluster = Cluster::new(case.nodes, case.slots)?;
     let mut reader = Tracked::reader(case.script.as_bytes());
     let mut writer = Tracked::writer(written);
-    Some(run(alloc, &mut reader, cluster, form, &mut writer))
+    Some(run(
+        alloc,
+        &mut reader,
+        cluster,
+        form,
+        &mut writer,
+        &mut Unwatched,
+    ))
 }
 
 /// What stands before the name of a command where a case wants the script's own part of an exported program.
@@ -207,10 +215,22 @@ fn told_form(command: &str, contents: Contents) -> Option<Form> {
         "log" => Some(Form::Log(contents)),
         "log --messages" => Some(Form::LogWithMessages(contents)),
         "why" => Some(Form::WhyMain(contents)),
-        _ => {
-            let object = ObjectId::read(command.strip_prefix("why ")?.as_bytes())?;
-            Some(Form::Why(contents, object))
+        _ => why_form(command.strip_prefix("why ")?, contents),
+    }
+}
+
+/// What is told of an object, a worker or a node.
+fn why_form(name: &str, contents: Contents) -> Option<Form> {
+    match name.as_bytes() {
+        [b'w', number @ ..] => {
+            let worker = u32::try_from(read_number(number)?).ok()?;
+            Some(Form::WhyWorker(contents, WorkerId(worker)))
         }
+        [b'n', number @ ..] => {
+            let node = u32::try_from(read_number(number)?).ok()?;
+            Some(Form::WhyNode(contents, NodeId(node)))
+        }
+        object => Some(Form::Why(contents, ObjectId::read(object)?)),
     }
 }
 
@@ -237,8 +257,45 @@ fn form_of_run(command: &str) -> Option<Form> {
         "log of a run" => Some(Form::Log(Contents::Cut)),
         "log --messages of a run" => Some(Form::LogWithMessages(Contents::Cut)),
         "log --full of a run" => Some(Form::Log(Contents::Whole)),
+        "why of a run" => Some(Form::WhyMain(Contents::Cut)),
+        _ => why_form(
+            command.strip_prefix("why ")?.strip_suffix(" of a run")?,
+            Contents::Cut,
+        ),
+    }
+}
+
+/// What is written of a run up to where it stops.
+fn form_so_far(command: &str) -> Option<Form> {
+    match command {
+        "sim --so-far" | "run --so-far" => Some(Form::Text),
+        "limit" | "limit of a run" => Some(Form::Limit),
         _ => None,
     }
+}
+
+/// Drives the case's script, or replays its events on it, up to where that stops.
+fn told_so_far(
+    alloc: Global,
+    case: &Case,
+    form: Form,
+    written: &mut Vec<u8>,
+) -> Option<Result<u8, CommandRefusal>> {
+    let cluster = Cluster::new(case.nodes, case.slots)?;
+    let text = case.script.as_bytes();
+    let done = match case.command.as_str() {
+        "run --so-far" | "limit of a run" => run_so_far(alloc, text, cluster, form),
+        _ => sim_so_far(alloc, text, case.events.as_bytes(), cluster, form),
+    };
+    match done {
+        Ok(so_far) => Some(put_so_far(&so_far, written)),
+        Err(refusal) => Some(Err(refusal)),
+    }
+}
+
+fn put_so_far(so_far: &SoFar, written: &mut Vec<u8>) -> Result<u8, CommandRefusal> {
+    put_all(&mut Tracked::writer(written), so_far.text.as_bytes())?;
+    Ok(so_far.status)
 }
 
 /// Does what a command of the program says, over readers and a writer in memory. None where there is no such command or cluster.
@@ -249,11 +306,14 @@ fn done<R: Threads + Wait + Clock + AllocGlobal + Sync>(
 ) -> Option<Result<u8, CommandRefusal>> {
     let alloc = rt.alloc();
     let command = case.command.as_str();
-    if let Some(form) = form_of(command) {
-        return replayed(alloc, case, form, written);
+    if let Some(form) = form_so_far(command) {
+        return told_so_far(alloc, case, form, written);
     }
     if let Some(form) = form_of_run(command) {
         return ran(alloc, case, form, written);
+    }
+    if let Some(form) = form_of(command) {
+        return replayed(alloc, case, form, written);
     }
     if command == "migrate" {
         return migrated(alloc, case, written);

@@ -4,6 +4,7 @@ use Rattle.event_reading.proofs.ahead.begin.Given as goal
 
 abbrev pub invariant-loop-reader : goal.invariant-loop-reader
 invariant-loop-reader g l =
+    (g.R.Source.failures l.reader ≡ g.R.Source.failures l.initial.reader) ×
     (vec_len l.front ≤ 9) ×
     IfKnown (left_of l.initial.ahead.items (g.R.Source.left l.initial.reader)) (left_of l.ahead.items (g.R.Source.left l.reader)) (λ b r. b ≡ l.front.items ++ r)
 

@@ -1,3 +1,4 @@
+use Rattle.std.proofs.Common.{◌≡◌}
 use Rattle.event_files.specs.Recorded.{IsRecorded, recorded_text}
 use Rattle.event_reading.specs.Known.{IfKnown, left_of}
 use Rattle.event_reading.proofs.Reading.{IsReading}
@@ -5,5 +6,6 @@ use Rattle.event_reading.proofs.history.events_left.Given as goal
 
 abbrev pub invariant-loop-number : goal.invariant-loop-number
 invariant-loop-number g l =
+    (g.R.Source.failures l.reader ≡ g.R.Source.failures l.initial.reader) ×
     IfKnown (left_of l.initial.ahead.items (g.R.Source.left l.initial.reader)) (left_of l.ahead.items (g.R.Source.left l.reader))
     (IsReading IsRecorded recorded_text 2 l.kept l.number)

@@ -1,4 +1,4 @@
-use Rattle.std.proofs.Common.{subst}
+use Rattle.std.proofs.Common.{subst, ◌∙◌}
 use Rattle.event_files.specs.Lines.{IsLine, line_text}
 use Rattle.event_files.specs.Reading.{line_in}
 use Rattle.event_files.proofs.Readers.{reads_lines}
@@ -11,22 +11,22 @@ pub returns-in-End-clause-read : goal.returns-in-End-clause-read
 returns-in-End-clause-read g c =
     let next = subst (λ w. IfKnown (left_of c.loop-number.ahead.items (g.R.Source.left c.loop-number.reader))
     (left_of c.next_line.new.ahead.items (g.R.Source.left c.next_line.new.reader)) (IsNextLine IsLine line_text line_in w)) c.in-End.is c.in_ok-next_line.ensures.next in
-    reading_ends IsLine line_text line_in 1 c.loop-number.number c.loop-number.kept _ _ _ c.loop-number.invariant next
+    reading_ends IsLine line_text line_in 1 c.loop-number.number c.loop-number.kept _ _ _ c.loop-number.invariant.1 next
 
 pub returns-in-Bad-clause-refused : goal.returns-in-Bad-clause-refused
 returns-in-Bad-clause-refused g c =
     let next = subst (λ w. IfKnown (left_of c.loop-number.ahead.items (g.R.Source.left c.loop-number.reader))
     (left_of c.next_line.new.ahead.items (g.R.Source.left c.next_line.new.reader)) (IsNextLine IsLine line_text line_in w)) c.in-Bad.is c.in_ok-next_line.ensures.next in
-    reading_is_bad IsLine line_text line_in c.loop-number.number c.loop-number.kept _ _ _ c.loop-number.invariant next
+    reading_is_bad IsLine line_text line_in c.loop-number.number c.loop-number.kept _ _ _ c.loop-number.invariant.1 next
 
 pub loop-number-preserved-in-Passed : goal.loop-number-preserved-in-Passed
 loop-number-preserved-in-Passed g c =
     let next = subst (λ w. IfKnown (left_of c.loop-number.ahead.items (g.R.Source.left c.loop-number.reader))
     (left_of c.next_line.new.ahead.items (g.R.Source.left c.next_line.new.reader)) (IsNextLine IsLine line_text line_in w)) c.in-Passed.is c.in_ok-next_line.ensures.next in
-    reading_passes IsLine line_text line_in 1 c.loop-number.number c.loop-number.kept _ _ _ c.loop-number.invariant next
+    (c.in_ok-next_line.ensures.unfailed ∙ c.loop-number.invariant.0, reading_passes IsLine line_text line_in 1 c.loop-number.number c.loop-number.kept _ _ _ c.loop-number.invariant.1 next)
 
 pub loop-number-preserved : goal.loop-number-preserved
 loop-number-preserved g c =
     let next = subst (λ w. IfKnown (left_of c.loop-number.ahead.items (g.R.Source.left c.loop-number.reader))
     (left_of c.next_line.new.ahead.items (g.R.Source.left c.next_line.new.reader)) (IsNextLine IsLine line_text line_in w)) c.in-Said.is c.in_ok-next_line.ensures.next in
-    reading_says IsLine line_text line_in reads_lines 1 c.loop-number.number c.loop-number.kept c.keep.new.self c.in-Said.line _ _ _ c.loop-number.invariant next c.in_ok-keep-in-Said.ensures
+    (c.in_ok-next_line.ensures.unfailed ∙ c.loop-number.invariant.0, reading_says IsLine line_text line_in reads_lines 1 c.loop-number.number c.loop-number.kept c.keep.new.self c.in-Said.line _ _ _ c.loop-number.invariant.1 next c.in_ok-keep-in-Said.ensures)

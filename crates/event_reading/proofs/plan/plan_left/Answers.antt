@@ -1,4 +1,4 @@
-use Rattle.std.proofs.Common.{subst, rules}
+use Rattle.std.proofs.Common.{subst, rules, ◌∙◌}
 use Rattle.event_files.specs.Plans.{IsPlanLine, plan_line_in, plan_line_text}
 use Rattle.event_reading.specs.Known.{IfKnown, left_of}
 use Rattle.event_reading.specs.Rows.{IsNextLine}
@@ -10,25 +10,25 @@ returns-in-End-clause-read g c =
     let next = subst (λ w. IfKnown (left_of c.loop-number.ahead.items (g.R.Source.left c.loop-number.reader))
     (left_of c.next_plan_line.new.ahead.items (g.R.Source.left c.next_plan_line.new.reader)) (IsNextLine IsPlanLine plan_line_text plan_line_in w))
     c.in-End.is c.in_ok-next_plan_line.ensures.next in
-    plan_ends c.loop-number.number c.loop-number.lines _ _ _ c.loop-number.invariant next
+    plan_ends c.loop-number.number c.loop-number.lines _ _ _ c.loop-number.invariant.1 next
 
 pub loop-number-preserved-in-Passed : goal.loop-number-preserved-in-Passed
 loop-number-preserved-in-Passed g c =
     let next = subst (λ w. IfKnown (left_of c.loop-number.ahead.items (g.R.Source.left c.loop-number.reader))
     (left_of c.next_plan_line.new.ahead.items (g.R.Source.left c.next_plan_line.new.reader)) (IsNextLine IsPlanLine plan_line_text plan_line_in w))
     c.in-Passed.is c.in_ok-next_plan_line.ensures.next in
-    plan_passes c.loop-number.number c.loop-number.lines _ _ _ c.loop-number.invariant next
+    (c.in_ok-next_plan_line.ensures.unfailed ∙ c.loop-number.invariant.0, plan_passes c.loop-number.number c.loop-number.lines _ _ _ c.loop-number.invariant.1 next)
 
 pub returns-in-Bad-clause-refused : goal.returns-in-Bad-clause-refused
 returns-in-Bad-clause-refused g c =
     let next = subst (λ w. IfKnown (left_of c.loop-number.ahead.items (g.R.Source.left c.loop-number.reader))
     (left_of c.next_plan_line.new.ahead.items (g.R.Source.left c.next_plan_line.new.reader)) (IsNextLine IsPlanLine plan_line_text plan_line_in w))
     c.in-Bad.is c.in_ok-next_plan_line.ensures.next in
-    plan_is_bad c.loop-number.number c.loop-number.lines _ _ _ c.loop-number.invariant next
+    plan_is_bad c.loop-number.number c.loop-number.lines _ _ _ c.loop-number.invariant.1 next
 
 pub loop-number-preserved : goal.loop-number-preserved
 loop-number-preserved g c =
     let next = subst (λ w. IfKnown (left_of c.loop-number.ahead.items (g.R.Source.left c.loop-number.reader))
     (left_of c.next_plan_line.new.ahead.items (g.R.Source.left c.next_plan_line.new.reader)) (IsNextLine IsPlanLine plan_line_text plan_line_in w))
     c.in-Said.is c.in_ok-next_plan_line.ensures.next in
-    plan_says c.loop-number.number c.loop-number.lines c.push.new.self c.in-Said.line _ _ _ (search rules) c.loop-number.invariant next
+    (c.in_ok-next_plan_line.ensures.unfailed ∙ c.loop-number.invariant.0, plan_says c.loop-number.number c.loop-number.lines c.push.new.self c.in-Said.line _ _ _ (search rules) c.loop-number.invariant.1 next)

@@ -9,4 +9,4 @@ returns-in-Err-clause-refused g c =
 
 pub returns-in_err-text-clause-refused : goal.returns-in_err-text-clause-refused
 returns-in_err-text-clause-refused g c =
-    let why = c.in_err-text.ensures.refused (g.W.Sink.has_failed c.args.writer.now) in search (rules, why)
+    let why = c.in_err-text.ensures.refused (g.W.Sink.failures c.args.writer.now, g.W.Sink.failures c.args.writer.now) in search (rules, why)

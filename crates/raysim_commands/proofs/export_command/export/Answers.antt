@@ -12,7 +12,7 @@ returns-in-Err-clause-refused g c =
 
 pub returns-in_err-text-clause-refused : goal.returns-in_err-text-clause-refused
 returns-in_err-text-clause-refused g c =
-    let why = c.in_err-text.ensures.refused (g.W.Sink.has_failed c.args.writer.now) in search (rules, why)
+    let why = c.in_err-text.ensures.refused (g.W.Sink.failures c.args.writer.now, g.W.Sink.failures c.args.writer.now) in search (rules, why)
 
 pub returns-in_err-put_all-clause-beginning : goal.returns-in_err-put_all-clause-beginning
 returns-in_err-put_all-clause-beginning g c =

@@ -1,6 +1,6 @@
 use Rattle.std.proofs.Common.{rules, subst}
 use Rattle.script_check.specs.Trees.{script_of}
-use Rattle.raysim_commands.specs.Scripts.{IsRefusalOf, IsScript}
+use Rattle.raysim_commands.specs.Scripts.{Counts, IsRefusalOf, IsScript}
 use Rattle.raysim_commands.proofs.Begun.{always_err}
 use Rattle.raysim_commands.proofs.Migrated.{explains_no_lines, explains_no_script, explains_stop, migrated_so, migration_begun_so}
 use Rattle.raysim_commands.proofs.Refused.{explains_read}
@@ -9,8 +9,8 @@ use Rattle.raysim_commands.proofs.migrate_command.migrate.Goals as goal
 pub returns-in_err-text-clause-refused : goal.returns-in_err-text-clause-refused
 returns-in_err-text-clause-refused g c =
     let events = g.E.Source.left c.args.events.now in
-    let failed = g.E.Source.has_failed c.args.events.now in
-    let why = explains_no_script c.args.cluster _ events _ failed _ _ (c.in_err-text.ensures.refused (g.W.Sink.has_failed c.args.writer.now)) in
+    let reads : Counts = (g.E.Source.failures c.args.events.now, g.E.Source.failures c.args.events.now) in
+    let why = explains_no_script c.args.cluster _ events _ reads _ _ (c.in_err-text.ensures.refused (g.W.Sink.failures c.args.writer.now, g.W.Sink.failures c.args.writer.now)) in
     search (rules, why)
 
 pub returns-in-Err-clause-refused : goal.returns-in-Err-clause-refused

@@ -19,7 +19,7 @@ returns-in_err-put_all-clause-beginning g c =
 
 pub returns-in_err-text-clause-refused : goal.returns-in_err-text-clause-refused
 returns-in_err-text-clause-refused g c =
-    let why = explains_as_others c.args.cluster _ _ _ _ (c.in_err-text.ensures.refused (g.W.Sink.has_failed c.args.writer.now)) in search (rules, why)
+    let why = explains_as_others c.args.cluster _ _ _ _ (c.in_err-text.ensures.refused (g.W.Sink.failures c.args.writer.now, g.W.Sink.failures c.args.writer.now)) in search (rules, why)
 
 pub returns-clause-reported : goal.returns-clause-reported
 returns-clause-reported g c =

@@ -15,4 +15,4 @@ appends_more (Some xs) (Some ys) (Some zs) bs a k h g =
 pub loop-at-preserved : goal.loop-at-preserved
 loop-at-preserved g c =
     let within : c.loop-at.at + c.in_ok-at.field-0 ≤ length c.args.bytes.now = search rules in
-    (within, appends_more _ _ _ c.args.bytes.now c.loop-at.at c.in_ok-at.field-0 c.loop-at.invariant.1 c.in_ok-at.ensures.bytes)
+    (within, appends_more _ _ _ c.args.bytes.now c.loop-at.at c.in_ok-at.field-0 c.loop-at.invariant.1 c.in_ok-at.ensures.bytes, c.in_ok-at.ensures.unfailed ∙ c.loop-at.invariant.2)

@@ -1,0 +1,118 @@
+// Runs that are stopped by a limit.
+
+use crate::reasons::{Course, Known};
+use crate::told::{Printed, stopped};
+use raysim_commands::{CommandRefusal, Form, SoFar, Tracked, put_all, run_so_far, sim_so_far};
+use raysim_files::Noted;
+use std::io;
+
+/// The limits that a run may meet, where it isn't known which one it met.
+const POSSIBLE: &str =
+    "1,024 workers in all, 1,000,000 objects, or 64 nodes: the next event would have passed one of them";
+
+const FEWER_AT_ONCE: &str =
+    "get some results before the next tasks are begun, or give each task more to do";
+
+/// Tells which limit a run met, in which event, and what to do.
+pub fn tell_limit<R: Eprint + AllocGlobal>(rt: &R, code: u16, known: &Known<'_, '_>) {
+    match (code, known.course) {
+        (37, Some(Course::Driven(_))) => tell_met(rt, known),
+        (37, Some(_)) => tell_possible(rt),
+        (41, Some(course)) => tell_too_long(rt, course, known),
+        _ => {}
+    }
+}
+
+/// The run up to where it stops, in that form, if it can be driven or replayed once more.
+fn so_far<R: AllocGlobal>(
+    rt: &R,
+    known: &Known<'_, '_>,
+    form: Form,
+) -> Option<Result<SoFar, CommandRefusal>> {
+    match known.course? {
+        Course::Driven(cluster) => Some(run_so_far(rt.alloc(), known.text, cluster, form)),
+        Course::Replayed(cluster) => {
+            let events = known.list?.text;
+            Some(sim_so_far(rt.alloc(), known.text, events, cluster, form))
+        }
+        Course::OnThreads | Course::Tried => None,
+    }
+}
+
+/// Tells which limit the last event would have passed, or which event was the last; says whether that could be told.
+fn tell_place<R: Eprint + AllocGlobal>(rt: &R, known: &Known<'_, '_>) -> bool {
+    match so_far(rt, known, Form::Limit) {
+        Some(Ok(met)) => {
+            let text = met.text.as_str();
+            let _ = eprint!(rt; "{text}");
+            true
+        }
+        _ => false,
+    }
+}
+
+fn tell_met<R: Eprint + AllocGlobal>(rt: &R, known: &Known<'_, '_>) {
+    if !tell_place(rt, known) {
+        tell_possible(rt);
+    }
+}
+
+/// Tells which limits there are.
+fn tell_possible<R: Eprint>(rt: &R) {
+    let _ = eprintln!(rt; "limit: {POSSIBLE}\nwhat to do: {FEWER_AT_ONCE}");
+}
+
+/// Tells that there were too many turns or events, which was the last, and what to do.
+fn tell_too_long<R: Eprint + AllocGlobal>(rt: &R, course: Course, known: &Known<'_, '_>) {
+    let (limit, remedy) = match course {
+        Course::Driven(_) => (
+            "100,000 turns, and the run was not over behind them",
+            "give each task more to do, so that there are fewer; or run on threads (--threads), which take any number of turns",
+        ),
+        _ => (
+            "100,000 events, those of settle lines counted",
+            "give each task more to do, so that there are fewer: each takes some ten events",
+        ),
+    };
+    let _ = eprintln!(rt; "limit: {limit}");
+    tell_place(rt, known);
+    let _ = eprintln!(rt; "what to do: {remedy}");
+}
+
+/// Prints the report of a run that was stopped, up to there, where the refusal says that a limit stopped it.
+pub fn print_so_far<R: Print + Eprint + AllocGlobal>(
+    rt: &R,
+    done: &Result<u8, CommandRefusal>,
+    known: &Known<'_, '_>,
+    form: Form,
+) {
+    let Err(CommandRefusal::Stopped { .. }) = done else {
+        return;
+    };
+    let Some(found) = so_far(rt, known, form) else {
+        return;
+    };
+    let printed = print_found(rt, found);
+    if let Some(stop) = printed.stop() {
+        stopped(rt, stop);
+    }
+}
+
+fn print_found<R: Print>(rt: &R, found: Result<SoFar, CommandRefusal>) -> Printed {
+    let so_far = match found {
+        Ok(so_far) => so_far,
+        Err(refusal) => {
+            return Printed {
+                done: Err(refusal),
+                error: None,
+            };
+        }
+    };
+    let mut output = Noted::new(io::writer(rt));
+    let done = match put_all(&mut Tracked::writer(&mut output), so_far.text.as_bytes()) {
+        Ok(()) => Ok(so_far.status),
+        Err(failure) => Err(CommandRefusal::Failed(failure)),
+    };
+    let error = output.error();
+    Printed { done, error }
+}

@@ -1,0 +1,7 @@
+use Rattle.std.proofs.Common.{◌≡◌, string_bytes, take}
+use Rattle.std.specs.List.{flat_map}
+use Rattle.history.specs.Main.{print_in}
+use Rattle.run_watch.proofs.prints.prints_text.Given as goal
+
+abbrev pub invariant-loop-entry : goal.invariant-loop-entry
+invariant-loop-entry l = string_bytes l.text ≡ flat_map print_in (take l.entry-index l.log)

@@ -11,7 +11,8 @@ below which nothing stands isn't compared. A fenced block whose first line says 
 the commands of its page.
 
 A case is made of each command that prints the same every time and writes no file: `check`, `serial`, `run`, `sim`, `migrate`, `log`,
-`why` and `state`.
+`why` and `state`. Where `run` is refused at a limit, another is made of what stands below the refusal; and where a page shows by `cat` a timeline or a
+graph that `sim` wrote, one of that.
 Other programs than ./raysim that a page calls, such as printf and sed, make files for these.
 """
 import os
@@ -35,6 +36,8 @@ FLAGS = {
     "sim": ("--json", "--books", "--summary"), "run": ("--json", "--summary"), "log": ("--messages", "--full"), "why": ("--full",), "check": (), "serial": (),
     "migrate": (), "state": ("--at",),
 }
+# what `why` may be asked about
+NAMED = re.compile(r"(o\d+\.\d+|w\d+|n\d+)$")
 
 
 class Block:
@@ -125,7 +128,7 @@ class Words:
         words = iter(words)
         self.command = next(words, "")
         for word in words:
-            if word in ("--nodes", "--slots", "--threads", "--plan", "--history", "--timeline", "--lineage", "--at"):
+            if word in ("--nodes", "--slots", "--threads", "--plan", "--history", "--timeline", "--lineage", "--page", "--at"):
                 self.options[word] = next(words, "")
             elif word.startswith("--"):
                 self.options[word] = None
@@ -135,6 +138,8 @@ class Words:
 
 def status_of(shown):
     """The status, by what is said of main's end."""
+    if re.match(r"refused \d", shown[0]):
+        return 1
     if re.match(r"refused \d", shown[-1]) and not any(it.startswith("main ") for it in shown):
         return 1
     said = "\n".join(shown)
@@ -157,16 +162,15 @@ def case_of(place, line, shown, room, statuses):
     full = " --full" if "--full" in plain else ""
     name = " ".join([asked.command, *sorted(plain - {"--full"})])
     script, events = room.read(files.pop(0)), ""
-    if asked.command in ("sim", "migrate", "why", "state") or asked.command == "log" and files:
+    is_driven = asked.command in ("log", "why") and (not files or len(files) == 1 and NAMED.match(files[0]))
+    if asked.command in ("sim", "migrate", "why", "state", "log") and not is_driven:
         events = room.read(files.pop(0))
-    elif asked.command == "log":
-        name, full = f"{name}{full} of a run", ""
     if "--at" in asked.options:
         name += f" {asked.options['--at']}"
-    is_of_object = asked.command == "why" and files
+    is_of_object = asked.command == "why" and bool(files)
     if is_of_object:
         name += f" {files.pop(0)}"
-    name += full
+    name += f"{full} of a run" if is_driven else full
     nodes, slots = asked.options.get("--nodes", "1"), asked.options.get("--slots", "4")
     run = script, events, nodes, slots
     if asked.command == "state" and "w1: a1.0#0 (main) ended" not in shown:
@@ -175,14 +179,42 @@ def case_of(place, line, shown, room, statuses):
         status = statuses.get(run, 0)
     else:
         status = statuses[run] = status_of(shown)
+    if status == 1 and shown[0].startswith("refused 37") and len(shown) > 1:
+        told = case_lines(f"limit of a run: {place}", run, shown[1:], [], 2)
+        return [*case_lines(f"{name}: {place}", run, [], shown[:1], 1), "", *told]
     refused = shown[-1:] if status == 1 and shown[-1].startswith("refused ") else []
-    lines = [f"{name}: {place}"]
+    return case_lines(f"{name}: {place}", run, shown[: len(shown) - len(refused)], refused, status)
+
+
+def case_lines(head, run, written, refused, status):
+    """The lines of a case: its head, its script, events and cluster, what is written and refused, and the status."""
+    script, events, nodes, slots = run
+    lines = [head]
     lines += [f"> {it}" for it in script.splitlines()]
     lines += [] if (nodes, slots) == ("1", "4") else [f"cluster {nodes} {slots}"]
     lines += [f"@ {it}" for it in events.splitlines()]
-    lines += [f"= {it}" for it in shown[: len(shown) - len(refused)]]
+    lines += [f"= {it}" for it in written]
     lines += [f"! {it}" for it in refused]
     return lines + ([f"status {status}"] if status else [])
+
+
+def views_of(line, room):
+    """The files to which a command line of `sim` writes other views of its run, each with the name of its case and with the run."""
+    words = shlex.split(line.split(">")[0])
+    asked = Words(words[1:]) if words[:1] == ["./raysim"] else None
+    if not asked or asked.command != "sim":
+        return {}
+    run = room.read(asked.files[0]), room.read(asked.files[1]), asked.options.get("--nodes", "1"), asked.options.get("--slots", "4")
+    return {asked.options[it]: (f"sim {it}", run) for it in ("--timeline", "--lineage") if it in asked.options}
+
+
+def case_of_view(place, line, shown, views):
+    """The case of a `cat` of such a file, and nothing of another command. The end of main is that of a value."""
+    words = line.split()
+    if not shown or words[:1] != ["cat"] or words[1:] == [] or words[1] not in views:
+        return None
+    name, run = views[words[1]]
+    return case_lines(f"{name}: {place}", run, shown, [], 0)
 
 
 def steps(page, room):
@@ -203,15 +235,20 @@ def cases():
     """The text of the file of cases."""
     out = [HEAD]
     for page in pages():
-        statuses = {}
+        statuses, views = {}, {}
         with Room(None) as room:
             for place, line, shown in steps(page, room):
                 if line.startswith(ELSEWHERE):
                     continue
                 if not line.startswith("./raysim"):
-                    room.run(line)
+                    case = case_of_view(place, line, shown, views)
+                    if case:
+                        out.append("\n".join(case) + "\n")
+                    else:
+                        room.run(line)
                     continue
                 try:
+                    views.update(views_of(line, room))
                     case = case_of(place, line, shown, room, statuses)
                 except FileNotFoundError:
                     # (a file that the program writes, and no case has)

@@ -1,7 +1,10 @@
 #!/usr/bin/env python3
 """Tries what the program raysim does with files, and what it tells below a refusal: tools/try_files.py PROGRAM. Each case runs it in a fresh folder, and
 compares what it writes, its status and the files that are there afterwards. The last line counts them; the status is 1 where one differs."""
+import hashlib
+import json
 import os
+import re
 import resource
 import shutil
 import signal
@@ -14,6 +17,8 @@ SCRIPT = b"fn sq(x: int) -> int { return x * x; }\nfn main() -> int { let r = re
 REPORT = b"print 49\nmain value 0\nattempt a1.1#0 w2 accepted\nreleased o1.1\n"
 NOTHING = "nothing was run or written\n"
 NOBODY = 65534
+# a run takes a hundredth of this
+SECONDS = 60
 
 # What each folder holds at first: files with their bytes, folders, and links with where they lead.
 FILES = {
@@ -43,6 +48,9 @@ CLASHES = [
     ("run sq.ray --timeline new --lineage ./new", "--lineage ./new: is the file of --timeline, too"),
     ("run sq.ray --timeline in/new --lineage to_in/new", "--lineage to_in/new: is the file of --timeline, too"),
     ("run sq.ray --history old --timeline to_old", "--timeline to_old: is the file of --history, too"),
+    ("log sq.ray --page sq.ray", "--page sq.ray: is the script itself"),
+    ("log sq.ray settle.ev --page settle.ev", "--page settle.ev: is the list of events itself"),
+    ("run sq.ray --lineage new --page ./new", "--page ./new: is the file of --lineage, too"),
     ("run bad.ray --history old --lineage old", "--lineage old: is the file of --history, too"),
 ]
 
@@ -56,6 +64,7 @@ UNFIT = [
     ("run sq.ray --history locked/new", "locked/new", "Permission denied (os error 13)"),
     ("run sq.ray --history secret", "secret", "Permission denied (os error 13)"),
     ("run sq.ray --history nowhere", "nowhere", "it is a link to a file that is not there"),
+    ("sim sq.ray settle.ev --page in", "in", "Is a directory (os error 21)"),
     ("sim sq.ray settle.ev --lineage in", "in", "Is a directory (os error 21)"),
 ]
 
@@ -251,6 +260,7 @@ class Trial:
             stderr=subprocess.PIPE,
             preexec_fn=limits(most),
             restore_signals=most is None,
+            timeout=SECONDS,
         )
         if isinstance(output, int) and output >= 0:
             os.close(output)
@@ -258,8 +268,9 @@ class Trial:
         why = []
         if ran.returncode != status:
             why.append(f"status {ran.returncode}, not {status}")
-        if ran.stderr.decode() != told:
-            why.append(f"told {ran.stderr.decode()!r}, not {told!r}")
+        said = ran.stderr.decode()
+        if said != told and not (isinstance(told, re.Pattern) and told.fullmatch(said)):
+            why.append(f"told {said!r}, not {told!r}")
         if ran.stdout is not None and ran.stdout != report:
             why.append(f"wrote {ran.stdout!r}, not {report!r}")
         for name in sorted({*before, *after}):
@@ -272,6 +283,16 @@ class Trial:
         if mode != 0o640:
             why.append(f"the bits of old are {mode:o}")
         self.count(" ".join(map(str, words)), why)
+
+    def written(self, words):
+        """What words write on the standard output, in a fresh folder."""
+        folder = tempfile.mkdtemp(dir=self.room)
+        make(folder)
+        return subprocess.run([self.program, *words.split()], cwd=folder, stdin=subprocess.DEVNULL, capture_output=True, check=False).stdout
+
+    def same(self, words, plain, told, status=0):
+        """Words that write what others do, and tell more."""
+        self.run(words, status, told, self.written(plain))
 
     def count(self, name, why):
         if why:
@@ -291,6 +312,23 @@ def is_json(bytes_):
 
 def is_graph(bytes_):
     return bytes_.startswith(b"strict digraph") and bytes_.rstrip().endswith(b"}")
+
+
+def is_page(bytes_):
+    """A page whose JSON has the script, and the log, the report and the state at the end of its run by the settle rule."""
+    head, run, tail = re.fullmatch(rb"(.*<script id=\"run\" type=\"application/json\">)([^<]*)(</script>.*)", bytes_, re.S).groups()
+    run = json.loads(run)
+    return (
+        head.startswith(b"<!DOCTYPE html>")
+        and tail.endswith(b"</html>\n")
+        and sorted(run) == ["cluster", "log", "report", "script", "state"]
+        and run["cluster"] == {"nodes": 1, "slots": 4}
+        and run["script"].encode() == SCRIPT
+        and run["report"].encode() == REPORT
+        and "    w1 sends message 1 to n1: Ask(a1.1#0, 0)\n" in run["log"]
+        and run["log"].endswith("    w1 releases o1.1\n")
+        and run["state"].startswith("after event 12 of 12\n")
+    )
 
 
 def unwritten(name, why):
@@ -320,6 +358,8 @@ def try_writes(trial):
     trial.run("run sq.ray --timeline old --lineage l", 0, report=REPORT, changed=two)
     trial.run("sim sq.ray settle.ev --timeline old --lineage l", 0, report=REPORT, changed=two)
     trial.run("run sq.ray --history /dev/null --timeline /dev/null", 0, report=REPORT)
+    trial.run("run sq.ray --page old", 0, report=REPORT, changed={"old": is_page})
+    trial.run("sim sq.ray settle.ev --page p --timeline old", 0, report=REPORT, changed={"p": is_page, "old": is_json})
 
 
 def try_failures(trial):
@@ -330,7 +370,7 @@ def try_failures(trial):
     trial.run("run sq.ray --timeline old", 1, old, REPORT, most=100)
     trial.run("sim sq.ray settle.ev --lineage old", 1, old, REPORT, most=100)
     trial.run("run sq.ray --history old --timeline t", 1, old + new, REPORT, most=100)
-    trial.run("run sq.ray --history old --timeline t", 1, new, REPORT, {"old": is_history}, most=200)
+    trial.run("run sq.ray --history old --timeline t", 1, new, REPORT, {"old": is_history}, most=400)
     special = unwritten("/dev/full", full) + "/dev/full is not written; the report is\n"
     trial.run("run sq.ray --history /dev/full --lineage old", 1, special, REPORT, {"old": is_graph})
 
@@ -408,16 +448,96 @@ def try_explanations(trial):
 
 def try_limits(trial):
     """What is told of limits, also without --explain."""
-    many = b"fn f() -> int { return 1; }\nfn main() -> int {\n    let l = empty ref int;\n    for i in 0 .. 1100 { set l = push(l, remote g()); }\n"
-    many += b"    for i in 0 .. 1100 { let unused = get l[i]; }\n    return 0;\n}\nfn g() -> int { return get remote f(); }\n"
+    # (crates/worked_runs/data/parties.cases tells how the event is found)
+    many = b"fn f() -> int { return 1; }\nfn main() -> int {\n    let l = empty ref int;\n    for i in 0 .. 1100 { set l = push(l, remote f()); }\n"
+    many += b"    for i in 0 .. 1100 { let unused = get l[i]; }\n    return 0;\n}\n"
     FILES["bad.ray"] = many
-    limit = "limit: 1,024 workers in all, or 1,000,000 objects: the next event would have passed one of them\n"
+    limit = "limit: 1,024 workers in all, dead ones too: one more would have been opened in event 20586 (deliver 20584)\n"
     remedy = "what to do: get some results before the next tasks are begun, or give each task more to do\n"
-    trial.run("run bad.ray", 1, f"refused 37\n{limit}{remedy}")
-    FILES["bad.plan"] = b"join\n" * 100001
+    on = "--nodes 64 --slots 64"
+    trial.run(f"run bad.ray {on}", 1, f"refused 37\n{limit}{remedy}")
+    trial.run(f"why bad.ray {on}", 1, f"refused 37\n{limit}{remedy}")
+    possible = "limit: 1,024 workers in all, 1,000,000 objects, or 64 nodes: the next event would have passed one of them\n"
+    trial.run(f"run bad.ray {on} --threads 2", 1, f"refused 37\n{possible}{remedy}")
     limit = "limit: 100,000 events, those of settle lines counted\n"
     remedy = "what to do: give each task more to do, so that there are fewer: each takes some ten events\n"
-    trial.run("sim sq.ray bad.plan", 1, f"refused 41\n{limit}{remedy}")
+    FILES["bad.plan"] = b"tick 1\n" * 100001
+    place = "the last step was in event 100000 (tick 1, line 100000)\n"
+    trial.run("sim sq.ray bad.plan", 1, f"refused 41\n{limit}{place}{remedy}")
+    FILES["bad.plan"] = b"join\n" * 100001
+    place = "limit: 64 nodes in all, dead ones too: one more would have joined in event 100000 (join, line 100000)\n"
+    place += "what to do: let fewer nodes join\n"
+    trial.run("sim sq.ray bad.plan", 1, f"refused 41\n{limit}{place}{remedy}")
+    trial.run("sim sq.ray bad.plan --so-far --nodes 64", 1, f"refused 41\n{limit}{place}{remedy}", report=b"main open\n" + b"refused 37 join\n" * 100000)
+    trial.run("run sq.ray --so-far --threads 2", 1, "--so-far is for no run on threads\n")
+
+
+def try_parties(trial):
+    """Why workers and nodes are as they are, in a run that is driven, and what is no name of anything."""
+    told = b"w2 was opened on n1 in event 3 (deliver 1), for a1.1#0 (sq).\na1.1#0 (sq) began on w2 in event 5 (deliver 3).\n"
+    FILES["two.ray"] = b"fn sq(x: int) -> int { return x * x; }\nfn main() -> int { let a = remote sq(3); let b = remote sq(4); return get a + get b; }\n"
+    told += b"a1.1#0 (sq) ended in event 10 (commit 2): 9.\n"
+    told += b"w1 accepted a1.1#0 (sq) in event 11 (deliver 7), and keeps the result itself: no node can lose it.\nw2 has nothing to do now.\n"
+    trial.run("why two.ray w2", 0, report=told)
+    trial.run("why two.ray n2", 0, report=b"There is no n2.\n")
+    trial.run("why two.ray o7.7", 0, report=b"There is no o7.7.\n")
+    trial.run("why two.ray settle.ev w7", 0, report=b"There is no w7.\n")
+    trial.run("why two.ray settle.ev x7", 1, "x7 is no object, worker or node: they are written as o1.2, w3 and n1\n")
+
+
+def sum_of(script):
+    return f"sha256 {hashlib.sha256(script).hexdigest()}"
+
+
+def head_of(cluster, threads, script):
+    """The lines behind a history's first that say of which run it is."""
+    return f"# cluster: {cluster}\n# threads: {threads}\n# script: {sum_of(script)}\n"
+
+
+def try_heads(trial):
+    """Of which run a history is, and what is told where that isn't the one that it is replayed on."""
+    events = "claim 1 1,commit 1,deliver 1,deliver 2,deliver 3,claim 2 2,commit 2,deliver 4,deliver 5,deliver 6,claim 1 3,commit 3".split(",")
+    events = "".join(f"1 {it}\n" for it in events)
+    usual, other = "--nodes 1 --slots 4", "--nodes 2 --slots 3"
+    whole = ("raysim 2\n" + head_of(usual, 1, SCRIPT) + events).encode()
+    trial.run("run sq.ray --threads 1 --history new", 0, report=REPORT, changed={"new": lambda it: it == whole})
+    wide = ("raysim 2\n" + head_of(other, 8, SCRIPT)).encode()
+    trial.run(f"run sq.ray --threads 8 {other} --history new", 0, report=REPORT, changed={"new": lambda it: it.startswith(wide)})
+    FILES["whole.ev"] = whole
+    FILES["wide.ev"] = whole.replace(usual.encode(), other.encode())
+    FILES["bare.ev"] = whole.replace(b"# cluster: ", b"# of: ").replace(b"# script: ", b"# by: ")
+    FILES["late.ev"] = FILES["bare.ev"] + b"# cluster: --nodes 9 --slots 9\n"
+    FILES["odd.ev"] = whole.replace(usual.encode(), b"--nodes \x1b[2J")
+    FILES["same.ray"] = SCRIPT + b"# the same\n"
+    cluster = "note: {} was recorded with {}, not with {}\n"
+    script = f"note: whole.ev was recorded of another script than same.ray: its sum is {sum_of(SCRIPT)}, not {sum_of(FILES['same.ray'])}\n"
+    for name in ["whole.ev", "bare.ev", "late.ev", "settle.ev"]:
+        trial.run(f"sim sq.ray {name}", 0, report=REPORT)
+    trial.run("sim sq.ray wide.ev", 0, cluster.format("wide.ev", other, usual), REPORT)
+    trial.run("sim sq.ray whole.ev --slots 5", 0, cluster.format("whole.ev", usual, "--nodes 1 --slots 5"), REPORT)
+    trial.run("sim sq.ray odd.ev", 0, cluster.format("odd.ev", "something else", usual), REPORT)
+    trial.run("sim same.ray whole.ev", 0, script, REPORT)
+    trial.run("sim same.ray whole.ev --slots 5", 0, cluster.format("whole.ev", usual, "--nodes 1 --slots 5") + script, REPORT)
+    FILES["wrong.ev"] = FILES["wide.ev"].replace(b"claim 1 1", b"claim 1 2")
+    trial.run("sim sq.ray wrong.ev", 1, "refused 42 line 5\n" + cluster.format("wrong.ev", other, usual))
+    for words in ["log sq.ray {}", "why sq.ray {}", "why sq.ray {} o1.1", "state sq.ray {}", "state sq.ray {} --at 3"]:
+        status = 2 if "--at" in words else 0
+        trial.same(words.format("wide.ev"), words.format("bare.ev"), cluster.format("wide.ev", other, usual), status)
+    trial.same("faults sq.ray wide.ev --most 2", "faults sq.ray bare.ev --most 2", cluster.format("wide.ev", other, usual))
+
+
+def try_life(trial):
+    """What is told while a run goes on: the last line of those that are rewritten, and what main prints."""
+    line = r"(\r\d+ events, [01] of [01] tasks done, \d+ s)*"
+    last = r"\r12 events, 1 of 1 tasks done, \d+ s\n"
+    trial.run("run sq.ray --progress", 0, re.compile(line + last), REPORT)
+    trial.run("run sq.ray --progress --threads 2", 0, re.compile(line + last), REPORT)
+    trial.run("run sq.ray --stream", 0, "print 49\n", REPORT)
+    trial.run("run sq.ray --stream --threads 1", 0, "print 49\n", REPORT)
+    trial.run("run sq.ray --stream --json", 0, "print 49\n", trial.written("run sq.ray --json"))
+    trial.run("run bad.ray --progress --stream", 1, "refused 10 at 26..27\n")
+    tried = re.compile(r"(\r\d of 3 lists tried, \d+ s)*\r3 of 3 lists tried, \d+ s\n")
+    trial.run("faults sq.ray --most 3 --progress", 0, tried, trial.written("faults sq.ray --most 3"))
 
 
 def try_names(trial):
@@ -433,16 +553,35 @@ def try_names(trial):
     trial.run("explain 5", 1, "nothing is refused 5\n")
 
 
+def unable(trial):
+    """Why nothing can be tried here, if so."""
+    lacking = [it for it in ["/dev/full", "/dev/null", "/dev/stdout"] if not os.path.exists(it)]
+    if lacking:
+        return f"There is no {lacking[0]}"
+    who = ", as the user nobody, since this is root" if os.geteuid() == 0 else ""
+    try:
+        ran = subprocess.run([trial.program, "explain", "30"], cwd=trial.room, capture_output=True, preexec_fn=limits(None), timeout=SECONDS)
+    except (OSError, subprocess.SubprocessError) as error:
+        return f"The program doesn't run in the folder {trial.room}{who}: {error}"
+    return f"The program doesn't run in the folder {trial.room}{who}: status {ran.returncode}, {ran.stderr[:300]!r}" if ran.returncode else None
+
+
 def main():
     if len(sys.argv) != 2:
         sys.exit("usage: tools/try_files.py PROGRAM")
+    if not os.access(sys.argv[1], os.X_OK):
+        sys.exit(f"try_files: nothing was tried. There is no program {sys.argv[1]}")
     room = tempfile.mkdtemp()
     try:
         os.chmod(room, 0o755)
         program = shutil.copy(sys.argv[1], f"{room}/raysim")
         os.chmod(program, 0o755)
         trial = Trial(program, room)
-        for part in [try_refusals, try_writes, try_failures, try_standard_output, try_explanations, try_limits, try_names]:
+        why = unable(trial)
+        if why:
+            sys.exit(f"try_files: nothing was tried. {why}")
+        parts = [try_refusals, try_writes, try_failures, try_standard_output, try_heads, try_life, try_explanations, try_limits, try_parties, try_names]
+        for part in parts:
             part(trial)
         print(f"{trial.passed} passed, {trial.failed} failed")
         return 1 if trial.failed else 0

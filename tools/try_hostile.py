@@ -1,36 +1,59 @@
 #!/usr/bin/env python3
-"""Tries hostile texts on the program raysim: tools/try_hostile.py PROGRAM. Each run has 64 MB of memory at most, all that it maps counted, but those on
-threads, of which what they hold at most is measured. Inputs without end are refused, or read for as long as they are good; random bytes, and good texts with
-one byte turned, are answered by a report or by a refusal. The last line counts the runs and the bytes; the status is 1 where one was answered otherwise."""
+"""Tries hostile texts on the program raysim: tools/try_hostile.py PROGRAM [--gate]. Each run has 64 MB of address space at most: the program itself, its
+libraries, its stacks and all else that it maps are counted. Inputs without end are refused, or read for as long as they are good; random bytes, and good texts
+with one byte turned, are answered by a report or by a refusal. The last line counts the runs and the bytes; the status is 1 where one was answered otherwise.
+With --gate it is the inputs without end of check, sim and run, and four thousand texts; without it those of each command, and eight thousand."""
 import os
 import random
 import re
-import resource
+import shutil
+import signal
 import subprocess
 import sys
 import tempfile
-import time
+import threading
+from concurrent.futures import ThreadPoolExecutor
 
 MEMORY = 64 << 20
-SECONDS = 60
+# so much is read of an input that is good without end: kept, it would not have room
+ENOUGH = 96 << 20
+# a run takes some seconds at most on a quiet machine
+SECONDS = 120
+# through each parser go so many texts of random bytes, of so many bytes each, and as many good ones with a byte turned; and where the gate asks
+TEXTS, GATE_TEXTS = (1000, 10_000), (500, 20_000)
+# stacks of threads are as large as these words say, and count
+LIMITED = ["sh", "-c", f'ulimit -S -s 8192 2> /dev/null; ulimit -v {MEMORY >> 10} || exit 99; exec "$@"', ""]
 SCRIPT = b"fn sq(x: int) -> int { return x * x; }\nfn main() -> int { let r = remote sq(7); print get r; return 0; }\n"
-PLAIN = b"claim 1\ncommit 1\ndeliver 1\ndeliver 2\nsettle but 2 3\ntick 2\n# none\n\nnotice 1 2\nnotice-node 1 1\nevict 1 o1.1\nlose 2 o1.1\nkill 2\nkill-node 2\njoin\nsettle\n"
+REPORT = b"print 49\nmain value 0\nattempt a1.1#0 w2 accepted\nreleased o1.1\n"
+PLAIN = (b"claim 1\ncommit 1\ndeliver 1\ndeliver 2\nsettle but 2 3\ntick 2\n# none\n\nnotice 1 2\nnotice-node 1 1\nevict 1 o1.1\n"
+         b"lose 2 o1.1\nkill 2\nkill-node 2\njoin\nsettle\n")
 RECORDED = b"raysim 2\n0 claim 1 1\n0 commit 1\n0 deliver 1\n8 deliver 2\n# none\n\n0 deliver 3\n3 claim 2 2\n0 tick 1\n0 notice 1 2\n0 lose 1 o1.1\n0 join\n"
 PLAN = b"0 tick 1\n1 notice 1 2\n# none\n\n2 lose 1 o1.1\n2 kill 2\n3 kill-node 2\n3 join\n"
-REFUSED = {b"refused 39\n", b"refused 41\n", b"refused 50\n"}
+TOO_LONG = (b"refused 41\nlimit: 100,000 events, those of settle lines counted\n"
+            b"what to do: give each task more to do, so that there are fewer: each takes some ten events\n")
+REFUSED = {b"refused 39\n", TOO_LONG, b"refused 50\n"}
 AT_LINE = re.compile(rb"refused 4[02] line \d+\n")
 AT_BYTES = re.compile(rb"refused ([1-4]|1[0-8]) at \d+\.\.\d+\n")
 
 # Inputs without end: the words, what is read again and again behind what, and what is told; nothing where it is read for as long as it comes.
 SETTLES = b"settle but" + b" 7" * 2048
 ENDLESS = [
+    ("check /dev/zero", None, None, b"refused 4 at 0..0\n"),
+    ("run /dev/zero", None, None, b"refused 4 at 0..0\n"),
+    ("sim /dev/zero sq.ray", None, None, b"refused 4 at 0..0\n"),
+    ("sim sq.ray /dev/zero", None, None, b"refused 40 line 1\n"),
+    ("run sq.ray --plan /dev/zero", None, None, b"refused 40 line 1\n"),
     ("check F", b"", None, b"refused 4 at 0..0\n"),
+    ("check F", b"", b"# none\n", b"refused 4 at 0..0\n"),
+    ("check F", b"", b"fn f() -> int { return 1; }\n", b"refused 4 at 0..0\n"),
     ("serial F", b"", b"# none\n", b"refused 4 at 0..0\n"),
     ("run F", b"", b" ", b"refused 4 at 0..0\n"),
     ("run F --threads 2", b"", None, b"refused 4 at 0..0\n"),
+    ("sim F sq.ray", b"", b"f", b"refused 4 at 0..0\n"),
     ("log F", b"", b"f", b"refused 4 at 0..0\n"),
+    ("export F --to dask", b"", b"f", b"refused 4 at 0..0\n"),
 ]
-for words in ("sim sq.ray F", "log sq.ray F", "why sq.ray F", "why sq.ray F o1.1", "migrate sq.ray F", "faults sq.ray F"):
+for words in ("sim sq.ray F", "log sq.ray F", "why sq.ray F", "why sq.ray F o1.1", "state sq.ray F", "migrate sq.ray F", "faults sq.ray F"):
     ENDLESS += [
         (words, b"", None, b"refused 40 line 1\n"),
         (words, b"", b"a", b"refused 40 line 1\n"),
@@ -44,7 +67,7 @@ for words in ("sim sq.ray F", "log sq.ray F", "why sq.ray F", "why sq.ray F o1.1
         (words, b"", b"# none\n", None),
         (words, b"#", b"none", None),
     ]
-for words in ("sim sq.ray F", "log sq.ray F", "why sq.ray F", "faults sq.ray F"):
+for words in ("sim sq.ray F", "log sq.ray F", "why sq.ray F", "state sq.ray F", "faults sq.ray F"):
     ENDLESS += [
         (words, b"raysim 2\n", None, b"refused 40 line 2\n"),
         (words, b"raysim 2\n0 tick 1\n", b"0 tick 1", b"refused 40 line 3\n"),
@@ -61,79 +84,87 @@ ENDLESS += [
 # Files with an end: what is told of them.
 GOOD = b"tick 1\n" * 100001
 LONG = [
-    ("sim sq.ray F", GOOD, b"refused 41\n"),
-    ("sim sq.ray F", GOOD + b"kill 1\n" * 1000, b"refused 41\n"),
+    ("sim sq.ray F", GOOD, TOO_LONG),
+    ("sim sq.ray F", GOOD + b"kill 1\n" * 1000, TOO_LONG),
     ("sim sq.ray F", GOOD + b"kill w2\n", b"refused 40 line 100002\n"),
     ("sim sq.ray F", GOOD + b"# none\n\nkill 2", b"refused 40 line 100004\n"),
-    ("migrate sq.ray F", GOOD + b"\n", b"refused 41\n"),
-    ("sim sq.ray F", b"raysim 2\n" + b"0 tick 1\n" * 100001, b"refused 41\n"),
+    ("migrate sq.ray F", GOOD + b"\n", TOO_LONG),
+    ("sim sq.ray F", b"raysim 2\n" + b"0 tick 1\n" * 100001, TOO_LONG),
     ("sim sq.ray F", b"raysim 2\n" + b"0 tick 1\n" * 100001 + b"settle\n", b"refused 40 line 100003\n"),
     ("sim sq.ray F", b"raysim 2\n# none\n0 claim 1 7\n" + b"0 tick 1\n" * 100001, b"refused 42 line 3\n"),
     ("sim sq.ray F", b"raysim 2\n0 claim 1 7\n" + b"0 tick 1\n" * 100001 + b"1", b"refused 40 line 100004\n"),
 ]
 
 
-def limited():
-    resource.setrlimit(resource.RLIMIT_AS, (MEMORY, MEMORY))
-
-
-def holds(pid):
-    """The most memory that a process held so far, in bytes."""
-    try:
-        with open(f"/proc/{pid}/status") as it:
-            return 1024 * max([int(line.split()[1]) for line in it if line.startswith("VmHWM")], default=0)
-    except OSError:
-        return 0
-
-
-def flow(pipe, front, part, until):
-    """Writes what stands in front and then the part again and again, zero bytes where there is none, until nobody reads or the time has come; says which."""
+def flow(pipe, front, part):
+    """Writes what stands in front and then the part again and again, zero bytes where there is none, until enough was read or nobody reads; says which."""
     part = (part or b"\0") * max(1, 65536 // len(part or b"\0"))
     try:
         pipe.write(front)
-        while time.monotonic() < until:
+        for _ in range(ENOUGH // len(part) + 1):
             pipe.write(part)
+        pipe.flush()
         return True
     except BrokenPipeError:
         return False
-    finally:
+
+
+def end(run):
+    """Ends a run, and whatever it began, if it hasn't ended."""
+    if run.returncode is None:
         try:
-            pipe.close()
-        except BrokenPipeError:
+            os.killpg(run.pid, signal.SIGKILL)
+        except ProcessLookupError:
             pass
 
 
 def endless(program, words, front, part, told):
     """What is wrong with a run on such an input, if anything."""
-    args = [program] + [{"F": "/dev/stdin"}.get(word, word) for word in words.split()]
-    threads = "--threads" in words or "--plan" in words
-    run = subprocess.Popen(args, stdin=subprocess.PIPE, stdout=subprocess.PIPE, stderr=subprocess.PIPE, preexec_fn=None if threads else limited)
+    args = [*LIMITED, program] + [{"F": "/dev/stdin"}.get(word, word) for word in words.split()]
+    run = subprocess.Popen(args, stdin=subprocess.PIPE, stdout=subprocess.PIPE, stderr=subprocess.PIPE, bufsize=0, start_new_session=True)
+    # a run that neither reads nor ends is ended, so that nobody waits for it
+    watch = threading.Timer(SECONDS, end, [run])
+    watch.start()
     try:
-        reads_on = flow(run.stdin, front, part, time.monotonic() + (3 if told is None else SECONDS))
-        most = holds(run.pid)
-        if told is None:
-            if not reads_on or run.poll() is not None:
-                return "ended, " + repr(run.stderr.read())
-        elif run.wait(SECONDS) != 1 or run.stderr.read() != told or run.stdout.read():
-            return f"status {run.returncode}"
-        return f"{most} bytes of memory" if most > MEMORY else None
+        reads_on = front is not None and flow(run.stdin, front, part)
+        if reads_on and told is None:
+            return None if run.poll() is None else f"ended with status {run.returncode}"
+        if reads_on:
+            return "is read on"
+        status, said, wrote = run.wait(), run.stderr.read(), run.stdout.read()
+        if status < 0:
+            return f"it had not ended after {SECONDS} seconds, or was ended by signal {-status}"
+        return None if (status, said, wrote) == (1, told, b"") else f"status {status}, {said[:200]!r}, {wrote[:80]!r}"
     finally:
-        run.kill()
+        watch.cancel()
+        end(run)
         run.wait()
+        for it in (run.stdin, run.stdout, run.stderr):
+            it.close()
 
 
 def answered(program, words, text):
-    """What is wrong with a run on this text, if anything."""
-    with open("F", "wb") as it:
-        it.write(text)
-    threads = "--threads" in words or "--plan" in words
-    done = subprocess.run([program] + words.split(), stdin=subprocess.DEVNULL, capture_output=True, timeout=SECONDS, preexec_fn=None if threads else limited)
+    """What is wrong with a run on this text, if anything, and the run."""
+    with tempfile.NamedTemporaryFile(dir=".", prefix="text-") as file:
+        file.write(text)
+        file.flush()
+        args = [{"F": file.name}.get(word, word) for word in words.split()]
+        try:
+            done = subprocess.run([*LIMITED, program, *args], stdin=subprocess.DEVNULL, capture_output=True, timeout=SECONDS, check=False)
+        except subprocess.TimeoutExpired:
+            return f"it had not ended after {SECONDS} seconds", None
     if done.returncode in (0, 1, 2) and not done.stderr and done.stdout:
         return None, done
     refused = done.stderr in REFUSED or AT_LINE.fullmatch(done.stderr) or AT_BYTES.fullmatch(done.stderr)
     if done.returncode == 1 and refused and not done.stdout:
         return None, done
     return f"status {done.returncode}, {done.stderr[:200]!r}, {done.stdout[:80]!r}", done
+
+
+def refused(program, words, text, told):
+    """What is wrong with a run on this text that has to be refused so, if anything."""
+    what, done = answered(program, words, text)
+    return what or (None if done.stderr == told else repr(done.stderr))
 
 
 def turned(dice, text):
@@ -143,50 +174,94 @@ def turned(dice, text):
     return dice.choice([text[:at] + byte + text[at + 1:], text[:at] + text[at + 1:], text[:at] + byte + text[at:]])
 
 
-def main():
-    program = os.path.realpath(sys.argv[1])
+def texts_of(dice, scripts, count, size):
+    """Each text with the words of its run, and whether it is a good one with a byte turned."""
+    kinds = [("check F", scripts), ("sim sq.ray F", [PLAIN]), ("sim sq.ray F", [RECORDED]), ("run sq.ray --plan F --threads 1", [PLAN])]
+    for words, good in kinds:
+        front = b"raysim 2\n" if good == [RECORDED] else b""
+        for _ in range(count):
+            yield words, front + dice.randbytes(size), False
+        for _ in range(count):
+            yield words, turned(dice, dice.choice(good)), True
+
+
+def unable():
+    """Why nothing can be tried here, if so: the limit has to refuse a block of twice its size to whoever asks for one."""
+    lacking = [it for it in ("/dev/zero", "/proc/self/fd") if not os.path.exists(it)] + [it for it in ("sh", "dd") if not shutil.which(it)]
+    if lacking:
+        return f"There is no {lacking[0]}"
+    large = ["dd", "if=/dev/zero", "of=/dev/null", f"bs={2 * MEMORY}", "count=1"]
+    free, held = (subprocess.run(it, stdin=subprocess.DEVNULL, capture_output=True, check=False) for it in (large, [*LIMITED, *large]))
+    if free.returncode or held.returncode in (0, 99):
+        return f"A process can't be held to {MEMORY >> 20} MB here: {(free.stderr if free.returncode else held.stderr)[:300]!r}"
+    return None
+
+
+class Trial:
+    """The program, and what came of its runs."""
+
+    def __init__(self, program, pool):
+        self.program, self.pool = program, pool
+        self.runs = self.wrong = self.count = self.reports = 0
+
+    def tell(self, what, words, text):
+        self.runs += 1
+        if what:
+            self.wrong += 1
+            print(f"{words} on {text[:60]!r}: {what}", flush=True)
+
+    def inputs(self, is_gate):
+        """Inputs without end, and long ones."""
+        cases = [it for it in ENDLESS if not is_gate or it[0].split()[0] in ("check", "sim", "run")]
+        long = [it for it in LONG if not is_gate or it[0].split()[0] in ("check", "sim", "run")]
+        found = [self.pool.submit(endless, self.program, *it) for it in cases]
+        told = [self.pool.submit(refused, self.program, *it) for it in long]
+        for (words, front, part, _), it in zip(cases, found):
+            self.tell(it.result(), words, (front or b"") + (part or b"\0"))
+        for (words, text, _), it in zip(long, told):
+            self.tell(it.result(), words, text[-60:])
+
+    def texts(self, texts):
+        """Texts, some at a time."""
+        texts = iter(texts)
+        while some := [it for _, it in zip(range(200), texts)]:
+            found = [self.pool.submit(answered, self.program, words, text) for words, text, _ in some]
+            for (words, text, is_turned), it in zip(some, found):
+                what, done = it.result()
+                self.count += len(text)
+                self.reports += is_turned and done is not None and done.returncode in (0, 1, 2) and not done.stderr
+                self.tell(what, words, text)
+
+
+def main(words):
+    if len(words) not in (1, 2) or words[1:] not in ([], ["--gate"]):
+        sys.exit(__doc__)
+    program, is_gate = os.path.realpath(words[0]), words[1:] == ["--gate"]
+    if not os.access(program, os.X_OK):
+        sys.exit(f"try_hostile: nothing was tried. There is no program {words[0]}")
+    with open(program, "rb") as file:
+        if b"__asan_init" in file.read():
+            sys.exit("this program watches each access to memory, and maps more than any limit: build one that doesn't (./raysim does, where it can)")
+    why = unable()
+    if why:
+        sys.exit(f"try_hostile: nothing was tried. {why}")
     examples = os.path.join(os.path.dirname(os.path.realpath(__file__)), "..", "examples")
     scripts = [open(os.path.join(examples, name), "rb").read() for name in sorted(os.listdir(examples)) if name.endswith(".ray")]
-    dice = random.Random(2)
-    runs = wrong = count = reports = 0
-
-    def tell(what, words, text):
-        nonlocal wrong
-        wrong += 1
-        print(f"{words} on {text[:60]!r}: {what}", flush=True)
-
-    with tempfile.TemporaryDirectory() as folder:
+    with tempfile.TemporaryDirectory(prefix="try-hostile-") as folder, ThreadPoolExecutor(len(os.sched_getaffinity(0))) as pool:
         os.chdir(folder)
         with open("sq.ray", "wb") as it:
             it.write(SCRIPT)
-        for words, front, part, told in ENDLESS:
-            runs += 1
-            what = endless(program, words, front, part, told)
-            if what:
-                tell(what, words, front + (part or b"\0"))
-        for words, text, told in LONG:
-            runs += 1
-            what, done = answered(program, words, text)
-            if what or done.stderr != told:
-                tell(what or repr(done.stderr), words, text[-60:])
-        kinds = [("check F", scripts), ("sim sq.ray F", [PLAIN]), ("sim sq.ray F", [RECORDED]), ("run sq.ray --plan F --threads 1", [PLAN])]
-        for words, texts in kinds:
-            for _ in range(1000):
-                text = dice.randbytes(10000)
-                front = b"raysim 2\n" if texts == [RECORDED] else b""
-                runs, count = runs + 1, count + len(text)
-                what, done = answered(program, words, front + text)
-                if what:
-                    tell(what, words, text)
-            for _ in range(1000):
-                text = turned(dice, dice.choice(texts))
-                runs, count = runs + 1, count + len(text)
-                what, done = answered(program, words, text)
-                reports += done.returncode in (0, 1, 2) and not done.stderr
-                if what:
-                    tell(what, words, text)
-    print(f"{runs} runs on {count} bytes, {reports} reports of texts with a byte turned; {wrong} answered otherwise")
-    return 1 if wrong else 0
+        trial = Trial(program, pool)
+        what, done = answered(program, "run sq.ray", b"")
+        if what or done.stdout != REPORT:
+            sys.exit(f"try_hostile: nothing was tried. A good script has no report, with {MEMORY >> 20} MB of address space: {what or done.stdout!r}")
+        trial.inputs(is_gate)
+        trial.texts(texts_of(random.Random(2), scripts, *(GATE_TEXTS if is_gate else TEXTS)))
+        os.chdir("/")
+    print(f"{trial.runs} runs, on {trial.count} bytes and on inputs without end, {trial.reports} reports of texts with a byte turned; "
+          f"{trial.wrong} answered otherwise")
+    return 1 if trial.wrong else 0
 
 
-sys.exit(main())
+if __name__ == "__main__":
+    sys.exit(main(sys.argv[1:]))

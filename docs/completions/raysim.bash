@@ -6,18 +6,18 @@ _raysim() {
         return
     fi
     case $before in
-        --history|--lineage|--plan|--timeline) COMPREPLY=($(compgen -f -- "$word")); return ;;
+        --history|--lineage|--page|--plan|--timeline) COMPREPLY=($(compgen -f -- "$word")); return ;;
         --out) COMPREPLY=($(compgen -d -- "$word")); return ;;
         --at|--most|--nodes|--of|--slots|--threads|--to) return ;;
     esac
     case ${COMP_WORDS[1]} in
         check) words='--explain --help' ;;
         serial) words='--explain --help' ;;
-        sim) words='--explain --nodes --slots --json --timeline --lineage --books --full --summary --help' ;;
-        run) words='--explain --threads --nodes --slots --plan --history --json --timeline --lineage --full --summary --help' ;;
-        log) words='--explain --nodes --slots --messages --full --help' ;;
+        sim) words='--explain --nodes --slots --json --timeline --lineage --page --books --full --summary --so-far --help' ;;
+        run) words='--explain --threads --nodes --slots --plan --history --json --timeline --lineage --page --full --summary --so-far --progress --stream --help' ;;
+        log) words='--explain --nodes --slots --messages --full --page --help' ;;
         why) words='--explain --nodes --slots --full --help' ;;
-        faults) words='--explain --nodes --slots --of --most --out --help' ;;
+        faults) words='--explain --nodes --slots --of --most --out --progress --help' ;;
         migrate) words='--explain --nodes --slots --help' ;;
         explain) words='--help' ;;
         export) words='--explain --to --help' ;;

@@ -29,9 +29,18 @@ PLAIN = (b"claim 1\ncommit 1\ndeliver 1\ndeliver 2\nsettle but 2 3\ntick 2\n# no
          b"lose 2 o1.1\nkill 2\nkill-node 2\njoin\nsettle\n")
 RECORDED = b"raysim 2\n0 claim 1 1\n0 commit 1\n0 deliver 1\n8 deliver 2\n# none\n\n0 deliver 3\n3 claim 2 2\n0 tick 1\n0 notice 1 2\n0 lose 1 o1.1\n0 join\n"
 PLAN = b"0 tick 1\n1 notice 1 2\n# none\n\n2 lose 1 o1.1\n2 kill 2\n3 kill-node 2\n3 join\n"
-TOO_LONG = (b"refused 41\nlimit: 100,000 events, those of settle lines counted\n"
-            b"what to do: give each task more to do, so that there are fewer: each takes some ten events\n")
+LIMIT = b"refused 41\nlimit: 100,000 events, those of settle lines counted\n"
+REMEDY = b"what to do: give each task more to do, so that there are fewer: each takes some ten events\n"
+TOO_LONG = LIMIT + REMEDY
 REFUSED = {b"refused 39\n", TOO_LONG, b"refused 50\n"}
+STOPPED = re.compile(re.escape(LIMIT) + rb"the last step was in event 100000 \(.*\)\n" + re.escape(REMEDY))
+
+
+def too_long(line):
+    """What is told where a tick in this line was the last of 100,000 events, and more came."""
+    return LIMIT + b"the last step was in event 100000 (tick 1, line %d)\n" % line + REMEDY
+
+
 AT_LINE = re.compile(rb"refused 4[02] line \d+\n")
 AT_BYTES = re.compile(rb"refused ([1-4]|1[0-8]) at \d+\.\.\d+\n")
 
@@ -84,12 +93,12 @@ ENDLESS += [
 # Files with an end: what is told of them.
 GOOD = b"tick 1\n" * 100001
 LONG = [
-    ("sim sq.ray F", GOOD, TOO_LONG),
-    ("sim sq.ray F", GOOD + b"kill 1\n" * 1000, TOO_LONG),
+    ("sim sq.ray F", GOOD, too_long(100000)),
+    ("sim sq.ray F", GOOD + b"kill 1\n" * 1000, too_long(100000)),
     ("sim sq.ray F", GOOD + b"kill w2\n", b"refused 40 line 100002\n"),
     ("sim sq.ray F", GOOD + b"# none\n\nkill 2", b"refused 40 line 100004\n"),
     ("migrate sq.ray F", GOOD + b"\n", TOO_LONG),
-    ("sim sq.ray F", b"raysim 2\n" + b"0 tick 1\n" * 100001, TOO_LONG),
+    ("sim sq.ray F", b"raysim 2\n" + b"0 tick 1\n" * 100001, too_long(100001)),
     ("sim sq.ray F", b"raysim 2\n" + b"0 tick 1\n" * 100001 + b"settle\n", b"refused 40 line 100003\n"),
     ("sim sq.ray F", b"raysim 2\n# none\n0 claim 1 7\n" + b"0 tick 1\n" * 100001, b"refused 42 line 3\n"),
     ("sim sq.ray F", b"raysim 2\n0 claim 1 7\n" + b"0 tick 1\n" * 100001 + b"1", b"refused 40 line 100004\n"),
@@ -155,7 +164,7 @@ def answered(program, words, text):
             return f"it had not ended after {SECONDS} seconds", None
     if done.returncode in (0, 1, 2) and not done.stderr and done.stdout:
         return None, done
-    refused = done.stderr in REFUSED or AT_LINE.fullmatch(done.stderr) or AT_BYTES.fullmatch(done.stderr)
+    refused = done.stderr in REFUSED or STOPPED.fullmatch(done.stderr) or AT_LINE.fullmatch(done.stderr) or AT_BYTES.fullmatch(done.stderr)
     if done.returncode == 1 and refused and not done.stdout:
         return None, done
     return f"status {done.returncode}, {done.stderr[:200]!r}, {done.stdout[:80]!r}", done

@@ -20,10 +20,10 @@ returns-in-Err-clause-refused g c =
     let is = subst (λ t. IsRefusalOf t c.in-Err.refusal) c.as_slice.ensures.value c.in-Err.ensures.refused in
     explains_script c.args.cluster _ _ _ _ _ c.in-Err.refusal (explains_read _ c.in_ok-text.text.items _ _ c.in-Err.refusal c.in_ok-text.ensures.ok is)
 
-pub page_script-requires-ascii : goal.page_script-requires-ascii
-page_script-requires-ascii g c =
+pub page_script-requires-clause-ascii : goal.page_script-requires-clause-ascii
+page_script-requires-clause-ascii g c =
     let is = subst (λ t. IsScript t (script_of c.in-Ok.script)) c.as_slice.ensures.value c.in-Ok.ensures.found in
-    subst (λ t. all is_ascii t ≡ true) (sym c.as_slice-2.ensures.value) (script_ascii _ _ is)
+    subst (λ t. all is_ascii t ≡ true) (sym c.as_slice-bytes.ensures.value) (script_ascii _ _ is)
 
 pub returns-in_err-put_all-clause-beginning : goal.returns-in_err-put_all-clause-beginning
 returns-in_err-put_all-clause-beginning g c =
@@ -31,10 +31,10 @@ returns-in_err-put_all-clause-beginning g c =
     let is = subst (λ t. IsScript t script) c.as_slice.ensures.value c.in-Ok.ensures.found in
     let said = c.in-Ok-read_events.ensures.read in
     let told = c.in-Ok-page_script.ensures.made in
-    let read = c.as_slice-2.ensures.value in
+    let read = c.as_slice-bytes.ensures.value in
     let begun =
     page_begun_so c.args.cluster c.args.contents _ _ c.in_ok-text.text.items script c.in-Ok-read_events.found.says c.in-Ok-read_events.found.numbers
-    _ _ _ _ _ _ c.in_ok-text.ensures.ok is said read told c.as_slice-3.ensures.value c.in_err-put_all.ensures.beginning in
+    _ _ _ _ _ _ c.in_ok-text.ensures.ok is said read told c.as_slice-2.ensures.value c.in_err-put_all.ensures.beginning in
     always_err c.from_residual-in_err-put_all.result _ begun
 
 pub returns-clause-written : goal.returns-clause-written
@@ -43,6 +43,6 @@ returns-clause-written g c =
     let is = subst (λ t. IsScript t script) c.as_slice.ensures.value c.in-Ok.ensures.found in
     let said = c.in-Ok-read_events.ensures.read in
     let told = c.in-Ok-page_script.ensures.made in
-    let read = c.as_slice-2.ensures.value in
+    let read = c.as_slice-bytes.ensures.value in
     page_written_so c.args.cluster c.args.contents _ _ c.in_ok-text.text.items script c.in-Ok-read_events.found.says c.in-Ok-read_events.found.numbers
-    _ _ _ _ _ _ c.in_ok-text.ensures.ok is said read told c.as_slice-3.ensures.value c.in_ok-put_all.ensures.ok
+    _ _ _ _ _ _ c.in_ok-text.ensures.ok is said read told c.as_slice-2.ensures.value c.in_ok-put_all.ensures.ok

@@ -22,7 +22,8 @@ pub fn lines_left<R: Source>(
     ahead: &mut Vec<u8>,
 ) -> Result<Kept<Line>, CommandRefusal>
     ensures read { IfOk result (λ kept. IfSome (left_of ahead.old.items (R.left reader.old)) (λ bytes. AreLinesKept bytes kept)) }
-    ensures refused { IfErr result (ExplainsRows IsLine line_text (left_of ahead.old.items (R.left reader.old)) (R.failures reader.old, R.failures reader.new)) }
+    ensures refused { IfErr result (ExplainsRows IsLine line_text (left_of ahead.old.items (R.left reader.old))
+        (R.failures reader.old, R.failures reader.new)) }
     ensures unfailed { OnOk result (R.failures reader.new ≡ R.failures reader.old) }
 {
     let mut kept = Kept::new(alloc);

@@ -22,7 +22,8 @@ fn plan_left<R: Source>(
     ahead: &mut Vec<u8>,
 ) -> Result<RunPlan, CommandRefusal>
     ensures read { IfOk result (λ plan. IfSome (left_of ahead.old.items (R.left reader.old)) (λ bytes. IsFile IsPlanLine plan_line_text bytes plan.lines)) }
-    ensures refused { IfErr result (ExplainsRows IsPlanLine plan_line_text (left_of ahead.old.items (R.left reader.old)) (R.failures reader.old, R.failures reader.new)) }
+    ensures refused { IfErr result (ExplainsRows IsPlanLine plan_line_text (left_of ahead.old.items (R.left reader.old))
+        (R.failures reader.old, R.failures reader.new)) }
     ensures unfailed { OnOk result (R.failures reader.new ≡ R.failures reader.old) }
 {
     let mut lines = Seq::new(alloc);

@@ -37,10 +37,11 @@ def start_engine(options):
 
 
 def stop_engine(client):
-    """Ends the cluster that was started. On another, tasks for which nobody waited end, and the workers let go of this run."""
+    """Ends the cluster that was started. On another, tasks for which nobody waited end within the timeout, and the workers let go of this run."""
     cluster = client.cluster
     if cluster is None:
-        while is_busy(client) or any(client.run(is_busy).values()):
+        limit = time.monotonic() + (float("inf") if TIMEOUT is None else TIMEOUT)
+        while (is_busy(client) or any(client.run(is_busy).values())) and time.monotonic() < limit:
             time.sleep(0.05)
         client.run(lambda dask_worker: vars(dask_worker).pop(RUN, None))
     client.close()

@@ -66,6 +66,9 @@ UNFIT = [
     ("run sq.ray --history nowhere", "nowhere", "it is a link to a file that is not there"),
     ("sim sq.ray settle.ev --page in", "in", "Is a directory (os error 21)"),
     ("sim sq.ray settle.ev --lineage in", "in", "Is a directory (os error 21)"),
+    ("faults sq.ray --out sq.ray", "sq.ray", "File exists (os error 17)"),
+    ("faults sq.ray --out locked", "locked", "Permission denied (os error 13)"),
+    ("faults sq.ray --out locked/new", "locked/new", "Permission denied (os error 13)"),
 ]
 
 # Inputs that can't be read, and the reason.
@@ -345,6 +348,10 @@ def try_refusals(trial):
     for words, told in REFUSED:
         trial.run(words, 1, told)
     trial.run(["run", b"\xff.ray"], 1, "a word of the command line is not UTF-8\n")
+    trial.run(["faults", "sq.ray", "--out", ""], 1, unwritten("", "No such file or directory (os error 2)") + NOTHING)
+    kinds = "is no kind of fault: kill, notice, kill-node, lose and evict are, with commas between them\n"
+    trial.run("faults sq.ray --of kill,foo", 1, f"foo {kinds}")
+    trial.run(["faults", "sq.ray", "--of", ""], 1, f"an empty word {kinds}")
 
 
 def try_writes(trial):
@@ -459,8 +466,11 @@ def try_limits(trial):
     trial.run(f"why bad.ray {on}", 1, f"refused 37\n{limit}{remedy}")
     possible = "limit: 1,024 workers in all, 1,000,000 objects, or 64 nodes: the next event would have passed one of them\n"
     trial.run(f"run bad.ray {on} --threads 2", 1, f"refused 37\n{possible}{remedy}")
+    met = limit.replace("20586 (deliver 20584)", "100000 (deliver 20584, line 1)") + remedy
     limit = "limit: 100,000 events, those of settle lines counted\n"
     remedy = "what to do: give each task more to do, so that there are fewer: each takes some ten events\n"
+    # (with a fault at each place the run is settled first, which goes on behind what is refused 37)
+    trial.run(f"faults bad.ray {on} --most 1", 1, f"refused 41\n{limit}{met}{remedy}")
     FILES["bad.plan"] = b"tick 1\n" * 100001
     place = "the last step was in event 100000 (tick 1, line 100000)\n"
     trial.run("sim sq.ray bad.plan", 1, f"refused 41\n{limit}{place}{remedy}")

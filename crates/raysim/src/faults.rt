@@ -4,6 +4,7 @@ use crate::heads::tell_misfits;
 use crate::inputs;
 use crate::inputs::{ReadEvents, first_bytes, read_script_file};
 use crate::life::{Asked, TrialLife};
+use crate::limits::SETTLED;
 use crate::reasons::{Course, Known, List};
 use crate::replays::Texts;
 use crate::told::{OUTPUT, Stop, fault, no_memory, stopped, tell};
@@ -11,7 +12,7 @@ use raysim_commands::{
     Cluster, CommandRefusal, EndKind, FaultChoice, FaultKind, Tracked, TriedFaults, faults,
     first_of, list_file,
 };
-use raysim_files::{Noted, write_whole};
+use raysim_files::{Noted, try_output, write_whole};
 use raysim_options::FaultsOptions;
 use refusal_reasons::ListKind;
 use std::alloc::{AllocError, Global};
@@ -80,13 +81,16 @@ fn with_kind(choice: FaultChoice, name: &str) -> Option<FaultChoice> {
     Some(more)
 }
 
-/// The faults with these names, with commas between them.
-fn choice_of(names: &str) -> Option<FaultChoice> {
+/// The faults with these names, with commas between them; else the first name that is none of a fault.
+fn choice_of(names: &str) -> Result<FaultChoice, &str> {
     let mut choice = NOTHING;
     for name in names.split(',') {
-        choice = with_kind(choice, name)?;
+        match with_kind(choice, name) {
+            Some(more) => choice = more,
+            None => return Err(name),
+        }
     }
-    Some(choice)
+    Ok(choice)
 }
 
 /// Tries a fault at every place of a run, writes the table, and the lists where they are asked for; why it stops, where it does, is told.
@@ -101,14 +105,10 @@ pub fn over_each_place<R: Files + Print + Eprint + AllocGlobal + Clock>(
         most: usize::MAX,
     };
     if let Some(names) = options.of {
-        let Some(choice) = choice_of(names) else {
-            return fault(
-                rt,
-                names,
-                "are no kinds of faults: kill, notice, kill-node, lose and evict are, with commas between them",
-            );
-        };
-        trial.choice = choice;
+        match choice_of(names) {
+            Ok(choice) => trial.choice = choice,
+            Err(name) => return no_kind(rt, name),
+        }
     }
     if let Some(text) = options.most {
         match text.parse::<usize>() {
@@ -117,15 +117,25 @@ pub fn over_each_place<R: Files + Print + Eprint + AllocGlobal + Clock>(
         }
     }
     if let Some(folder) = options.out {
-        match taken_path(rt, folder) {
-            Ok(None) => {}
-            Ok(Some(path)) => {
-                return fault(rt, path.as_str(), "is there already, and isn't overwritten");
-            }
-            Err(error) => return stopped(rt, Stop::writing(folder, error)),
+        if !is_fit(rt, folder) {
+            return ExitCode::FAILURE;
         }
     }
     try_faults(rt, options, cluster, trial, asked)
+}
+
+/// Tells that a name is none of a fault.
+fn no_kind<R: Eprint>(rt: &R, name: &str) -> ExitCode {
+    let name = if name.is_empty() {
+        "an empty word"
+    } else {
+        name
+    };
+    fault(
+        rt,
+        name,
+        "is no kind of fault: kill, notice, kill-node, lose and evict are, with commas between them",
+    )
 }
 
 fn try_faults<R: Files + Print + Eprint + AllocGlobal + Clock>(
@@ -135,7 +145,7 @@ fn try_faults<R: Files + Print + Eprint + AllocGlobal + Clock>(
     trial: Trial,
     asked: Asked,
 ) -> ExitCode {
-    let Some(texts) = read_texts(rt, options) else {
+    let Some(texts) = read_texts(rt, options, cluster) else {
         return ExitCode::FAILURE;
     };
     let mut output = Noted::new(io::writer(rt));
@@ -155,7 +165,7 @@ fn try_faults<R: Files + Print + Eprint + AllocGlobal + Clock>(
         Err(refusal) => {
             let (text, events) = (texts.script.as_slice(), texts.events.as_slice());
             let stop = Stop::of_writer(refusal, OUTPUT, error);
-            tell(rt, stop, &known_of(options, text, events));
+            tell(rt, stop, &known_of(options, cluster, text, events));
             ExitCode::FAILURE
         }
     };
@@ -169,6 +179,7 @@ fn try_faults<R: Files + Print + Eprint + AllocGlobal + Clock>(
 /// What is known of a trial that stops.
 fn known_of<'a, 'b>(
     options: &FaultsOptions<'a>,
+    cluster: Cluster,
     text: &'b [u8],
     events: &'b [u8],
 ) -> Known<'a, 'b> {
@@ -185,7 +196,7 @@ fn known_of<'a, 'b>(
         script: options.script,
         text,
         list,
-        course: Some(Course::Tried),
+        course: Some(Course::Replayed(cluster)),
     }
 }
 
@@ -193,11 +204,12 @@ fn known_of<'a, 'b>(
 fn read_texts<R: Files + Eprint + AllocGlobal>(
     rt: &R,
     options: &FaultsOptions<'_>,
+    cluster: Cluster,
 ) -> Option<Texts> {
     let script = match read_script_file(rt, options.script) {
         Ok(script) => script,
         Err(stop) => {
-            tell(rt, stop, &known_of(options, b"", b""));
+            tell(rt, stop, &known_of(options, cluster, b"", b""));
             return None;
         }
     };
@@ -212,7 +224,7 @@ fn read_texts<R: Files + Eprint + AllocGlobal>(
             tell(
                 rt,
                 stop,
-                &known_of(options, script.as_slice(), shown.as_slice()),
+                &known_of(options, cluster, script.as_slice(), shown.as_slice()),
             );
             None
         }
@@ -246,7 +258,7 @@ fn read_events<'a, R: Files + AllocGlobal>(
 
 fn settled(alloc: Global) -> Result<Vec<u8>, AllocError> {
     let mut events = Vec::new(alloc);
-    events.extend_from_slice(b"settle\n")?;
+    events.extend_from_slice(SETTLED)?;
     Ok(events)
 }
 
@@ -254,13 +266,35 @@ fn path_in(alloc: Global, folder: &str, name: &str) -> Result<String, AllocError
     format!(in alloc; "{folder}/{name}")
 }
 
-/// The first file that would be written and is there already.
+/// Whether each list can be written in the folder, which is made unless it is there. Where one can't, that is told.
+fn is_fit<R: Files + Eprint + AllocGlobal>(rt: &R, folder: &str) -> bool {
+    match taken_path(rt, folder) {
+        Ok(None) => true,
+        Ok(Some(path)) => {
+            fault(rt, path.as_str(), "is there already, and isn't overwritten");
+            false
+        }
+        Err(error) => {
+            stopped(rt, Stop::writing(folder, error));
+            let _ = eprintln!(rt; "nothing was run or written");
+            false
+        }
+    }
+}
+
+/// The first file that would be written and is there already. It fails where one couldn't be written, as far as that can be seen before.
 fn taken_path<R: Files + AllocGlobal>(rt: &R, folder: &str) -> io::Result<Option<String>> {
+    if folder.is_empty() {
+        // A list would go to the root; no file has that name, and the system says so.
+        try_output(rt, folder)?;
+    }
+    fs::create_dir_all(rt, folder)?;
     for kind in ENDS {
         let path = path_in(rt.alloc(), folder, file_name(kind))?;
         if fs::exists(rt, path.as_str())? {
             return Ok(Some(path));
         }
+        try_output(rt, path.as_str())?;
     }
     Ok(None)
 }
@@ -274,9 +308,6 @@ fn write_lists<R: Files + Eprint + AllocGlobal>(
     let Some(folder) = options.out else {
         return ExitCode::from(tried.status);
     };
-    if let Err(error) = fs::create_dir_all(rt, folder) {
-        return stopped(rt, Stop::writing(folder, error));
-    }
     for kind in ENDS {
         let Ok(path) = path_in(rt.alloc(), folder, file_name(kind)) else {
             return no_memory(rt);

@@ -10,6 +10,9 @@ use std::io;
 const POSSIBLE: &str =
     "1,024 workers in all, 1,000,000 objects, or 64 nodes: the next event would have passed one of them";
 
+/// The list of a run that is settled.
+pub const SETTLED: &[u8] = b"settle\n";
+
 const FEWER_AT_ONCE: &str =
     "get some results before the next tasks are begun, or give each task more to do";
 
@@ -32,10 +35,13 @@ fn so_far<R: AllocGlobal>(
     match known.course? {
         Course::Driven(cluster) => Some(run_so_far(rt.alloc(), known.text, cluster, form)),
         Course::Replayed(cluster) => {
-            let events = known.list?.text;
+            let events: &[u8] = match known.list {
+                Some(list) => list.text,
+                None => SETTLED,
+            };
             Some(sim_so_far(rt.alloc(), known.text, events, cluster, form))
         }
-        Course::OnThreads | Course::Tried => None,
+        Course::OnThreads => None,
     }
 }
 

@@ -12,10 +12,8 @@ pub enum Course {
     Driven(Cluster),
     /// Threads take turns.
     OnThreads,
-    /// They are those of a list, on this cluster.
+    /// They are those of a list, on this cluster; with no list the run is settled.
     Replayed(Cluster),
-    /// They are those of a run and of others with a fault in it.
-    Tried,
 }
 
 /// A list of events or a plan: its file and what it holds.

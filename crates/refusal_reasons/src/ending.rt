@@ -117,9 +117,9 @@ impl Ending {
                 "the death of the worker whose attempt made the reference, or of its node, before the object was asked for"
             }
             Ending::PutLost =>
-                "a lose, a kill or a kill-node that takes the only copy, and a get behind it",
+                "a lose of the value on the node of the worker that put it, and a get behind it",
             Ending::RetriesUsed => {
-                "deaths of the workers that ran it, one more than the new runs that remote(k) allows: 3 where no k is written"
+                "runs that broke, by a death of worker or node or a loss of the result, one more than the new runs of remote(k): 3 where no k is written"
             }
             Ending::Overflow => "+, -, * or a negation, or / or % of the least number by -1",
             Ending::DivZero => "/ or % by 0",
@@ -155,7 +155,7 @@ impl Ending {
             Ending::PutLost =>
                 "have a task make the value in place of put, so that it can be made again",
             Ending::RetriesUsed =>
-                "allow more new runs, up to 10: remote(10) f(); why names the deaths",
+                "allow more new runs, up to 10: remote(10) f(); why names the deaths and losses",
             Ending::Overflow => "keep the numbers smaller; why names the attempt",
             Ending::DivZero => "test the divisor before",
             Ending::Index => "test the index against 0 and len before",

@@ -13,3 +13,5 @@ pub mod Deeper
 pub mod Making
 pub mod Stopping
 pub mod Pushing
+pub mod Shown
+pub mod OwnTraps

@@ -14,8 +14,10 @@ mod operators;
 mod quick;
 mod registers;
 mod serially;
+mod spotting;
 mod start;
 mod step;
+mod trapping;
 mod value;
 mod working;
 
@@ -25,4 +27,5 @@ pub use frame::Frame;
 pub use halt::{Halt, Made, MarkedArgument};
 pub use operators::list;
 pub use serially::{SerialEnd, run_main};
+pub use trapping::find_trap;
 pub use value::{Items, Outcome, Value};

@@ -12,30 +12,11 @@ use Rattle.log_text.specs.Attempts.{named_text}
 use Rattle.protocol_data.specs.declared.job.Given.{Given}
 use Rattle.log_words.specs.declared.contents.Contents.{Contents}
 use Rattle.why_text.specs.Again.{runner_of}
+pub use Rattle.trap_sources.specs.Chains.{trapped_of}
+unfoldable pub use Rattle.trap_sources.specs.Chains.{trap_got}
 use Rattle.main_text.specs.declared.happenings.Happening.TheVariants.{Begins, Gets, Stops}
 use Rattle.main_text.specs.Happenings.{when_last}
 use Rattle.main_text.specs.Links.{made_text, worker_text}
-
-abbrev pub is_trap : Outcome → Bool
-is_trap (Val v) = false
-is_trap (Trapped t) = true
-
-abbrev pub trapped_or_none : Id → Outcome → Option Id
-trapped_or_none y (Val v) = None
-trapped_or_none y (Trapped t) = Some y
-
--- what the attempt got last, if that was a trap; `last` is so of the entries before
-abbrev pub trap_after : Attempt → Option Id → Entry → Option Id
-trap_after a last (Got b y c) = if same_attempt b a then trapped_or_none y c else last
-trap_after a last _ = last
-
-abbrev pub trap_got_from : Attempt → Option Id → List Entry → Option Id
-trap_got_from a last [] = last
-trap_got_from a last (x ∷ rest) = trap_got_from a (trap_after a last x) rest
-
--- the object whose trap the attempt got last
-unfoldable pub trap_got : List Entry → Attempt → Option Id
-trap_got log a = trap_got_from a None log
 
 abbrev pub count_in : Attempt → Entry → ℕ
 count_in a (Got b y c) = if same_attempt b a then 1 else 0
@@ -45,14 +26,6 @@ count_in a _ = 0
 abbrev pub answer_count : Attempt → List Entry → ℕ
 answer_count a [] = 0
 answer_count a (x ∷ rest) = count_in a x + answer_count a rest
-
-abbrev pub trapped_in : Id → Entry → List Attempt
-trapped_in o (Ended a c) = if same_id a.object o && is_trap c then a ∷ [] else []
-trapped_in o _ = []
-
--- the first attempt of the object's task that ended with a trap
-abbrev pub trapped_of : List Entry → Id → Option Attempt
-trapped_of log o = first (flat_map (trapped_in o) log)
 
 abbrev pub runner_note : Option ℕ → List ℕ
 runner_note None = []

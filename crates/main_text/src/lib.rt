@@ -11,3 +11,4 @@ mod traps;
 pub use links::write_links;
 pub use parties::{write_node, write_worker, write_workers};
 pub use text::main_text;
+pub use traps::write_own;

@@ -7,8 +7,8 @@ ghost use Rattle.event_log.specs.Words.{births};
 ghost use Rattle.history.specs.Main.{first};
 ghost use Rattle.log_words.specs.Index.{IsIndexOf};
 ghost use Rattle.why_text.specs.Again.{runner_of};
-ghost use Rattle.main_text.specs.Traps.{answer_count, behind_text, count_in, is_trap, own_text, run_text, runner_note, trap_after};
-ghost use Rattle.main_text.specs.Traps.{operators, trap_ended, trap_got, trap_in, trap_note, trap_text, trapped_in, trapped_of, traps_text};
+ghost use Rattle.main_text.specs.Traps.{answer_count, behind_text, count_in, operators, own_text, run_text, runner_note};
+ghost use Rattle.main_text.specs.Traps.{trap_ended, trap_in, trap_note, trap_text, traps_text};
 
 use crate::attempts::write_made;
 use crate::happenings::{Happening, write_when_last};
@@ -20,50 +20,9 @@ use log_words::{BirthIndex, Contents};
 use protocol_data::Whole;
 use report::trap_name;
 use std::alloc::AllocError;
+use trap_sources::{trap_got, trapped_of};
 use values::{Content, Trap};
 use why_text::runner_of;
-
-fn is_trap(content: &Content) -> bool
-    ensures { result ≡ is_trap (content_of content.now) }
-{
-    match content {
-        Content::Value(_) => false,
-        Content::Trap(_) => true,
-    }
-}
-
-/// The object whose trap the attempt got last, where `last` is that of the entries before.
-fn trap_after(attempt: AttemptId, last: Option<ObjectId>, entry: &Entry) -> Option<ObjectId>
-    ensures { result ≡ trap_after attempt last entry.now }
-{
-    let Entry::Got {
-        attempt: answered,
-        object,
-        content,
-    } = entry
-    else {
-        return last;
-    };
-    if !answered.is(attempt) {
-        return last;
-    }
-    match &*content.inner {
-        Content::Value(_) => None,
-        Content::Trap(_) => Some(*object),
-    }
-}
-
-/// The object whose trap the attempt got last.
-#[tactic(auto, unfolding(crate::specs::Traps::trap_got))]
-fn trap_got(log: &[Entry], attempt: AttemptId) -> Option<ObjectId>
-    ensures { result ≡ trap_got log.now attempt }
-{
-    let mut last = None;
-    for entry in log {
-        last = trap_after(attempt, last, entry);
-    }
-    last
-}
 
 fn count_in(attempt: AttemptId, entry: &Entry) -> usize
     ensures count { result ≡ count_in attempt entry.now }
@@ -92,30 +51,6 @@ fn answer_count(log: &[Entry], attempt: AttemptId) -> usize
         count += count_in(attempt, entry);
     }
     count
-}
-
-fn trapped_in(object: ObjectId, entry: &Entry) -> Option<AttemptId>
-    ensures { result ≡ first (trapped_in object entry.now) }
-{
-    let Entry::Ended { attempt, content } = entry else {
-        return None;
-    };
-    if attempt.object.is(object) && is_trap(&content.inner) {
-        return Some(*attempt);
-    }
-    None
-}
-
-/// The first attempt of the object's task that ended with a trap.
-fn trapped_of(log: &[Entry], object: ObjectId) -> Option<AttemptId>
-    ensures { result ≡ trapped_of log.now object }
-{
-    for entry in log {
-        if let Some(attempt) = trapped_in(object, entry) {
-            return Some(attempt);
-        }
-    }
-    None
 }
 
 fn write_runner(text: &mut String, worker: Option<WorkerId>) -> Result<(), AllocError>
@@ -240,7 +175,7 @@ fn write_trap_of(text: &mut String, log: &[Entry], attempt: AttemptId) -> Result
 
 /// Writes that the attempt's own code trapped, behind which answer, and what such a trap can come of.
 #[tactic(auto, unfolding(crate::specs::Traps::own_text))]
-fn write_own(
+pub fn write_own(
     text: &mut String,
     index: &BirthIndex,
     log: &[Entry],

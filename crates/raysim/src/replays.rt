@@ -6,6 +6,7 @@ use crate::limits::print_so_far;
 use crate::pages::is_page_written;
 use crate::reasons::{Course, Known, List};
 use crate::told::{Printed, Stop, tell, tell_beside};
+use crate::traps::with_trap_of_replay;
 use crate::views::{View, Views, write_done};
 use raysim_commands::{Cluster, CommandRefusal, Form, Tracked, migrate, sim, state};
 use raysim_files::Noted;
@@ -79,10 +80,11 @@ fn print_all<R: Files + Print + Eprint + AllocGlobal>(
     form: &Form,
     views: &Views<'_>,
 ) -> ExitCode {
+    let (script, listed) = (texts.script.as_slice(), texts.events.as_slice());
     let printed = print_replay(rt, replayed.cluster, texts, form);
+    let printed = with_trap_of_replay(rt, printed, script, listed, replayed.cluster, *form);
     if let Some(stop) = printed.stop() {
-        let (text, events) = (texts.script.as_slice(), texts.events.as_slice());
-        let known = replayed.known(ListKind::Events, text, events);
+        let known = replayed.known(ListKind::Events, script, listed);
         tell(rt, stop, &known);
         if views.so_far {
             print_so_far(rt, &printed.done, &known, *form);

@@ -6,6 +6,7 @@ use crate::limits::print_so_far;
 use crate::pages::{TO_ITS_END, is_page_written};
 use crate::reasons::{Course, Known};
 use crate::told::{Printed, tell, tell_beside};
+use crate::traps::with_trap_of_run;
 use crate::views::{View, Views, write_done};
 use raysim_commands::{
     Cluster, CommandRefusal, Engine, Form, Tracked, Unwatched, Watcher, check, export, run, serial,
@@ -41,6 +42,7 @@ pub fn over_script<R: Files + Print + Eprint + AllocGlobal + Clock>(
         }
     };
     let printed = print_done(rt, command, text.as_slice());
+    let printed = with_trap(rt, command, printed, text.as_slice());
     if let Some(stop) = printed.stop() {
         let known = known_of(command, options, text.as_slice());
         tell(rt, stop, &known);
@@ -118,6 +120,19 @@ fn print_done<R: Print + Eprint + AllocGlobal + Clock>(
     };
     let error = output.error();
     Printed { done, error }
+}
+
+/// Prints the place of a trap below what `why` told, where it told of one.
+fn with_trap<R: Print + AllocGlobal>(
+    rt: &R,
+    command: &Command,
+    printed: Printed,
+    text: &[u8],
+) -> Printed {
+    match command {
+        Command::Run(cluster, form, _) => with_trap_of_run(rt, printed, text, *cluster, *form),
+        _ => printed,
+    }
 }
 
 /// Writes the other views of a run, and says whether all are out.

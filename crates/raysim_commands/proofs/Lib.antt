@@ -12,3 +12,4 @@ pub mod UpToThere
 pub mod Stating
 pub mod Trying
 pub mod Exporting
+pub mod Trapping

@@ -10,3 +10,4 @@ pub mod Faults
 pub mod Exports
 pub mod States
 pub mod Pages
+pub mod TrapReports

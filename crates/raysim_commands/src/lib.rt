@@ -19,6 +19,7 @@ mod thread_inputs;
 mod thread_outputs;
 mod thread_run;
 mod threads_command;
+mod trap_command;
 
 pub use checking::check;
 pub use engine_text::Engine;
@@ -42,4 +43,6 @@ pub use so_far_command::{SoFar, run_so_far, sim_so_far};
 pub use state_command::state;
 pub use status::exit_status;
 pub use threads_command::run_threaded;
+pub use trap_command::{run_trap, sim_trap, trap_asked};
+pub use trap_text::TrapAsked;
 pub use values::FaultKind;

@@ -30,7 +30,7 @@ pub fn read_script<R: Source>(alloc: Global, reader: &mut R) -> Result<Vec<u8>, 
     Ok(text)
 }
 
-fn syntax_refusal(error: SyntaxError) -> CommandRefusal
+pub(crate) fn syntax_refusal(error: SyntaxError) -> CommandRefusal
     ensures { result ≡ syntax_refusal error }
 {
     match error.span() {
@@ -42,7 +42,7 @@ fn syntax_refusal(error: SyntaxError) -> CommandRefusal
     }
 }
 
-fn check_refusal(error: CheckError) -> CommandRefusal
+pub(crate) fn check_refusal(error: CheckError) -> CommandRefusal
     ensures { result ≡ check_refusal error }
 {
     match error.span() {

@@ -47,7 +47,7 @@ fn told<S: ScriptName>(
 }
 
 /// Drives the run until nothing is left to do, or to where it stops.
-fn drive_so_far<S: ScriptName>(
+pub(crate) fn drive_so_far<S: ScriptName>(
     alloc: Global,
     board: &mut Board<S>,
     sent: &mut Seq<usize>,
@@ -103,7 +103,7 @@ pub fn run_so_far(
 }
 
 /// Applies what the file says, or up to where the replay stops.
-fn play_so_far<S: ScriptName>(
+pub(crate) fn play_so_far<S: ScriptName>(
     alloc: Global,
     replay: &mut Replay<S>,
     script: &Compiled,
@@ -141,7 +141,7 @@ fn sim_script<S: ScriptName>(
 }
 
 /// The lines of an event file's text.
-fn event_lines(alloc: Global, text: &[u8]) -> Result<EventLines, CommandRefusal>
+pub(crate) fn event_lines(alloc: Global, text: &[u8]) -> Result<EventLines, CommandRefusal>
     ensures { IfOk result (λ events. AreEvents text.now events.says events.numbers) }
 {
     match parse_event_file(alloc, text) {

@@ -5,7 +5,8 @@ use crate::threaded::{ran_on_threads, threads_asked};
 use ids::{NodeId, ObjectId, WorkerId, read_number};
 use raysim_commands::{
     Cluster, CommandRefusal, Contents, Engine, FaultChoice, Form, SoFar, Tracked, Unwatched, check,
-    export, faults, migrate, put_all, run, run_so_far, serial, sim, sim_so_far, state,
+    export, faults, migrate, put_all, run, run_so_far, run_trap, serial, sim, sim_so_far, sim_trap,
+    state, trap_asked,
 };
 use script_syntax::{parse, print_program};
 use std::alloc::{AllocError, Global};
@@ -23,8 +24,31 @@ fn replayed(
     let cluster = Cluster::new(case.nodes, case.slots)?;
     let mut reader = Tracked::reader(case.script.as_bytes());
     let mut events = Tracked::reader(case.events.as_bytes());
-    let mut writer = Tracked::writer(written);
-    Some(sim(alloc, &mut reader, &mut events, cluster, form, &mut writer))
+    let done = sim(
+        alloc,
+        &mut reader,
+        &mut events,
+        cluster,
+        form,
+        &mut Tracked::writer(&mut *written),
+    );
+    if let (Ok(status), Some(asked)) = (done, trap_asked(form)) {
+        let text = case.script.as_bytes();
+        let told = sim_trap(alloc, text, case.events.as_bytes(), cluster, asked);
+        return Some(put_below(status, told, written));
+    }
+    Some(done)
+}
+
+/// Writes what is told below what was written.
+fn put_below(
+    status: u8,
+    told: Result<String, CommandRefusal>,
+    written: &mut Vec<u8>,
+) -> Result<u8, CommandRefusal> {
+    let text = told?;
+    put_all(&mut Tracked::writer(written), text.as_bytes())?;
+    Ok(status)
 }
 
 /// Writes the case's events as a file of format 2.
@@ -139,15 +163,19 @@ fn ran(
 ) -> Option<Result<u8, CommandRefusal>> {
     let cluster = Cluster::new(case.nodes, case.slots)?;
     let mut reader = Tracked::reader(case.script.as_bytes());
-    let mut writer = Tracked::writer(written);
-    Some(run(
+    let done = run(
         alloc,
         &mut reader,
         cluster,
         form,
-        &mut writer,
+        &mut Tracked::writer(&mut *written),
         &mut Unwatched,
-    ))
+    );
+    if let (Ok(status), Some(asked)) = (done, trap_asked(form)) {
+        let told = run_trap(alloc, case.script.as_bytes(), cluster, asked);
+        return Some(put_below(status, told, written));
+    }
+    Some(done)
 }
 
 /// What stands before the name of a command where a case wants the script's own part of an exported program.

@@ -1,6 +1,6 @@
 use Rattle.std.proofs.Common.{◌≡◌, None, drop}
-use Rattle.main_text.specs.Traps.{trap_got_from}
-use Rattle.main_text.proofs.traps.trap_got.Given as goal
+use Rattle.trap_sources.specs.Chains.{trap_got_from}
+use Rattle.trap_sources.proofs.chain.trap_got.Given as goal
 
 abbrev pub invariant-loop-entry : goal.invariant-loop-entry
 invariant-loop-entry l =

@@ -1,0 +1,80 @@
+// The places of the instructions of statements.
+
+ghost use Rattle.std.specs.Prelude.{◌≡◌, ◌++◌, OnOk};
+ghost use Rattle.code_places.specs.Places.{enclosed_places, last_places, over, statement_places, statements_places};
+
+use crate::expressions::{add_expr, add_operand};
+use script_syntax::{Expr, Span, Statement};
+use std::alloc::AllocError;
+
+/// From where the first begins to where the second ends.
+fn over(first: Span, second: Span) -> Span
+    ensures { result ≡ over first second }
+{
+    Span {
+        start: first.start,
+        end: second.end,
+    }
+}
+
+/// A statement.
+#[cycle(statements)]
+fn add_statement(places: &mut Vec<Span>, statement: &Statement) -> Result<(), AllocError>
+    ensures { OnOk result (places.new.items ≡ places.old.items ++ statement_places statement.now) }
+{
+    match statement {
+        Statement::Let(_, expr) => add_expr(places, expr),
+        Statement::LetCall(_, _, _, _) => Ok(()),
+        Statement::LetRemote(_, _, _, _, _) => Ok(()),
+        Statement::Set(_, expr) => add_expr(places, expr),
+        Statement::If(condition, first, second) => {
+            add_operand(places, condition)?;
+            add_enclosed(places, condition.span, &first.statements)?;
+            let Some(second) = second else {
+                return Ok(());
+            };
+            add_statements(places, &second.statements)
+        }
+        Statement::For(_, from, to, body) => {
+            add_expr(places, from)?;
+            add_expr(places, to)?;
+            add_enclosed(places, over(from.span, to.span), &body.statements)
+        }
+        Statement::Print(word, expr) => add_last(places, *word, expr),
+        Statement::Return(word, expr, _) => add_last(places, *word, expr),
+    }
+}
+
+/// What is done with a value, behind the word that says so.
+fn add_last(places: &mut Vec<Span>, word: Span, expr: &Expr) -> Result<(), AllocError>
+    ensures { OnOk result (places.new.items ≡ places.old.items ++ last_places word expr.now) }
+{
+    add_operand(places, expr)?;
+    places.push(over(word, expr.span))?;
+    Ok(())
+}
+
+/// A block between two instructions that stand at one place.
+#[cycle(statements)]
+fn add_enclosed(places: &mut Vec<Span>, span: Span, body: &[Statement]) -> Result<(), AllocError>
+    ensures { OnOk result (places.new.items ≡ places.old.items ++ enclosed_places span (statements_places body.now)) }
+{
+    places.push(span)?;
+    add_statements(places, body)?;
+    places.push(span)?;
+    Ok(())
+}
+
+/// Statements in order.
+#[cycle(statements)]
+pub(crate) fn add_statements(
+    places: &mut Vec<Span>,
+    statements: &[Statement],
+) -> Result<(), AllocError>
+    ensures { OnOk result (places.new.items ≡ places.old.items ++ statements_places statements.now) }
+{
+    for statement in statements {
+        add_statement(places, statement)?;
+    }
+    Ok(())
+}

@@ -14,7 +14,21 @@ use std::rt::Clock;
 use std::sync::Wait;
 use std::thread::Threads;
 
-/// Replays the case's events on a run of its script.
+/// Replays the case's events on a run of its script, and writes what is asked for.
+fn replay_written(
+    alloc: Global,
+    case: &Case,
+    cluster: Cluster,
+    form: Form,
+    written: &mut Vec<u8>,
+) -> Result<u8, CommandRefusal> {
+    let mut reader = Tracked::reader(case.script.as_bytes());
+    let mut events = Tracked::reader(case.events.as_bytes());
+    let mut writer = Tracked::writer(written);
+    sim(alloc, &mut reader, &mut events, cluster, form, &mut writer)
+}
+
+/// Replays the case's events on a run of its script; below what `why` tells stands where a trap comes about.
 fn replayed(
     alloc: Global,
     case: &Case,
@@ -22,22 +36,16 @@ fn replayed(
     written: &mut Vec<u8>,
 ) -> Option<Result<u8, CommandRefusal>> {
     let cluster = Cluster::new(case.nodes, case.slots)?;
-    let mut reader = Tracked::reader(case.script.as_bytes());
-    let mut events = Tracked::reader(case.events.as_bytes());
-    let done = sim(
-        alloc,
-        &mut reader,
-        &mut events,
-        cluster,
-        form,
-        &mut Tracked::writer(&mut *written),
-    );
-    if let (Ok(status), Some(asked)) = (done, trap_asked(form)) {
-        let text = case.script.as_bytes();
-        let told = sim_trap(alloc, text, case.events.as_bytes(), cluster, asked);
-        return Some(put_below(status, told, written));
-    }
-    Some(done)
+    let status = match replay_written(alloc, case, cluster, form, written) {
+        Ok(status) => status,
+        Err(refusal) => return Some(Err(refusal)),
+    };
+    let Some(asked) = trap_asked(form) else {
+        return Some(Ok(status));
+    };
+    let (text, events) = (case.script.as_bytes(), case.events.as_bytes());
+    let told = sim_trap(alloc, text, events, cluster, asked);
+    Some(put_below(status, told, written))
 }
 
 /// Writes what is told below what was written.
@@ -154,7 +162,27 @@ fn tried(
     }
 }
 
-/// Runs the case's script on its cluster.
+/// Runs the case's script on its cluster, and writes what is asked for.
+fn run_written(
+    alloc: Global,
+    case: &Case,
+    cluster: Cluster,
+    form: Form,
+    written: &mut Vec<u8>,
+) -> Result<u8, CommandRefusal> {
+    let mut reader = Tracked::reader(case.script.as_bytes());
+    let mut writer = Tracked::writer(written);
+    run(
+        alloc,
+        &mut reader,
+        cluster,
+        form,
+        &mut writer,
+        &mut Unwatched,
+    )
+}
+
+/// Runs the case's script on its cluster; below what `why` tells stands where a trap comes about.
 fn ran(
     alloc: Global,
     case: &Case,
@@ -162,20 +190,15 @@ fn ran(
     written: &mut Vec<u8>,
 ) -> Option<Result<u8, CommandRefusal>> {
     let cluster = Cluster::new(case.nodes, case.slots)?;
-    let mut reader = Tracked::reader(case.script.as_bytes());
-    let done = run(
-        alloc,
-        &mut reader,
-        cluster,
-        form,
-        &mut Tracked::writer(&mut *written),
-        &mut Unwatched,
-    );
-    if let (Ok(status), Some(asked)) = (done, trap_asked(form)) {
-        let told = run_trap(alloc, case.script.as_bytes(), cluster, asked);
-        return Some(put_below(status, told, written));
-    }
-    Some(done)
+    let status = match run_written(alloc, case, cluster, form, written) {
+        Ok(status) => status,
+        Err(refusal) => return Some(Err(refusal)),
+    };
+    let Some(asked) = trap_asked(form) else {
+        return Some(Ok(status));
+    };
+    let told = run_trap(alloc, case.script.as_bytes(), cluster, asked);
+    Some(put_below(status, told, written))
 }
 
 /// What stands before the name of a command where a case wants the script's own part of an exported program.

@@ -4,9 +4,9 @@ use crate::case::{Case, Outcome};
 use crate::threaded::{ran_on_threads, threads_asked};
 use ids::{NodeId, ObjectId, WorkerId, read_number};
 use raysim_commands::{
-    Cluster, CommandRefusal, Contents, Engine, FaultChoice, Form, SoFar, Tracked, Unwatched, check,
-    export, faults, migrate, put_all, run, run_so_far, run_trap, serial, sim, sim_so_far, sim_trap,
-    state, trap_asked,
+    Cluster, CommandRefusal, Contents, Engine, FaultChoice, Form, SoFar, Tracked, TrapAsked,
+    Unwatched, check, export, faults, migrate, put_all, run, run_so_far, run_trap, serial, sim,
+    sim_so_far, sim_trap, state, trap_asked,
 };
 use script_syntax::{parse, print_program};
 use std::alloc::{AllocError, Global};
@@ -19,13 +19,13 @@ fn replay_written(
     alloc: Global,
     case: &Case,
     cluster: Cluster,
-    form: Form,
+    form: &Form,
     written: &mut Vec<u8>,
 ) -> Result<u8, CommandRefusal> {
     let mut reader = Tracked::reader(case.script.as_bytes());
     let mut events = Tracked::reader(case.events.as_bytes());
     let mut writer = Tracked::writer(written);
-    sim(alloc, &mut reader, &mut events, cluster, form, &mut writer)
+    sim(alloc, &mut reader, &mut events, cluster, *form, &mut writer)
 }
 
 /// Replays the case's events on a run of its script; below what `why` tells stands where a trap comes about.
@@ -36,16 +36,21 @@ fn replayed(
     written: &mut Vec<u8>,
 ) -> Option<Result<u8, CommandRefusal>> {
     let cluster = Cluster::new(case.nodes, case.slots)?;
-    let status = match replay_written(alloc, case, cluster, form, written) {
+    let status = match replay_written(alloc, case, cluster, &form, written) {
         Ok(status) => status,
         Err(refusal) => return Some(Err(refusal)),
     };
-    let Some(asked) = trap_asked(form) else {
+    let Some(asked) = asked_below(&form) else {
         return Some(Ok(status));
     };
     let (text, events) = (case.script.as_bytes(), case.events.as_bytes());
     let told = sim_trap(alloc, text, events, cluster, asked);
     Some(put_below(status, told, written))
+}
+
+/// Of whose trap it is told below what is written in that form, if it is.
+fn asked_below(form: &Form) -> Option<TrapAsked> {
+    trap_asked(*form)
 }
 
 /// Writes what is told below what was written.
@@ -167,7 +172,7 @@ fn run_written(
     alloc: Global,
     case: &Case,
     cluster: Cluster,
-    form: Form,
+    form: &Form,
     written: &mut Vec<u8>,
 ) -> Result<u8, CommandRefusal> {
     let mut reader = Tracked::reader(case.script.as_bytes());
@@ -176,7 +181,7 @@ fn run_written(
         alloc,
         &mut reader,
         cluster,
-        form,
+        *form,
         &mut writer,
         &mut Unwatched,
     )
@@ -190,11 +195,11 @@ fn ran(
     written: &mut Vec<u8>,
 ) -> Option<Result<u8, CommandRefusal>> {
     let cluster = Cluster::new(case.nodes, case.slots)?;
-    let status = match run_written(alloc, case, cluster, form, written) {
+    let status = match run_written(alloc, case, cluster, &form, written) {
         Ok(status) => status,
         Err(refusal) => return Some(Err(refusal)),
     };
-    let Some(asked) = trap_asked(form) else {
+    let Some(asked) = asked_below(&form) else {
         return Some(Ok(status));
     };
     let told = run_trap(alloc, case.script.as_bytes(), cluster, asked);

@@ -1,8 +1,8 @@
 -- Worked logs with faults, written from the rules.
 use Rattle.std.specs.Prelude.{ℕ, List, [], ◌∷◌, ◌++◌, codes, true}
 use Rattle.meaning.specs.Values.{Value, Named, Items, Outcome, Val, Argument, Birth, Put, Task, Id, values_of}
-use Rattle.meaning.specs.Syntax.{Script, Function, Number, ListKind, Var, ItemAt, Binary, ListOf, PutOf, GetOf, Remote, end, Let, Return}
-use Rattle.meaning.specs.Examples.{value, object, parameter, function, script_of, each, remote_got, reference_got}
+use Rattle.meaning.specs.Syntax.{Script, Function, Number, ListKind, Var, ItemAt, Binary, ListOf, PutOf, GetOf, Remote, end, Let}
+use Rattle.meaning.specs.Examples.{give, value, object, parameter, function, script_of, each, remote_got, reference_got}
 use Rattle.meaning.specs.Examples as made
 use Rattle.event_log.specs.Entries.{Attempt, OwnerDied, PutLost, RetriesUsed, Fault, Claim, Commit, Deliver, Notice, Evict, Lose, Kill, Entry, In}
 use Rattle.event_log.specs.Entries.{Refused, Opened, Begun, Born, Got, Ended, Accepted, Faulted, Resolved, Released, main_attempt}
@@ -16,11 +16,11 @@ use Rattle.log_examples.specs.Logs.{beside, node, worker, first_of, number}
 
 -- fn one() -> int { return 1; }
 abbrev pub one : Function
-one = function (codes "one") [] Number (Return (made.number 1) ∷ [])
+one = function (codes "one") [] Number (give (made.number 1) ∷ [])
 
 -- return get remote(k) one();
 abbrev pub calls_one : ℕ → Script
-calls_one k = script_of (one ∷ []) (Return (GetOf Number (Remote k (codes "one") [] end)) ∷ [])
+calls_one k = script_of (one ∷ []) (give (GetOf Number (Remote k (codes "one") [] end)) ∷ [])
 
 abbrev pub making_one : ℕ → Birth
 making_one k = Task (codes "one") [] 1 k
@@ -98,11 +98,11 @@ retried_log = opening ++ retried_rest
 
 -- fn f(l: [int]) -> int { return l[0]; }
 abbrev pub head : Function
-head = function (codes "f") (parameter (codes "l") (ListKind Number) ∷ []) Number (Return (Binary ItemAt (Var (codes "l")) (made.number 0)) ∷ [])
+head = function (codes "f") (parameter (codes "l") (ListKind Number) ∷ []) Number (give (Binary ItemAt (Var (codes "l")) (made.number 0)) ∷ [])
 
 -- fn g(x: int) -> int { return x; }
 abbrev pub same : Function
-same = function (codes "g") (parameter (codes "x") Number ∷ []) Number (Return (Var (codes "x")) ∷ [])
+same = function (codes "g") (parameter (codes "x") Number ∷ []) Number (give (Var (codes "x")) ∷ [])
 
 -- let p = put [1, 2]; let a = remote f(p); let b = remote g(a); return get b;
 abbrev pub chained : Script
@@ -111,7 +111,7 @@ chained =
     (Let (codes "p") (PutOf (ListOf (each (made.number 1 ∷ made.number 2 ∷ []))))
     ∷ Let (codes "a") (remote_got (codes "f") (Var (codes "p") ∷ []))
     ∷ Let (codes "b") (remote_got (codes "g") (Var (codes "a") ∷ []))
-    ∷ Return (GetOf Number (Var (codes "b"))) ∷ [])
+    ∷ give (GetOf Number (Var (codes "b"))) ∷ [])
 
 abbrev pub one_two : Value
 one_two = Items (values_of (number 1 ∷ number 2 ∷ []))

@@ -1,8 +1,8 @@
 -- Logs with one wrong entry.
 use Rattle.std.specs.Prelude.{List, [], ◌∷◌, ◌++◌, take, codes}
 use Rattle.meaning.specs.Values.{Put}
-use Rattle.meaning.specs.Syntax.{Script, Add, Var, Binary, PutOf, GetOf, Number, Let, Return}
-use Rattle.meaning.specs.Examples.{value, object, squaring, square, script_of, add, mid, remote}
+use Rattle.meaning.specs.Syntax.{Script, Add, Var, Binary, PutOf, GetOf, Number, Let}
+use Rattle.meaning.specs.Examples.{give, value, object, squaring, square, script_of, add, mid, remote}
 use Rattle.meaning.specs.Examples as made
 use Rattle.event_log.specs.Entries.{OwnerDied, PutLost, Fault, Claim, Commit, Deliver, Tick, Notice, Lose, Kill, Entry, In, Refused, Opened, Begun}
 use Rattle.event_log.specs.Entries.{Born, Got, Printed, Ended, Accepted, Faulted, Resolved, Released, main_object, main_attempt}
@@ -24,7 +24,7 @@ two_puts =
     script_of []
     (Let (codes "p") (PutOf (made.number 1))
     ∷ Let (codes "q") (PutOf (made.number 2))
-    ∷ Return (Binary Add (GetOf Number (Var (codes "p"))) (GetOf Number (Var (codes "q")))) ∷ [])
+    ∷ give (Binary Add (GetOf Number (Var (codes "p"))) (GetOf Number (Var (codes "q")))) ∷ [])
 
 -- a get with another object's content
 abbrev pub wrong_content : List Entry
@@ -47,7 +47,7 @@ accepted_twice = take 13 square_rest ++ (Accepted (first_of (object 1 1)) ∷ []
 abbrev pub passed_not_got : Script
 passed_not_got =
     script_of (add ∷ mid ∷ [])
-    (Let (codes "p") (PutOf (made.number 6)) ∷ Let (codes "m") (remote (codes "mid") (Var (codes "p") ∷ [])) ∷ Return (made.number 0) ∷ [])
+    (Let (codes "p") (PutOf (made.number 6)) ∷ Let (codes "m") (remote (codes "mid") (Var (codes "p") ∷ [])) ∷ give (made.number 0) ∷ [])
 
 abbrev pub passed_setting : Setting
 passed_setting = beside passed_not_got (node ∷ worker 1 ∷ worker 2 ∷ [])

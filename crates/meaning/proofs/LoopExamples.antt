@@ -6,7 +6,7 @@ use Rattle.meaning.specs.Values.{Value, Int, Items, Values, none, more, Outcome,
 use Rattle.meaning.specs.Syntax.{Add, Push, Var, Binary, Set}
 use Rattle.meaning.specs.Runs.{Run, Ends, serial_end, serial_trace}
 use Rattle.meaning.specs.Syntax.{Script}
-use Rattle.meaning.specs.Meaning.{run_task, broken, value_in, calls_below, Scope, Calls, in_range, push, proceed, bind, leave, execute_all, turns, turns_within, call_at, serial_run}
+use Rattle.meaning.specs.Meaning.{run_task, broken, only, value_in, calls_below, Scope, Calls, in_range, push, proceed, bind, leave, execute_all, turns, turns_within, call_at, serial_run}
 use Rattle.meaning.specs.Law.{prints_of}
 use Rattle.meaning.proofs.BirthLaws.{at_test}
 use Rattle.meaning.specs.Examples.{MainGives, block, number, value, loop, first_trap}
@@ -20,7 +20,7 @@ count-push : (vs : Values) (w : Value) → count (push_onto vs w) ≡ count vs +
 count-push none w = refl
 count-push (more v vs) w = let e = count-push vs w in omega arith
 
-module _ (calls : Calls) (return : Value → Run) (next : Scope → Run) where
+module _ (calls : Calls) (return : List Value → Run) (next : Scope → Run) where
   abbrev counted : ℕ → Scope
   counted m = record { name = codes "s"; value = Int (pos m) } ∷ []
 
@@ -50,7 +50,7 @@ refuses_turns calls n body scope next h =
     subst (λ m. (if nat_lt 10000 m then Ends (Trapped Loop) else turns calls m (pos 0) body scope next) ≡ Ends (Trapped Loop)) (sym size)
     (ap (λ b. if b then Ends (Trapped Loop) else turns calls n (pos 0) body scope next) many)
 
-module _ (calls : Calls) (return : Value → Run) (next : Scope → Run) (n : ℕ) where
+module _ (calls : Calls) (return : List Value → Run) (next : Scope → Run) (n : ℕ) where
   abbrev listed : Values → Scope
   listed vs = record { name = codes "n"; value = Int (pos n) } ∷ record { name = codes "l"; value = Items vs } ∷ []
 
@@ -81,13 +81,17 @@ module _ (calls : Calls) (return : Value → Run) (next : Scope → Run) (n : �
       (λ _ room. fills k (i +ℤ pos 1) (push_onto vs (Int i)) (let e = count-push vs (Int i) in grind (arith, nat_tests)) (let e = count-push vs (Int i) in omega arith))
       (λ _ _. refl) refl
 
+-- how a task of one result goes on
+abbrev one : List Value → Run
+one vs = only vs (λ v. Ends (Val v))
+
 -- ---- the loop's script
 
 -- what follows the loop
 abbrev sum_returned : Scope → Run
 sum_returned scope = proceed (value_in scope (codes "s")) (λ v. Ends (Val v))
 
-loop-run : (n : ℕ) → serial_run (loop n) ≡ turns_within (calls_below (loop n) 32) (pos 0) (pos n) (count_up (calls_below (loop n) 32) (λ v. Ends (Val v)) (λ _. broken)) (counted (calls_below (loop n) 32) (λ v. Ends (Val v)) (λ _. broken) 0) sum_returned
+loop-run : (n : ℕ) → serial_run (loop n) ≡ turns_within (calls_below (loop n) 32) (pos 0) (pos n) (count_up (calls_below (loop n) 32) one (λ _. broken)) (counted (calls_below (loop n) 32) one (λ _. broken) 0) sum_returned
 unfolding call_at
 loop-run n = refl
 
@@ -97,15 +101,15 @@ main_gives script run prints c e p r = record { printed = ap (λ (x : Run). prin
 pub loop_counts : (n : ℕ) → n ≤ 10000 → MainGives (loop n) [] (value n)
 loop_counts n h =
     let calls = calls_below (loop n) 32 in
-    main_gives (loop n) (sum_returned (counted calls (λ v. Ends (Val v)) (λ _. broken) (0 + n))) [] (value n)
-    (loop-run n ∙ runs_turns calls n (count_up calls (λ v. Ends (Val v)) (λ _. broken)) (counted calls (λ v. Ends (Val v)) (λ _. broken) 0) sum_returned h ∙ counts calls (λ v. Ends (Val v)) sum_returned n 0 (pos 0) (omega (arith, h)))
+    main_gives (loop n) (sum_returned (counted calls one (λ _. broken) (0 + n))) [] (value n)
+    (loop-run n ∙ runs_turns calls n (count_up calls one (λ _. broken)) (counted calls one (λ _. broken) 0) sum_returned h ∙ counts calls one sum_returned n 0 (pos 0) (omega (arith, h)))
     refl (ap (λ k. Val (Int (pos k))) (omega arith))
 
 pub loop_traps : (n : ℕ) → 10000 < n → MainGives (loop n) [] (Trapped Loop)
 loop_traps n h =
     let calls = calls_below (loop n) 32 in
     main_gives (loop n) (Ends (Trapped Loop)) [] (Trapped Loop)
-    (loop-run n ∙ refuses_turns calls n (count_up calls (λ v. Ends (Val v)) (λ _. broken)) (counted calls (λ v. Ends (Val v)) (λ _. broken) 0) sum_returned h)
+    (loop-run n ∙ refuses_turns calls n (count_up calls one (λ _. broken)) (counted calls one (λ _. broken) 0) sum_returned h)
     refl refl
 
 -- ---- the list's script
@@ -116,7 +120,7 @@ list_returned scope = proceed (value_in scope (codes "l")) (λ v. Ends (Val v))
 abbrev long_run : ℕ → Run
 long_run n = run_task (first_trap n) (codes "long") (record { value = Int (pos n); marked = false } ∷ []) 1
 
-long-run : (n : ℕ) → long_run n ≡ turns_within (calls_below (first_trap n) 31) (pos 0) (pos n) (push_turn (calls_below (first_trap n) 31) (λ v. Ends (Val v)) list_returned n) (listed (calls_below (first_trap n) 31) (λ v. Ends (Val v)) list_returned n none) list_returned
+long-run : (n : ℕ) → long_run n ≡ turns_within (calls_below (first_trap n) 31) (pos 0) (pos n) (push_turn (calls_below (first_trap n) 31) one list_returned n) (listed (calls_below (first_trap n) 31) one list_returned n none) list_returned
 unfolding call_at
 long-run n = refl
 
@@ -132,15 +136,15 @@ traps_first n e = record { printed = rw e refl; ended = rw e refl }
 pub full_list : (n : ℕ) → n ≤ 4096 → MainGives (first_trap n) [] (Trapped DivZero)
 full_list n h =
     let calls = calls_below (first_trap n) 31 in
-    let body = push_turn calls (λ v. Ends (Val v)) list_returned n in
-    let start = listed calls (λ v. Ends (Val v)) list_returned n none in
-    let runs = long-run n ∙ runs_turns calls n body start list_returned (omega (arith, h)) ∙ pushes calls (λ v. Ends (Val v)) list_returned n n (pos 0) none (omega (arith, h)) in
-    traps_second n (grown calls (λ v. Ends (Val v)) list_returned n n (pos 0) none) (ap (λ (x : Run). serial_end x) runs)
+    let body = push_turn calls one list_returned n in
+    let start = listed calls one list_returned n none in
+    let runs = long-run n ∙ runs_turns calls n body start list_returned (omega (arith, h)) ∙ pushes calls one list_returned n n (pos 0) none (omega (arith, h)) in
+    traps_second n (grown calls one list_returned n n (pos 0) none) (ap (λ (x : Run). serial_end x) runs)
 
 pub too_long_list : (n : ℕ) → 4096 < n → n ≤ 10000 → MainGives (first_trap n) [] (Trapped TooLong)
 too_long_list n h g =
     let calls = calls_below (first_trap n) 31 in
-    let body = push_turn calls (λ v. Ends (Val v)) list_returned n in
-    let start = listed calls (λ v. Ends (Val v)) list_returned n none in
-    let runs = long-run n ∙ runs_turns calls n body start list_returned g ∙ fills calls (λ v. Ends (Val v)) list_returned n n (pos 0) none (omega arith) (omega (arith, h)) in
+    let body = push_turn calls one list_returned n in
+    let start = listed calls one list_returned n none in
+    let runs = long-run n ∙ runs_turns calls n body start list_returned g ∙ fills calls one list_returned n n (pos 0) none (omega arith) (omega (arith, h)) in
     traps_first n (ap (λ (x : Run). serial_end x) runs)

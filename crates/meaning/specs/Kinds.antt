@@ -54,6 +54,7 @@ use Rattle.meaning.specs.Syntax.{
   also,
   Stmt,
   Let,
+  LetCall,
   Set,
   Print,
   Return,
@@ -64,6 +65,7 @@ use Rattle.meaning.specs.Syntax.{
   step,
   Parameter,
   Function,
+  results,
   Script,
 }
 use Rattle.meaning.specs.Meaning.{same_name, find, Scope, run_task}
@@ -105,6 +107,13 @@ abbrev mutual
   pub EndsIn : Outcome → Kind → Type 0
   EndsIn (Val v) t = IsOf v t
   EndsIn (Trapped e) t = IsSound e
+
+-- as many values, each of its kind
+abbrev pub EachOf : List Value → List Kind → Type 0
+EachOf [] [] = Unit {0}
+EachOf [] (t ∷ ts) = ⊥
+EachOf (v ∷ vs) [] = ⊥
+EachOf (v ∷ vs) (t ∷ ts) = IsOf v t × EachOf vs ts
 
 -- values of the kind have a reference in them
 abbrev pub has_reference : Kind → Bool
@@ -166,8 +175,9 @@ module _ (script : Script) (context : Context) where
     Checks (Binary op a b) t = (s : Kind) × (u : Kind) × Checks a s × Checks b u × OperatorChecks op s u t
     Checks (ListOf es) t = (u : Kind) × EachChecks es u × (t ≡ ListKind u)
     Checks (Empty u) t = t ≡ ListKind u
-    Checks (Call g args) t = (f : Function) × (find script g ≡ Some f) × ArgumentsCheck args f.parameters × (t ≡ f.result)
-    Checks (Remote k g marks args) t = (f : Function) × (find script g ≡ Some f) × MarkedCheck args marks f.parameters × (t ≡ RefKind f.result)
+    Checks (Call g args) t = (f : Function) × (find script g ≡ Some f) × ArgumentsCheck args f.parameters × (results f ≡ t ∷ [])
+    Checks (Remote k g marks args) t =
+        (f : Function) × (find script g ≡ Some f) × MarkedCheck args marks f.parameters × (u : Kind) × (results f ≡ u ∷ []) × (t ≡ RefKind u)
     Checks (PutOf a) t = (u : Kind) × Checks a u × (t ≡ RefKind u)
     Checks (GetOf u a) t = Checks a (RefKind u) × (t ≡ u)
 
@@ -186,29 +196,46 @@ module _ (script : Script) (context : Context) where
     MarkedCheck (also e es) (m ∷ ms) (p ∷ ps) = Checks e (argument_kind m p.kind) × MarkedCheck es ms ps
     MarkedCheck _ _ _ = ⊥
 
+-- as many expressions, each of its kind
+abbrev pub ResultsCheck : Script → Context → Exprs → List Kind → Type 0
+ResultsCheck script context end [] = Unit {0}
+ResultsCheck script context end (t ∷ ts) = ⊥
+ResultsCheck script context (also e es) [] = ⊥
+ResultsCheck script context (also e es) (t ∷ ts) = Checks script context e t × ResultsCheck script context es ts
+
+-- as many names, which are bound to values of these kinds
+abbrev pub Binds : List Name → List Kind → Context → Context → Type 0
+Binds [] [] context after = after ≡ context
+Binds [] (t ∷ ts) context after = ⊥
+Binds (x ∷ xs) [] context after = ⊥
+Binds (x ∷ xs) (t ∷ ts) context after = Binds xs ts (context ++ record { name = x; kind = t } ∷ []) after
+
 abbrev mutual
-  -- the statement is allowed in a function of that result, and leaves that context
-  pub StmtChecks : Stmt → Script → Kind → Context → Context → Type 0
+  -- the statement is allowed in a function of these results, and leaves that context
+  pub StmtChecks : Stmt → Script → List Kind → Context → Context → Type 0
   StmtChecks (Let x e) script result context after = (t : Kind) × Checks script context e t × (after ≡ context ++ record { name = x; kind = t } ∷ [])
+  StmtChecks (LetCall x xs g args) script result context after =
+      (f : Function) × (find script g ≡ Some f) × ArgumentsCheck script context args f.parameters × Binds (x ∷ xs) (results f) context after
   StmtChecks (Set x e) script result context after = (t : Kind) × (kind_in context x ≡ Some t) × Checks script context e t × (after ≡ context)
   StmtChecks (Print e) script result context after = (t : Kind) × Checks script context e t × (has_reference t ≡ false) × (after ≡ context)
-  StmtChecks (Return e) script result context after = Checks script context e result × (after ≡ context)
+  StmtChecks (Return es) script result context after = ResultsCheck script context es result × (after ≡ context)
   StmtChecks (If e a b) script result context after = Checks script context e Number × BlockChecks a script result context
       × BlockChecks b script result context × (after ≡ context)
   StmtChecks (For x from to body) script result context after =
       Checks script context from Number × Checks script context to Number
       × BlockChecks body script result (context ++ record { name = x; kind = Number } ∷ []) × (after ≡ context)
 
-  pub BlockChecks : Block → Script → Kind → Context → Type 0
+  pub BlockChecks : Block → Script → List Kind → Context → Type 0
   BlockChecks done script result context = Unit {0}
   BlockChecks (step s rest) script result context = (after : Context) × StmtChecks s script result context after × BlockChecks rest script result after
 
 abbrev mutual
   -- each way through it meets a return
   pub Returns : Stmt → Type 0
-  Returns (Return e) = Unit {0}
+  Returns (Return es) = Unit {0}
   Returns (If e a b) = BlockReturns a × BlockReturns b
   Returns (Let x e) = ⊥
+  Returns (LetCall x xs g args) = ⊥
   Returns (Set x e) = ⊥
   Returns (Print e) = ⊥
   Returns (For x from to body) = ⊥
@@ -242,7 +269,7 @@ context_of [] = []
 context_of (p ∷ ps) = record { name = p.name; kind = p.kind } ∷ context_of ps
 
 pub record FunctionChecks (script : Script) (f : Function) : Type 0 where
-  pub body : BlockChecks f.body script f.result (context_of f.parameters)
+  pub body : BlockChecks f.body script (results f) (context_of f.parameters)
   pub returns : BlockReturns f.body
 
 -- each function of the script is allowed
@@ -255,7 +282,7 @@ ScriptChecks script (f ∷ fs) = FunctionChecks script f × ScriptChecks script 
 -- the birth makes an object of the kind
 abbrev pub IsBirthOf : Script → Birth → Kind → Type 0
 IsBirthOf script (Put v) u = IsOf v u
-IsBirthOf script (Task g args depth retries) u = (f : Function) × (find script g ≡ Some f) × MarkedOf args f.parameters × (u ≡ f.result)
+IsBirthOf script (Task g args depth retries) u = (f : Function) × (find script g ≡ Some f) × MarkedOf args f.parameters × (results f ≡ u ∷ [])
 
 -- the run never meets an operand of the wrong kind nor prints a reference, whatever of the right kinds its gets get; its
 -- births make objects of the kinds of their references, and it ends in the kind
@@ -290,9 +317,10 @@ pub record IsSafeTask (run : Run) (t : Kind) (base : Id) (answers : List Outcome
   pub stop : StopIsSound (piece run base answers).stop t
   pub prints : AllPlain (piece run base answers).prints
 
--- of a checked script each task with arguments and answers of the kinds asked for is safe
+-- of a checked script each task of a function of one result, with arguments and answers of the kinds asked for is safe
 abbrev pub AreSafe : Type 0
 AreSafe =
-    (script : Script) → ScriptChecks script script → (g : Name) (f : Function) (args : List Argument) (depth : ℕ) (base : Id) (answers : List Outcome) →
-    find script g ≡ Some f → MarkedOf args f.parameters → AnswersFit (run_task script g args depth) base answers →
-    IsSafeTask (run_task script g args depth) f.result base answers
+    (script : Script) → ScriptChecks script script →
+    (g : Name) (f : Function) (u : Kind) (args : List Argument) (depth : ℕ) (base : Id) (answers : List Outcome) →
+    find script g ≡ Some f → results f ≡ u ∷ [] → MarkedOf args f.parameters → AnswersFit (run_task script g args depth) base answers →
+    IsSafeTask (run_task script g args depth) u base answers

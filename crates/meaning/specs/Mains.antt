@@ -19,6 +19,7 @@ use Rattle.meaning.specs.Syntax.{
   also,
   Stmt,
   Let,
+  LetCall,
   Set,
   Print,
   Return,
@@ -58,9 +59,10 @@ module _ (function : Name) where
     -- no call in the statement is of main, and it prints only in main
     pub IsApart : Stmt → Type 0
     IsApart (Let x e) = CallsOthers e
+    IsApart (LetCall x xs g args) = (g ≢ main_name) × AllCallOthers args
     IsApart (Set x e) = CallsOthers e
     IsApart (Print e) = (function ≡ main_name) × CallsOthers e
-    IsApart (Return e) = CallsOthers e
+    IsApart (Return es) = AllCallOthers es
     IsApart (If e a b) = CallsOthers e × BlockIsApart a × BlockIsApart b
     IsApart (For x from to body) = CallsOthers from × CallsOthers to × BlockIsApart body
 

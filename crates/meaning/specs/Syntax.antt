@@ -1,5 +1,5 @@
 -- The syntax of a checked script, without places in the text.
-use Rattle.std.specs.Prelude.{ℕ, Bool, List, ℤ}
+use Rattle.std.specs.Prelude.{ℕ, Bool, List, ◌∷◌, ℤ}
 use Rattle.meaning.specs.Values.{Name}
 
 pub data Kind : Type 0 where
@@ -33,6 +33,7 @@ mutual
     Binary : (op : Operator) (a b : Expr) → Expr
     ListOf : (items : Exprs) → Expr
     Empty : (t : Kind) → Expr
+    -- as expressions, calls of functions of one result
     Call : (g : Name) (args : Exprs) → Expr
     -- each argument marked as dereferenced or not
     Remote : (retries : ℕ) (g : Name) (marks : List Bool) (args : Exprs) → Expr
@@ -47,9 +48,12 @@ mutual
 mutual
   pub data Stmt : Type 0 where
     Let : (x : Name) (e : Expr) → Stmt
+    -- the results of a plain call, bound to as many names
+    LetCall : (x : Name) (xs : List Name) (g : Name) (args : Exprs) → Stmt
     Set : (x : Name) (e : Expr) → Stmt
     Print : (e : Expr) → Stmt
-    Return : (e : Expr) → Stmt
+    -- a value for each result
+    Return : (es : Exprs) → Stmt
     If : (e : Expr) (a b : Block) → Stmt
     For : (x : Name) (from to : Expr) (body : Block) → Stmt
 
@@ -64,8 +68,13 @@ pub record Parameter : Type 0 where
 pub record Function : Type 0 where
   pub name : Name
   pub parameters : List Parameter
+  -- the kind of its first result, and those of the others
   pub result : Kind
+  pub others : List Kind
   pub body : Block
+
+abbrev pub results : Function → List Kind
+results f = f.result ∷ f.others
 
 abbrev pub Script : Type 0
 Script = List Function

@@ -30,6 +30,9 @@ ghost use Rattle.meaning.specs.Examples.{
   bears_main,
   louder,
   this_piece,
+  parts_called,
+  mixed_called,
+  parts_put,
 };
 
 /// What main prints and how it ends where every remote call is a plain call.
@@ -74,4 +77,13 @@ pub fn main_examples()
     ensures main_is_called { KeepsMainApart calls_main → ⊥ }
     ensures main_is_born { KeepsMainApart bears_main → ⊥ }
     ensures another_task_prints { replay prints_elsewhere louder (object 2 1) [] ≡ this_piece [] (Int (pos 1) ∷ []) (Over (value 2)) }
+{}
+
+/// Plain calls of functions of several results.
+pub fn several_examples()
+    ensures two_bound { MainGives (parts_called 17 5) [] (value 32) }
+    ensures trap_on_the_way { MainGives (parts_called 1 0) [] (Trapped DivZero) }
+    ensures four_bound { MainGives (mixed_called 4) (Int (pos 8) ∷ []) (value 9) }
+    ensures bound_before_a_get { replay parts_put main_birth (object 1 1) [] ≡ this_piece (Put (Int (pos 3)) ∷ []) [] (Needs (Named (object 1 1))) }
+    ensures bound_after_a_get { replay parts_put main_birth (object 1 1) (value 3 ∷ []) ≡ this_piece (Put (Int (pos 3)) ∷ []) [] (Over (value 32)) }
 {}

@@ -7,10 +7,10 @@ use Rattle.meaning.specs.Values.{Name, Broken, Value, Int, Items, Named, Known, 
 use Rattle.meaning.specs.Values.{values_of, count, item_at, push_onto}
 use Rattle.meaning.specs.Syntax.{Kind, Operator, Add, Sub, Mul, Div, Rem, Equal, Unequal, Less, LessEqual, ItemAt, Push, Prefix, Negate, Len}
 use Rattle.meaning.specs.Syntax.{Expr, Num, Var, Unary, Binary, ListOf, Empty, Call, Remote, PutOf, GetOf, Exprs, end, also}
-use Rattle.meaning.specs.Syntax.{Stmt, Let, Set, Print, Return, If, For, Block, done, step, Parameter, Function, Script}
+use Rattle.meaning.specs.Syntax.{Stmt, Let, LetCall, Set, Print, Return, If, For, Block, done, step, Parameter, Function, Script}
 use Rattle.meaning.specs.Runs.{Run, Ends, Prints, Bears, Gets}
-use Rattle.meaning.specs.Meaning.{broken, Variable, Scope, same_name, value_in, set_in, bind, bind_all, as_number, as_items, fits, in_range, quotient}
-use Rattle.meaning.specs.Meaning.{remainder, found, index, push, on_numbers, apply, apply_one, is_zero, turn_count, proceed, mark, get_from, dereference}
+use Rattle.meaning.specs.Meaning.{broken, Variable, Scope, same_name, value_in, set_in, bind, bind_each, bind_all, as_number, as_items, fits, in_range, quotient}
+use Rattle.meaning.specs.Meaning.{remainder, found, index, push, on_numbers, apply, apply_one, is_zero, turn_count, proceed, mark, get_from, dereference, only}
 use Rattle.meaning.specs.Meaning.{Calls, evaluate, evaluate_all, turns, turns_within, leave, execute, execute_all, find, parameters_of, enter, task_by}
 use Rattle.meaning.specs.Meaning.{calls_below, call_at, run_birth}
 
@@ -186,6 +186,18 @@ module _ (P : Id → Type 0) (Q : Outcome → Type 0) where
   bound_all (p ∷ ps) [] next h l = tt
   bound_all (p ∷ ps) (v ∷ vs) next h l = bound_all ps vs _ h.1 (λ scope so. l (record { name = p.name; value = v } ∷ scope) (h.0, so))
 
+  binds_in : (xs : List Name) (vs : List Value) (scope : Scope) (next : Scope → Run) → ValuesWith vs → ScopeWith scope → ScopeKeeps next →
+      KeepsWith (bind_each broken scope xs vs next)
+  binds_in [] [] scope next h so l = l scope so
+  binds_in [] (v ∷ vs) scope next h so l = tt
+  binds_in (x ∷ xs) [] scope next h so l = tt
+  binds_in (x ∷ xs) (v ∷ vs) scope next h so l = binds_in xs vs (bind scope x v) next h.1 (bound_in scope x v so h.0) l
+
+  only_in : (vs : List Value) (next : Value → Run) → ValuesWith vs → NextKeeps next → KeepsWith (only vs next)
+  only_in [] next h l = tt
+  only_in (v ∷ []) next h l = l v h.0
+  only_in (v ∷ w ∷ vs) next h l = tt
+
   dereferenced : (ps : List Parameter) (args : List Argument) (next : List Value → Run) → ArgumentsWith args → AllKeep next →
       KeepsWith (dereference ps args next)
   dereferenced ps [] next h l = l [] tt
@@ -196,7 +208,7 @@ module _ (P : Id → Type 0) (Q : Outcome → Type 0) where
 
   -- calls that keep so
   abbrev CallsKeep : Calls → Type 0
-  CallsKeep calls = (g : Name) (vs : List Value) (next : Value → Run) → ValuesWith vs → NextKeeps next → KeepsWith (calls.plain g vs next)
+  CallsKeep calls = (g : Name) (vs : List Value) (next : List Value → Run) → ValuesWith vs → AllKeep next → KeepsWith (calls.plain g vs next)
 
   module _ (calls : Calls) (keep : CallsKeep calls) where
     mutual
@@ -208,7 +220,7 @@ module _ (P : Id → Type 0) (Q : Outcome → Type 0) where
           evaluates a scope _ so (λ v hv. evaluates b scope _ so (λ w hw. proceeds (apply op v w) next (operator_in op v w hv hw) l))
       evaluates (ListOf es) scope next so l = evaluates_all es scope _ so (λ vs hvs. l (Items (values_of vs)) (values_in vs hvs))
       evaluates (Empty k) scope next so l = l (Items none) tt
-      evaluates (Call g args) scope next so l = evaluates_all args scope _ so (λ vs hvs. keep g vs next hvs l)
+      evaluates (Call g args) scope next so l = evaluates_all args scope _ so (λ vs hvs. keep g vs _ hvs (λ ws hws. only_in ws next hws l))
       evaluates (Remote k g marks args) scope next so l = evaluates_all args scope _ so (λ vs hvs. (marked_in vs marks hvs, l))
       evaluates (PutOf a) scope next so l = evaluates a scope _ so (λ v hv. (hv, l))
       evaluates (GetOf k a) scope next so l = evaluates a scope _ so (λ r hr. gets k r next hr l)
@@ -236,12 +248,14 @@ module _ (P : Id → Type 0) (Q : Outcome → Type 0) where
         either KeepsWith (nat_lt 10000 n) _ _ tt (turn n from body scope next f so l)
 
     mutual
-      executes : (s : Stmt) (scope : Scope) (next : Scope → Run) (return : Value → Run) → ScopeWith scope → ScopeKeeps next → NextKeeps return →
+      executes : (s : Stmt) (scope : Scope) (next : Scope → Run) (return : List Value → Run) → ScopeWith scope → ScopeKeeps next → AllKeep return →
           KeepsWith (execute calls s scope next return)
       executes (Let x e) scope next return so l r = evaluates e scope _ so (λ v hv. l _ (bound_in scope x v so hv))
+      executes (LetCall x xs g args) scope next return so l r =
+          evaluates_all args scope _ so (λ vs hvs. keep g vs _ hvs (λ ws hws. binds_in (x ∷ xs) ws scope next hws so l))
       executes (Set x e) scope next return so l r = evaluates e scope _ so (λ v hv. l _ (set_scope scope x v so hv))
       executes (Print e) scope next return so l r = evaluates e scope _ so (λ v hv. (hv, l scope so))
-      executes (Return e) scope next return so l r = evaluates e scope return so r
+      executes (Return es) scope next return so l r = evaluates_all es scope return so r
       executes (If e a b) scope next return so l r =
           evaluates e scope _ so (λ v hv. by_number KeepsWith broken v _ tt (λ n. either KeepsWith (is_zero n) _ _
           (executes_all b scope _ return so (left scope next l) r)
@@ -252,27 +266,27 @@ module _ (P : Id → Type 0) (Q : Outcome → Type 0) where
           (λ i before k sb lk. executes_all body (bind before x (Int i)) _ return (bound_in before x (Int i) sb tt) (left before k lk) r)
           so l))))
 
-      executes_all : (b : Block) (scope : Scope) (next : Scope → Run) (return : Value → Run) → ScopeWith scope → ScopeKeeps next → NextKeeps return →
+      executes_all : (b : Block) (scope : Scope) (next : Scope → Run) (return : List Value → Run) → ScopeWith scope → ScopeKeeps next → AllKeep return →
           KeepsWith (execute_all calls b scope next return)
       executes_all done scope next return so l r = l scope so
       executes_all (step s rest) scope next return so l r =
           executes s scope _ return so (λ scope' so'. executes_all rest scope' next return so' l r) r
 
-    entered : (f : Option Function) (vs : List Value) (next : Value → Run) → ValuesWith vs → NextKeeps next → KeepsWith (enter calls f vs next)
+    entered : (f : Option Function) (vs : List Value) (next : List Value → Run) → ValuesWith vs → AllKeep next → KeepsWith (enter calls f vs next)
     entered None vs next h l = tt
     entered (Some f) vs next h l = bound_all f.parameters vs _ h (λ scope so. executes_all f.body scope _ next so (λ _ _. tt) l)
 
   module _ (script : Script) where
-    calls_keep : (n : ℕ) (g : Name) (vs : List Value) (next : Value → Run) → ValuesWith vs → NextKeeps next → KeepsWith (call_at script n g vs next)
+    calls_keep : (n : ℕ) (g : Name) (vs : List Value) (next : List Value → Run) → ValuesWith vs → AllKeep next → KeepsWith (call_at script n g vs next)
     unfolding call_at
     calls_keep zero g vs next h l = tt
     calls_keep (suc n) g vs next h l = entered (calls_below script n) (calls_keep n) (find script g) vs next h l
 
-    tasks_keep : (b : Bool) (ps : List Parameter) (call : List Value → (Value → Run) → Run) (args : List Argument) →
-        ((vs : List Value) (next : Value → Run) → ValuesWith vs → NextKeeps next → KeepsWith (call vs next)) → ArgumentsWith args →
+    tasks_keep : (b : Bool) (ps : List Parameter) (call : List Value → (List Value → Run) → Run) (args : List Argument) →
+        ((vs : List Value) (next : List Value → Run) → ValuesWith vs → AllKeep next → KeepsWith (call vs next)) → ArgumentsWith args →
         KeepsWith (task_by b ps call args)
     tasks_keep true ps call args l h = tt
-    tasks_keep false ps call args l h = dereferenced ps args _ h (λ vs hvs. l vs _ hvs (λ v hv. hv))
+    tasks_keep false ps call args l h = dereferenced ps args _ h (λ vs hvs. l vs _ hvs (λ ws hws. only_in ws _ hws (λ v hv. hv)))
 
     pub births_keep : (b : Birth) → BirthWith b → KeepsWith (run_birth script b)
     births_keep (Put v) h = h

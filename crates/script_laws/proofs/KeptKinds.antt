@@ -1,5 +1,5 @@
 -- A replay whose answers begin the serial run's keeps kinds.
-use Rattle.std.proofs.Common.{List, [], ◌∷◌, map, sym, subst}
+use Rattle.std.proofs.Common.{List, [], ◌∷◌, map}
 use Rattle.meaning.specs.Values.{Argument, Birth, Put, Task}
 use Rattle.meaning.specs.Syntax.{Kind, Script, Parameter}
 use Rattle.meaning.specs.Meaning.{run_birth}
@@ -13,7 +13,7 @@ use Rattle.script_laws.proofs.Replay.{births_follow, of_read}
 birth_is_safe : (script : Script) → ScriptChecks script script → (b : Birth) (u : Kind) → IsBirthOf script b u → IsSafe script (run_birth script b) u
 birth_is_safe script checks (Put v) u h = h
 birth_is_safe script checks (Task g args depth retries) u h =
-    subst (λ t. IsSafe script (run_birth script (Task g args depth retries)) t) (sym h.3) (run_is_safe script checks g h.0 args depth h.1 h.2)
+    run_is_safe script checks g h.0 u args depth h.1 h.3 h.2
 
 marked_read : (script : Script) (reading : Reading) (args : List Argument) (ps : List Parameter) → MarkedOf (map (read_argument reading) args) ps → MarkedOf args ps
 marked_read script reading [] [] h = tt

@@ -3,9 +3,9 @@ use Rattle.std.proofs.Common.{◌≡◌, ℕ, zero, suc, ◌-◌, Bool, true, fa
 use Rattle.std.specs.Prelude.{ℤ, pos, nat_lt, if◌then◌else◌, ◌+ℤ◌, ◌-ℤ◌}
 use Rattle.std.specs.List.{AllByRecursion}
 use Rattle.meaning.specs.Values.{Name, Value, Int, Items, Named, Known, Outcome, Val, Trapped, Argument, Birth, Put, Task, Id, main_name}
-use Rattle.meaning.specs.Syntax.{Kind, Expr, Num, Var, Unary, Binary, ListOf, Empty, Call, Remote, PutOf, GetOf, Exprs, end, also, Stmt, Let, Set, Print, Return, If, For, Block, done, step, Parameter, Script}
+use Rattle.meaning.specs.Syntax.{Kind, Expr, Num, Var, Unary, Binary, ListOf, Empty, Call, Remote, PutOf, GetOf, Exprs, end, also, Stmt, Let, LetCall, Set, Print, Return, If, For, Block, done, step, Parameter, Script}
 use Rattle.meaning.specs.Runs.{Run, Ends, Prints, Bears, Gets, piece, next_id}
-use Rattle.meaning.specs.Meaning.{broken, Scope, same_name, value_in, bind, bind_all, apply, apply_one, is_zero, turn_count, proceed, get_from, dereference, Calls, evaluate, evaluate_all, turns, turns_within, leave, execute, execute_all, find, parameters_of, enter, task_by, calls_below, call_at, run_birth}
+use Rattle.meaning.specs.Meaning.{broken, Scope, same_name, value_in, bind, bind_each, bind_all, apply, apply_one, is_zero, turn_count, proceed, get_from, dereference, only, Calls, evaluate, evaluate_all, turns, turns_within, leave, execute, execute_all, find, parameters_of, enter, task_by, calls_below, call_at, run_birth}
 use Rattle.meaning.proofs.BirthLaws.{at_test}
 use Rattle.meaning.proofs.Names.{same_name-true}
 use Rattle.script_laws.proofs.Keeping.{either, by_number}
@@ -51,7 +51,21 @@ module _ (prints : Bool) where
   bound_all (p ∷ ps) [] next l = tt
   bound_all (p ∷ ps) (v ∷ vs) next l = bound_all ps vs _ (λ scope. l (record { name = p.name; value = v } ∷ scope))
 
-  dereferenced : (ps : List Parameter) (args : List Argument) (next : List Value → Run) → ((vs : List Value) → IsQuiet (next vs)) → IsQuiet (dereference ps args next)
+  abbrev IsQuietAll : (List Value → Run) → Type 0
+  IsQuietAll next = (vs : List Value) → IsQuiet (next vs)
+
+  binds : (xs : List Name) (vs : List Value) (scope : Scope) (next : Scope → Run) → IsQuietAfter next → IsQuiet (bind_each broken scope xs vs next)
+  binds [] [] scope next l = l scope
+  binds [] (v ∷ vs) scope next l = tt
+  binds (x ∷ xs) [] scope next l = tt
+  binds (x ∷ xs) (v ∷ vs) scope next l = binds xs vs (bind scope x v) next l
+
+  takes_only : (vs : List Value) (next : Value → Run) → IsQuietNext next → IsQuiet (only vs next)
+  takes_only [] next l = tt
+  takes_only (v ∷ []) next l = l v
+  takes_only (v ∷ w ∷ vs) next l = tt
+
+  dereferenced : (ps : List Parameter) (args : List Argument) (next : List Value → Run) → IsQuietAll next → IsQuiet (dereference ps args next)
   dereferenced ps [] next l = l []
   dereferenced [] (a ∷ args) next l = tt
   dereferenced (p ∷ ps) (a ∷ args) next l =
@@ -59,8 +73,8 @@ module _ (prints : Bool) where
       either IsQuiet a.marked _ _ (gets p.kind a.value _ rest) (rest a.value)
 
   -- calls that may be made are quiet
-  abbrev AreQuiet : (Name → List Value → (Value → Run) → Run) → Type 0
-  AreQuiet call = (g : Name) → MayRun g → (vs : List Value) (next : Value → Run) → IsQuietNext next → IsQuiet (call g vs next)
+  abbrev AreQuiet : (Name → List Value → (List Value → Run) → Run) → Type 0
+  AreQuiet call = (g : Name) → MayRun g → (vs : List Value) (next : List Value → Run) → IsQuietAll next → IsQuiet (call g vs next)
 
   module _ (calls : Calls) (quiet : AreQuiet calls.plain) where
     mutual
@@ -71,12 +85,12 @@ module _ (prints : Bool) where
       evaluates (Binary op a b) scope next h l = evaluates a scope _ h.0 (λ v. evaluates b scope _ h.1 (λ w. proceeds (apply op v w) next l))
       evaluates (ListOf es) scope next h l = evaluates_all es scope _ h (λ vs. l _)
       evaluates (Empty k) scope next h l = l _
-      evaluates (Call g args) scope next h l = evaluates_all args scope _ h.1 (λ vs. quiet g (λ e. absurd (h.0 e)) vs next l)
+      evaluates (Call g args) scope next h l = evaluates_all args scope _ h.1 (λ vs. quiet g (λ e. absurd (h.0 e)) vs _ (λ ws. takes_only ws next l))
       evaluates (Remote k g marks args) scope next h l = evaluates_all args scope _ h.1 (λ vs. (h.0, l))
       evaluates (PutOf a) scope next h l = evaluates a scope _ h (λ v. (tt, l))
       evaluates (GetOf k a) scope next h l = evaluates a scope _ h (λ r. gets k r next l)
 
-      evaluates_all : (es : Exprs) (scope : Scope) (next : List Value → Run) → AllCallOthers es → ((vs : List Value) → IsQuiet (next vs)) → IsQuiet (evaluate_all calls es scope next)
+      evaluates_all : (es : Exprs) (scope : Scope) (next : List Value → Run) → AllCallOthers es → IsQuietAll next → IsQuiet (evaluate_all calls es scope next)
       evaluates_all end scope next h l = l []
       evaluates_all (also e es) scope next h l = evaluates e scope _ h.0 (λ v. evaluates_all es scope _ h.1 (λ vs. l (v ∷ vs)))
 
@@ -98,11 +112,13 @@ module _ (prints : Bool) where
     -- in a function that may be run
     module _ (function : Name) (may : MayRun function) where
       mutual
-        executes : (s : Stmt) (scope : Scope) (next : Scope → Run) (return : Value → Run) → IsApart function s → IsQuietAfter next → IsQuietNext return → IsQuiet (execute calls s scope next return)
+        executes : (s : Stmt) (scope : Scope) (next : Scope → Run) (return : List Value → Run) → IsApart function s → IsQuietAfter next → IsQuietAll return → IsQuiet (execute calls s scope next return)
         executes (Let x e) scope next return h l r = evaluates e scope _ h (λ v. l _)
+        executes (LetCall x xs g args) scope next return h l r =
+            evaluates_all args scope _ h.1 (λ vs. quiet g (λ e. absurd (h.0 e)) vs _ (λ ws. binds (x ∷ xs) ws scope next l))
         executes (Set x e) scope next return h l r = evaluates e scope _ h (λ v. l _)
         executes (Print e) scope next return h l r = evaluates e scope _ h.1 (λ v. (may h.0, l scope))
-        executes (Return e) scope next return h l r = evaluates e scope return h r
+        executes (Return es) scope next return h l r = evaluates_all es scope return h r
         executes (If e a b) scope next return h l r =
             evaluates e scope _ h.0 (λ v. by_number IsQuiet broken v _ tt (λ n. either IsQuiet (is_zero n) _ _
             (executes_all b scope _ return h.2 (left scope next l) r)
@@ -113,12 +129,12 @@ module _ (prints : Bool) where
             (λ i before k lk. executes_all body (bind before x (Int i)) _ return h.2 (left before k lk) r)
             l))))
 
-        executes_all : (b : Block) (scope : Scope) (next : Scope → Run) (return : Value → Run) → BlockIsApart function b → IsQuietAfter next → IsQuietNext return → IsQuiet (execute_all calls b scope next return)
+        executes_all : (b : Block) (scope : Scope) (next : Scope → Run) (return : List Value → Run) → BlockIsApart function b → IsQuietAfter next → IsQuietAll return → IsQuiet (execute_all calls b scope next return)
         executes_all done scope next return h l r = l scope
         executes_all (step s rest) scope next return h l r =
             executes s scope _ return h.0 (λ after. executes_all rest after next return h.1 l r) r
 
-    entered : (fs : Script) → KeepsMainApart fs → (g : Name) → MayRun g → (vs : List Value) (next : Value → Run) → IsQuietNext next → IsQuiet (enter calls (find fs g) vs next)
+    entered : (fs : Script) → KeepsMainApart fs → (g : Name) → MayRun g → (vs : List Value) (next : List Value → Run) → IsQuietAll next → IsQuiet (enter calls (find fs g) vs next)
     entered [] h g may vs next l = tt
     entered (f ∷ fs) h g may vs next l =
         let others = entered fs h.1 g may vs next l in
@@ -132,10 +148,10 @@ module _ (prints : Bool) where
     calls_quiet zero g may vs next l = tt
     calls_quiet (suc n) g may vs next l = entered (calls_below script n) (calls_quiet n) script apart g may vs next l
 
-    tasks_quiet : (b : Bool) (ps : List Parameter) (call : List Value → (Value → Run) → Run) (args : List Argument) →
-        ((vs : List Value) (next : Value → Run) → IsQuietNext next → IsQuiet (call vs next)) → IsQuiet (task_by b ps call args)
+    tasks_quiet : (b : Bool) (ps : List Parameter) (call : List Value → (List Value → Run) → Run) (args : List Argument) →
+        ((vs : List Value) (next : List Value → Run) → IsQuietAll next → IsQuiet (call vs next)) → IsQuiet (task_by b ps call args)
     tasks_quiet true ps call args l = tt
-    tasks_quiet false ps call args l = dereferenced ps args _ (λ vs. l vs _ (λ v. tt))
+    tasks_quiet false ps call args l = dereferenced ps args _ (λ vs. l vs _ (λ ws. takes_only ws _ (λ v. tt)))
 
     births_quiet : (b : Birth) → MayMake b → IsQuiet (run_birth script b)
     births_quiet (Put v) may = tt

@@ -7,9 +7,9 @@ use Rattle.std.specs.Prelude.{ℤ, pos, negsuc, nat_lt, if◌then◌else◌, ◌
 use Rattle.std.specs.Prelude.{int_rem, int_lt, int_le, not, neg_ℤ, ◌*ℤ◌}
 use Rattle.std.specs.Ordering.{int_eq}
 use Rattle.meaning.specs.Values.{Name, Overflow, TooLong, Loop, TooDeep, Broken, Value, Int, Items, Named, Known, Values, none, more, Outcome, Val, Trapped, Argument, Birth, Put, Task, Id, values_of, count, item_at, push_onto}
-use Rattle.meaning.specs.Syntax.{Kind, Number, ListKind, RefKind, Operator, Add, Sub, Mul, Div, Rem, Equal, Unequal, Less, LessEqual, ItemAt, Push, Prefix, Negate, Len, Expr, Num, Var, Unary, Binary, ListOf, Empty, Call, Remote, PutOf, GetOf, Exprs, end, also, Stmt, Let, Set, Print, Return, If, For, Block, done, step, Parameter, Function, Script}
+use Rattle.meaning.specs.Syntax.{Kind, Number, ListKind, RefKind, Operator, Add, Sub, Mul, Div, Rem, Equal, Unequal, Less, LessEqual, ItemAt, Push, Prefix, Negate, Len, Expr, Num, Var, Unary, Binary, ListOf, Empty, Call, Remote, PutOf, GetOf, Exprs, end, also, Stmt, Let, LetCall, Set, Print, Return, If, For, Block, done, step, Parameter, Function, Script}
 use Rattle.meaning.specs.Runs.{Run, Ends, Prints, Bears, Gets, outcome_of, serial_end, serial_trace, go_on, Needs, Over, Piece, piece, next_id, stopped}
-use Rattle.meaning.specs.Meaning.{broken, Variable, Scope, same_name, value_in, set_in, bind, bind_all, as_number, as_items, fits, in_range, quotient, remainder, truth, found, index, push, on_numbers, apply, apply_one, is_zero, turn_count, proceed, mark, get_from, dereference, Calls, evaluate, evaluate_all, turns, turns_within, leave, execute, execute_all, find, parameters_of, enter, task_by, no_level, calls_below, call_at, run_task, run_birth}
+use Rattle.meaning.specs.Meaning.{broken, Variable, Scope, same_name, value_in, set_in, bind, bind_each, bind_all, as_number, as_items, fits, in_range, quotient, remainder, truth, found, index, push, on_numbers, apply, apply_one, is_zero, turn_count, proceed, mark, get_from, dereference, only, Calls, evaluate, evaluate_all, turns, turns_within, leave, execute, execute_all, find, parameters_of, enter, task_by, no_level, calls_below, call_at, run_task, run_birth}
 use Rattle.meaning.specs.Lists.{IsFirst}
 use Rattle.meaning.specs.Kinds.{IsOf, AreOf, EndsIn, IsBirthOf, IsSafe, Answers, AnswersFit}
 use Rattle.script_laws.proofs.Safety.{serial_is_sound}
@@ -307,6 +307,19 @@ module _ (script : Script) (reading : Reading) where
   bound (p ∷ ps) [] next next' l = ends (Trapped Broken)
   bound (p ∷ ps) (v ∷ vs) next next' l = bound ps vs _ _ (λ scope. l (record { name = p.name; value = v } ∷ scope))
 
+  binds : (xs : List Name) (vs : List Value) (scope : Scope) (next next' : Scope → Run) → FollowsScope next next' → Law (bind_each broken scope xs vs next) (bind_each broken (map read_variable scope) xs (map (read reading) vs) next')
+  binds [] [] scope next next' l = l scope
+  binds [] (v ∷ vs) scope next next' l = ends (Trapped Broken)
+  binds (x ∷ xs) [] scope next next' l = ends (Trapped Broken)
+  binds (x ∷ xs) (v ∷ vs) scope next next' l =
+      subst (λ s. Law (bind_each broken (bind scope x v) xs vs next) (bind_each broken s xs (map (read reading) vs) next')) (bind-read scope x v)
+      (binds xs vs (bind scope x v) next next' l)
+
+  takes_only : (vs : List Value) (next next' : Value → Run) → Follows next next' → Law (only vs next) (only (map (read reading) vs) next')
+  takes_only [] next next' l = ends (Trapped Broken)
+  takes_only (v ∷ []) next next' l = l v
+  takes_only (v ∷ w ∷ vs) next next' l = ends (Trapped Broken)
+
   dereferences : (ps : List Parameter) (args : List Argument) (next next' : List Value → Run) → FollowsAll next next' → Law (dereference ps args next) (dereference ps (map (read_argument reading) args) next')
   dereferences ps [] next next' l = l []
   dereferences [] (a ∷ args) next next' l = ends (Trapped Broken)
@@ -322,7 +335,7 @@ module _ (script : Script) (reading : Reading) where
 
   -- calls that keep the law
   record CallsFollow (calls : Calls) : Type 0 where
-    plain : (g : Name) (args : List Value) (next next' : Value → Run) → Follows next next' → Law (calls.plain g args next) (calls.plain g (map (read reading) args) next')
+    plain : (g : Name) (args : List Value) (next next' : List Value → Run) → FollowsAll next next' → Law (calls.plain g args next) (calls.plain g (map (read reading) args) next')
     task : (g : Name) (args : List Argument) → run_task script g args calls.depth ≡ calls.task g args
 
   module _ (calls : Calls) (follow : CallsFollow calls) where
@@ -343,7 +356,7 @@ module _ (script : Script) (reading : Reading) where
       evaluates (Unary op a) scope next next' l = evaluates a scope _ _ (λ v. proceeds_as _ _ next next' (apply_one-read op v) l)
       evaluates (ListOf items) scope next next' l =
           evaluates_all items scope _ _ (λ vs. subst (λ ws. Law (next (Items (values_of vs))) (next' (Items ws))) (values_of-read vs) (l (Items (values_of vs))))
-      evaluates (Call g args) scope next next' l = evaluates_all args scope _ _ (λ vs. follow.plain g vs next next' l)
+      evaluates (Call g args) scope next next' l = evaluates_all args scope _ _ (λ vs. follow.plain g vs _ _ (λ ws. takes_only ws next next' l))
       evaluates (Remote retries g marks args) scope next next' l = evaluates_all args scope _ _ (λ vs. remote retries g marks vs next next' l)
       evaluates (PutOf a) scope next next' l = evaluates a scope _ _ (λ v. bears (Put v) _ _ next next' refl l)
       evaluates (GetOf t a) scope next next' l = evaluates a scope _ _ (λ r. get_runs t r next next' l)
@@ -379,11 +392,13 @@ module _ (script : Script) (reading : Reading) where
     in_scope s s' next next' e l = subst (λ z. Law (next s) (next' z)) e (l s)
 
     mutual
-      executes : (s : Stmt) (scope : Scope) (next next' : Scope → Run) (return return' : Value → Run) → FollowsScope next next' → Follows return return' → Law (execute calls s scope next return) (execute calls s (map read_variable scope) next' return')
+      executes : (s : Stmt) (scope : Scope) (next next' : Scope → Run) (return return' : List Value → Run) → FollowsScope next next' → FollowsAll return return' → Law (execute calls s scope next return) (execute calls s (map read_variable scope) next' return')
       executes (Let x e) scope next next' return return' l r = evaluates e scope _ _ (λ v. in_scope _ _ next next' (bind-read scope x v) l)
+      executes (LetCall x xs g args) scope next next' return return' l r =
+          evaluates_all args scope _ _ (λ vs. follow.plain g vs _ _ (λ ws. binds (x ∷ xs) ws scope next next' l))
       executes (Set x e) scope next next' return return' l r = evaluates e scope _ _ (λ v. in_scope _ _ next next' (set_in-read scope x v) l)
       executes (Print e) scope next next' return return' l r = evaluates e scope _ _ (λ v. prints v _ _ (l scope))
-      executes (Return e) scope next next' return return' l r = evaluates e scope _ _ r
+      executes (Return es) scope next next' return return' l r = evaluates_all es scope _ _ r
       executes (If e a b) scope next next' return return' l r =
           evaluates e scope _ _ (λ v. number_runs v _ _ (λ n. choice n _ _ _ _
           (executes_all a scope _ _ return return' (λ after. leaves scope after next next' l) r)
@@ -395,11 +410,11 @@ module _ (script : Script) (reading : Reading) where
           (executes_all body (bind before x (Int i)) _ _ return return' (λ after. leaves before after k k' lk) r))
           l))))
 
-      executes_all : (b : Block) (scope : Scope) (next next' : Scope → Run) (return return' : Value → Run) → FollowsScope next next' → Follows return return' → Law (execute_all calls b scope next return) (execute_all calls b (map read_variable scope) next' return')
+      executes_all : (b : Block) (scope : Scope) (next next' : Scope → Run) (return return' : List Value → Run) → FollowsScope next next' → FollowsAll return return' → Law (execute_all calls b scope next return) (execute_all calls b (map read_variable scope) next' return')
       executes_all done scope next next' return return' l r = l scope
       executes_all (step s rest) scope next next' return return' l r = executes s scope _ _ return return' (λ after. executes_all rest after next next' return return' l r) r
 
-    enters : (f : Option Function) (args : List Value) (next next' : Value → Run) → Follows next next' → Law (enter calls f args next) (enter calls f (map (read reading) args) next')
+    enters : (f : Option Function) (args : List Value) (next next' : List Value → Run) → FollowsAll next next' → Law (enter calls f args next) (enter calls f (map (read reading) args) next')
     enters None args next next' l = ends (Trapped Broken)
     enters (Some f) args next next' l = bound f.parameters args _ _ (λ scope. executes_all f.body scope _ _ next next' (λ _. ends (Trapped Broken)) l)
 
@@ -411,7 +426,7 @@ module _ (script : Script) (reading : Reading) where
       let shallow : nat_lt 32 (33 - suc n) ≡ false = search (rules, nat_tests) in
       ap (λ b. task_by b (parameters_of (find script g)) (call_at script (33 - (33 - suc n)) g) args) shallow ∙ ap (λ m. task_by false (parameters_of (find script g)) (call_at script m g) args) levels
 
-  calls_follow : (n : ℕ) → n ≤ 33 → (g : Name) (args : List Value) (next next' : Value → Run) → Follows next next' → Law (call_at script n g args next) (call_at script n g (map (read reading) args) next')
+  calls_follow : (n : ℕ) → n ≤ 33 → (g : Name) (args : List Value) (next next' : List Value → Run) → FollowsAll next next' → Law (call_at script n g args next) (call_at script n g (map (read reading) args) next')
   unfolding call_at
   calls_follow zero h g args next next' l = ends (Trapped TooDeep)
   calls_follow (suc n) h g args next next' l =
@@ -419,11 +434,11 @@ module _ (script : Script) (reading : Reading) where
       (record { plain = calls_follow n (omega arith); task = λ g' args'. same_task n g' args' (omega arith) })
       (find script g) args next next' l
 
-  tasks_follow : (b : Bool) (ps : List Parameter) (call : List Value → (Value → Run) → Run) (args : List Argument) →
-      ((vs : List Value) (next next' : Value → Run) → Follows next next' → Law (call vs next) (call (map (read reading) vs) next')) →
+  tasks_follow : (b : Bool) (ps : List Parameter) (call : List Value → (List Value → Run) → Run) (args : List Argument) →
+      ((vs : List Value) (next next' : List Value → Run) → FollowsAll next next' → Law (call vs next) (call (map (read reading) vs) next')) →
       Law (task_by b ps call args) (task_by b ps call (map (read_argument reading) args))
   tasks_follow true ps call args l = ends (Trapped TooDeep)
-  tasks_follow false ps call args l = dereferences ps args _ _ (λ vs. l vs _ _ (λ v. ends (Val v)))
+  tasks_follow false ps call args l = dereferences ps args _ _ (λ vs. l vs _ _ (λ ws. takes_only ws _ _ (λ v. ends (Val v))))
 
   pub births_follow : (b : Birth) → Law (run_birth script b) (run_birth script (read_birth reading b))
   births_follow (Put v) = ends (Val v)

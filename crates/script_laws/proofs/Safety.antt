@@ -2,11 +2,11 @@
 use Rattle.std.proofs.Common.{◌≡◌, ℕ, zero, suc, ◌-◌, Bool, true, false, List, [], ◌∷◌, ◌++◌, length, take, Option, Some, refl, sym, ap, ◌∙◌, subst, inl, inr, append_assoc, append-nil}
 use Rattle.std.specs.Prelude.{ℤ, pos, negsuc, nat_lt, if◌then◌else◌, ◌+ℤ◌, ◌-ℤ◌, ◌*ℤ◌, neg_ℤ, int_div, int_rem}
 use Rattle.meaning.specs.Values.{Name, Overflow, TooLong, Loop, Broken, Value, Int, Items, Named, Known, Values, none, more, Outcome, Val, Trapped, Argument, Id, values_of, count, item_at, push_onto}
-use Rattle.meaning.specs.Syntax.{Kind, Number, ListKind, RefKind, Operator, Add, Sub, Mul, Div, Rem, Equal, Unequal, Less, LessEqual, ItemAt, Push, Prefix, Negate, Len, Expr, Num, Var, Unary, Binary, ListOf, Empty, Call, Remote, PutOf, GetOf, Exprs, end, also, Stmt, Let, Set, Print, Return, If, For, Block, done, step, Parameter, Function, Script}
+use Rattle.meaning.specs.Syntax.{Kind, Number, ListKind, RefKind, Operator, Add, Sub, Mul, Div, Rem, Equal, Unequal, Less, LessEqual, ItemAt, Push, Prefix, Negate, Len, Expr, Num, Var, Unary, Binary, ListOf, Empty, Call, Remote, PutOf, GetOf, Exprs, end, also, Stmt, Let, LetCall, Set, Print, Return, If, For, Block, done, step, Parameter, Function, results, Script}
 use Rattle.meaning.specs.Runs.{Run, Ends, Prints, Bears, Gets, serial_end, serial_trace, piece, next_id}
 use Rattle.meaning.specs.Law.{prints_of}
-use Rattle.meaning.specs.Meaning.{broken, Variable, Scope, same_name, value_in, set_in, bind, bind_all, as_number, as_items, fits, in_range, quotient, remainder, found, index, push, on_numbers, apply, apply_one, is_zero, turn_count, proceed, mark, get_from, dereference, Calls, evaluate, evaluate_all, turns, turns_within, leave, execute, execute_all, find, parameters_of, enter, task_by, no_level, calls_below, call_at, run_task}
-use Rattle.meaning.specs.Kinds.{IsOf, AreOf, EndsIn, Typed, Context, kind_in, OperatorChecks, PrefixChecks, argument_kind, Checks, EachChecks, ArgumentsCheck, MarkedCheck, StmtChecks, BlockChecks, Returns, BlockReturns, ScopeOf, ArgumentsOf, MarkedOf, context_of, FunctionChecks, ScriptChecks, has_reference, IsPlain, ArePlain, AllPlain, IsSafe, AnswersFit, StopIsSound, AreSafe}
+use Rattle.meaning.specs.Meaning.{broken, Variable, Scope, same_name, value_in, set_in, bind, bind_each, bind_all, as_number, as_items, fits, in_range, quotient, remainder, found, index, push, on_numbers, apply, apply_one, is_zero, turn_count, proceed, mark, get_from, dereference, only, Calls, evaluate, evaluate_all, turns, turns_within, leave, execute, execute_all, find, parameters_of, enter, task_by, no_level, calls_below, call_at, run_task}
+use Rattle.meaning.specs.Kinds.{IsOf, AreOf, EndsIn, EachOf, Typed, Context, kind_in, OperatorChecks, PrefixChecks, argument_kind, Checks, EachChecks, ArgumentsCheck, MarkedCheck, ResultsCheck, Binds, StmtChecks, BlockChecks, Returns, BlockReturns, ScopeOf, ArgumentsOf, MarkedOf, context_of, FunctionChecks, ScriptChecks, has_reference, IsPlain, ArePlain, AllPlain, IsSafe, AnswersFit, StopIsSound, AreSafe}
 
 -- Operators
 
@@ -132,6 +132,9 @@ module _ (script : Script) where
   abbrev NextSafe : Kind → Kind → (Value → Run) → Type 0
   NextSafe u t next = (v : Value) → IsOf v u → IsSafe script (next v) t
 
+  abbrev AllSafe : List Kind → Kind → (List Value → Run) → Type 0
+  AllSafe us t next = (vs : List Value) → EachOf vs us → IsSafe script (next vs) t
+
   proceeds : (c : Outcome) (u t : Kind) (next : Value → Run) → EndsIn c u → NextSafe u t next → IsSafe script (proceed c next) t
   proceeds (Val v) u t next h l = l v h
   proceeds (Trapped e) u t next h l = h
@@ -166,13 +169,39 @@ module _ (script : Script) where
   extends_itself : (a : Context) → Extends a a
   extends_itself a = ([], sym (append-nil a))
 
-  stmt_extends : (s : Stmt) (result : Kind) (context after : Context) → StmtChecks s script result context after → Extends context after
+  binding_extends : (xs : List Name) (ts : List Kind) (context after : Context) → Binds xs ts context after → Extends context after
+  binding_extends [] [] context after h = subst (λ a. Extends context a) (sym h) (extends_itself context)
+  binding_extends [] (t ∷ ts) context after h = absurd h
+  binding_extends (x ∷ xs) [] context after h = absurd h
+  binding_extends (x ∷ xs) (t ∷ ts) context after h =
+      let with = context ++ record { name = x; kind = t } ∷ [] in
+      extends_all context with after (record { name = x; kind = t } ∷ [], refl) (binding_extends xs ts with after h)
+
+  stmt_extends : (s : Stmt) (result : List Kind) (context after : Context) → StmtChecks s script result context after → Extends context after
   stmt_extends (Let x e) result context after h = (record { name = x; kind = h.0 } ∷ [], h.2)
+  stmt_extends (LetCall x xs g args) result context after h = binding_extends (x ∷ xs) (results h.0) context after h.3
   stmt_extends (Set x e) result context after h = subst (λ a. Extends context a) (sym h.3) (extends_itself context)
   stmt_extends (Print e) result context after h = subst (λ a. Extends context a) (sym h.3) (extends_itself context)
-  stmt_extends (Return e) result context after h = subst (λ a. Extends context a) (sym h.1) (extends_itself context)
+  stmt_extends (Return es) result context after h = subst (λ a. Extends context a) (sym h.1) (extends_itself context)
   stmt_extends (If e a b) result context after h = subst (λ a. Extends context a) (sym h.3) (extends_itself context)
   stmt_extends (For x from to body) result context after h = subst (λ a. Extends context a) (sym h.3) (extends_itself context)
+
+  binds : (xs : List Name) (us : List Kind) (vs : List Value) (t : Kind) (context after : Context) (scope : Scope) (next : Scope → Run) → Binds xs us context after → EachOf vs us → ScopeOf scope context → ScopeSafe after t next → IsSafe script (bind_each broken scope xs vs next) t
+  binds [] [] [] t context after scope next h hvs so l = l scope (subst (λ a. ScopeOf scope a) (sym h) so)
+  binds [] [] (v ∷ vs) t context after scope next h hvs so l = absurd hvs
+  binds [] (u ∷ us) vs t context after scope next h hvs so l = absurd h
+  binds (x ∷ xs) [] vs t context after scope next h hvs so l = absurd h
+  binds (x ∷ xs) (u ∷ us) [] t context after scope next h hvs so l = absurd hvs
+  binds (x ∷ xs) (u ∷ us) (v ∷ vs) t context after scope next h hvs so l =
+      binds xs us vs t (context ++ record { name = x; kind = u } ∷ []) after (bind scope x v) next h hvs.1 (bound_scope scope context x v u so hvs.0) l
+
+  takes_only : (us : List Kind) (u : Kind) (vs : List Value) (t : Kind) (next : Value → Run) → us ≡ u ∷ [] → EachOf vs us → NextSafe u t next → IsSafe script (only vs next) t
+  takes_only us u vs t next e h l = one vs (subst (λ ks. EachOf vs ks) e h)
+    where
+      one : (ws : List Value) → EachOf ws (u ∷ []) → IsSafe script (only ws next) t
+      one [] k = absurd k
+      one (v ∷ []) k = l v k.0
+      one (v ∷ w ∷ ws) k = absurd k.1
 
   bound_all : (ps : List Parameter) (vs : List Value) (t : Kind) (next : Scope → Run) → ArgumentsOf vs ps → ScopeSafe (context_of ps) t next → IsSafe script (bind_all broken ps vs next) t
   bound_all [] [] t next h l = l [] tt
@@ -196,8 +225,8 @@ module _ (script : Script) where
 
   -- calls that never break
   record CallsSafe (calls : Calls) : Type 0 where
-    plain : (g : Name) (f : Function) → find script g ≡ Some f → (vs : List Value) (t : Kind) (next : Value → Run) → ArgumentsOf vs f.parameters → NextSafe f.result t next → IsSafe script (calls.plain g vs next) t
-    task : (g : Name) (f : Function) → find script g ≡ Some f → (args : List Argument) → MarkedOf args f.parameters → IsSafe script (calls.task g args) f.result
+    plain : (g : Name) (f : Function) → find script g ≡ Some f → (vs : List Value) (t : Kind) (next : List Value → Run) → ArgumentsOf vs f.parameters → AllSafe (results f) t next → IsSafe script (calls.plain g vs next) t
+    task : (g : Name) (f : Function) (u : Kind) → find script g ≡ Some f → results f ≡ u ∷ [] → (args : List Argument) → MarkedOf args f.parameters → IsSafe script (calls.task g args) u
 
   module _ (calls : Calls) (safe : CallsSafe calls) where
     mutual
@@ -212,9 +241,9 @@ module _ (script : Script) where
           evaluates_each es h.0 t context scope _ h.1 so (λ vs hvs. l (Items (values_of vs)) (subst (λ k. IsOf (Items (values_of vs)) k) (sym h.2) hvs))
       evaluates (Empty k) u t context scope next h so l = l (Items none) (subst (λ k. IsOf (Items none) k) (sym h) tt)
       evaluates (Call g args) u t context scope next h so l =
-          evaluates_args args h.0.parameters t context scope _ h.2 so (λ vs hvs. safe.plain g h.0 h.1 vs t next hvs (λ v hv. l v (subst (λ k. IsOf v k) (sym h.3) hv)))
+          evaluates_args args h.0.parameters t context scope _ h.2 so (λ vs hvs. safe.plain g h.0 h.1 vs t _ hvs (λ ws hws. takes_only (results h.0) u ws t next h.3 hws l))
       evaluates (Remote k g marks args) u t context scope next h so l =
-          evaluates_marked args marks h.0.parameters t context scope _ h.2 so (λ vs hvs. (h.0.result, (h.0, h.1, hvs, refl), safe.task g h.0 h.1 (mark vs marks) hvs, λ r hr. l r (subst (λ k. IsOf r k) (sym h.3) hr)))
+          evaluates_marked args marks h.0.parameters t context scope _ h.2 so (λ vs hvs. (h.3, (h.0, h.1, hvs, h.4), safe.task g h.0 h.3 h.1 h.4 (mark vs marks) hvs, λ r hr. l r (subst (λ k. IsOf r k) (sym h.5) hr)))
       evaluates (PutOf a) u t context scope next h so l =
           evaluates a h.0 t context scope _ h.1 so (λ v hv. (h.0, hv, hv, λ r hr. l r (subst (λ k. IsOf r k) (sym h.2) hr)))
       evaluates (GetOf k a) u t context scope next h so l =
@@ -241,6 +270,13 @@ module _ (script : Script) where
       evaluates_marked (also e es) (m ∷ ms) (p ∷ ps) t context scope next h so l =
           evaluates e (argument_kind m p.kind) t context scope _ h.0 so (λ v hv. evaluates_marked es ms ps t context scope _ h.1 so (λ vs hvs. l (v ∷ vs) (hv, hvs)))
 
+    evaluates_results : (es : Exprs) (us : List Kind) (t : Kind) (context : Context) (scope : Scope) (next : List Value → Run) → ResultsCheck script context es us → ScopeOf scope context → AllSafe us t next → IsSafe script (evaluate_all calls es scope next) t
+    evaluates_results end [] t context scope next h so l = l [] tt
+    evaluates_results end (u ∷ us) t context scope next h so l = absurd h
+    evaluates_results (also e es) [] t context scope next h so l = absurd h
+    evaluates_results (also e es) (u ∷ us) t context scope next h so l =
+        evaluates e u t context scope _ h.0 so (λ v hv. evaluates_results es us t context scope _ h.1 so (λ vs hvs. l (v ∷ vs) (hv, hvs)))
+
     left : (before : Scope) (context : Context) (t : Kind) (next : Scope → Run) → ScopeOf before context → ScopeSafe context t next → BlockSafe context t (leave calls before next)
     left before context t next sb l = λ scope after x so. l _ (taken scope before context x.0 sb (subst (λ a. ScopeOf scope a) x.1 so))
 
@@ -260,14 +296,17 @@ module _ (script : Script) where
         elim (nat_lt 10000 n) as (λ b. IsSafe script (if b then Ends (Trapped Loop) else turns calls n from body scope next) t) [ true ↦ tt | false ↦ run ]
 
     mutual
-      executes : (s : Stmt) (result t : Kind) (context after : Context) (scope : Scope) (next : Scope → Run) (return : Value → Run) → StmtChecks s script result context after → ScopeOf scope context → ScopeSafe after t next → NextSafe result t return → IsSafe script (execute calls s scope next return) t
+      executes : (s : Stmt) (result : List Kind) (t : Kind) (context after : Context) (scope : Scope) (next : Scope → Run) (return : List Value → Run) → StmtChecks s script result context after → ScopeOf scope context → ScopeSafe after t next → AllSafe result t return → IsSafe script (execute calls s scope next return) t
       executes (Let x e) result t context after scope next return h so l r =
           evaluates e h.0 t context scope _ h.1 so (λ v hv. l _ (subst (λ a. ScopeOf (bind scope x v) a) (sym h.2) (bound_scope scope context x v h.0 so hv)))
+      executes (LetCall x xs g args) result t context after scope next return h so l r =
+          evaluates_args args h.0.parameters t context scope _ h.2 so (λ vs hvs.
+          safe.plain g h.0 h.1 vs t _ hvs (λ ws hws. binds (x ∷ xs) (results h.0) ws t context after scope next h.3 hws so l))
       executes (Set x e) result t context after scope next return h so l r =
           evaluates e h.0 t context scope _ h.2 so (λ v hv. l _ (subst (λ a. ScopeOf (set_in scope x v) a) (sym h.3) (set_scope scope context x v h.0 so h.1 hv)))
       executes (Print e) result t context after scope next return h so l r =
           evaluates e h.0 t context scope _ h.1 so (λ v hv. (plain v h.0 hv h.2, l scope (subst (λ a. ScopeOf scope a) (sym h.3) so)))
-      executes (Return e) result t context after scope next return h so l r = evaluates e result t context scope return h.0 so r
+      executes (Return es) result t context after scope next return h so l r = evaluates_results es result t context scope return h.0 so r
       executes (If e a b) result t context after scope next return h so l r =
           let l' : ScopeSafe context t next = subst (λ a. ScopeSafe a t next) h.3 l in
           evaluates e Number t context scope _ h.0 so (λ v hv. number_runs v t _ hv (λ n. choice n t _ _
@@ -282,7 +321,7 @@ module _ (script : Script) where
           (λ scope' after' x' so'. left before context t k sb lk scope' after' (extends_all context (context ++ record { name = x; kind = Number } ∷ []) after' (record { name = x; kind = Number } ∷ [], refl) x') so') r)
           so l'))))
 
-      executes_all : (b : Block) (result t : Kind) (context : Context) (scope : Scope) (next : Scope → Run) (return : Value → Run) → BlockChecks b script result context → ScopeOf scope context → BlockSafe context t next → NextSafe result t return → IsSafe script (execute_all calls b scope next return) t
+      executes_all : (b : Block) (result : List Kind) (t : Kind) (context : Context) (scope : Scope) (next : Scope → Run) (return : List Value → Run) → BlockChecks b script result context → ScopeOf scope context → BlockSafe context t next → AllSafe result t return → IsSafe script (execute_all calls b scope next return) t
       executes_all done result t context scope next return h so l r = l scope context (extends_itself context) so
       executes_all (step s rest) result t context scope next return h so l r =
           executes s result t context h.0 scope _ return h.1 so
@@ -290,24 +329,25 @@ module _ (script : Script) where
 
     -- what returns never goes on
     mutual
-      returns : (s : Stmt) (result t : Kind) (context after : Context) (scope : Scope) (next : Scope → Run) (return : Value → Run) → Returns s → StmtChecks s script result context after → ScopeOf scope context → NextSafe result t return → IsSafe script (execute calls s scope next return) t
+      returns : (s : Stmt) (result : List Kind) (t : Kind) (context after : Context) (scope : Scope) (next : Scope → Run) (return : List Value → Run) → Returns s → StmtChecks s script result context after → ScopeOf scope context → AllSafe result t return → IsSafe script (execute calls s scope next return) t
       returns (Let x e) result t context after scope next return m h so r = absurd m
+      returns (LetCall x xs g args) result t context after scope next return m h so r = absurd m
       returns (Set x e) result t context after scope next return m h so r = absurd m
       returns (Print e) result t context after scope next return m h so r = absurd m
-      returns (Return e) result t context after scope next return m h so r = evaluates e result t context scope return h.0 so r
+      returns (Return es) result t context after scope next return m h so r = evaluates_results es result t context scope return h.0 so r
       returns (If e a b) result t context after scope next return m h so r =
           evaluates e Number t context scope _ h.0 so (λ v hv. number_runs v t _ hv (λ n. choice n t _ _
           (returns_all a result t context scope _ return m.0 h.1 so r) (returns_all b result t context scope _ return m.1 h.2 so r)))
       returns (For x from to body) result t context after scope next return m h so r = absurd m
 
-      returns_all : (b : Block) (result t : Kind) (context : Context) (scope : Scope) (next : Scope → Run) (return : Value → Run) → BlockReturns b → BlockChecks b script result context → ScopeOf scope context → NextSafe result t return → IsSafe script (execute_all calls b scope next return) t
+      returns_all : (b : Block) (result : List Kind) (t : Kind) (context : Context) (scope : Scope) (next : Scope → Run) (return : List Value → Run) → BlockReturns b → BlockChecks b script result context → ScopeOf scope context → AllSafe result t return → IsSafe script (execute_all calls b scope next return) t
       returns_all done result t context scope next return m h so r = absurd m
       returns_all (step s rest) result t context scope next return (inl m) h so r = returns s result t context h.0 scope _ return m h.1 so r
       returns_all (step s rest) result t context scope next return (inr m) h so r =
           executes s result t context h.0 scope _ return h.1 so (λ scope' so'. returns_all rest result t h.0 scope' next return m h.2 so' r) r
 
-    entered : (f : Function) (vs : List Value) (t : Kind) (next : Value → Run) → FunctionChecks script f → ArgumentsOf vs f.parameters → NextSafe f.result t next → IsSafe script (enter calls (Some f) vs next) t
-    entered f vs t next h hvs l = bound_all f.parameters vs t _ hvs (λ scope so. returns_all f.body f.result t (context_of f.parameters) scope _ next h.returns h.body so l)
+    entered : (f : Function) (vs : List Value) (t : Kind) (next : List Value → Run) → FunctionChecks script f → ArgumentsOf vs f.parameters → AllSafe (results f) t next → IsSafe script (enter calls (Some f) vs next) t
+    entered f vs t next h hvs l = bound_all f.parameters vs t _ hvs (λ scope so. returns_all f.body (results f) t (context_of f.parameters) scope _ next h.returns h.body so l)
 
   dereferenced : (ps : List Parameter) (args : List Argument) (t : Kind) (next : List Value → Run) → MarkedOf args ps → ((vs : List Value) → ArgumentsOf vs ps → IsSafe script (next vs) t) → IsSafe script (dereference ps args next) t
   dereferenced [] [] t next h l = l [] tt
@@ -320,14 +360,14 @@ module _ (script : Script) where
       go true k rest = gets p.kind t a.value _ k rest
       go false k rest = rest a.value k
 
-  tasks_safe : (b : Bool) (call : Name → List Value → (Value → Run) → Run) → ((g : Name) (f : Function) → find script g ≡ Some f → (vs : List Value) (t : Kind) (next : Value → Run) → ArgumentsOf vs f.parameters → NextSafe f.result t next → IsSafe script (call g vs next) t) → (g : Name) (f : Function) → find script g ≡ Some f → (args : List Argument) → MarkedOf args f.parameters → IsSafe script (task_by b (parameters_of (find script g)) (call g) args) f.result
-  tasks_safe true call l g f e args h = tt
-  tasks_safe false call l g f e args h =
-      subst (λ o. IsSafe script (dereference (parameters_of o) args (λ vs. call g vs (λ v. Ends (Val v)))) f.result) (sym e)
-      (dereferenced f.parameters args f.result _ h (λ vs hvs. l g f e vs f.result _ hvs (λ v hv. hv)))
+  tasks_safe : (b : Bool) (call : Name → List Value → (List Value → Run) → Run) → ((g : Name) (f : Function) → find script g ≡ Some f → (vs : List Value) (t : Kind) (next : List Value → Run) → ArgumentsOf vs f.parameters → AllSafe (results f) t next → IsSafe script (call g vs next) t) → (g : Name) (f : Function) (u : Kind) → find script g ≡ Some f → results f ≡ u ∷ [] → (args : List Argument) → MarkedOf args f.parameters → IsSafe script (task_by b (parameters_of (find script g)) (call g) args) u
+  tasks_safe true call l g f u e one args h = tt
+  tasks_safe false call l g f u e one args h =
+      subst (λ o. IsSafe script (dereference (parameters_of o) args (λ vs. call g vs (λ ws. only ws (λ v. Ends (Val v))))) u) (sym e)
+      (dereferenced f.parameters args u _ h (λ vs hvs. l g f e vs u _ hvs (λ ws hws. takes_only (results f) u ws u _ one hws (λ v hv. hv))))
 
   module _ (checks : ScriptChecks script script) where
-    calls_safe : (n : ℕ) → (g : Name) (f : Function) → find script g ≡ Some f → (vs : List Value) (t : Kind) (next : Value → Run) → ArgumentsOf vs f.parameters → NextSafe f.result t next → IsSafe script (call_at script n g vs next) t
+    calls_safe : (n : ℕ) → (g : Name) (f : Function) → find script g ≡ Some f → (vs : List Value) (t : Kind) (next : List Value → Run) → ArgumentsOf vs f.parameters → AllSafe (results f) t next → IsSafe script (call_at script n g vs next) t
     unfolding call_at
     calls_safe zero g f e vs t next hvs l = tt
     calls_safe (suc n) g f e vs t next hvs l =
@@ -335,8 +375,8 @@ module _ (script : Script) where
         (entered (calls_below script n) (record { plain = calls_safe n; task = tasks_safe (no_level n) (call_at script n) (calls_safe n) }) f vs t next (found_checks script g f checks e) hvs l)
 
     -- a task with arguments of the kinds asked for is safe
-    pub run_is_safe : (g : Name) (f : Function) (args : List Argument) (depth : ℕ) → find script g ≡ Some f → MarkedOf args f.parameters → IsSafe script (run_task script g args depth) f.result
-    run_is_safe g f args depth e h = tasks_safe (nat_lt 32 depth) (call_at script (33 - depth)) (calls_safe (33 - depth)) g f e args h
+    pub run_is_safe : (g : Name) (f : Function) (u : Kind) (args : List Argument) (depth : ℕ) → find script g ≡ Some f → results f ≡ u ∷ [] → MarkedOf args f.parameters → IsSafe script (run_task script g args depth) u
+    run_is_safe g f u args depth e one h = tasks_safe (nat_lt 32 depth) (call_at script (33 - depth)) (calls_safe (33 - depth)) g f u e one args h
 
   -- a safe run ends serially with a value of its kind, or with a trap of the script
   pub serial_is_sound : (run : Run) (t : Kind) → IsSafe script run t → EndsIn (serial_end run) t
@@ -378,12 +418,12 @@ module _ (script : Script) where
   prints_plain (Gets u r next) t base (Trapped e ∷ answers) h f = tt
 
 pub are_safe : AreSafe
-are_safe script checks g f args depth base answers e h fit =
+are_safe script checks g f u args depth base answers e one h fit =
     let run = run_task script g args depth in
-    let safe = run_is_safe script checks g f args depth e h in
+    let safe = run_is_safe script checks g f u args depth e one h in
     record {
-      serial = serial_is_sound script run f.result safe;
-      serial_prints = serial_prints_plain script run f.result safe;
-      stop = piece_is_sound script run f.result base answers safe fit;
-      prints = prints_plain script run f.result base answers safe fit;
+      serial = serial_is_sound script run u safe;
+      serial_prints = serial_prints_plain script run u safe;
+      stop = piece_is_sound script run u base answers safe fit;
+      prints = prints_plain script run u base answers safe fit;
     }

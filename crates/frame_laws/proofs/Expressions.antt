@@ -41,6 +41,8 @@ use Rattle.meaning.specs.Meaning.{
   apply_one,
   get_from,
   is_reference,
+  broken,
+  only,
   mark,
   evaluate,
   evaluate_all,
@@ -54,7 +56,22 @@ use Rattle.meaning.specs.Meaning.{
 }
 use Rattle.std.proofs.lemmas.Bool.Decides.{nat_tests}
 use Rattle.frame_laws.specs.Instructions.{Operand, Slot, Const, Instruction, Load, One, Two, Collect, Enter, Spawn, PutIn, Fetch, Wrong}
-use Rattle.frame_laws.specs.Compile.{Names, place_in, slot_or, wrong_unless, operand_code, operand_of, past, how_many, number_of, expr_code, exprs_code}
+use Rattle.frame_laws.specs.Compile.{
+  Names,
+  place_in,
+  slot_or,
+  wrong_unless,
+  operand_code,
+  operand_of,
+  past,
+  how_many,
+  number_of,
+  expr_code,
+  exprs_code,
+  whole_operand,
+  operands_code,
+  operands_of,
+}
 use Rattle.frame_laws.specs.Machine.{
   Caller,
   State,
@@ -64,8 +81,10 @@ use Rattle.frame_laws.specs.Machine.{
   Bore,
   act_broken,
   put_at,
+  put_all,
   operand_value,
   on_value,
+  on_values,
   on_outcome,
   write,
   values_at,
@@ -130,16 +149,17 @@ same_task script (suc n) g args h =
 
 module _ (script : Script) (code : Code) (limit n : ℕ) (few : n ≤ 32) where
   -- a return to the call
-  abbrev pub returned : State → ℕ → Value → List Value → State
-  returned now to v registers = record { pc = now.pc + 1; base = now.base; registers = put_at registers (now.base + to) v; callers = now.callers }
+  abbrev pub returned : State → ℕ → List Value → List Value → State
+  returned now to ws registers = record { pc = now.pc + 1; base = now.base; registers = put_all registers (now.base + to) ws; callers = now.callers }
 
-  -- the machine does plain calls where that many levels are left
+  -- the machine does plain calls where that many levels are left; another number of results is wrong
   abbrev pub CallsDo : Type 0
   CallsDo =
-      (g : Name) (vs : List Value) (next : Value → Run) (now : State) (first to : ℕ) (low : List Value) →
-      slice_get code.instructions now.pc ≡ Some (Enter (number_of script g (length vs)) first to) → length now.callers + n ≡ limit →
+      (g : Name) (vs : List Value) (next : List Value → Run) (now : State) (first to results : ℕ) (low : List Value) →
+      slice_get code.instructions now.pc ≡ Some (Enter (number_of script g (length vs)) first to results) → length now.callers + n ≡ limit →
       length low ≡ now.base + first → Holds (low ++ vs) now.registers →
-      ((v : Value) (registers : List Value) → Holds low registers → Does code limit script (next v) (returned now to v registers)) →
+      ((ws registers : List Value) → length ws ≡ results → Holds low registers → Does code limit script (next ws) (returned now to ws registers)) →
+      ((ws : List Value) → (length ws ≡ results → ⊥) → next ws ≡ broken) →
       Does code limit script (call_at script n g vs next) now
 
   module _ (calls : CallsDo) (base : ℕ) (callers : List Caller) (levels : length callers + n ≡ limit) (names : Names) where
@@ -247,6 +267,34 @@ module _ (script : Script) (code : Code) (limit n : ℕ) (few : n ≤ 32) where
     operand_does (PutOf a) does d pc low registers scope next h e f held go = does d d pc low registers scope next h e f held (temporary d _ pc low next e go)
     operand_does (GetOf t a) does d pc low registers scope next h e f held go = does d d pc low registers scope next h e f held (temporary d _ pc low next e go)
 
+    -- the operands have the values, as long as these registers keep theirs
+    abbrev pub GiveAll : List Operand → List Value → List Value → Type 0
+    GiveAll as' low vs = (registers : List Value) (go : List Value → Act) → Holds low registers → on_values registers base as' go ≡ go vs
+
+    pub operands_do : ((e : Expr) → ExprDoes e) → (es : Exprs) (d pc : ℕ) (low registers : List Value) (scope : Scope) (next : List Value → Run) →
+        HasAt code.instructions pc (operands_code script names es d) → length low ≡ base + d → Fits base names low scope → Holds low registers →
+        ((vs more registers' : List Value) → Holds (low ++ more) registers' → GiveAll (operands_of script names es d) (low ++ more) vs →
+        Goes (next vs) (pc + length (operands_code script names es d)) registers') →
+        Goes (evaluate_all (calls_below script n) es scope next) pc registers
+    operands_do does end d pc low registers scope next h e f held go =
+        moved (next []) (pc + 0) pc registers (omega arith)
+        (go [] [] registers (subst (λ l. Holds l registers) (sym (append-nil low)) held) (λ r g hr. refl))
+    operands_do does (also x xs) d pc low registers scope next h e f held go =
+        let c = whole_operand script names x d in
+        let cs = operands_code script names xs (past x d) in
+        operand_does x (does x) d pc low registers scope _ (has_front code.instructions pc c cs h) e f held
+        (λ v more registers' l hs gives. operands_do does xs (past x d) (pc + length c) (low ++ more) registers' scope _
+        (has_back code.instructions pc c cs h) l (fits_more base names low more scope f) hs
+        (λ vs more2 registers2 hs2 give.
+        let same : (low ++ more) ++ more2 ≡ low ++ (more ++ more2) = append_assoc low more more2 in
+        moved (next (v ∷ vs)) _ _ registers2 (omega (arith, length-append c cs))
+        (go (v ∷ vs) (more ++ more2) registers2 (subst (λ l'. Holds l' registers2) same hs2)
+        (λ r g hr.
+        let hr2 : Holds ((low ++ more) ++ more2) r = subst (λ l'. Holds l' r) (sym same) hr in
+        ap (λ o. on_value o (λ w. on_values r base (operands_of script names xs (past x d)) (λ ws. g (w ∷ ws))))
+        (gives r (holds_less (low ++ more) more2 r hr2))
+        ∙ give r (λ ws. g (v ∷ ws)) hr2))))
+
     -- the last instruction of code
     pub last_at : (pc : ℕ) (a : List Instruction) (i : Instruction) → HasAt code.instructions pc (a ++ i ∷ []) → IsAt (pc + length a) i
     last_at pc a i h = (has_back code.instructions pc a (i ∷ []) h).0
@@ -280,6 +328,18 @@ module _ (script : Script) (code : Code) (limit n : ℕ) (few : n ≤ 32) where
         at_once code limit (at pc registers) (base + to, fetched code limit (at pc registers) (Fetch to a) _ h (ap (asks to) e), go)
     fetch_does t to pc a (Known c) registers next h e go =
         at_once code limit (at pc registers) (base + to, fetched code limit (at pc registers) (Fetch to a) _ h (ap (asks to) e), go)
+
+    -- one result
+    takes_one : (next : Value → Run) (pc to : ℕ) (registers : List Value) → ((r : Value) → Goes (next r) pc (put_at registers (base + to) r)) →
+        (rs : List Value) → length rs ≡ 1 → Goes (only rs next) pc (put_all registers (base + to) rs)
+    takes_one next pc to registers go [] l = absurd (omega arith)
+    takes_one next pc to registers go (r ∷ []) l = go r
+    takes_one next pc to registers go (r ∷ q ∷ rs) l = absurd (omega arith)
+
+    takes_no_other : (next : Value → Run) (ws : List Value) → (length ws ≡ 1 → ⊥) → only ws next ≡ broken
+    takes_no_other next [] h = refl
+    takes_no_other next (w ∷ []) h = absurd (h refl)
+    takes_no_other next (w ∷ x ∷ ws) h = refl
 
     -- a birth
     put_does : (to pc : ℕ) (a : Operand) (v : Value) (registers : List Value) (next : Value → Run) → IsAt pc (PutIn to a) →
@@ -354,11 +414,13 @@ module _ (script : Script) (code : Code) (limit n : ℕ) (few : n ≤ 32) where
           writes pc to (Collect to d 0) (Items (values_of [])) registers (next (Items (values_of []))) h.0 refl (go (Items (values_of [])) registers held)
       expr_does (Call g args) to d pc low registers scope next h e f held go =
           let c = exprs_code script names args d in
-          let i = Enter (number_of script g (how_many args)) d to in
+          let i = Enter (number_of script g (how_many args)) d to 1 in
           exprs_do args d pc low registers scope _ (has_front code.instructions pc c (i ∷ []) h) e f held
-          (λ vs registers' l hs. calls g vs next (at (pc + length c) registers') d to low (last_at pc c i h
-          ∙ ap (λ m. Some (Enter (number_of script g m) d to)) (sym l)) levels e hs
-          (λ v registers2 hs2. moved (next v) _ _ _ (ends_at pc c i) (go v registers2 hs2)))
+          (λ vs registers' l hs. calls g vs (λ ws. only ws next) (at (pc + length c) registers') d to 1 low (last_at pc c i h
+          ∙ ap (λ m. Some (Enter (number_of script g m) d to 1)) (sym l)) levels e hs
+          (λ ws registers2 lw hs2. takes_one next (pc + length c + 1) to registers2
+          (λ v. moved (next v) _ _ _ (ends_at pc c i) (go v registers2 hs2)) ws lw)
+          (takes_no_other next))
       expr_does (Remote k g ms args) to d pc low registers scope next h e f held go =
           let c = exprs_code script names args d in
           let i = Spawn k g ms d (how_many args) to in

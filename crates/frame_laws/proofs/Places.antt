@@ -1,9 +1,30 @@
 -- What stands at a place.
-use Rattle.std.proofs.Common.{◌≡◌, ℕ, zero, suc, ◌+◌, ◌<◌, List, [], ◌∷◌, ◌++◌, length, take, Some, refl, subst, arith}
+use Rattle.std.proofs.Common.{
+  ◌≡◌,
+  ℕ,
+  zero,
+  suc,
+  ◌+◌,
+  ◌<◌,
+  List,
+  [],
+  ◌∷◌,
+  ◌++◌,
+  length,
+  take,
+  Some,
+  refl,
+  sym,
+  subst,
+  arith,
+  append-nil,
+  append_assoc,
+  length-append,
+}
 use Rattle.std.specs.Prelude.{slice_get, slice_set}
 use Rattle.meaning.specs.Values.{Value}
 use Rattle.frame_laws.specs.Instructions.{Instruction}
-use Rattle.frame_laws.specs.Machine.{put_at}
+use Rattle.frame_laws.specs.Machine.{put_at, put_all}
 
 -- the instructions stand in the code at this place
 abbrev pub HasAt : List Instruction → ℕ → List Instruction → Type 0
@@ -43,6 +64,14 @@ holds_put (x ∷ low) [] i w e h k v g = absurd (let c = h zero x refl in cc)
 holds_put (x ∷ low) (r ∷ registers) zero w e h k v g = absurd (omega arith)
 holds_put (x ∷ low) (r ∷ registers) (suc i) w e h zero v g = h zero v g
 holds_put (x ∷ low) (r ∷ registers) (suc i) w e h (suc k) v g = holds_put low registers i w (omega arith) (λ j u f. h (suc j) u f) k v g
+
+-- the next registers are written
+pub holds_put_all : (low registers : List Value) (i : ℕ) (ws : List Value) → i ≡ length low → Holds low registers → Holds (low ++ ws) (put_all registers i ws)
+holds_put_all low registers i [] e h = subst (λ xs. Holds xs registers) (sym (append-nil low)) h
+holds_put_all low registers i (w ∷ ws) e h =
+    let next : i + 1 ≡ length (low ++ w ∷ []) = omega (arith, e, length-append low (w ∷ [])) in
+    subst (λ xs. Holds xs (put_all (put_at registers i w) (i + 1) ws)) (append_assoc low (w ∷ []) ws)
+    (holds_put_all (low ++ w ∷ []) (put_at registers i w) (i + 1) ws next (holds_put low registers i w e h))
 
 -- a register that is held is written
 pub holds_set : (low registers : List Value) (i : ℕ) (w : Value) → i < length low → Holds low registers → Holds (slice_set low i w) (put_at registers i w)

@@ -31,8 +31,8 @@ use Rattle.std.proofs.Common.{
   append-nil,
 }
 use Rattle.std.specs.Prelude.{slice_get, slice_set, ℤ, pos, ◌+ℤ◌, ◌-ℤ◌, int_lt, nat_lt, if◌then◌else◌}
-use Rattle.meaning.specs.Values.{Name, Trapped, Loop, Value, Int, Items, Named, Known, Outcome}
-use Rattle.meaning.specs.Syntax.{Expr, Stmt, Let, Set, Print, Return, If, For, Block, done, step, Script}
+use Rattle.meaning.specs.Values.{Name, Loop, Value, Int, Items, Named, Known, Trapped, Outcome}
+use Rattle.meaning.specs.Syntax.{Expr, Stmt, Let, LetCall, Set, Print, Return, If, For, Block, done, step, Script}
 use Rattle.meaning.specs.Runs.{Run, Ends, Prints}
 use Rattle.meaning.specs.Meaning.{
   Scope,
@@ -44,18 +44,25 @@ use Rattle.meaning.specs.Meaning.{
   turns_within,
   leave,
   bind,
+  bind_each,
   set_in,
   evaluate,
   execute,
   execute_all,
   calls_below,
 }
-use Rattle.frame_laws.specs.Instructions.{Operand, Instruction, Show, Back, SkipZero, Skip, Begin, Again}
+use Rattle.frame_laws.specs.Instructions.{Operand, Instruction, Enter, Show, Back, SkipZero, Skip, Begin, Again}
 use Rattle.frame_laws.specs.Compile.{
   Names,
   place_in,
   place_or,
   names_after,
+  names_of,
+  how_many,
+  number_of,
+  exprs_code,
+  operands_code,
+  operands_of,
   loop_names,
   if_code,
   loop_code,
@@ -75,6 +82,7 @@ use Rattle.frame_laws.specs.Machine.{
   Shows,
   put_at,
   operand_value,
+  put_all,
   on_value,
   on_number,
   goes_to,
@@ -86,9 +94,9 @@ use Rattle.frame_laws.specs.Machine.{
   act,
   Does,
 }
-use Rattle.frame_laws.proofs.Places.{HasAt, has_front, has_back, Holds, holds_less, holds_put, holds_set}
+use Rattle.frame_laws.proofs.Places.{HasAt, has_front, has_back, Holds, holds_less, holds_put, holds_put_all, holds_set}
 use Rattle.frame_laws.proofs.Steps.{sooner, at_once, fetched}
-use Rattle.frame_laws.proofs.Expressions.{CallsDo, expr_does, operand_does, fits_more}
+use Rattle.frame_laws.proofs.Expressions.{CallsDo, expr_does, exprs_do, operand_does, operands_do, fits_more}
 use Rattle.frame_laws.proofs.Scopes.{
   scope_at,
   scope_fits,
@@ -99,6 +107,9 @@ use Rattle.frame_laws.proofs.Scopes.{
   keeps_front,
   keeps_take,
   scope_bind,
+  scope_bind_all,
+  bind_no_other,
+  names_counted,
   scope_turn,
   scope_left,
   IsSetBy,
@@ -115,6 +126,7 @@ use Rattle.frame_laws.proofs.Scopes.{
 -- names are only added
 names_grow : (names : Names) (s : Stmt) → (more : Names) × (names_after names s ≡ names ++ more)
 names_grow names (Let x e) = (Some x ∷ [], refl)
+names_grow names (LetCall x xs g args) = (names_of (x ∷ xs), refl)
 names_grow names (Set x e) = ([], sym (append-nil names))
 names_grow names (Print e) = ([], sym (append-nil names))
 names_grow names (Return e) = ([], sym (append-nil names))
@@ -148,14 +160,14 @@ module _ (script : Script) (code : Code) (limit n : ℕ) (few : n ≤ 32) (calls
   over pc i registers c h e = at_once code limit (at pc registers) (fetched code limit (at pc registers) i _ h e)
 
   -- what follows a return
-  abbrev pub Returns : (Value → Run) → Type 0
+  abbrev pub Returns : (List Value → Run) → Type 0
   Returns return =
-      (v : Value) (pc : ℕ) (registers : List Value) → Holds below registers → act code limit (at pc registers) ≡ go_back registers base callers v →
-      Goes (return v) pc registers
+      (vs : List Value) (pc : ℕ) (registers : List Value) → Holds below registers → act code limit (at pc registers) ≡ go_back registers base callers vs →
+      Goes (return vs) pc registers
 
   abbrev pub StmtDoes : Stmt → Type 0
   StmtDoes s =
-      (names : Names) (pc : ℕ) (vals registers : List Value) (next : Scope → Run) (return : Value → Run) →
+      (names : Names) (pc : ℕ) (vals registers : List Value) (next : Scope → Run) (return : List Value → Run) →
       HasAt code.instructions pc (stmt_code script names s) → length vals ≡ length names → Holds (below ++ vals) registers →
       ((vals' registers' : List Value) → length vals' ≡ length (names_after names s) → Keeps names vals vals' → Holds (below ++ vals') registers' →
       Goes (next (scope_at (names_after names s) vals')) (pc + length (stmt_code script names s)) registers') →
@@ -163,7 +175,7 @@ module _ (script : Script) (code : Code) (limit n : ℕ) (few : n ≤ 32) (calls
 
   abbrev pub BlockDoes : Block → Type 0
   BlockDoes b =
-      (names : Names) (pc : ℕ) (vals registers : List Value) (next : Scope → Run) (return : Value → Run) →
+      (names : Names) (pc : ℕ) (vals registers : List Value) (next : Scope → Run) (return : List Value → Run) →
       HasAt code.instructions pc (block_code script names b) → length vals ≡ length names → Holds (below ++ vals) registers →
       ((more : Names) (vals' registers' : List Value) → length vals' ≡ length (names ++ more) → Keeps names vals vals' → Holds (below ++ vals') registers' →
       Goes (next (scope_at (names ++ more) vals')) (pc + length (block_code script names b)) registers') →
@@ -245,7 +257,7 @@ module _ (script : Script) (code : Code) (limit n : ℕ) (few : n ≤ 32) (calls
   -- the turns of a loop
   module _ (names : Names) (x : Name) (body : Block) (does : BlockDoes body) (start : ℕ) (has : HasAt code.instructions start
       (loop_code (length names) (block_code script (loop_names names x) body)))
-      (first : List Value) (next : Scope → Run) (return : Value → Run)
+      (first : List Value) (next : Scope → Run) (return : List Value → Run)
       (after : (vals registers : List Value) → length vals ≡ length names → Keeps names first vals → Holds (below ++ vals) registers →
       Goes (next (scope_at names vals)) (start + length (loop_code (length names) (block_code script (loop_names names x) body))) registers)
       (returns : Returns return) where
@@ -510,8 +522,37 @@ module _ (script : Script) (code : Code) (limit n : ℕ) (few : n ≤ 32) (calls
   show_goes pc a v registers next h e g =
       at_once code limit (at pc registers) (fetched code limit (at pc registers) (Show a) _ h (ap (λ o. on_value o (λ w. Shows w)) e), g)
 
+  -- results into the registers of new variables
+  bound_goes : (xs : List Name) (ws : List Value) (names : Names) (pc : ℕ) (vals registers : List Value) (next : Scope → Run) → length vals ≡ length names →
+      length ws ≡ length xs → Holds (below ++ vals) registers →
+      ((vals' registers' : List Value) → length vals' ≡ length (names ++ names_of xs) → Keeps names vals vals' → Holds (below ++ vals') registers' →
+      Goes (next (scope_at (names ++ names_of xs) vals')) pc registers') →
+      Goes (bind_each broken (scope_at names vals) xs ws next) pc (put_all registers (base + length names) ws)
+  bound_goes xs ws names pc vals registers next l lw held go =
+      let low = low_length names vals l in
+      let counted = names_counted xs in
+      let h2 = holds_put_all (below ++ vals) registers (base + length names) ws (sym low) held in
+      same_run _ _ pc _ (sym (scope_bind_all xs ws names vals next l lw))
+      (go (vals ++ ws) (put_all registers (base + length names) ws) (omega (arith, l, lw, counted, length-append vals ws, length-append names (names_of xs)))
+      (keeps_append names vals ws l)
+      (subst (λ ys. Holds ys (put_all registers (base + length names) ws)) (append_assoc below vals ws) h2))
+
   mutual
     pub stmt_does : (s : Stmt) → StmtDoes s
+    stmt_does (LetCall x xs g args) names pc vals registers next return h l held go returns =
+        let d = length names in
+        let c = exprs_code script names args d in
+        let i = Enter (number_of script g (how_many args)) d d (length (x ∷ xs)) in
+        let low = low_length names vals l in
+        exprs_do script code limit n few calls base callers levels names args d pc (below ++ vals) registers (scope_at names vals) _
+        (has_front code.instructions pc c (i ∷ []) h) low (scope_fits names below vals base eb l) held
+        (λ vs registers' l' hs. calls g vs (λ ws. bind_each broken (scope_at names vals) (x ∷ xs) ws next) (at (pc + length c) registers') d d (length (x ∷ xs))
+        (below ++ vals)
+        ((has_back code.instructions pc c (i ∷ []) h).0 ∙ ap (λ m. Some (Enter (number_of script g m) d d (length (x ∷ xs)))) (sym l')) levels low hs
+        (λ ws registers2 lw hs2. bound_goes (x ∷ xs) ws names (pc + length c + 1) vals registers2 next l lw hs2
+        (λ vals3 registers3 l3 k3 held3. moved (next (scope_at (names ++ names_of (x ∷ xs)) vals3)) _ _ registers3 (omega (arith, length-append c (i ∷ [])))
+        (go vals3 registers3 l3 k3 held3)))
+        (λ ws wrong. bind_no_other (x ∷ xs) ws (scope_at names vals) next wrong))
     stmt_does (Let x e) names pc vals registers next return h l held go returns =
         into e names (length names) pc vals registers _ h l held
         (λ v registers' hs.
@@ -531,13 +572,16 @@ module _ (script : Script) (code : Code) (limit n : ℕ) (few : n ≤ 32) (calls
         (λ v registers' hs given. show_goes (pc + length c) (operand_of names e (length names)) v registers' _ (has_back code.instructions pc c (i ∷ []) h).0
         given
         (moved (next (scope_at names vals)) _ _ registers' (omega (arith, length-append c (i ∷ []))) (go vals registers' l (keeps_all names vals) hs)))
-    stmt_does (Return e) names pc vals registers next return h l held go returns =
-        let c = whole_operand script names e (length names) in
-        let i = Back (operand_of names e (length names)) in
-        operand e names pc vals registers return (has_front code.instructions pc c (i ∷ []) h) l held
-        (λ v registers' hs given. returns v (pc + length c) registers' (holds_less below vals registers' hs)
+    stmt_does (Return es) names pc vals registers next return h l held go returns =
+        let c = operands_code script names es (length names) in
+        let i = Back (operands_of script names es (length names)) in
+        operands_do script code limit n few calls base callers levels names (expr_does script code limit n few calls base callers levels names) es
+        (length names) pc (below ++ vals) registers (scope_at names vals) return (has_front code.instructions pc c (i ∷ []) h) (low_length names vals l)
+        (scope_fits names below vals base eb l) held
+        (λ vs more registers' hs give. returns vs (pc + length c) registers'
+        (holds_less below vals registers' (holds_less (below ++ vals) more registers' hs))
         (fetched code limit (at (pc + length c) registers') i _ (has_back code.instructions pc c (i ∷ []) h).0
-        (ap (λ o. on_value o (λ w. go_back registers' base callers w)) given)))
+        (give registers' (λ ws. go_back registers' base callers ws) hs)))
     stmt_does (If e a b) names pc vals registers next return h l held go returns =
         let c = whole_operand script names e (length names) in
         let o = operand_of names e (length names) in

@@ -1,9 +1,9 @@
 -- Worked examples of code, and of what the machine does on it.
 use Rattle.std.specs.Prelude.{ℕ, zero, suc, ◌+◌, true, false, List, [], ◌∷◌, pos, codes, slice_get}
 use Rattle.meaning.specs.Values.{Value, Int, Named, Outcome, Argument, Birth, Task, main_name, main_birth}
-use Rattle.meaning.specs.Syntax.{Add, Mul, Div, Binary, Script}
-use Rattle.meaning.specs.Examples.{square, sq, object, number, just}
-use Rattle.frame_laws.specs.Instructions.{Instruction, Slot, Const, Load, Two, Spawn, Fetch, Show, Back, SkipZero, Wrong}
+use Rattle.meaning.specs.Syntax.{Add, Mul, Div, Rem, ItemAt, Binary, Call, Script}
+use Rattle.meaning.specs.Examples.{square, sq, parts, object, number, each, give, just, script_of}
+use Rattle.frame_laws.specs.Instructions.{Instruction, Slot, Const, Load, Two, Collect, Enter, Spawn, Fetch, Show, Back, SkipZero, Wrong}
 use Rattle.frame_laws.specs.Compile.{number_of}
 use Rattle.frame_laws.specs.Machine.{State, Code, Act, Silent, Over, Asks, Bore, Shows, resume, goes_to, act}
 use Rattle.frame_laws.specs.Law.{code_of, entry_or, first_state}
@@ -37,12 +37,12 @@ main_state script = standing (entry_or 0 (slice_get (code_of script).entries (nu
 
 -- fn sq(x: int) -> int { return x * x; }: the first two instructions are a task's, which dereferences x where its mark is 1
 abbrev pub sq_code : List Instruction
-sq_code = SkipZero (Slot 1) 1 ∷ Fetch 0 (Slot 0) ∷ Two Mul 1 (Slot 0) (Slot 0) ∷ Back (Slot 1) ∷ Wrong ∷ []
+sq_code = SkipZero (Slot 1) 1 ∷ Fetch 0 (Slot 0) ∷ Two Mul 1 (Slot 0) (Slot 0) ∷ Back (Slot 1 ∷ []) ∷ Wrong ∷ []
 
 -- let r = remote sq(7); print get r; return 0;
 abbrev pub main_code : List Instruction
 main_code =
-    Load 0 (Const (pos 7)) ∷ Spawn 3 (codes "sq") (false ∷ []) 0 1 0 ∷ Fetch 1 (Slot 0) ∷ Show (Slot 1) ∷ Back (Const (pos 0)) ∷ Wrong ∷ []
+    Load 0 (Const (pos 7)) ∷ Spawn 3 (codes "sq") (false ∷ []) 0 1 0 ∷ Fetch 1 (Slot 0) ∷ Show (Slot 1) ∷ Back (Const (pos 0) ∷ []) ∷ Wrong ∷ []
 
 -- a reference that a run in pieces was given
 abbrev pub reference : Value
@@ -66,6 +66,42 @@ squaring_state args = first_state square (codes "sq") sq args
 -- fn f(n: int) calls itself with n - 1, by turns plainly and remotely: the task of f(0) that f(1) bears, where f(2) called it plainly
 abbrev pub third : Birth
 third = Task (codes "f") (plain (Int (pos 0))) 3 3
+
+-- Several results
+
+-- fn parts(a: int, b: int) -> (int, int) { return a / b, a % b; }
+abbrev pub parts_code : List Instruction
+parts_code =
+    SkipZero (Slot 2) 1 ∷ Fetch 0 (Slot 0) ∷ SkipZero (Slot 3) 1 ∷ Fetch 1 (Slot 1)
+    ∷ Two Div 2 (Slot 0) (Slot 1) ∷ Two Rem 3 (Slot 0) (Slot 1) ∷ Back (Slot 2 ∷ Slot 3 ∷ []) ∷ Wrong ∷ []
+
+-- let q, r = parts(17, 5); return q * 10 + r;
+abbrev pub parts_called_code : List Instruction
+parts_called_code =
+    Load 0 (Const (pos 17)) ∷ Load 1 (Const (pos 5)) ∷ Enter 0 0 0 2
+    ∷ Two Mul 2 (Slot 0) (Const (pos 10)) ∷ Two Add 2 (Slot 2) (Slot 1) ∷ Back (Slot 2 ∷ []) ∷ Wrong ∷ []
+
+-- fn two(n: int) -> (int, [int]) { return n + 1, [n, n]; }
+abbrev pub two_code : List Instruction
+two_code =
+    SkipZero (Slot 1) 1 ∷ Fetch 0 (Slot 0) ∷ Two Add 1 (Slot 0) (Const (pos 1)) ∷ Load 2 (Slot 0) ∷ Load 3 (Slot 0) ∷ Collect 2 2 2
+    ∷ Back (Slot 1 ∷ Slot 2 ∷ []) ∷ Wrong ∷ []
+
+-- fn mixed(n: int) -> (int, int, int, [int]) { let a, l = two(n); return a, n * 2, 1, l; }: only n * 2 is worked out for the return
+abbrev pub mixed_code : List Instruction
+mixed_code =
+    SkipZero (Slot 1) 1 ∷ Fetch 0 (Slot 0) ∷ Load 1 (Slot 0) ∷ Enter 0 1 1 2 ∷ Two Mul 3 (Slot 0) (Const (pos 2))
+    ∷ Back (Slot 1 ∷ Slot 3 ∷ Const (pos 1) ∷ Slot 2 ∷ []) ∷ Wrong ∷ []
+
+-- let a, b, c, d = mixed(4); print b; return a + d[c];
+abbrev pub mixed_called_code : List Instruction
+mixed_called_code =
+    Load 0 (Const (pos 4)) ∷ Enter 1 0 0 4 ∷ Show (Slot 1) ∷ Two ItemAt 4 (Slot 3) (Slot 2) ∷ Two Add 4 (Slot 0) (Slot 4)
+    ∷ Back (Slot 4 ∷ []) ∷ Wrong ∷ []
+
+-- return parts(17, 5);, where one result is taken: no checker allows it
+abbrev pub one_of_two : Script
+one_of_two = script_of (parts ∷ []) (give (Call (codes "parts") (each (number 17 ∷ number 5 ∷ []))) ∷ [])
 
 -- Steps
 

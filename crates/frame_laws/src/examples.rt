@@ -1,8 +1,8 @@
 // Worked examples, computed from the definitions.
 
 ghost use Rattle.std.specs.Prelude.{◌≡◌, ◌+◌, ◌++◌, [], ◌∷◌, pos};
-ghost use Rattle.meaning.specs.Values.{Int, Trapped, DivZero, Loop};
-ghost use Rattle.meaning.specs.Examples.{square, squaring, loop, deep, value};
+ghost use Rattle.meaning.specs.Values.{Int, Trapped, DivZero, Loop, Broken};
+ghost use Rattle.meaning.specs.Examples.{square, squaring, loop, deep, value, parts_called, mixed_called};
 ghost use Rattle.frame_laws.specs.Machine.{Over, Asks, Bore, Shows, act, resume};
 ghost use Rattle.frame_laws.specs.Law.{code_of};
 ghost use Rattle.frame_laws.specs.Examples.{
@@ -20,6 +20,12 @@ ghost use Rattle.frame_laws.specs.Examples.{
   SquaringHas,
   trap_before_sum,
   trap_behind_sum,
+  parts_code,
+  parts_called_code,
+  two_code,
+  mixed_code,
+  mixed_called_code,
+  one_of_two,
 };
 
 /// The code of a script of two functions, and where a plain call of each begins.
@@ -46,6 +52,19 @@ pub fn frame_examples()
     ensures goes_on { seen (code_of square) 32 9 (resume at_the_get 1 (Int (pos 49))) [] ≡ Shows (Int (pos 49)) ∷ Over (value 0) ∷ [] }
     ensures without_a_stop { seen (code_of square) 32 9 (main_state square) (reference ∷ Int (pos 49) ∷ []) ≡
         Bore squaring 0 ∷ Asks reference 1 ∷ Shows (Int (pos 49)) ∷ Over (value 0) ∷ [] }
+{}
+
+/// Plain calls of functions of several results: their code, what is seen of the machine, and the steps.
+pub fn several_examples()
+    ensures instructions { (code_of (parts_called 17 5)).instructions ≡ parts_code ++ parts_called_code }
+    ensures called { seen (code_of (parts_called 17 5)) 32 20 (main_state (parts_called 17 5)) [] ≡ Over (value 32) ∷ [] }
+    ensures one_within_another { (code_of (mixed_called 4)).instructions ≡ two_code ++ (mixed_code ++ mixed_called_code) }
+    ensures four_results { seen (code_of (mixed_called 4)) 32 30 (main_state (mixed_called 4)) [] ≡ Shows (Int (pos 8)) ∷ Over (value 9) ∷ [] }
+    ensures another_number { seen (code_of one_of_two) 32 20 (main_state one_of_two) [] ≡ Over (Trapped Broken) ∷ [] }
+    // let q, r = parts(17, 5): 4, return a / b, a % b: 7, return q * 10 + r: 6
+    ensures steps { MainHas (parts_called 17 5) [] (4 + 7 + 6) }
+    // let a, b, c, d = mixed(4): 3, let a, l = two(n): 3, return n + 1, [n, n]: 7, return a, n * 2, 1, l: 7, print b: 2, return a + d[c]: 6
+    ensures steps_of_four { MainHas (mixed_called 4) [] (3 + 3 + 7 + 7 + 2 + 6) }
 {}
 
 /// How many steps an attempt began since its last answer, where it stops. Each sum is that of the statements, as they begin.

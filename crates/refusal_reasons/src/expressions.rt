@@ -32,13 +32,13 @@ pub(crate) fn kind_of(scene: Scene<'_>, expr: &Expr, levels: u32) -> Result<Kind
         ExprKind::List(items) => list_kind(scene, items, inner),
         ExprKind::Empty(items) => Ok(Kind::of(alloc, items)?.listed()?),
         ExprKind::Call(name, arguments) => {
-            let function = callee(scene, name, arguments.len())?;
+            let function = callee(scene, name, 1, arguments.len())?;
             check_arguments(scene, &function.parameters, arguments, inner)?;
             Ok(Kind::of(alloc, &function.result)?)
         }
         ExprKind::Remote(retries, name, arguments) => {
             few_retries(scene, *retries)?;
-            let function = callee(scene, name, arguments.len())?;
+            let function = callee(scene, name, 1, arguments.len())?;
             check_marked(scene, &function.parameters, arguments, inner)?;
             Ok(Kind::of(alloc, &function.result)?.referred()?)
         }
@@ -98,7 +98,7 @@ fn list_kind(scene: Scene<'_>, items: &[Expr], levels: u32) -> Result<Kind, Stop
 
 /// That each argument is of its parameter's type.
 #[cycle(kinds)]
-fn check_arguments(
+pub(crate) fn check_arguments(
     scene: Scene<'_>,
     parameters: &[Parameter],
     arguments: &[Expr],

@@ -111,10 +111,11 @@ fn plural(count: usize) -> &'static str {
     if count == 1 { "" } else { "s" }
 }
 
-/// The function that a call names, where it takes so many arguments.
+/// The function that a call names, where it has as many results as the call is for, and takes so many arguments.
 pub(crate) fn callee<'s>(
     scene: Scene<'s>,
     name: &Name,
+    wanted: usize,
     given: usize,
 ) -> Result<&'s Function, Stop> {
     let alloc = scene.alloc;
@@ -126,6 +127,10 @@ pub(crate) fn callee<'s>(
         let told = told_function(scene, name)?;
         return Err(stop_at(10, name.span, told));
     };
+    let results = function.others.len().saturating_add(1);
+    if results != wanted {
+        return Err(counted(alloc, "result", wanted, results, name.span));
+    }
     let taken = function.parameters.len();
     if taken == given {
         return Ok(function);
@@ -135,6 +140,23 @@ pub(crate) fn callee<'s>(
         "    expected: {taken} argument{some}\n    found: {given} argument{others}"
     )?;
     Err(stop_at(12, name.span, told))
+}
+
+/// The stop at a wrong number of results, or of values for them.
+pub(crate) fn counted(
+    alloc: Global,
+    what: &'static str,
+    wanted: usize,
+    found: usize,
+    span: Span,
+) -> Stop {
+    let (some, others) = (plural(wanted), plural(found));
+    match format!(in alloc;
+        "    expected: {wanted} {what}{some}\n    found: {found} {what}{others}"
+    ) {
+        Ok(told) => stop_at(18, span, told),
+        Err(_) => Stop::Unsure,
+    }
 }
 
 /// That a remote call asks for no more than 10 retries.

@@ -1,9 +1,9 @@
 // Statements and functions, in the order in which the checker looks at them. Whether a body may end with no return isn't looked at: a script in which
 // one may has no earlier fault, and of that one its name says all.
 
-use crate::expressions::{kind_met, kind_of};
+use crate::expressions::{check_arguments, kind_met, kind_of};
 use crate::kind::Kind;
-use crate::scope::{Scene, Variable, declare, find, fresh, twice, variable_kind};
+use crate::scope::{Scene, Variable, callee, counted, declare, find, fresh, twice, variable_kind};
 use crate::stop::{Fault, Stop, stop_at};
 use crate::wanted::Wanted;
 use script_syntax::{Block, Expr, Function, Name, Span, Statement, ValueType, parse};
@@ -79,12 +79,84 @@ fn check_print(
     Ok(())
 }
 
-/// The stop at several results where one is wanted.
-fn several(alloc: Global, count: usize, span: Span) -> Stop {
-    match format!(in alloc; "    expected: 1\n    found: {count}") {
+/// That the names of a `let` may be given, each behind those before it.
+fn check_names_given(
+    within: Within<'_>,
+    scope: &[Variable],
+    first: &Name,
+    others: &[Name],
+) -> Result<(), Stop> {
+    let scene = within.scene(scope);
+    fresh(scene, first)?;
+    for (i, name) in others.iter().enumerate() {
+        fresh(scene, name)?;
+        if name.text.as_str() == first.text.as_str() {
+            return Err(twice(within.alloc, within.text, name, first.span));
+        }
+        for other in &others[..i] {
+            if name.text.as_str() == other.text.as_str() {
+                return Err(twice(within.alloc, within.text, name, other.span));
+            }
+        }
+    }
+    Ok(())
+}
+
+/// A plain call for so many results.
+fn check_call(
+    within: Within<'_>,
+    scope: &[Variable],
+    called: &Name,
+    wanted: usize,
+    arguments: &[Expr],
+) -> Result<(), Stop> {
+    let scene = within.scene(scope);
+    let function = callee(scene, called, wanted, arguments.len())?;
+    check_arguments(scene, &function.parameters, arguments, MOST_LEVELS)
+}
+
+fn check_let_call(
+    within: Within<'_>,
+    scope: &mut Vec<Variable>,
+    name: &Name,
+    others: &[Name],
+    called: &Name,
+    arguments: &[Expr],
+) -> Result<(), Stop> {
+    check_names_given(within, scope, name, others)?;
+    let wanted = others.len().saturating_add(1);
+    check_call(within, scope, called, wanted, arguments)?;
+    let Some(function) = find(within.functions, called.text.as_str()) else {
+        return Err(Stop::Unsure);
+    };
+    declare(scope, name, Kind::of(within.alloc, &function.result)?)?;
+    for (i, other) in others.iter().enumerate() {
+        let Some(result) = function.others.get(i) else {
+            return Err(Stop::Unsure);
+        };
+        declare(scope, other, Kind::of(within.alloc, result)?)?;
+    }
+    Ok(())
+}
+
+/// The stop at a `let` over a remote call of so many results.
+fn remote_results(alloc: Global, count: usize, span: Span) -> Stop {
+    match format!(in alloc; "    found: a remote call for {count} results, which is not run yet") {
         Ok(told) => stop_at(18, span, told),
         Err(_) => Stop::Unsure,
     }
+}
+
+fn check_value(
+    within: Within<'_>,
+    scope: &[Variable],
+    expr: &Expr,
+    kind: &ValueType,
+) -> Result<(), Stop> {
+    let wanted = Wanted::Exactly(Kind::of(within.alloc, kind)?);
+    let purpose = "as the function's result";
+    let _ = kind_met(within.scene(scope), expr, wanted, purpose, MOST_LEVELS)?;
+    Ok(())
 }
 
 fn check_return(
@@ -94,12 +166,16 @@ fn check_return(
     expr: &Expr,
     others: &[Expr],
 ) -> Result<(), Stop> {
-    if !others.is_empty() {
-        return Err(several(within.alloc, others.len().saturating_add(1), span));
+    let kinds = &within.function.others;
+    if others.len() != kinds.len() {
+        let wanted = kinds.len().saturating_add(1);
+        let found = others.len().saturating_add(1);
+        return Err(counted(within.alloc, "value", wanted, found, span));
     }
-    let wanted = Wanted::Exactly(Kind::of(within.alloc, &within.function.result)?);
-    let purpose = "as the function's result";
-    let _ = kind_met(within.scene(scope), expr, wanted, purpose, MOST_LEVELS)?;
+    check_value(within, scope, expr, &within.function.result)?;
+    for (i, value) in others.iter().enumerate() {
+        check_value(within, scope, value, &kinds[i])?;
+    }
     Ok(())
 }
 
@@ -117,13 +193,12 @@ fn check_statement(
     let inner = levels - 1;
     match statement {
         Statement::Let(name, expr) => check_let(within, scope, name, expr),
-        Statement::LetCall(_, others, called, _) => {
-            let count = others.len().saturating_add(1);
-            Err(several(within.alloc, count, called.span))
+        Statement::LetCall(name, others, called, arguments) => {
+            check_let_call(within, scope, name, others, called, arguments)
         }
         Statement::LetRemote(_, others, _, called, _) => {
             let count = others.len().saturating_add(1);
-            Err(several(within.alloc, count, called.span))
+            Err(remote_results(within.alloc, count, called.span))
         }
         Statement::Set(name, expr) => check_set(within, scope, name, expr),
         Statement::If(condition, first, second) => {
@@ -169,10 +244,6 @@ fn check_block(
 
 fn check_function(within: Within<'_>) -> Result<(), Stop> {
     let function = within.function;
-    if !function.others.is_empty() {
-        let count = function.others.len().saturating_add(1);
-        return Err(several(within.alloc, count, function.name.span));
-    }
     let mut scope = Vec::new(within.alloc);
     for parameter in &function.parameters {
         fresh(within.scene(&scope), &parameter.name)?;

@@ -58,7 +58,7 @@ count_trees (e ∷ es) = let r = count_trees es in omega arith
 
 -- What was checked so far
 
-joined_end : (cs : List CheckedExpr) → joined cs end ≡ exprs_of cs
+pub joined_end : (cs : List CheckedExpr) → joined cs end ≡ exprs_of cs
 joined_end [] = refl
 joined_end (c ∷ cs) = ap (also (expr_of c)) (joined_end cs)
 
@@ -66,11 +66,11 @@ joined_snoc : (cs : List CheckedExpr) (c : CheckedExpr) (xs : Exprs) → joined 
 joined_snoc [] c xs = refl
 joined_snoc (d ∷ cs) c xs = ap (also (expr_of d)) (joined_snoc cs c xs)
 
-onto_none : (cs : List CheckedExpr) (o : Option Exprs) → onto cs o ≡ None → o ≡ None
+pub onto_none : (cs : List CheckedExpr) (o : Option Exprs) → onto cs o ≡ None → o ≡ None
 onto_none cs None e = refl
 onto_none cs (Some xs) e = cc
 
-onto_more : (cs : List CheckedExpr) (c : CheckedExpr) (o : Option Exprs) → onto cs (o >>= λ xs. Some (also (expr_of c) xs)) ≡ onto (cs ++ c ∷ []) o
+pub onto_more : (cs : List CheckedExpr) (c : CheckedExpr) (o : Option Exprs) → onto cs (o >>= λ xs. Some (also (expr_of c) xs)) ≡ onto (cs ++ c ∷ []) o
 onto_more cs c None = refl
 onto_more cs c (Some xs) = ap Some (sym (joined_snoc cs c xs))
 
@@ -221,18 +221,18 @@ module _ (program : parsed.Program) (context : Context) where
 
   -- calls
 
-  pub call_fails : (g : Name) (es : parsed.Exprs) (n : ℕ) → count es ≡ n → callee program g n ≡ None → infer program context (parsed.Call g es) ≡ None
-  call_fails g es n e none = neither (callee program g (count es)) _ (ap (callee program g) e ∙ none)
+  pub call_fails : (g : Name) (es : parsed.Exprs) (n : ℕ) → count es ≡ n → callee program g 0 n ≡ None → infer program context (parsed.Call g es) ≡ None
+  call_fails g es n e none = neither (callee program g 0 (count es)) _ (ap (callee program g 0) e ∙ none)
 
-  pub call_gives : (g : Name) (es : parsed.Exprs) (n : ℕ) (f : parsed.Function) (xs : Exprs) → count es ≡ n → callee program g n ≡ Some f → infer_arguments program context es f.parameters ≡ Some xs →
+  pub call_gives : (g : Name) (es : parsed.Exprs) (n : ℕ) (f : parsed.Function) (xs : Exprs) → count es ≡ n → callee program g 0 n ≡ Some f → infer_arguments program context es f.parameters ≡ Some xs →
       infer program context (parsed.Call g es) ≡ Some (record { expr = syntax.Call g xs; kind = kind_named f.result })
   call_gives g es n f xs e found given =
-      both (callee program g (count es)) f _ _ (ap (callee program g) e ∙ found) (both (infer_arguments program context es f.parameters) xs _ _ given refl)
+      both (callee program g 0 (count es)) f _ _ (ap (callee program g 0) e ∙ found) (both (infer_arguments program context es f.parameters) xs _ _ given refl)
 
-  pub remote_fails : (r : Option ℕ) (k : ℕ) (g : Name) (es : parsed.Exprs) (n : ℕ) → retries_within r ≡ Some k → count es ≡ n → callee program g n ≡ None → infer program context (parsed.Remote r g es) ≡ None
-  remote_fails r k g es n few e none = both (retries_within r) k _ None few (neither (callee program g (count es)) _ (ap (callee program g) e ∙ none))
+  pub remote_fails : (r : Option ℕ) (k : ℕ) (g : Name) (es : parsed.Exprs) (n : ℕ) → retries_within r ≡ Some k → count es ≡ n → callee program g 0 n ≡ None → infer program context (parsed.Remote r g es) ≡ None
+  remote_fails r k g es n few e none = both (retries_within r) k _ None few (neither (callee program g 0 (count es)) _ (ap (callee program g 0) e ∙ none))
 
-  pub remote_gives : (r : Option ℕ) (k : ℕ) (g : Name) (es : parsed.Exprs) (n : ℕ) (f : parsed.Function) (m : Marked) → retries_within r ≡ Some k → count es ≡ n → callee program g n ≡ Some f → infer_marked program context es f.parameters ≡ Some m →
+  pub remote_gives : (r : Option ℕ) (k : ℕ) (g : Name) (es : parsed.Exprs) (n : ℕ) (f : parsed.Function) (m : Marked) → retries_within r ≡ Some k → count es ≡ n → callee program g 0 n ≡ Some f → infer_marked program context es f.parameters ≡ Some m →
       infer program context (parsed.Remote r g es) ≡ Some (record { expr = syntax.Remote k g m.marks m.exprs; kind = RefKind (kind_named f.result) })
   remote_gives r k g es n f m few e found given =
-      both (retries_within r) k _ _ few (both (callee program g (count es)) f _ _ (ap (callee program g) e ∙ found) (both (infer_marked program context es f.parameters) m _ _ given refl))
+      both (retries_within r) k _ _ few (both (callee program g 0 (count es)) f _ _ (ap (callee program g 0) e ∙ found) (both (infer_marked program context es f.parameters) m _ _ given refl))

@@ -1,6 +1,6 @@
 -- Steps of the proofs on statements.
 use Rattle.std.proofs.Common.{◌≡◌, ℕ, zero, suc, ◌+◌, ◌<◌, ◌≤◌, Bool, true, false, List, [], ◌∷◌, ◌++◌, length, get_or, take, drop, map, refl, sym, ap, ◌∙◌, arith, Option, Some, None, append_assoc, append-nil}
-use Rattle.std.specs.Prelude.{◌&&◌}
+use Rattle.std.specs.Prelude.{◌&&◌, nat_eq}
 use Rattle.std.proofs.lemmas.List.{length-map}
 use Rattle.meaning.specs.Values.{Name}
 use Rattle.meaning.specs.Syntax.{Kind, Number, Expr, Stmt, Block, done, step}
@@ -12,14 +12,15 @@ use Rattle.script_syntax.specs.declared.tree.Statement.{Statement}
 use Rattle.script_check.specs.Sizes.{stmt_size, block_size, other_size}
 use Rattle.script_check.specs.Branches.{branch}
 use Rattle.script_check.specs.Rules.{variable}
-use Rattle.script_check.specs.Trees.{kind_named, statement_of as checked_statement, statements_of as checked_statements}
+use Rattle.script_check.specs.Trees.{statement_of as checked_statement, statements_of as checked_statements}
 use Rattle.script_check.specs.Scopes.{typed_of, context_of}
 use Rattle.script_check.specs.Typings.{joined_steps, onto_steps}
-use Rattle.script_check.specs.Inference.{◌>>=◌, only, is_alone, Typing, Stepped, Blocked, infer, infer_as, fresh, step_of, steps_of, block_from, else_from, let_step, returns, block_returns, else_returns}
+use Rattle.script_check.specs.Inference.{◌>>=◌, only, count, callee, new_names, Typing, Stepped, Blocked, infer, infer_as, infer_arguments, infer_results, fresh, step_of, steps_of, block_from, else_from, let_step, returns, block_returns, else_returns}
 use Rattle.script_check.specs.declared.scope.Variable.{Variable}
 use Rattle.script_check.specs.declared.tree.CheckedStatement.{CheckedStatement}
 use Rattle.script_check.proofs.Arms.{here, drop_end, both, neither}
 use Rattle.script_check.proofs.Binds.{bind_some, some_is}
+use Rattle.script_check.proofs.Names.{behind}
 use Rattle.meaning.specs.Values.{main_name}
 use Rattle.meaning.specs.Meaning.{same_name}
 use Rattle.std.specs.Prelude.{if◌then◌else◌}
@@ -110,7 +111,10 @@ module _ (program : parsed.Program) (function : parsed.Function) where
   step_extends (parsed.Let x e) before r h =
       let f = bind_some (fresh before x) _ r h in let i = bind_some (infer program before e) _ r f.2 in
       (variable x i.0.kind, sym (ap (λ (y : Stepped). y.after) (some_is _ _ i.2)))
-  step_extends (parsed.LetCall x others g args) before r h = absurd (cc)
+  step_extends (parsed.LetCall x others g args) before r h =
+      let n = bind_some (new_names before [] (x ∷ others)) _ r h in let f = bind_some (callee program g (length others) (count args)) _ r n.2 in
+      let cs = bind_some (infer_arguments program before args f.0.parameters) _ r f.2 in let b = behind before (x ∷ others) (f.0.result ∷ f.0.others) in
+      (b.0, sym (ap (λ (y : Stepped). y.after) (some_is _ _ cs.2)) ∙ b.1)
   step_extends (parsed.LetRemote x others k g args) before r h = absurd (cc)
   step_extends (parsed.Set x e) before r h =
       let k = bind_some (kind_in before x) _ r h in let i = bind_some (infer_as program before k.0 e) _ r k.2 in ends_as before _ r i.2
@@ -123,7 +127,7 @@ module _ (program : parsed.Program) (function : parsed.Function) where
       let b = bind_some (block_from program function body (before ++ variable x Number)) _ r d.2 in ends_as before _ r b.2
   step_extends (parsed.Print e) before r h = print_extends (same_name function.name main_name) before e r h
   step_extends (parsed.Return e others) before r h =
-      let o = bind_some (only (is_alone others)) _ r h in let i = bind_some (infer_as program before (kind_named function.result) e) _ r o.2 in ends_as before _ r i.2
+      let o = bind_some (only (nat_eq (count others) (length function.others))) _ r h in let i = bind_some (infer_results program before (parsed.also e others) (function.result ∷ function.others)) _ r o.2 in ends_as before _ r i.2
 
   pub steps_extend : (ss : parsed.Block) (before : Context) (r : Blocked) → steps_of program function ss before ≡ Some r → Extends before r.after
   steps_extend parsed.no_stmt before r h = itself before r.after (sym (ap (λ (x : Blocked). x.after) (some_is _ _ h)))

@@ -9,3 +9,5 @@ pub mod Programs
 pub mod MainApart
 pub mod Safe
 pub mod Copies
+pub mod Names
+pub mod Values

@@ -6,7 +6,7 @@ use Rattle.meaning.specs.Mains.{CallsOthers, AllCallOthers, IsApart, BlockIsApar
 use Rattle.script_syntax.specs.Trees as parsed
 use Rattle.script_syntax.specs.declared.tree.Prefix.TheVariants as prefixes
 use Rattle.script_check.specs.Trees.{kind_named}
-use Rattle.script_check.specs.Rules.{variable, IsChecked, EachChecked, ArgumentsChecked, MarkedChecked, StatementChecked, BlockChecked, FunctionChecked, FunctionsChecked}
+use Rattle.script_check.specs.Rules.{variable, IsChecked, EachChecked, ArgumentsChecked, MarkedChecked, ResultsChecked, StatementChecked, BlockChecked, FunctionChecked, FunctionsChecked}
 
 module _ (program : parsed.Program) where
   module _ (context : Context) where
@@ -43,11 +43,17 @@ module _ (program : parsed.Program) where
       marked_apart (parsed.also e es) ms cs [] h = absurd h
       marked_apart (parsed.also e es) ms cs (p ∷ ps) h = subst AllCallOthers (sym h.7) (expr_apart e h.0 (argument_kind h.2 (kind_named p.kind)) h.4, marked_apart es h.3 h.1 ps h.5)
 
+    results_apart : (es : parsed.Exprs) (cs : Exprs) (ts : List parsed.Kind) → ResultsChecked program context es cs ts → AllCallOthers cs
+    results_apart parsed.no_expr cs [] h = subst AllCallOthers (sym h) tt
+    results_apart parsed.no_expr cs (t ∷ ts) h = absurd h
+    results_apart (parsed.also e es) cs [] h = absurd h
+    results_apart (parsed.also e es) cs (t ∷ ts) h = subst AllCallOthers (sym h.4) (expr_apart e h.0 (kind_named t) h.2, results_apart es h.1 ts h.3)
+
   module _ (function : parsed.Function) where
     mutual
       statement_apart : (s : parsed.Stmt) (before : Context) (c : Stmt) (after : Context) → StatementChecked program function s before c after → IsApart function.name c
       statement_apart (parsed.Let x e) before c after h = subst (IsApart function.name) (sym h.4) (expr_apart before e h.0 h.1 h.3)
-      statement_apart (parsed.LetCall x others g args) before c after h = absurd h
+      statement_apart (parsed.LetCall x others g args) before c after h = subst (IsApart function.name) (sym h.5) (h.2.not_main, arguments_apart before args h.1 h.0.parameters h.3)
       statement_apart (parsed.LetRemote x others k g args) before c after h = absurd h
       statement_apart (parsed.Set x e) before c after h = subst (IsApart function.name) (sym h.4) (expr_apart before e h.0 h.1 h.3)
       statement_apart (parsed.If e a) before c after h = subst (IsApart function.name) (sym h.4) (expr_apart before e h.0 Number h.2, block_apart a before h.1 h.3, tt)
@@ -55,7 +61,7 @@ module _ (program : parsed.Program) where
       statement_apart (parsed.For x from to body) before c after h =
           subst (IsApart function.name) (sym h.7) (expr_apart before from h.0 Number h.4, expr_apart before to h.1 Number h.5, block_apart body (before ++ variable x Number) h.2 h.6)
       statement_apart (parsed.Print e) before c after h = subst (IsApart function.name) (sym h.5) (h.2, expr_apart before e h.0 h.1 h.3)
-      statement_apart (parsed.Return e others) before c after h = subst (IsApart function.name) (sym h.3) (expr_apart before e h.0 (kind_named function.result) h.2)
+      statement_apart (parsed.Return e others) before c after h = subst (IsApart function.name) (sym h.2) (results_apart before (parsed.also e others) h.0 (function.result ∷ function.others) h.1)
 
       block_apart : (b : parsed.Block) (before : Context) (c : Block) → BlockChecked program function b before c → BlockIsApart function.name c
       block_apart parsed.no_stmt before c h = subst (BlockIsApart function.name) (sym h) tt

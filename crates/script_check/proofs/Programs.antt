@@ -1,5 +1,5 @@
 -- What is made of statements, functions and programs is what is allowed.
-use Rattle.std.proofs.Common.{◌≡◌, Bool, true, false, List, [], ◌∷◌, ◌++◌, length, refl, sym, ap, ◌∙◌, subst, arith, Option, Some, None, inl, inr}
+use Rattle.std.proofs.Common.{◌≡◌, Bool, true, false, List, [], ◌∷◌, ◌++◌, length, map, refl, sym, ap, ◌∙◌, subst, arith, Option, Some, None, inl, inr}
 use Rattle.std.specs.Prelude.{nat_eq, if◌then◌else◌, ◌&&◌, ◌||◌, ◌⊎◌}
 use Rattle.meaning.specs.Syntax.{Kind, Number, ListKind, RefKind, Expr, Stmt, Block, done, step, Parameter, Function, Script}
 use Rattle.meaning.specs.Syntax as syntax
@@ -8,33 +8,20 @@ use Rattle.meaning.specs.Kinds.{Context, kind_in, has_reference}
 use Rattle.meaning.proofs.Names.{same_name-true, same_name-refl}
 use Rattle.script_syntax.specs.Trees as parsed
 use Rattle.script_check.specs.Trees.{kind_named}
-use Rattle.script_check.specs.Rules.{function_in, variable, StatementChecked, BlockChecked, Returns, BlockReturns, ParametersChecked, FunctionChecked, FunctionsChecked, AreNamedApart, HasMain, IsCheckedOf}
+use Rattle.script_check.specs.Rules.{function_in, variable, NamesChecked, StatementChecked, BlockChecked, Returns, BlockReturns, ParametersChecked, FunctionChecked, FunctionsChecked, AreNamedApart, HasMain, IsCheckedOf}
 use Rattle.meaning.specs.Values.{main_name}
-use Rattle.script_check.specs.Inference.{◌>>=◌, when, same_kind, Typing, infer, infer_as, free, fresh, Stepped, Blocked, step_of, steps_of, block_from, block_alone, returns, block_returns, Declared, declared, only, is_alone, is_single, function_from, functions_from, is_absent, are_apart, is_main_good}
+use Rattle.script_check.specs.Inference.{◌>>=◌, when, same_kind, Typing, infer, infer_as, fresh, Stepped, Blocked, step_of, steps_of, block_from, block_alone, returns, block_returns, Declared, declared, only, count, callee, infer_arguments, infer_results, new_names, is_single, function_from, functions_from, is_absent, are_apart, is_main_good}
 use Rattle.std.specs.Prelude.{IsTrue}
 use Rattle.script_check.specs.Refusals.{is_refusal}
 use Rattle.script_check.specs.declared.error.CheckError.{CheckError}
 use Rattle.script_check.specs.declared.error.CheckError.TheVariants.{UnknownName, WrongType, WrongCount, NoMain, PrintOutsideMain, MissingReturn, BadRetries, Duplicate, WrongReturns, NoMemory}
-use Rattle.script_check.proofs.Binds.{bind_some, some_is, when_some}
+use Rattle.script_check.proofs.Binds.{bind_some, some_is, when_some, and_true, both_true, none_left}
+use Rattle.script_check.proofs.Names.{free_from, free_to, are_sound_names, are_complete_names}
 use Rattle.script_check.proofs.Arms.{both}
-use Rattle.script_check.proofs.Sound.{is_sound, is_sound_as, same_kind_is, eq_from}
-use Rattle.script_check.proofs.Complete.{is_complete, is_complete_as}
+use Rattle.script_check.proofs.Sound.{is_sound, is_sound_as, are_sound_arguments, are_sound_results, callee_is, same_kind_is, eq_from, eq_to}
+use Rattle.script_check.proofs.Complete.{is_complete, is_complete_as, are_complete_arguments, are_complete_results, callee_to, arguments_count, results_count}
 
 -- Tests
-
-free_from : (o : Option Kind) → free o ≡ Some tt → o ≡ None
-free_from None h = refl
-free_from (Some t) h = absurd (cc)
-
-free_to : (o : Option Kind) → o ≡ None → free o ≡ Some tt
-free_to o e = ap free e
-
-and_true : (a b : Bool) → (a && b) ≡ true → (a ≡ true) × (b ≡ true)
-and_true true b h = (refl, h)
-and_true false b h = absurd (cc)
-
-both_true : (a b : Bool) → a ≡ true → b ≡ true → (a && b) ≡ true
-both_true a b e f = ap (λ x. x && b) e ∙ f
 
 or_true : (a b : Bool) → (a || b) ≡ true → (a ≡ true) ⊎ (b ≡ true)
 or_true true b h = inl refl
@@ -78,14 +65,6 @@ mutual
   block_returns_to (parsed.stmt s rest) (inl h) = ap (λ x. x || block_returns rest) (returns_to s h)
   block_returns_to (parsed.stmt s rest) (inr h) = or_second (returns s) (block_returns rest) (block_returns_to rest h)
 
-only_true : (b : Bool) (x : Unit) → only b ≡ Some x → b ≡ true
-only_true true x h = refl
-only_true false x h = absurd (cc)
-
-alone_from : (es : parsed.Exprs) → is_alone es ≡ true → es ≡ parsed.no_expr
-alone_from parsed.no_expr h = refl
-alone_from (parsed.also e es) h = absurd (cc)
-
 single_from : (ts : List parsed.Kind) → is_single ts ≡ true → ts ≡ []
 single_from [] h = refl
 single_from (t ∷ ts) h = absurd (cc)
@@ -119,7 +98,10 @@ module _ (program : parsed.Program) (function : parsed.Function) where
     step_sound (parsed.Let x e) before r h =
         let f = bind_some (fresh before x) _ r h in let i = bind_some (infer program before e) _ r f.2 in
         (i.0.expr, i.0.kind, free_from (kind_in before x) f.1, is_sound program before e i.0 i.1, stmt_eq _ r i.2, after_eq _ r i.2)
-    step_sound (parsed.LetCall x others g args) before r h = absurd (cc)
+    step_sound (parsed.LetCall x others g args) before r h =
+        let n = bind_some (new_names before [] (x ∷ others)) _ r h in let f = bind_some (callee program g (length others) (count args)) _ r n.2 in
+        let cs = bind_some (infer_arguments program before args f.0.parameters) _ r f.2 in let k = callee_is program g (length others) (count args) f.0 f.1 in
+        (f.0, cs.0, k, are_sound_arguments program before args f.0.parameters cs.0 cs.1, subst (λ z. NamesChecked (x ∷ others) (f.0.result ∷ f.0.others) before z) (sym (after_eq _ r cs.2)) (are_sound_names before (x ∷ others) (f.0.result ∷ f.0.others) (let l = k.results in omega arith) n.1), stmt_eq _ r cs.2)
     step_sound (parsed.LetRemote x others k g args) before r h = absurd (cc)
     step_sound (parsed.Set x e) before r h =
         let k = bind_some (kind_in before x) _ r h in let i = bind_some (infer_as program before k.0 e) _ r k.2 in
@@ -138,8 +120,8 @@ module _ (program : parsed.Program) (function : parsed.Function) where
         (c.0, d.0, b.0, free_from (kind_in before x) f.1, is_sound_as program before Number from c.0 c.1, is_sound_as program before Number to d.0 d.1, subst (λ z. BlockChecked program function body (before ++ variable x Number) z) (some_is _ _ y.2) (steps_sound body (before ++ variable x Number) y.0 y.1), stmt_eq _ r b.2, after_eq _ r b.2)
     step_sound (parsed.Print e) before r h = print_sound before e r h
     step_sound (parsed.Return e others) before r h =
-        let o = bind_some (only (is_alone others)) _ r h in
-        let i = bind_some (infer_as program before (kind_named function.result) e) _ r o.2 in (i.0, alone_from others (only_true (is_alone others) o.0 o.1), is_sound_as program before (kind_named function.result) e i.0 i.1, stmt_eq _ r i.2, after_eq _ r i.2)
+        let o = bind_some (only (nat_eq (count others) (length function.others))) _ r h in
+        let i = bind_some (infer_results program before (parsed.also e others) (function.result ∷ function.others)) _ r o.2 in (i.0, are_sound_results program before (parsed.also e others) (function.result ∷ function.others) i.0 i.1, stmt_eq _ r i.2, after_eq _ r i.2)
 
     steps_sound : (b : parsed.Block) (before : Context) (r : Blocked) → steps_of program function b before ≡ Some r → BlockChecked program function b before r.block
     steps_sound parsed.no_stmt before r h = sym (ap (λ (x : Blocked). x.block) (some_is _ r h))
@@ -157,7 +139,10 @@ module _ (program : parsed.Program) (function : parsed.Function) where
     step_complete : (s : parsed.Stmt) (before : Context) (c : Stmt) (after : Context) → StatementChecked program function s before c after → step_of program function s before ≡ Some (record { stmt = c; after = after })
     step_complete (parsed.Let x e) before c after h =
         both (fresh before x) tt _ _ (free_to (kind_in before x) h.2) (both (infer program before e) (record { expr = h.0; kind = h.1 }) _ _ (is_complete program before e h.0 h.1 h.3) (stepped_is _ _ c after h.4 h.5))
-    step_complete (parsed.LetCall x others g args) before c after h = absurd h
+    step_complete (parsed.LetCall x others g args) before c after h =
+        let n = are_complete_names before (x ∷ others) (h.0.result ∷ h.0.others) after h.4 in
+        both (new_names before [] (x ∷ others)) tt _ _ n.0 (both (callee program g (length others) (count args)) h.0 _ _ (callee_to program g (length others) (count args) h.0 h.2 (arguments_count program before args h.1 h.0.parameters h.3))
+        (both (infer_arguments program before args h.0.parameters) h.1 _ _ (are_complete_arguments program before args h.1 h.0.parameters h.3) (stepped_is _ _ c after h.5 n.1)))
     step_complete (parsed.LetRemote x others k g args) before c after h = absurd h
     step_complete (parsed.Set x e) before c after h =
         both (kind_in before x) h.1 _ _ h.2 (both (infer_as program before h.1 e) h.0 _ _ (is_complete_as program before e h.0 h.1 h.3) (stepped_is _ _ c after h.4 h.5))
@@ -174,8 +159,8 @@ module _ (program : parsed.Program) (function : parsed.Function) where
         ap (λ b. if b then (infer program before e >>= λ y. if has_reference y.kind then None else Some (stepped (syntax.Print y.expr) before)) else None) (ap (λ n. same_name n main_name) h.2 ∙ same_name-refl main_name)
         ∙ both (infer program before e) (record { expr = h.0; kind = h.1 }) _ _ i (ap (λ b. if b then None else Some (stepped (syntax.Print h.0) before)) h.4 ∙ stepped_is _ _ c after h.5 h.6)
     step_complete (parsed.Return e others) before c after h =
-        both (only (is_alone others)) tt _ _ (ap (λ es. only (is_alone es)) h.1)
-        (both (infer_as program before (kind_named function.result) e) h.0 _ _ (is_complete_as program before e h.0 (kind_named function.result) h.2) (stepped_is _ _ c after h.3 h.4))
+        both (only (nat_eq (count others) (length function.others))) tt _ _ (ap only (eq_to (count others) (length function.others) (sym (results_count program before others h.1.1 function.others h.1.3))))
+        (both (infer_results program before (parsed.also e others) (function.result ∷ function.others)) h.0 _ _ (are_complete_results program before (parsed.also e others) h.0 (function.result ∷ function.others) h.1) (stepped_is _ _ c after h.2 h.3))
 
     steps_complete : (b : parsed.Block) (before : Context) (c : Block) → BlockChecked program function b before c → Ends b before c
     steps_complete parsed.no_stmt before c h = (before, ap (λ x. Some (record { block = x; after = before })) (sym h))
@@ -198,25 +183,26 @@ declared_complete (p ∷ ps) before qs after h =
 
 function_sound : (program : parsed.Program) (f : parsed.Function) (g : Function) → function_from program f ≡ Some g → FunctionChecked program f g
 function_sound program f g h =
-    let o = bind_some (only (is_single f.others)) _ g h in
-    let d = bind_some (declared f.parameters []) _ g o.2 in let b = bind_some (block_from program f f.body d.0.context) _ g d.2 in let w = when_some (block_returns f.body) _ g b.2 in
+    let d = bind_some (declared f.parameters []) _ g h in let b = bind_some (block_from program f f.body d.0.context) _ g d.2 in let w = when_some (block_returns f.body) _ g b.2 in
     let y = bind_some (steps_of program f f.body d.0.context) block_alone b.0 b.1 in
     record {
       context = d.0.context;
-      single = single_from f.others (only_true (is_single f.others) o.0 o.1);
       name = sym (ap (λ (x : Function). x.name) w.1);
       parameters = subst (λ qs. ParametersChecked f.parameters [] qs d.0.context) (ap (λ (x : Function). x.parameters) w.1) (declared_sound f.parameters [] d.0 d.1);
       result = sym (ap (λ (x : Function). x.result) w.1);
+      others = sym (ap (λ (x : Function). x.others) w.1);
       body = subst (λ z. BlockChecked program f f.body d.0.context z) (some_is _ _ y.2 ∙ ap (λ (x : Function). x.body) w.1) (steps_sound program f f.body d.0.context y.0 y.1);
       returns = block_returns_from f.body w.0;
     }
 
 function_complete : (program : parsed.Program) (f : parsed.Function) (g : Function) → FunctionChecked program f g → function_from program f ≡ Some g
 function_complete program f g h =
-    both (only (is_single f.others)) tt _ _ (ap (λ ts. only (is_single ts)) h.single) (both (declared f.parameters []) (record { parameters = g.parameters; context = h.context }) _ _ (declared_complete f.parameters [] g.parameters h.context h.parameters)
+    both (declared f.parameters []) (record { parameters = g.parameters; context = h.context }) _ _ (declared_complete f.parameters [] g.parameters h.context h.parameters)
     (both (block_from program f f.body h.context) g.body _ _ (alone program f f.body h.context g.body (steps_complete program f f.body h.context g.body h.body))
-    (ap (λ b. when b (record { name = f.name; parameters = g.parameters; result = kind_named f.result; body = g.body })) (block_returns_to f.body h.returns)
-    ∙ ap (λ n. Some (record { name = n; parameters = g.parameters; result = kind_named f.result; body = g.body })) (sym h.name) ∙ ap (λ k. Some (record { name = g.name; parameters = g.parameters; result = k; body = g.body })) (sym h.result))))
+    (ap (λ b. when b (record { name = f.name; parameters = g.parameters; result = kind_named f.result; others = map kind_named f.others; body = g.body })) (block_returns_to f.body h.returns)
+    ∙ ap (λ n. Some (record { name = n; parameters = g.parameters; result = kind_named f.result; others = map kind_named f.others; body = g.body })) (sym h.name)
+    ∙ ap (λ k. Some (record { name = g.name; parameters = g.parameters; result = k; others = map kind_named f.others; body = g.body })) (sym h.result)
+    ∙ ap (λ ks. Some (record { name = g.name; parameters = g.parameters; result = g.result; others = ks; body = g.body })) (sym h.others)))
 
 functions_sound : (program fs : parsed.Program) (script : Script) → functions_from program fs ≡ Some script → FunctionsChecked program fs script
 functions_sound program [] script h = sym (some_is _ script h)
@@ -241,10 +227,6 @@ apart_sound before (f ∷ fs) h = let w = and_true (is_absent (function_in befor
 apart_complete : (before fs : parsed.Program) → AreNamedApart before fs → are_apart before fs ≡ true
 apart_complete before [] h = refl
 apart_complete before (f ∷ fs) h = both_true (is_absent (function_in before f.name)) (are_apart (before ++ f ∷ []) fs) (ap is_absent h.0) (apart_complete (before ++ f ∷ []) fs h.1)
-
-none_left : (ps : List parsed.Parameter) → length ps ≡ 0 → ps ≡ []
-none_left [] h = refl
-none_left (p ∷ ps) h = absurd (omega arith)
 
 int_is : (t : parsed.Kind) → kind_named t ≡ Number → t ≡ parsed.IntType
 int_is parsed.IntType h = refl

@@ -1,18 +1,19 @@
 -- What is allowed is well typed.
-use Rattle.std.proofs.Common.{◌≡◌, Bool, true, false, List, [], ◌∷◌, ◌++◌, map, refl, sym, ap, ◌∙◌, subst, Some, None, inl, inr, append_assoc}
+use Rattle.std.proofs.Common.{◌≡◌, Bool, true, false, List, [], ◌∷◌, ◌++◌, length, map, refl, sym, ap, ◌∙◌, subst, Some, None, inl, inr, append_assoc}
 use Rattle.std.specs.Prelude.{if◌then◌else◌}
 use Rattle.meaning.specs.Values.{Name}
-use Rattle.meaning.specs.Syntax.{Kind, Number, ListKind, RefKind, Expr, Exprs, end, also, Stmt, Block, Parameter, Function, Script}
+use Rattle.meaning.specs.Syntax.{Kind, Number, ListKind, RefKind, Expr, Exprs, end, also, Stmt, Block, Parameter, Function, results, Script}
 use Rattle.meaning.specs.Meaning.{same_name, find}
-use Rattle.meaning.specs.Kinds.{Context, OperatorChecks, argument_kind, Checks, EachChecks, ArgumentsCheck, MarkedCheck, StmtChecks, BlockChecks, Returns as ReturnsChecked, BlockReturns as BlockReturnsChecked, context_of, FunctionChecks, ScriptChecks}
+use Rattle.meaning.specs.Kinds.{Context, OperatorChecks, argument_kind, Checks, EachChecks, ArgumentsCheck, MarkedCheck, ResultsCheck, Binds, StmtChecks, BlockChecks, Returns as ReturnsChecked, BlockReturns as BlockReturnsChecked, context_of, FunctionChecks, ScriptChecks}
 use Rattle.script_syntax.specs.Trees as parsed
 use Rattle.script_syntax.specs.declared.tree.Prefix.TheVariants as prefixes
 use Rattle.script_syntax.specs.declared.tree.BinaryOperator.{BinaryOperator}
 use Rattle.script_syntax.specs.declared.tree.BinaryOperator.TheVariants as operators
 use Rattle.script_check.specs.Trees.{kind_named}
-use Rattle.script_check.specs.Rules.{function_in, variable, operator_named, IsChecked, EachChecked, ArgumentsChecked, MarkedChecked, StatementChecked, BlockChecked, Returns, BlockReturns, parameter_named, ParametersChecked, FunctionChecked, FunctionsChecked, AreNamedApart, IsCheckedOf}
+use Rattle.script_check.specs.Rules.{function_in, variable, operator_named, IsChecked, EachChecked, ArgumentsChecked, MarkedChecked, ResultsChecked, NamesChecked, StatementChecked, BlockChecked, Returns, BlockReturns, parameter_named, ParametersChecked, FunctionChecked, FunctionsChecked, AreNamedApart, IsCheckedOf}
 use Rattle.meaning.specs.Values.{main_name}
 use Rattle.script_check.specs.Scripts.{AreApart, IsWellTyped}
+use Rattle.script_check.proofs.Binds.{none_left}
 use Rattle.script_check.proofs.MainApart.{main_is_apart}
 
 abbrev named_all : List parsed.Parameter → List Parameter
@@ -23,6 +24,19 @@ record IsFound (script : Script) (g : Name) (f : parsed.Function) (h : Function)
   found : find script g ≡ Some h
   parameters : h.parameters ≡ named_all f.parameters
   result : h.result ≡ kind_named f.result
+  others : h.others ≡ map kind_named f.others
+
+results_found : (script : Script) (g : Name) (f : parsed.Function) (h : Function) → IsFound script g f h → results h ≡ map kind_named (f.result ∷ f.others)
+results_found script g f h d = ap (λ t. t ∷ h.others) d.result ∙ ap (λ ts. kind_named f.result ∷ ts) d.others
+
+one_result : (script : Script) (g : Name) (f : parsed.Function) (h : Function) (t : Kind) → IsFound script g f h → length f.others ≡ 0 → t ≡ kind_named f.result → results h ≡ t ∷ []
+one_result script g f h t d n e = results_found script g f h d ∙ ap (λ ts. map kind_named (f.result ∷ ts)) (none_left f.others n) ∙ ap (λ k. k ∷ []) (sym e)
+
+names_bind : (xs : List Name) (ts : List parsed.Kind) (before after : Context) → NamesChecked xs ts before after → Binds xs (map kind_named ts) before after
+names_bind [] [] before after h = h
+names_bind [] (t ∷ ts) before after h = absurd h
+names_bind (x ∷ xs) [] before after h = absurd h
+names_bind (x ∷ xs) (t ∷ ts) before after h = names_bind xs ts (before ++ variable x (kind_named t)) after h.1
 
 arithmetic : (op : BinaryOperator) (t : Kind) → t ≡ Number → OperatorChecks (operator_named op) Number Number t
 arithmetic operators.Add t e = (refl, refl, e)
@@ -57,10 +71,10 @@ module _ (program : parsed.Program) (script : Script) (finds : Finds program scr
       expr_safe (parsed.Empty u) c t h = subst (λ z. Checks script context z t) (sym h.0) h.1
       expr_safe (parsed.Call g args) c t h =
           let d = finds g h.0 h.2.found in
-          subst (λ z. Checks script context z t) (sym h.4) (d.0, d.1.found, subst (λ ps. ArgumentsCheck script context h.1 ps) (sym d.1.parameters) (arguments_safe args h.1 h.0.parameters h.3), h.5 ∙ sym d.1.result)
+          subst (λ z. Checks script context z t) (sym h.4) (d.0, d.1.found, subst (λ ps. ArgumentsCheck script context h.1 ps) (sym d.1.parameters) (arguments_safe args h.1 h.0.parameters h.3), one_result script g h.0 d.0 t d.1 h.2.results h.5)
       expr_safe (parsed.Remote r g args) c t h =
           let d = finds g h.0 h.4.found in
-          subst (λ z. Checks script context z t) (sym h.6) (d.0, d.1.found, subst (λ ps. MarkedCheck script context h.2 h.1 ps) (sym d.1.parameters) (marked_safe args h.1 h.2 h.0.parameters h.5), h.7 ∙ ap RefKind (sym d.1.result))
+          subst (λ z. Checks script context z t) (sym h.6) (d.0, d.1.found, subst (λ ps. MarkedCheck script context h.2 h.1 ps) (sym d.1.parameters) (marked_safe args h.1 h.2 h.0.parameters h.5), kind_named h.0.result, one_result script g h.0 d.0 (kind_named h.0.result) d.1 h.4.results refl, h.7)
       expr_safe (parsed.Len a) c t h = subst (λ z. Checks script context z t) (sym h.3) (ListKind h.1, expr_safe a h.0 (ListKind h.1) h.2, (h.1, refl, h.4))
       expr_safe (parsed.Push a b) c t h = subst (λ z. Checks script context z t) (sym h.5) (ListKind h.2, h.2, expr_safe a h.0 (ListKind h.2) h.3, expr_safe b h.1 h.2 h.4, (refl, h.6))
 
@@ -81,21 +95,29 @@ module _ (program : parsed.Program) (script : Script) (finds : Finds program scr
       marked_safe (parsed.also e es) ms cs (p ∷ ps) h =
           subst (λ z. MarkedCheck script context z ms (named_all (p ∷ ps))) (sym h.7) (subst (λ z. MarkedCheck script context (also h.0 h.1) z (named_all (p ∷ ps))) (sym h.6) (expr_safe e h.0 (argument_kind h.2 (kind_named p.kind)) h.4, marked_safe es h.3 h.1 ps h.5))
 
+    results_safe : (es : parsed.Exprs) (cs : Exprs) (ts : List parsed.Kind) → ResultsChecked program context es cs ts → ResultsCheck script context cs (map kind_named ts)
+    results_safe parsed.no_expr cs [] h = subst (λ z. ResultsCheck script context z []) (sym h) tt
+    results_safe parsed.no_expr cs (t ∷ ts) h = absurd h
+    results_safe (parsed.also e es) cs [] h = absurd h
+    results_safe (parsed.also e es) cs (t ∷ ts) h = subst (λ z. ResultsCheck script context z (map kind_named (t ∷ ts))) (sym h.4) (expr_safe e h.0 (kind_named t) h.2, results_safe es h.1 ts h.3)
+
   module _ (function : parsed.Function) where
-    abbrev result : Kind
-    result = kind_named function.result
+    abbrev result : List Kind
+    result = map kind_named (function.result ∷ function.others)
 
     mutual
       statement_safe : (s : parsed.Stmt) (before : Context) (c : Stmt) (after : Context) → StatementChecked program function s before c after → StmtChecks c script result before after
       statement_safe (parsed.Let x e) before c after h = subst (λ z. StmtChecks z script result before after) (sym h.4) (h.1, expr_safe before e h.0 h.1 h.3, h.5)
-      statement_safe (parsed.LetCall x others g args) before c after h = absurd h
+      statement_safe (parsed.LetCall x others g args) before c after h =
+          let d = finds g h.0 h.2.found in
+          subst (λ z. StmtChecks z script result before after) (sym h.5) (d.0, d.1.found, subst (λ ps. ArgumentsCheck script before h.1 ps) (sym d.1.parameters) (arguments_safe before args h.1 h.0.parameters h.3), subst (λ ts. Binds (x ∷ others) ts before after) (sym (results_found script g h.0 d.0 d.1)) (names_bind (x ∷ others) (h.0.result ∷ h.0.others) before after h.4))
       statement_safe (parsed.LetRemote x others k g args) before c after h = absurd h
       statement_safe (parsed.Set x e) before c after h = subst (λ z. StmtChecks z script result before after) (sym h.4) (h.1, h.2, expr_safe before e h.0 h.1 h.3, h.5)
       statement_safe (parsed.If e a) before c after h = subst (λ z. StmtChecks z script result before after) (sym h.4) (expr_safe before e h.0 Number h.2, block_safe a before h.1 h.3, tt, h.5)
       statement_safe (parsed.IfElse e a b) before c after h = subst (λ z. StmtChecks z script result before after) (sym h.6) (expr_safe before e h.0 Number h.3, block_safe a before h.1 h.4, block_safe b before h.2 h.5, h.7)
       statement_safe (parsed.For x from to body) before c after h = subst (λ z. StmtChecks z script result before after) (sym h.7) (expr_safe before from h.0 Number h.4, expr_safe before to h.1 Number h.5, block_safe body (before ++ variable x Number) h.2 h.6, h.8)
       statement_safe (parsed.Print e) before c after h = subst (λ z. StmtChecks z script result before after) (sym h.5) (h.1, expr_safe before e h.0 h.1 h.3, h.4, h.6)
-      statement_safe (parsed.Return e others) before c after h = subst (λ z. StmtChecks z script result before after) (sym h.3) (expr_safe before e h.0 result h.2, h.4)
+      statement_safe (parsed.Return e others) before c after h = subst (λ z. StmtChecks z script result before after) (sym h.2) (results_safe before (parsed.also e others) h.0 (function.result ∷ function.others) h.1, h.3)
 
       block_safe : (b : parsed.Block) (before : Context) (c : Block) → BlockChecked program function b before c → BlockChecks c script result before
       block_safe parsed.no_stmt before c h = subst (λ z. BlockChecks z script result before) (sym h) tt
@@ -111,7 +133,7 @@ module _ (program : parsed.Program) (script : Script) (finds : Finds program scr
       statement_returns (parsed.IfElse e a b) before c after h r = subst ReturnsChecked (sym h.6) (block_returning a before h.1 h.4 r.0, block_returning b before h.2 h.5 r.1)
       statement_returns (parsed.For x from to body) before c after h r = absurd r
       statement_returns (parsed.Print e) before c after h r = absurd r
-      statement_returns (parsed.Return e others) before c after h r = subst ReturnsChecked (sym h.3) tt
+      statement_returns (parsed.Return e others) before c after h r = subst ReturnsChecked (sym h.2) tt
 
       block_returning : (b : parsed.Block) (before : Context) (c : Block) → BlockChecked program function b before c → BlockReturns b → BlockReturnsChecked c
       block_returning parsed.no_stmt before c h r = absurd r
@@ -134,7 +156,7 @@ function_safe : (program : parsed.Program) (script : Script) → Finds program s
 function_safe program script finds f g h =
     let p = parameters_named f.parameters [] g.parameters h.context h.parameters in
     record {
-      body = subst (λ t. BlockChecks g.body script t (context_of g.parameters)) (sym h.result) (subst (λ c. BlockChecks g.body script (kind_named f.result) c) p.1 (block_safe program script finds f f.body h.context g.body h.body));
+      body = subst (λ ts. BlockChecks g.body script ts (context_of g.parameters)) (sym (ap (λ t. t ∷ g.others) h.result ∙ ap (λ ts. kind_named f.result ∷ ts) h.others)) (subst (λ c. BlockChecks g.body script (map kind_named (f.result ∷ f.others)) c) p.1 (block_safe program script finds f f.body h.context g.body h.body));
       returns = block_returning program script finds f f.body h.context g.body h.body h.returns;
     }
 
@@ -153,8 +175,8 @@ found_in program (k ∷ fs) gs h x f e = go (same_name k.name x) refl e (found_i
     go true s q r =
         let e' : k ≡ f = cc in
         let p = parameters_named k.parameters [] h.0.parameters h.2.context h.2.parameters in
-        (h.0, record { found = names ∙ ap (λ b. if b then Some h.0 else find h.1 x) s; parameters = p.0 ∙ ap (λ (y : parsed.Function). named_all y.parameters) e'; result = h.2.result ∙ ap (λ (y : parsed.Function). kind_named y.result) e' })
-    go false s q r = let d = r q in (d.0, record { found = names ∙ ap (λ b. if b then Some h.0 else find h.1 x) s ∙ d.1.found; parameters = d.1.parameters; result = d.1.result })
+        (h.0, record { found = names ∙ ap (λ b. if b then Some h.0 else find h.1 x) s; parameters = p.0 ∙ ap (λ (y : parsed.Function). named_all y.parameters) e'; result = h.2.result ∙ ap (λ (y : parsed.Function). kind_named y.result) e'; others = h.2.others ∙ ap (λ (y : parsed.Function). map kind_named y.others) e' })
+    go false s q r = let d = r q in (d.0, record { found = names ∙ ap (λ b. if b then Some h.0 else find h.1 x) s ∙ d.1.found; parameters = d.1.parameters; result = d.1.result; others = d.1.others })
 
 absent_in : (program fs : parsed.Program) (gs : Script) → FunctionsChecked program fs gs → (x : Name) → function_in fs x ≡ None → find gs x ≡ None
 absent_in program [] gs h x e = ap (λ z. find z x) h
@@ -186,6 +208,6 @@ well_typed program script h =
     record {
       checks = all_safe program script finds program script h.functions;
       apart = apart_safe program [] program [] script refl h.functions h.apart;
-      main = (d.0, d.1.found, no_parameters h.main.0 d.0 d.1.parameters h.main.2, d.1.result ∙ ap kind_named h.main.3);
+      main = (d.0, d.1.found, no_parameters h.main.0 d.0 d.1.parameters h.main.2, one_result script main_name h.main.0 d.0 Number d.1 (ap length h.main.4) (sym (ap kind_named h.main.3)));
       main_apart = main_is_apart program program script h.functions;
     }

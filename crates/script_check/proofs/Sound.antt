@@ -1,6 +1,6 @@
 -- What is inferred is allowed.
 use Rattle.std.proofs.Common.{◌≡◌, ℕ, ◌<◌, ◌≤◌, ◌^◌, Bool, true, false, List, [], ◌∷◌, length, refl, sym, ap, ◌∙◌, subst, arith, Option, Some, None}
-use Rattle.std.specs.Prelude.{nat_lt, nat_le, nat_eq, if◌then◌else◌}
+use Rattle.std.specs.Prelude.{nat_lt, nat_le, nat_eq, ◌&&◌, if◌then◌else◌}
 use Rattle.std.proofs.lemmas.Bool.Decides.{nat_tests}
 use Rattle.meaning.specs.Values.{Name}
 use Rattle.meaning.specs.Syntax.{Kind, Number, ListKind, RefKind, Expr, Exprs, end, also, Stmt, Block, done, step, Parameter, Function, Script}
@@ -11,10 +11,10 @@ use Rattle.meaning.proofs.Names.{same_name-refl}
 use Rattle.script_syntax.specs.Trees as parsed
 use Rattle.script_syntax.specs.declared.tree.Prefix.TheVariants as prefixes
 use Rattle.script_check.specs.Trees.{kind_named}
-use Rattle.script_check.specs.Rules.{function_in, IsCallee, retries_of, IsChecked, EachChecked, ArgumentsChecked, MarkedChecked}
+use Rattle.script_check.specs.Rules.{function_in, IsCallee, retries_of, IsChecked, EachChecked, ArgumentsChecked, MarkedChecked, ResultsChecked}
 use Rattle.meaning.specs.Values.{main_name}
-use Rattle.script_check.specs.Inference.{◌>>=◌, when, same_kind, Typing, of_kind, items_of, referent_of, mark_for, retries_within, count, callee, Marked, infer, infer_as, infer_each, infer_arguments, infer_marked}
-use Rattle.script_check.proofs.Binds.{bind_some, some_is, when_some}
+use Rattle.script_check.specs.Inference.{◌>>=◌, when, same_kind, Typing, of_kind, items_of, referent_of, mark_for, retries_within, count, callee, Marked, infer, infer_as, infer_each, infer_arguments, infer_marked, infer_results}
+use Rattle.script_check.proofs.Binds.{bind_some, some_is, when_some, and_true}
 
 -- Tests
 
@@ -77,14 +77,19 @@ mark_is k t m e = go (same_kind k t) refl e
     go true h f = let p : false ≡ m = some_is false m f in subst (λ z. k ≡ argument_kind z t) p (same_kind_is k t h)
     go false h f = other (same_kind k (RefKind t)) refl f
 
-callee_is : (program : parsed.Program) (g : Name) (n : ℕ) (f : parsed.Function) → callee program g n ≡ Some f → IsCallee program g f
-callee_is program g n f e = go (same_name g main_name) refl e
+pub callee_is : (program : parsed.Program) (g : Name) (others n : ℕ) (f : parsed.Function) → callee program g others n ≡ Some f → IsCallee program g others f
+callee_is program g others n f e = go (same_name g main_name) refl e
   where
-    go : (b : Bool) → same_name g main_name ≡ b → (if b then None else (function_in program g >>= λ f. when (nat_eq (length f.parameters) n) f)) ≡ Some f → IsCallee program g f
+    go : (b : Bool) → same_name g main_name ≡ b → (if b then None else (function_in program g >>= λ f. when (nat_eq (length f.others) others && nat_eq (length f.parameters) n) f)) ≡ Some f → IsCallee program g others f
     go true h k = absurd (cc)
     go false h k =
-        let i = bind_some (function_in program g) _ f k in let w = when_some (nat_eq (length i.0.parameters) n) i.0 f i.2 in
-        record { found = i.1 ∙ ap Some w.1; not_main = λ same. let z = ap (λ y. same_name g y) (sym same) in let y = same_name-refl g in absurd (cc) }
+        let i = bind_some (function_in program g) _ f k in let w = when_some (nat_eq (length i.0.others) others && nat_eq (length i.0.parameters) n) i.0 f i.2 in
+        let a = and_true (nat_eq (length i.0.others) others) (nat_eq (length i.0.parameters) n) w.0 in
+        record {
+          found = i.1 ∙ ap Some w.1;
+          not_main = λ same. let z = ap (λ y. same_name g y) (sym same) in let y = same_name-refl g in absurd (cc);
+          results = ap (λ (y : parsed.Function). length y.others) (sym w.1) ∙ eq_from (length i.0.others) others a.0;
+        }
 
 few_are : (r : Option ℕ) (k : ℕ) → retries_within r ≡ Some k → (retries_of r ≤ 10) × (retries_of r ≡ k)
 few_are r k e = let w = when_some (nat_le (retries_of r) 10) (retries_of r) k e in (le_from (retries_of r) 10 w.0, w.1)
@@ -124,12 +129,12 @@ module _ (program : parsed.Program) (context : Context) where
         (i.0.expr, j.0, i.0.kind, sound a i.0 i.1, sound_each i.0.kind es j.0 j.1, sym (ap (λ (y : Typing). y.expr) e), sym (ap (λ (y : Typing). y.kind) e))
     sound (parsed.Empty u) x h = let e = some_is _ x h in (sym (ap (λ (y : Typing). y.expr) e), sym (ap (λ (y : Typing). y.kind) e))
     sound (parsed.Call g args) x h =
-        let f = bind_some (callee program g (count args)) _ x h in let xs = bind_some (infer_arguments program context args f.0.parameters) _ x f.2 in let e = some_is _ x xs.2 in
-        (f.0, xs.0, callee_is program g (count args) f.0 f.1, sound_arguments args f.0.parameters xs.0 xs.1, sym (ap (λ (y : Typing). y.expr) e), sym (ap (λ (y : Typing). y.kind) e))
+        let f = bind_some (callee program g 0 (count args)) _ x h in let xs = bind_some (infer_arguments program context args f.0.parameters) _ x f.2 in let e = some_is _ x xs.2 in
+        (f.0, xs.0, callee_is program g 0 (count args) f.0 f.1, sound_arguments args f.0.parameters xs.0 xs.1, sym (ap (λ (y : Typing). y.expr) e), sym (ap (λ (y : Typing). y.kind) e))
     sound (parsed.Remote r g args) x h =
-        let k = bind_some (retries_within r) _ x h in let f = bind_some (callee program g (count args)) _ x k.2 in let m = bind_some (infer_marked program context args f.0.parameters) _ x f.2 in let e = some_is _ x m.2 in
+        let k = bind_some (retries_within r) _ x h in let f = bind_some (callee program g 0 (count args)) _ x k.2 in let m = bind_some (infer_marked program context args f.0.parameters) _ x f.2 in let e = some_is _ x m.2 in
         let few = few_are r k.0 k.1 in
-        (f.0, m.0.marks, m.0.exprs, few.0, callee_is program g (count args) f.0 f.1, sound_marked args f.0.parameters m.0 m.1, sym (ap (λ (y : Typing). y.expr) e) ∙ ap (λ n. syntax.Remote n g m.0.marks m.0.exprs) (sym few.1), sym (ap (λ (y : Typing). y.kind) e))
+        (f.0, m.0.marks, m.0.exprs, few.0, callee_is program g 0 (count args) f.0 f.1, sound_marked args f.0.parameters m.0 m.1, sym (ap (λ (y : Typing). y.expr) e) ∙ ap (λ n. syntax.Remote n g m.0.marks m.0.exprs) (sym few.1), sym (ap (λ (y : Typing). y.kind) e))
     sound (parsed.Len a) x h =
         let i = bind_some (infer program context a) _ x h in let j = bind_some (items_of i.0.kind) _ x i.2 in let e = some_is _ x j.2 in
         (i.0.expr, j.0, subst (λ t. IsChecked program context a i.0.expr t) (items_are i.0.kind j.0 j.1) (sound a i.0 i.1), sym (ap (λ (y : Typing). y.expr) e), sym (ap (λ (y : Typing). y.kind) e))
@@ -159,8 +164,22 @@ module _ (program : parsed.Program) (context : Context) where
         let i = bind_some (infer program context e) _ m h in let k = bind_some (mark_for i.0.kind (kind_named p.kind)) _ m i.2 in let j = bind_some (infer_marked program context es ps) _ m k.2 in let q = some_is _ m j.2 in
         (i.0.expr, j.0.exprs, k.0, j.0.marks, subst (λ t. IsChecked program context e i.0.expr t) (mark_is i.0.kind (kind_named p.kind) k.0 k.1) (sound e i.0 i.1), sound_marked es ps j.0 j.1, sym (ap (λ (y : Marked). y.marks) q), sym (ap (λ (y : Marked). y.exprs) q))
 
+  sound_results : (es : parsed.Exprs) (ts : List parsed.Kind) (cs : Exprs) → infer_results program context es ts ≡ Some cs → ResultsChecked program context es cs ts
+  sound_results parsed.no_expr [] cs h = sym (some_is end cs h)
+  sound_results parsed.no_expr (t ∷ ts) cs h = absurd (cc)
+  sound_results (parsed.also e es) [] cs h = absurd (cc)
+  sound_results (parsed.also e es) (t ∷ ts) cs h =
+      let i = bind_some (infer_as program context (kind_named t) e) _ cs h in let j = bind_some (infer_results program context es ts) _ cs i.2 in
+      (i.0, j.0, (let z = bind_some (infer program context e) _ i.0 i.1 in typed (IsChecked program context e) z.0 (kind_named t) i.0 (sound e z.0 z.1) z.2), sound_results es ts j.0 j.1, sym (some_is _ cs j.2))
+
 pub is_sound : (program : parsed.Program) (context : Context) (e : parsed.Expr) (x : Typing) → infer program context e ≡ Some x → IsChecked program context e x.expr x.kind
 is_sound program context = sound program context
 
 pub is_sound_as : (program : parsed.Program) (context : Context) (t : Kind) (e : parsed.Expr) (c : Expr) → infer_as program context t e ≡ Some c → IsChecked program context e c t
 is_sound_as program context t e c h = let z = bind_some (infer program context e) _ c h in typed (IsChecked program context e) z.0 t c (sound program context e z.0 z.1) z.2
+
+pub are_sound_arguments : (program : parsed.Program) (context : Context) (es : parsed.Exprs) (ps : List parsed.Parameter) (cs : Exprs) → infer_arguments program context es ps ≡ Some cs → ArgumentsChecked program context es cs ps
+are_sound_arguments program context = sound_arguments program context
+
+pub are_sound_results : (program : parsed.Program) (context : Context) (es : parsed.Exprs) (ts : List parsed.Kind) (cs : Exprs) → infer_results program context es ts ≡ Some cs → ResultsChecked program context es cs ts
+are_sound_results program context = sound_results program context

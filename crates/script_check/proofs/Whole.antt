@@ -1,16 +1,17 @@
 -- Steps of the proofs on functions and programs.
-use Rattle.std.proofs.Common.{◌≡◌, ℕ, ◌+◌, ◌<◌, ◌≤◌, List, [], ◌∷◌, ◌++◌, length, get_or, drop, map, refl, sym, ap, ◌∙◌, Option, Some, None}
+use Rattle.std.proofs.Common.{◌≡◌, ℕ, ◌+◌, ◌<◌, ◌≤◌, true, List, [], ◌∷◌, ◌++◌, length, get_or, drop, map, refl, sym, ap, ◌∙◌, Option, Some, None}
 use Rattle.std.specs.Prelude.{string_bytes}
-use Rattle.meaning.specs.Syntax.{Parameter, Script}
+use Rattle.meaning.specs.Syntax.{Parameter, Function, Script}
 use Rattle.meaning.specs.Kinds.{Context}
 use Rattle.script_syntax.specs.Trees as parsed
-use Rattle.script_syntax.specs.Views.{parameter_of as parsed_parameter, function_of as parsed_function, program_of}
+use Rattle.script_syntax.specs.Views.{parameter_of as parsed_parameter, function_of as parsed_function, program_of, type_of}
+use Rattle.script_syntax.specs.declared.tree.ValueType.{ValueType}
 use Rattle.script_syntax.specs.declared.tree.Parameter.{Parameter as WrittenParameter}
 use Rattle.script_syntax.specs.declared.tree.Function.{Function as WrittenFunction}
 use Rattle.script_check.specs.Rules.{variable, parameter_named}
-use Rattle.script_check.specs.Trees.{kind_of, parameter_of, function_of, script_of}
+use Rattle.script_check.specs.Trees.{kind_named, kind_of, parameter_of, function_of, script_of}
 use Rattle.script_check.specs.Typings.{joined_parameters, onto_parameters, joined_functions, onto_functions}
-use Rattle.script_check.specs.Inference.{◌>>=◌, Declared, fresh, declared, function_from, functions_from}
+use Rattle.script_check.specs.Inference.{◌>>=◌, when, Declared, fresh, declared, block_from, block_returns, function_from, functions_from}
 use Rattle.script_check.specs.declared.tree.CheckedParameter.{CheckedParameter}
 use Rattle.script_check.specs.declared.tree.CheckedFunction.{CheckedFunction}
 use Rattle.script_check.proofs.Arms.{here, drop_end, both, neither}
@@ -42,6 +43,22 @@ pub parameters_end : (cs : List CheckedParameter) (ps : List WrittenParameter) (
     onto_parameters cs (declared (map parsed_parameter (drop i ps)) before) ≡ whole → whole ≡ Some (record { parameters = map parameter_of cs; context = before })
 parameters_end cs ps i before whole h so =
     sym so ∙ ap (λ qs. onto_parameters cs (declared (map parsed_parameter qs) before)) (drop_end ps i h) ∙ ap (λ z. Some (record { parameters = z; context = before })) (joined_end cs)
+
+-- A function
+
+pub kinds_are : (ts : List ValueType) → map kind_of ts ≡ map kind_named (map type_of ts)
+kinds_are [] = refl
+kinds_are (t ∷ ts) = ap (λ ks. kind_of t ∷ ks) (kinds_are ts)
+
+pub function_gives : (program : parsed.Program) (f : parsed.Function) (d : Declared) (g : Function) → declared f.parameters [] ≡ Some d → block_from program f f.body d.context ≡ Some g.body → block_returns f.body ≡ true →
+    g.name ≡ f.name → g.parameters ≡ d.parameters → g.result ≡ kind_named f.result → g.others ≡ map kind_named f.others → function_from program f ≡ Some g
+function_gives program f d g params body every name same result others =
+    both (declared f.parameters []) d _ _ params (both (block_from program f f.body d.context) g.body _ _ body
+    (ap (λ b. when b (record { name = f.name; parameters = d.parameters; result = kind_named f.result; others = map kind_named f.others; body = g.body })) every
+    ∙ ap (λ n. Some (record { name = n; parameters = d.parameters; result = kind_named f.result; others = map kind_named f.others; body = g.body })) (sym name)
+    ∙ ap (λ ps. Some (record { name = g.name; parameters = ps; result = kind_named f.result; others = map kind_named f.others; body = g.body })) (sym same)
+    ∙ ap (λ k. Some (record { name = g.name; parameters = g.parameters; result = k; others = map kind_named f.others; body = g.body })) (sym result)
+    ∙ ap (λ ks. Some (record { name = g.name; parameters = g.parameters; result = g.result; others = ks; body = g.body })) (sym others)))
 
 -- Functions in order
 

@@ -17,6 +17,8 @@ use Rattle.std.specs.Prelude.{
   None,
   pos,
   length,
+  map,
+  not,
   nat_lt,
   nat_eq,
   nat_le,
@@ -92,9 +94,11 @@ abbrev pub count : parsed.Exprs → ℕ
 count parsed.no_expr = 0
 count (parsed.also e es) = count es + 1
 
-abbrev pub callee : parsed.Program → Name → ℕ → Option parsed.Function
-callee program g n =
-    if same_name g main_name then None else (function_in program g >>= λ f. when (nat_eq (length f.parameters) n) f)
+-- what may be called for so many results beside the first, with so many arguments
+abbrev pub callee : parsed.Program → Name → ℕ → ℕ → Option parsed.Function
+callee program g others n =
+    if same_name g main_name then None
+    else (function_in program g >>= λ f. when (nat_eq (length f.others) others && nat_eq (length f.parameters) n) f)
 
 pub record Marked : Type 0 where
   pub marks : List Bool
@@ -116,11 +120,11 @@ module _ (program : parsed.Program) (context : Context) where
       kind = ListKind x.kind;
     })
     infer (parsed.Empty u) = Some (record { expr = syntax.Empty (kind_named u); kind = ListKind (kind_named u) })
-    infer (parsed.Call g args) = callee program g (count args) >>= λ f. infer_arguments args f.parameters >>= λ cs. Some (record {
+    infer (parsed.Call g args) = callee program g 0 (count args) >>= λ f. infer_arguments args f.parameters >>= λ cs. Some (record {
       expr = syntax.Call g cs;
       kind = kind_named f.result;
     })
-    infer (parsed.Remote r g args) = retries_within r >>= λ k. callee program g (count args) >>= λ f. infer_marked args f.parameters
+    infer (parsed.Remote r g args) = retries_within r >>= λ k. callee program g 0 (count args) >>= λ f. infer_marked args f.parameters
         >>= λ m. Some (record { expr = syntax.Remote k g m.marks m.exprs; kind = RefKind (kind_named f.result) })
     infer (parsed.Len a) = infer a >>= length_typing
     infer (parsed.Push a b) = infer a >>= λ x. items_of x.kind >>= λ t. infer b >>= of_kind t
@@ -147,6 +151,11 @@ module _ (program : parsed.Program) (context : Context) where
   abbrev pub infer_as : Kind → parsed.Expr → Option Expr
   infer_as t e = infer e >>= of_kind t
 
+  abbrev pub infer_results : parsed.Exprs → List parsed.Kind → Option Exprs
+  infer_results parsed.no_expr [] = Some end
+  infer_results (parsed.also e es) (t ∷ ts) = infer_as (kind_named t) e >>= λ c. infer_results es ts >>= λ cs. Some (also c cs)
+  infer_results _ _ = None
+
 -- a name that is not in scope yet
 abbrev pub free : Option Kind → Option Unit
 free None = Some tt
@@ -170,6 +179,35 @@ let_step program before x e = fresh before x >>= λ _. infer program before e >>
       ++ variable x c.kind;
 })
 
+abbrev pub only : Bool → Option Unit
+only true = Some tt
+only false = None
+
+-- one of the names
+abbrev pub is_among : List Name → Name → Bool
+is_among [] x = false
+is_among (y ∷ ys) x = same_name y x || is_among ys x
+
+-- a name that is not in scope yet, nor given before in the same statement
+abbrev pub new_name : Context → List Name → Name → Option Unit
+new_name before given x = fresh before x >>= λ _. only (not (is_among given x))
+
+abbrev pub new_names : Context → List Name → List Name → Option Unit
+new_names before given [] = Some tt
+new_names before given (x ∷ xs) = new_name before given x >>= λ _. new_names before (given ++ x ∷ []) xs
+
+-- the scope with the names behind it
+abbrev pub bound : Context → List Name → List parsed.Kind → Context
+bound before (x ∷ xs) (t ∷ ts) = bound (before ++ variable x (kind_named t)) xs ts
+bound before _ _ = before
+
+abbrev pub let_call_step : parsed.Program → Context → Name → List Name → Name → parsed.Exprs → Option Stepped
+let_call_step program before x others g args = new_names before [] (x ∷ others) >>= λ _. callee program g (length others) (count args) >>= λ f.
+    infer_arguments program before args f.parameters >>= λ cs. Some (record {
+      stmt = syntax.LetCall x others g cs;
+      after = bound before (x ∷ others) (f.result ∷ f.others);
+    })
+
 abbrev pub set_step : parsed.Program → Context → Name → parsed.Expr → Option Stepped
 set_step program before x e = kind_in before x >>= λ t. infer program before e >>= of_kind t >>= λ d. Some (record { stmt = syntax.Set x d; after = before })
 
@@ -177,18 +215,9 @@ abbrev pub print_step : parsed.Program → Name → Context → parsed.Expr → 
 print_step program self before e = if same_name self main_name then (infer program before e >>= λ c. if has_reference c.kind then None
     else Some (record { stmt = syntax.Print c.expr; after = before })) else None
 
-abbrev pub only : Bool → Option Unit
-only true = Some tt
-only false = None
-
--- no value is there beside the first
-abbrev pub is_alone : parsed.Exprs → Bool
-is_alone parsed.no_expr = true
-is_alone (parsed.also e es) = false
-
-abbrev pub return_step : parsed.Program → Kind → Context → parsed.Expr → parsed.Exprs → Option Stepped
-return_step program result before e others = only (is_alone others) >>= λ _. infer program before e >>= of_kind result
-    >>= λ c. Some (record { stmt = syntax.Return c; after = before })
+abbrev pub return_step : parsed.Program → parsed.Kind → List parsed.Kind → Context → parsed.Expr → parsed.Exprs → Option Stepped
+return_step program result others before e es = only (nat_eq (count es) (length others)) >>= λ _. infer_results program before (parsed.also e es) (result
+    ∷ others) >>= λ cs. Some (record { stmt = syntax.Return cs; after = before })
 
 abbrev pub block_alone : Blocked → Option Block
 block_alone x = Some x.block
@@ -197,7 +226,7 @@ module _ (program : parsed.Program) (function : parsed.Function) where
   abbrev mutual
     pub step_of : parsed.Stmt → Context → Option Stepped
     step_of (parsed.Let x e) before = let_step program before x e
-    step_of (parsed.LetCall x others g args) before = None
+    step_of (parsed.LetCall x others g args) before = let_call_step program before x others g args
     step_of (parsed.LetRemote x others r g args) before = None
     step_of (parsed.Set x e) before = set_step program before x e
     step_of (parsed.If e a) before = infer program before e >>= of_kind Number >>= λ c. steps_of a before >>= block_alone
@@ -208,7 +237,7 @@ module _ (program : parsed.Program) (function : parsed.Function) where
         >>= of_kind Number >>= λ d. steps_of body (before ++ variable x Number) >>= block_alone
         >>= λ b. Some (record { stmt = syntax.For x c d b; after = before })
     step_of (parsed.Print e) before = print_step program function.name before e
-    step_of (parsed.Return e others) before = return_step program (kind_named function.result) before e others
+    step_of (parsed.Return e others) before = return_step program function.result function.others before e others
 
     pub steps_of : parsed.Block → Context → Option Blocked
     steps_of parsed.no_stmt before = Some (record { block = done; after = before })
@@ -254,8 +283,13 @@ is_single (t ∷ ts) = false
 
 abbrev pub function_from : parsed.Program → parsed.Function → Option Function
 function_from program f =
-    only (is_single f.others) >>= λ _. declared f.parameters [] >>= λ d. block_from program f f.body d.context >>= λ b.
-    when (block_returns f.body) (record { name = f.name; parameters = d.parameters; result = kind_named f.result; body = b })
+    declared f.parameters [] >>= λ d. block_from program f f.body d.context >>= λ b. when (block_returns f.body) (record {
+      name = f.name;
+      parameters = d.parameters;
+      result = kind_named f.result;
+      others = map kind_named f.others;
+      body = b;
+    })
 
 abbrev pub functions_from : parsed.Program → List parsed.Function → Option Script
 functions_from program [] = Some []

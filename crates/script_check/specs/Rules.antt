@@ -17,6 +17,8 @@ use Rattle.std.specs.Prelude.{
   Some,
   None,
   pos,
+  length,
+  map,
   if◌then◌else◌,
 }
 use Rattle.meaning.specs.Values.{Name, main_name}
@@ -37,10 +39,11 @@ abbrev pub function_in : parsed.Program → Name → Option parsed.Function
 function_in [] g = None
 function_in (f ∷ fs) g = if same_name f.name g then Some f else function_in fs g
 
--- a function that may be called: one of the program, but main
-pub record IsCallee (program : parsed.Program) (g : Name) (f : parsed.Function) : Type 0 where
+-- a function that may be called for so many results beside the first: one of the program, but main
+pub record IsCallee (program : parsed.Program) (g : Name) (others : ℕ) (f : parsed.Function) : Type 0 where
   pub found : function_in program g ≡ Some f
   pub not_main : g ≢ main_name
+  pub results : length f.others ≡ others
 
 abbrev pub variable : Name → Kind → Context
 variable x t = record { name = x; kind = t } ∷ []
@@ -79,9 +82,9 @@ module _ (program : parsed.Program) (context : Context) where
     IsChecked (parsed.ListOf (parsed.also e es)) c t = (x : Expr) × (xs : Exprs) × (u : Kind) × IsChecked e x u × EachChecked es xs u
         × (c ≡ syntax.ListOf (also x xs)) × (t ≡ ListKind u)
     IsChecked (parsed.Empty u) c t = (c ≡ syntax.Empty (kind_named u)) × (t ≡ ListKind (kind_named u))
-    IsChecked (parsed.Call g args) c t = (f : parsed.Function) × (xs : Exprs) × IsCallee program g f × ArgumentsChecked args xs f.parameters
+    IsChecked (parsed.Call g args) c t = (f : parsed.Function) × (xs : Exprs) × IsCallee program g 0 f × ArgumentsChecked args xs f.parameters
         × (c ≡ syntax.Call g xs) × (t ≡ kind_named f.result)
-    IsChecked (parsed.Remote r g args) c t = (f : parsed.Function) × (ms : List Bool) × (xs : Exprs) × (retries_of r ≤ 10) × IsCallee program g f
+    IsChecked (parsed.Remote r g args) c t = (f : parsed.Function) × (ms : List Bool) × (xs : Exprs) × (retries_of r ≤ 10) × IsCallee program g 0 f
         × MarkedChecked args ms xs f.parameters × (c ≡ syntax.Remote (retries_of r) g ms xs) × (t ≡ RefKind (kind_named f.result))
     IsChecked (parsed.Len a) c t = (x : Expr) × (u : Kind) × IsChecked a x (ListKind u) × (c ≡ syntax.Unary syntax.Len x) × (t ≡ Number)
     IsChecked (parsed.Push a b) c t = (x : Expr) × (y : Expr) × (u : Kind) × IsChecked a x (ListKind u) × IsChecked b y u
@@ -106,7 +109,20 @@ module _ (program : parsed.Program) (context : Context) where
         × IsChecked e x (argument_kind m (kind_named p.kind)) × MarkedChecked es ms xs ps × (marks ≡ m ∷ ms) × (cs ≡ also x xs)
     MarkedChecked _ _ _ _ = ⊥
 
+  -- as many values as results, each of its result's type
+  abbrev pub ResultsChecked : parsed.Exprs → Exprs → List parsed.Kind → Type 0
+  ResultsChecked parsed.no_expr cs [] = cs ≡ end
+  ResultsChecked (parsed.also e es) cs (t ∷ ts) = (x : Expr) × (xs : Exprs) × IsChecked e x (kind_named t) × ResultsChecked es xs ts
+      × (cs ≡ also x xs)
+  ResultsChecked _ _ _ = ⊥
+
 -- Statements
+
+-- as many names as results, none in scope yet, and the scope after them
+abbrev pub NamesChecked : List Name → List parsed.Kind → Context → Context → Type 0
+NamesChecked [] [] before after = after ≡ before
+NamesChecked (x ∷ xs) (t ∷ ts) before after = (kind_in before x ≡ None) × NamesChecked xs ts (before ++ variable x (kind_named t)) after
+NamesChecked _ _ _ _ = ⊥
 
 -- in a function of a program
 module _ (program : parsed.Program) (function : parsed.Function) where
@@ -115,8 +131,10 @@ module _ (program : parsed.Program) (function : parsed.Function) where
     pub StatementChecked : parsed.Stmt → Context → Stmt → Context → Type 0
     StatementChecked (parsed.Let x e) before s after = (c : Expr) × (t : Kind) × (kind_in before x ≡ None) × IsChecked program before e c t
         × (s ≡ syntax.Let x c) × (after ≡ before ++ variable x t)
-    -- nothing of several results is allowed yet
-    StatementChecked (parsed.LetCall x others g args) before s after = ⊥
+    StatementChecked (parsed.LetCall x others g args) before s after = (f : parsed.Function) × (cs : Exprs) × IsCallee program g (length others) f
+        × ArgumentsChecked program before args cs f.parameters × NamesChecked (x ∷ others) (f.result ∷ f.others) before after
+        × (s ≡ syntax.LetCall x others g cs)
+    -- remote calls of several results are not run yet
     StatementChecked (parsed.LetRemote x others r g args) before s after = ⊥
     StatementChecked (parsed.Set x e) before s after = (c : Expr) × (t : Kind) × (kind_in before x ≡ Some t) × IsChecked program before e c t
         × (s ≡ syntax.Set x c) × (after ≡ before)
@@ -129,8 +147,8 @@ module _ (program : parsed.Program) (function : parsed.Function) where
         × (s ≡ syntax.For x c d b) × (after ≡ before)
     StatementChecked (parsed.Print e) before s after = (c : Expr) × (t : Kind) × (function.name ≡ main_name) × IsChecked program before e c t
         × (has_reference t ≡ false) × (s ≡ syntax.Print c) × (after ≡ before)
-    StatementChecked (parsed.Return e others) before s after = (c : Expr) × (others ≡ parsed.no_expr)
-        × IsChecked program before e c (kind_named function.result) × (s ≡ syntax.Return c) × (after ≡ before)
+    StatementChecked (parsed.Return e others) before s after = (cs : Exprs)
+        × ResultsChecked program before (parsed.also e others) cs (function.result ∷ function.others) × (s ≡ syntax.Return cs) × (after ≡ before)
 
     -- its statements in order, each in the scope that the one before leaves
     pub BlockChecked : parsed.Block → Context → Block → Type 0
@@ -164,10 +182,10 @@ ParametersChecked (p ∷ rest) before ps after = (qs : List Parameter) × (kind_
 -- the function of the program is allowed, and becomes f
 pub record FunctionChecked (program : parsed.Program) (function : parsed.Function) (f : Function) : Type 0 where
   pub context : Context
-  pub single : function.others ≡ []
   pub name : f.name ≡ function.name
   pub parameters : ParametersChecked function.parameters [] f.parameters context
   pub result : f.result ≡ kind_named function.result
+  pub others : f.others ≡ map kind_named function.others
   pub body : BlockChecked program function function.body context f.body
   pub returns : BlockReturns function.body
 

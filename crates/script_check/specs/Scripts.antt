@@ -1,6 +1,6 @@
 -- What is kept of every checked script.
 use Rattle.std.specs.Prelude.{◌≡◌, [], ◌∷◌, ◌++◌, Some, None}
-use Rattle.meaning.specs.Syntax.{Number, Function, Script}
+use Rattle.meaning.specs.Syntax.{Number, Function, results, Script}
 use Rattle.meaning.specs.Meaning.{find}
 use Rattle.meaning.specs.Kinds.{ScriptChecks}
 use Rattle.meaning.specs.Mains.{KeepsMainApart}
@@ -16,7 +16,7 @@ AreApart before (f ∷ fs) = (find before f.name ≡ None) × AreApart (before +
 pub record IsWellTyped (script : Script) : Type 0 where
   pub checks : ScriptChecks script script
   pub apart : AreApart [] script
-  pub main : (f : Function) × (find script main_name ≡ Some f) × (f.parameters ≡ []) × (f.result ≡ Number)
+  pub main : (f : Function) × (find script main_name ≡ Some f) × (f.parameters ≡ []) × (results f ≡ Number ∷ [])
   pub main_apart : KeepsMainApart script
 
 -- a program becomes one script at most

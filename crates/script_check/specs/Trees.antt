@@ -67,9 +67,10 @@ exprs_of (e ∷ es) = also (expr_of e) (exprs_of es)
 abbrev mutual
   pub statement_of : CheckedStatement → Stmt
   statement_of (statements.Let x e) = syntax.Let (string_bytes x) (expr_of e)
+  statement_of (statements.LetCall x xs g args) = syntax.LetCall (string_bytes x) (map string_bytes xs.items) (string_bytes g) (exprs_of args.items)
   statement_of (statements.Set x e) = syntax.Set (string_bytes x) (expr_of e)
   statement_of (statements.Print e) = syntax.Print (expr_of e)
-  statement_of (statements.Return e) = syntax.Return (expr_of e)
+  statement_of (statements.Return es) = syntax.Return (exprs_of es.items)
   statement_of (statements.If' e s a t b) = syntax.If (expr_of e) (row_statements a) (row_statements b)
   statement_of (statements.For' x from to s body) = syntax.For (string_bytes x) (expr_of from) (expr_of to) (row_statements body)
 
@@ -93,6 +94,7 @@ function_of f =
       name = string_bytes f.name;
       parameters = map parameter_of f.parameters.items;
       result = kind_of f.result;
+      others = map kind_of f.others.items;
       body = block_of f.body;
     }
 

@@ -69,9 +69,9 @@ fn functions_of(program: &Program) -> &[Function]
 
 /// Checks a program: its names and scopes, its types, its returns and its main. The first fault
 /// is the refusal, in this order: a function with the name of one before it; no main; then of each
-/// function several results, its parameters, its statements in order, and a return that may be
-/// missed. In a statement several values or names come first, names before expressions, and
-/// operands before the expression that they stand in.
+/// function its parameters, its statements in order, and a return that may be missed. In a
+/// statement the number of a return's values, and a `let` over a remote call of several results,
+/// come first, names before expressions, and operands before the expression that they stand in.
 pub fn check(alloc: Global, program: Program) -> Result<Checked, CheckError>
     // What is given is what the program becomes by the rules.
     ensures found { IfOk result (λ c. IsCheckedOf (program_of program.functions.items) (script_of c)) }

@@ -1,10 +1,10 @@
 // Copies of checked trees.
 
-ghost use Rattle.std.specs.Prelude.{◌≡◌, IfOk, map};
+ghost use Rattle.std.specs.Prelude.{◌≡◌, IfOk, map, string_bytes};
 ghost use Rattle.script_check.specs.Trees.{expr_of, exprs_of, statement_of, statements_of, block_of, parameter_of, function_of, script_of};
 
 use crate::tree::{CheckedBlock, CheckedExpr, CheckedFunction, CheckedParameter, CheckedStatement};
-use crate::types::copy_type;
+use crate::types::{copy_type, copy_types};
 use std::alloc::{AllocError, Global};
 
 /// An equal expression.
@@ -59,6 +59,17 @@ fn copy_exprs(alloc: Global, exprs: &[CheckedExpr]) -> Result<Vec<CheckedExpr>, 
     Ok(copies)
 }
 
+/// Equal names.
+fn copy_names(alloc: Global, names: &[String]) -> Result<Vec<String>, AllocError>
+    ensures { IfOk result (λ xs. map string_bytes xs.items ≡ map string_bytes names.now) }
+{
+    let mut copies = Vec::new(alloc);
+    for name in names {
+        copies.push(name.clone()?)?;
+    }
+    Ok(copies)
+}
+
 /// An equal statement.
 #[cycle(block_copies)]
 fn copy_statement(
@@ -72,12 +83,18 @@ fn copy_statement(
             let expr = copy_expr(alloc, expr)?;
             Ok(CheckedStatement::Let(name.clone()?, expr))
         }
+        CheckedStatement::LetCall(name, others, function, arguments) => {
+            let others = copy_names(alloc, others)?;
+            let arguments = copy_exprs(alloc, arguments)?;
+            let function = function.clone()?;
+            Ok(CheckedStatement::LetCall(name.clone()?, others, function, arguments))
+        }
         CheckedStatement::Set(name, expr) => {
             let expr = copy_expr(alloc, expr)?;
             Ok(CheckedStatement::Set(name.clone()?, expr))
         }
         CheckedStatement::Print(expr) => Ok(CheckedStatement::Print(copy_expr(alloc, expr)?)),
-        CheckedStatement::Return(expr) => Ok(CheckedStatement::Return(copy_expr(alloc, expr)?)),
+        CheckedStatement::Return(exprs) => Ok(CheckedStatement::Return(copy_exprs(alloc, exprs)?)),
         CheckedStatement::If(condition, first, second) => {
             let condition = copy_expr(alloc, condition)?;
             let first = copy_block(alloc, &first.statements)?;
@@ -129,11 +146,13 @@ fn copy_function(alloc: Global, function: &CheckedFunction) -> Result<CheckedFun
     let name = function.name.clone()?;
     let parameters = copy_parameters(alloc, &function.parameters)?;
     let result = copy_type(alloc, &function.result)?;
+    let others = copy_types(alloc, &function.others)?;
     let body = copy_block(alloc, &function.body.statements)?;
     Ok(CheckedFunction {
         name,
         parameters,
         result,
+        others,
         body,
     })
 }

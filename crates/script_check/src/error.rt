@@ -35,8 +35,8 @@ pub enum CheckError {
     /// 17: a name that is in scope already.
     #[error("refused 17 at {}..{}: a name that is in scope already", .0.start, .0.end)]
     Duplicate(Span),
-    /// 18: a wrong number of results. Functions of several results are read and printed, and not run yet: each is refused, at its name, and
-    /// so are a return of several values, at `return`, and a `let` of several names, at the called function's name.
+    /// 18: a wrong number of results: of a return's values, at `return`; of a `let`'s names, or of a function that is called for one result,
+    /// at the function's name in the call. Remote calls of several results are not run yet: a `let` over one is refused, at the function's name.
     #[error("refused 18 at {}..{}: a wrong number of results", .0.start, .0.end)]
     WrongReturns(Span),
     /// 39: want of memory.

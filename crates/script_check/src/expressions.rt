@@ -160,7 +160,7 @@ fn check_each(
     Ok(checked)
 }
 
-/// A plain call.
+/// A plain call for one result.
 #[cycle(expressions)]
 fn check_call(
     alloc: Global,
@@ -174,7 +174,7 @@ fn check_call(
     ensures refused { IfErr result (λ e. IsTrue (is_refusal e) →
         infer (program_of functions.now) (context_of scope.now) (Call (string_bytes name.now.text) (trees_of arguments.now)) ≡ None) }
 {
-    let function = callee(functions, name, arguments.len())?;
+    let function = callee(functions, name, 0, arguments.len())?;
     let checked = check_arguments(alloc, functions, scope, &function.parameters, arguments)?;
     let expr = CheckedExpr::Call(name.text.clone()?, checked);
     let kind = copy_type(alloc, &function.result)?;
@@ -183,7 +183,7 @@ fn check_call(
 
 /// Arguments, each of its parameter's type.
 #[cycle(expressions)]
-fn check_arguments(
+pub(crate) fn check_arguments(
     alloc: Global,
     functions: &[Function],
     scope: &[Variable],
@@ -206,7 +206,7 @@ fn check_arguments(
     Ok(checked)
 }
 
-/// A call as a task.
+/// A call for one result, as a task.
 #[cycle(expressions)]
 fn check_remote(
     alloc: Global,
@@ -224,7 +224,7 @@ fn check_remote(
         ≡ None) }
 {
     let retries = retries(written)?;
-    let function = callee(functions, name, arguments.len())?;
+    let function = callee(functions, name, 0, arguments.len())?;
     let marked = check_marked(alloc, functions, scope, &function.parameters, arguments)?;
     let name = name.text.clone()?;
     let expr = CheckedExpr::Remote(retries, name, marked.marks, marked.exprs);

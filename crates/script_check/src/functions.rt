@@ -13,7 +13,7 @@ use crate::error::CheckError;
 use crate::scope::{Variable, check_fresh, declare, find};
 use crate::statements::{block_returns, check_block};
 use crate::tree::{CheckedFunction, CheckedParameter};
-use crate::types::copy_type;
+use crate::types::{copy_type, copy_types};
 use script_syntax::{Function, Parameter, ValueType};
 use std::alloc::Global;
 
@@ -58,9 +58,6 @@ fn check_function(
     ensures value { IfOk result (λ f. function_from (program_of functions.now) (parsed_function function.now) ≡ Some (function_of f)) }
     ensures refused { IfErr result (λ e. IsTrue (is_refusal e) → function_from (program_of functions.now) (parsed_function function.now) ≡ None) }
 {
-    if !is_single(&function.others) {
-        return Err(CheckError::WrongReturns(function.name.span));
-    }
     let mut scope = Vec::new(alloc);
     let parameters = check_parameters(alloc, &mut scope, &function.parameters)?;
     let statements = &function.body.statements;
@@ -70,10 +67,12 @@ fn check_function(
     }
     let name = function.name.text.clone()?;
     let result = copy_type(alloc, &function.result)?;
+    let others = copy_types(alloc, &function.others)?;
     Ok(CheckedFunction {
         name,
         parameters,
         result,
+        others,
         body,
     })
 }

@@ -7,6 +7,7 @@ mod error;
 mod expressions;
 mod functions;
 mod laws;
+mod results;
 mod scope;
 mod statements;
 mod tree;

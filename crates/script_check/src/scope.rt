@@ -69,15 +69,17 @@ pub(crate) fn find<'a>(functions: &'a [Function], name: &str) -> Option<&'a Func
     None
 }
 
-/// The function that a call names, if it may be called with that many arguments.
+/// The function that a call names, if it may be called for that many results beside the first, and with that many arguments.
 pub(crate) fn callee<'a>(
     functions: &'a [Function],
     name: &Name,
+    others: usize,
     arguments: usize,
 ) -> Result<&'a Function, CheckError>
-    ensures value { IfOk result (λ f. callee (program_of functions.now) (string_bytes name.now.text) arguments ≡ Some (parsed_function f.now)) }
+    ensures value { IfOk result (λ f. callee (program_of functions.now) (string_bytes name.now.text) others arguments ≡ Some (parsed_function f.now)) }
+    ensures results { IfOk result (λ f. vec_len f.now.others ≡ others) }
     ensures count { IfOk result (λ f. vec_len f.now.parameters ≡ arguments) }
-    ensures refused { IfErr result (λ e. callee (program_of functions.now) (string_bytes name.now.text) arguments ≡ None) }
+    ensures refused { IfErr result (λ e. callee (program_of functions.now) (string_bytes name.now.text) others arguments ≡ None) }
 {
     if name.text.as_str() == "main" {
         return Err(CheckError::UnknownName(name.span));
@@ -85,6 +87,9 @@ pub(crate) fn callee<'a>(
     let Some(function) = find(functions, name.text.as_str()) else {
         return Err(CheckError::UnknownName(name.span));
     };
+    if function.others.len() != others {
+        return Err(CheckError::WrongReturns(name.span));
+    }
     if function.parameters.len() != arguments {
         return Err(CheckError::WrongCount(name.span));
     }

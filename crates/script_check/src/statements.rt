@@ -5,22 +5,18 @@ ghost use Rattle.meaning.specs.Syntax.{Number as ANumber};
 ghost use Rattle.script_syntax.specs.Views.{
   program_of,
   tree_of,
-  trees_of,
-  type_of,
   statement_of as parsed_statement,
   statements_of as parsed_statements,
   function_of as parsed_function,
 };
 ghost use Rattle.script_check.specs.Refusals.{is_refusal};
-ghost use Rattle.script_check.specs.Trees.{kind_of, statement_of, statements_of, block_of};
+ghost use Rattle.script_check.specs.Trees.{statement_of, statements_of, block_of};
 ghost use Rattle.script_check.specs.Scopes.{context_of};
 ghost use Rattle.script_check.specs.Rules.{variable};
 ghost use Rattle.script_check.specs.Inference.{
   let_step,
   set_step,
   print_step,
-  is_alone,
-  return_step,
   step_of,
   steps_of,
   block_from,
@@ -33,6 +29,7 @@ ghost use Rattle.script_check.specs.Branches.{other_of};
 
 use crate::error::CheckError;
 use crate::expressions::{check_expr, check_number};
+use crate::results::{check_let_call, check_return};
 use crate::scope::{Variable, check_fresh, declare, look_up};
 use crate::tree::{CheckedBlock, CheckedStatement};
 use crate::types::has_reference;
@@ -103,41 +100,6 @@ fn check_print(
     Ok(CheckedStatement::Print(typing.expr))
 }
 
-/// No value is there beside the first.
-fn is_alone(others: &[Expr]) -> bool
-    ensures { result ≡ is_alone (trees_of others.now) }
-{
-    let [_first, _others @ ..] = others else {
-        return true;
-    };
-    false
-}
-
-/// A return, of the function's type.
-fn check_return(
-    alloc: Global,
-    functions: &[Function],
-    function: &Function,
-    scope: &[Variable],
-    span: Span,
-    expr: &Expr,
-    others: &[Expr],
-) -> Result<CheckedStatement, CheckError>
-    ensures value { IfOk result (λ s.
-        return_step (program_of functions.now) (kind_of function.now.result) (context_of scope.now) (tree_of expr.now) (trees_of others.now)
-        ≡ Some (record { stmt = statement_of s; after = context_of scope.now })) }
-    ensures refused { IfErr result (λ e. IsTrue (is_refusal e) →
-        return_step (program_of functions.now) (kind_of function.now.result) (context_of scope.now) (tree_of expr.now) (trees_of others.now)
-        ≡ None) }
-{
-    if !is_alone(others) {
-        return Err(CheckError::WrongReturns(span));
-    }
-    let typing = check_expr(alloc, functions, scope, expr)?;
-    let value = typing.of_kind(&function.result, expr.span)?;
-    Ok(CheckedStatement::Return(value))
-}
-
 /// A statement, and the scope after it.
 #[cycle(statements)]
 fn check_statement(
@@ -155,7 +117,9 @@ fn check_statement(
 {
     match statement {
         Statement::Let(name, expr) => check_let(alloc, functions, scope, name, expr),
-        Statement::LetCall(_, _, called, _) => Err(CheckError::WrongReturns(called.span)),
+        Statement::LetCall(name, others, called, arguments) => {
+            check_let_call(alloc, functions, scope, name, others, called, arguments)
+        }
         Statement::LetRemote(_, _, _, called, _) => Err(CheckError::WrongReturns(called.span)),
         Statement::Set(name, expr) => check_set(alloc, functions, scope, name, expr),
         Statement::If(condition, first, second) => {

@@ -51,9 +51,12 @@ pub enum CheckedExpr {
 #[cycle(statement)]
 pub enum CheckedStatement {
     Let(String, CheckedExpr),
+    /// Two names or more, the first apart, for the results of a plain call: the function's name, and what it is called with.
+    LetCall(String, Vec<String>, String, Vec<CheckedExpr>),
     Set(String, CheckedExpr),
     Print(CheckedExpr),
-    Return(CheckedExpr),
+    /// A value for each result.
+    Return(Vec<CheckedExpr>),
     /// A condition, and the two blocks; the second is empty where none was written.
     If(CheckedExpr, CheckedBlock, CheckedBlock),
     /// A loop's name, its bounds and its body.
@@ -79,6 +82,9 @@ pub struct CheckedParameter {
 pub struct CheckedFunction {
     pub name: String,
     pub parameters: Vec<CheckedParameter>,
+    /// The type of its first result.
     pub result: ValueType,
+    /// The types of its further results: three at most.
+    pub others: Vec<ValueType>,
     pub body: CheckedBlock,
 }

@@ -1,6 +1,6 @@
 // Types: whether two are the same, copies, and what they are made of.
 
-ghost use Rattle.std.specs.Prelude.{◌≡◌, IfOk, MatchOption, None, Some};
+ghost use Rattle.std.specs.Prelude.{◌≡◌, IfOk, MatchOption, None, Some, map};
 ghost use Rattle.script_check.specs.Trees.{kind_of};
 ghost use Rattle.meaning.specs.Kinds.{has_reference};
 ghost use Rattle.script_check.specs.Inference.{same_kind, mark_for};
@@ -29,6 +29,17 @@ pub(crate) fn copy_type(alloc: Global, kind: &ValueType) -> Result<ValueType, Al
         ValueType::List(items) => Ok(ValueType::List(Box::new(alloc, copy_type(alloc, items)?)?)),
         ValueType::Ref(inner) => Ok(ValueType::Ref(Box::new(alloc, copy_type(alloc, inner)?)?)),
     }
+}
+
+/// Equal types.
+pub(crate) fn copy_types(alloc: Global, kinds: &[ValueType]) -> Result<Vec<ValueType>, AllocError>
+    ensures { IfOk result (λ ts. map kind_of ts.items ≡ map kind_of kinds.now) }
+{
+    let mut copies = Vec::new(alloc);
+    for kind in kinds {
+        copies.push(copy_type(alloc, kind)?)?;
+    }
+    Ok(copies)
 }
 
 /// Whether a reference stands in a type.

@@ -20,7 +20,11 @@ fn assert_filled_in(rt: &impl Abort, script: &Checked) {
     };
     assert_eq!(rt; first.statements.len(), 1);
     assert_eq!(rt; second.statements.len(), 0);
-    let CheckedStatement::Return(CheckedExpr::Get(ValueType::Int, task)) = &statements[2] else {
+    let CheckedStatement::Return(values) = &statements[2] else {
+        panic!(rt; "no return");
+    };
+    assert_eq!(rt; values.len(), 1);
+    let CheckedExpr::Get(ValueType::Int, task) = &values[0] else {
         panic!(rt; "no get");
     };
     let CheckedExpr::Remote(retries, function, marks, arguments) = &**task else {
@@ -39,6 +43,38 @@ fn gives_the_checked_script_and_its_copy(rt: HostRuntime) -> Result<(), Fail> {
     let script = check(rt.alloc(), parse(rt.alloc(), text.as_bytes())?)?;
     assert_filled_in(&rt, &script);
     assert_filled_in(&rt, &script.copy(rt.alloc())?);
+    Ok(())
+}
+
+/// That a function has two results, which main binds to two names.
+fn assert_several(rt: &impl Abort, script: &Checked) {
+    let functions = script.functions();
+    assert_eq!(rt; functions.len(), 2);
+    let [ValueType::List(_)] = functions[0].others.as_slice() else {
+        panic!(rt; "no second result");
+    };
+    let CheckedStatement::Return(values) = &functions[0].body.statements[0] else {
+        panic!(rt; "no return");
+    };
+    assert_eq!(rt; values.len(), 2);
+    let statement = &functions[1].body.statements[0];
+    let CheckedStatement::LetCall(name, others, function, arguments) = statement else {
+        panic!(rt; "no let");
+    };
+    assert_eq!(rt; name.as_str(), "a");
+    assert_eq!(rt; others.len(), 1);
+    assert_eq!(rt; others[0].as_str(), "b");
+    assert_eq!(rt; function.as_str(), "p");
+    assert_eq!(rt; arguments.len(), 1);
+}
+
+#[test]
+fn gives_several_results_and_their_copy(rt: HostRuntime) -> Result<(), Fail> {
+    let text =
+        "fn p(x: int) -> (int, [int]) { return x, [x]; } fn main() -> int { let a, b = p(1); return b[0]; }";
+    let script = check(rt.alloc(), parse(rt.alloc(), text.as_bytes())?)?;
+    assert_several(&rt, &script);
+    assert_several(&rt, &script.copy(rt.alloc())?);
     Ok(())
 }
 

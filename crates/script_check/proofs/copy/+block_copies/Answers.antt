@@ -14,8 +14,8 @@ copy_block-returns t c = steps_end c.loop-statement.copies.items c.args.statemen
 
 pub copy_statement-returns-in_ok-second-in-If : goal.copy_statement-returns-in_ok-second-in-If
 copy_statement-returns-in_ok-second-in-If t c =
-    let a : block_of c.in_ok-first-in-If.first ≡ block_of c.in-If.first = c.in_ok-first-in-If.ensures ∙ ap statements_of c.deref.ensures.value in
-    let b : block_of c.in_ok-second-in-If.second ≡ block_of c.in-If.second = c.in_ok-second-in-If.ensures ∙ ap statements_of c.deref-in-If.ensures.value in
+    let a : block_of c.in_ok-first-in-If.first ≡ block_of c.in-If.first = c.in_ok-first-in-If.ensures ∙ ap statements_of c.deref-in-If.ensures.value in
+    let b : block_of c.in_ok-second-in-If.second ≡ block_of c.in-If.second = c.in_ok-second-in-If.ensures ∙ ap statements_of c.deref-in-If-2.ensures.value in
     if_checked c.in_ok-condition-in-If.condition c.in_ok-first-in-If.first c.in_ok-second-in-If.second
     ∙ ap (λ x. syntax.If x (block_of c.in_ok-first-in-If.first) (block_of c.in_ok-second-in-If.second)) c.in_ok-condition-in-If.ensures
     ∙ ap (λ x. syntax.If (expr_of c.in-If.condition) x (block_of c.in_ok-second-in-If.second)) a

@@ -68,22 +68,40 @@ over s t = record { start = s.start; end = t.end }
 abbrev pub enclosed_places : Span → List Span → List Span
 enclosed_places s body = s ∷ (body ++ s ∷ [])
 
+-- those of operands, one after another
+abbrev pub operands_places : List Expr → List Span
+operands_places [] = []
+operands_places (e ∷ es) = operand_places e ++ operands_places es
+
+-- where the last of the others stands, or what stands before them
+abbrev pub last_span : Span → List Expr → Span
+last_span s [] = s
+last_span s (e ∷ es) = last_span e.span es
+
+-- a call whose results get names: its arguments, and then where the function's name stands
+abbrev pub call_places : Span → List Expr → List Span
+call_places s args = exprs_places args ++ s ∷ []
+
+-- a return's values, and then the return, from that word to the end of the last
+abbrev pub return_places : Span → Expr → List Expr → List Span
+return_places word e others = operand_places e ++ (operands_places others ++ over word (last_span e.span others) ∷ [])
+
 -- what is done with a value, from the word on that says so
 abbrev pub last_places : Span → Expr → List Span
 last_places word e = operand_places e ++ over word e.span ∷ []
 
 abbrev mutual
-  -- nothing of several results has code
+  -- no task of several results has code
   pub statement_places : Statement → List Span
   statement_places (statements.Let x e) = expr_places e
-  statement_places (statements.LetCall x xs g args) = []
+  statement_places (statements.LetCall x xs g args) = call_places g.span args.items
   statement_places (statements.LetRemote x xs r g args) = []
   statement_places (statements.Set x e) = expr_places e
   statement_places (statements.If' e shape a other) = operand_places e ++ (enclosed_places e.span (block_places a) ++ else_places other)
   statement_places (statements.For' x from to shape body) =
       expr_places from ++ (expr_places to ++ enclosed_places (over from.span to.span) (block_places body))
   statement_places (statements.Print word e) = last_places word e
-  statement_places (statements.Return word e others) = last_places word e
+  statement_places (statements.Return word e others) = return_places word e others.items
 
   pub else_places : statements.Held-Statement-If-2 → List Span
   else_places statements.None' = []

@@ -77,7 +77,7 @@ pub(crate) fn add_operand(places: &mut Vec<Span>, expr: &Expr) -> Result<(), All
 
 /// What works out expressions, one after another.
 #[cycle(expressions)]
-fn add_exprs(places: &mut Vec<Span>, exprs: &[Expr]) -> Result<(), AllocError>
+pub(crate) fn add_exprs(places: &mut Vec<Span>, exprs: &[Expr]) -> Result<(), AllocError>
     ensures { OnOk result (places.new.items ≡ places.old.items ++ exprs_places exprs.now) }
 {
     for expr in exprs {

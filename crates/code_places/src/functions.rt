@@ -34,7 +34,8 @@ fn add_function(places: &mut Vec<Span>, function: &Function) -> Result<(), Alloc
 /// - what works out an expression: the expression, a call's with its arguments, a list's with its items;
 /// - what takes a condition, and the jump past what stands after `else`: the condition;
 /// - a loop's beginning and its turn: from the first bound to the second;
-/// - a print and a return: from that word to the end of its value;
+/// - a call whose results get names: its function's name;
+/// - a print and a return: from that word to the end of its value, of a return's last one;
 /// - a task's arguments, dereferenced before its body: the parameter's name;
 /// - the end of a body, to which none comes: the function's name.
 ///

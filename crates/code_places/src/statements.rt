@@ -1,9 +1,19 @@
 // The places of the instructions of statements.
 
 ghost use Rattle.std.specs.Prelude.{◌≡◌, ◌++◌, OnOk};
-ghost use Rattle.code_places.specs.Places.{enclosed_places, last_places, over, statement_places, statements_places};
+ghost use Rattle.code_places.specs.Places.{
+  call_places,
+  enclosed_places,
+  last_places,
+  last_span,
+  operands_places,
+  over,
+  return_places,
+  statement_places,
+  statements_places,
+};
 
-use crate::expressions::{add_expr, add_operand};
+use crate::expressions::{add_expr, add_exprs, add_operand};
 use script_syntax::{Expr, Span, Statement};
 use std::alloc::AllocError;
 
@@ -24,7 +34,9 @@ fn add_statement(places: &mut Vec<Span>, statement: &Statement) -> Result<(), Al
 {
     match statement {
         Statement::Let(_, expr) => add_expr(places, expr),
-        Statement::LetCall(_, _, _, _) => Ok(()),
+        Statement::LetCall(_, _, function, arguments) => {
+            add_call(places, function.span, arguments)
+        }
         Statement::LetRemote(_, _, _, _, _) => Ok(()),
         Statement::Set(_, expr) => add_expr(places, expr),
         Statement::If(condition, first, second) => {
@@ -41,7 +53,7 @@ fn add_statement(places: &mut Vec<Span>, statement: &Statement) -> Result<(), Al
             add_enclosed(places, over(from.span, to.span), &body.statements)
         }
         Statement::Print(word, expr) => add_last(places, *word, expr),
-        Statement::Return(word, expr, _) => add_last(places, *word, expr),
+        Statement::Return(word, expr, others) => add_return(places, *word, expr, others),
     }
 }
 
@@ -51,6 +63,51 @@ fn add_last(places: &mut Vec<Span>, word: Span, expr: &Expr) -> Result<(), Alloc
 {
     add_operand(places, expr)?;
     places.push(over(word, expr.span))?;
+    Ok(())
+}
+
+/// A call whose results get names.
+fn add_call(places: &mut Vec<Span>, name: Span, arguments: &[Expr]) -> Result<(), AllocError>
+    ensures { OnOk result (places.new.items ≡ places.old.items ++ call_places name arguments.now) }
+{
+    add_exprs(places, arguments)?;
+    places.push(name)?;
+    Ok(())
+}
+
+/// Where the last of the others stands, or what stands before them.
+fn last_span(first: Span, others: &[Expr]) -> Span
+    ensures { result ≡ last_span first others.now }
+{
+    let mut last = first;
+    for expr in others {
+        last = expr.span;
+    }
+    last
+}
+
+/// Operands, one after another.
+fn add_operands(places: &mut Vec<Span>, exprs: &[Expr]) -> Result<(), AllocError>
+    ensures { OnOk result (places.new.items ≡ places.old.items ++ operands_places exprs.now) }
+{
+    for expr in exprs {
+        add_operand(places, expr)?;
+    }
+    Ok(())
+}
+
+/// A return's values, and then the return.
+fn add_return(
+    places: &mut Vec<Span>,
+    word: Span,
+    expr: &Expr,
+    others: &[Expr],
+) -> Result<(), AllocError>
+    ensures { OnOk result (places.new.items ≡ places.old.items ++ return_places word expr.now others.now) }
+{
+    add_operand(places, expr)?;
+    add_operands(places, others)?;
+    places.push(over(word, last_span(expr.span, others)))?;
     Ok(())
 }
 

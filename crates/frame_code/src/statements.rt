@@ -1,15 +1,28 @@
 // The code of statements.
 
-ghost use Rattle.std.specs.Prelude.{◌≡◌, ◌++◌, OnOk, slice_set};
-ghost use Rattle.frame_laws.specs.Compile.{stmt_code, block_code, if_code, loop_code, loop_names, names_after};
-ghost use Rattle.script_check.specs.Trees.{statement_of, statements_of, script_of};
+ghost use Rattle.std.specs.Prelude.{◌≡◌, ◌+◌, ◌++◌, ◌∷◌, [], IfOk, OnOk, length, map, slice_set, string_bytes};
+ghost use Rattle.frame_laws.specs.Compile.{
+  exprs_code,
+  operands_code,
+  operands_of,
+  number_of,
+  stmt_code,
+  block_code,
+  if_code,
+  loop_code,
+  loop_names,
+  names_after,
+};
+ghost use Rattle.frame_laws.specs.Compile as compile;
+ghost use Rattle.frame_laws.specs.Instructions as pure;
+ghost use Rattle.script_check.specs.Trees.{exprs_of, statement_of, statements_of, script_of};
 ghost use Rattle.frame_code.specs.Views.{given_of, instruction_of, codes, names_of};
 
-use crate::expressions::{emit_expr, emit_operand};
+use crate::expressions::{emit_expr, emit_exprs, emit_operand};
 use crate::instruction::{Instruction, Operand};
-use crate::names::{Register, following, place_or, slot};
-use crate::operands::put;
-use script_check::{CheckedFunction, CheckedStatement};
+use crate::names::{Register, following, number_of, place_or, slot};
+use crate::operands::{past, put};
+use script_check::{CheckedExpr, CheckedFunction, CheckedStatement};
 use std::alloc::AllocError;
 
 /// Writes an instruction over the one at a place.
@@ -31,6 +44,86 @@ fn push_loop_names<'a>(names: &mut Vec<Register<'a>>, name: &'a str) -> Result<(
     Ok(())
 }
 
+/// Further names.
+fn push_names<'a>(names: &mut Vec<Register<'a>>, others: &'a [String]) -> Result<(), AllocError>
+    ensures { OnOk result (names_of names.new.items ≡ names_of names.old.items ++ compile.names_of (map string_bytes others.now)) }
+{
+    for name in others {
+        names.push(Register::Variable(name.as_str()))?;
+    }
+    Ok(())
+}
+
+/// A plain call, whose first result and so many others go into registers from the first free one on.
+fn emit_results(
+    code: &mut Vec<Instruction>,
+    script: &[CheckedFunction],
+    names: &[Register<'_>],
+    function: &str,
+    arguments: &[CheckedExpr],
+    free: u32,
+    others: usize,
+) -> Result<(), AllocError>
+    ensures { OnOk result (codes code.new.items
+        ≡ codes code.old.items ++ (exprs_code (script_of script.now) (names_of names.now) (exprs_of arguments.now) free
+        ++ pure.Enter (number_of (script_of script.now) function.now (length arguments.now)) free free (others + 1) ∷ [])) }
+{
+    emit_exprs(code, script, names, arguments, free)?;
+    let number = number_of(script, function, arguments.len());
+    let others = slot(*code.allocator(), others)?;
+    let results = following(*code.allocator(), others)?;
+    put(code, Instruction::Enter(number, free, free, results))
+}
+
+/// Operands, one after another.
+fn emit_operands(
+    code: &mut Vec<Instruction>,
+    script: &[CheckedFunction],
+    names: &[Register<'_>],
+    exprs: &[CheckedExpr],
+    free: u32,
+) -> Result<Vec<Operand>, AllocError>
+    ensures code { OnOk result (codes code.new.items
+        ≡ codes code.old.items ++ operands_code (script_of script.now) (names_of names.now) (exprs_of exprs.now) free) }
+    ensures operands { IfOk result (λ os. map given_of os.items ≡ operands_of (script_of script.now) (names_of names.now) (exprs_of exprs.now) free) }
+{
+    let alloc = *code.allocator();
+    let mut operands = Vec::new(alloc);
+    let mut next = free;
+    for expr in exprs {
+        let operand = emit_operand(code, script, names, expr, next)?;
+        operands.push(operand)?;
+        next = past(alloc, expr, next)?;
+    }
+    Ok(operands)
+}
+
+/// The return of these results, in a form of its own where it is one.
+fn back(results: Vec<Operand>) -> Instruction
+    ensures { instruction_of result ≡ pure.Back (map given_of results.items) }
+{
+    if results.len() == 1 {
+        return Instruction::Return(results[0]);
+    }
+    Instruction::ReturnAll(results)
+}
+
+/// A return of the values of expressions.
+fn emit_return(
+    code: &mut Vec<Instruction>,
+    script: &[CheckedFunction],
+    names: &[Register<'_>],
+    values: &[CheckedExpr],
+    free: u32,
+) -> Result<(), AllocError>
+    ensures { OnOk result (codes code.new.items
+        ≡ codes code.old.items ++ (operands_code (script_of script.now) (names_of names.now) (exprs_of values.now) free
+        ++ pure.Back (operands_of (script_of script.now) (names_of names.now) (exprs_of values.now) free) ∷ [])) }
+{
+    let results = emit_operands(code, script, names, values, free)?;
+    put(code, back(results))
+}
+
 /// A statement, and the names after it.
 #[cycle(statements)]
 fn emit_statement<'a>(
@@ -50,6 +143,19 @@ fn emit_statement<'a>(
             names.push(Register::Variable(name.as_str()))?;
             Ok(())
         }
+        CheckedStatement::LetCall(name, others, function, arguments) => {
+            emit_results(
+                code,
+                script,
+                names,
+                function.as_str(),
+                arguments,
+                free,
+                others.len(),
+            )?;
+            names.push(Register::Variable(name.as_str()))?;
+            push_names(names, others)
+        }
         CheckedStatement::Set(name, expr) => {
             let to = place_or(*code.allocator(), names, name.as_str(), free)?;
             emit_expr(code, script, names, expr, to, free)
@@ -58,10 +164,7 @@ fn emit_statement<'a>(
             let value = emit_operand(code, script, names, expr, free)?;
             put(code, Instruction::Print(value))
         }
-        CheckedStatement::Return(expr) => {
-            let value = emit_operand(code, script, names, expr, free)?;
-            put(code, Instruction::Return(value))
-        }
+        CheckedStatement::Return(values) => emit_return(code, script, names, values, free),
         CheckedStatement::If(condition, first, second) => {
             let condition = emit_operand(code, script, names, condition, free)?;
             emit_choice(

@@ -41,11 +41,11 @@ pub main_kind : (script : Script) → IsWellTyped script → IsBirthOf script ma
 main_kind script typed =
     let f = typed.main.0 in
     let P : List Parameter → Type 0 = λ ps. MarkedOf [] ps in
-    (f, typed.main.1, subst P (sym typed.main.2) tt, sym typed.main.3)
+    (f, typed.main.1, subst P (sym typed.main.2) tt, typed.main.3)
 
 task_of : (script : Script) (b : meant.Birth) → IsTask b → HasKind script b → IsTaskOf script b
 task_of script (Put v) t k = absurd t
-task_of script (Task g args depth retries) t k = let h = k.1 in (h.0, h.1, h.2)
+task_of script (Task g args depth retries) t k = let h = k.1 in (h.0, h.1, h.2, k.0, h.3)
 
 -- a good job is one that may be run
 pub begun : (script : Script) (d : JobParts) → IsGood script d → IsBegun script d

@@ -2,7 +2,7 @@
 use Rattle.std.proofs.Common.{◌≡◌, ◌∙◌, List, [], ◌∷◌, map, refl, sym, ap, subst}
 use Rattle.meaning.specs.Lists.{IsFirst}
 use Rattle.meaning.specs.Values.{Value, Int, Items, Named, Known, Values, none, more, Outcome, Val, Trapped, Id, main_name}
-use Rattle.meaning.specs.Syntax.{Number, Script, Kind}
+use Rattle.meaning.specs.Syntax.{Number, Script}
 use Rattle.meaning.specs.Runs.{Run, Ends, Prints, Bears, Gets, next_id}
 use Rattle.meaning.specs.Meaning.{serial_run}
 use Rattle.meaning.specs.Kinds.{IsPlain, ArePlain, AllPlain, EndsIn, MarkedOf, AnswersFit, IsSafeTask}
@@ -24,8 +24,7 @@ pub main_is_safe : (script : Script) → IsWellTyped script → IsSafeTask (seri
 main_is_safe script w =
     let f = w.main.0 in
     let marked : MarkedOf [] f.parameters = subst (MarkedOf []) (sym w.main.2) tt in
-    let safe = are_safe script w.checks main_name f [] 0 first_id [] w.main.1 marked (no_answers (serial_run script) first_id) in
-    subst (λ (t : Kind). IsSafeTask (serial_run script) t first_id []) w.main.3 safe
+    are_safe script w.checks main_name f Number [] 0 first_id [] w.main.1 w.main.3 marked (no_answers (serial_run script) first_id)
 
 mutual
   plain_read : (r : Reading) (v : Value) → IsPlain (read r v) → read r v ≡ v

@@ -11,9 +11,9 @@ task_never_broken : AreSafe → (script : Script) → ScriptChecks script script
 task_never_broken safe script checks (meant.Put v) base answers t fit e = absurd t
 task_never_broken safe script checks (meant.Task g args depth retries) base answers t fit e =
     let f = t.0 in
-    let sound = safe script checks g f args depth base answers t.1 t.2 fit in
-    let stop : StopIsSound (replay script (meant.Task g args depth retries) base answers).stop f.result = assumption sound in
-    let P : Stop → Type 0 = λ s. StopIsSound s f.result in
+    let sound = safe script checks g f t.3 args depth base answers t.1 t.4 t.2 fit in
+    let stop : StopIsSound (replay script (meant.Task g args depth retries) base answers).stop t.3 = assumption sound in
+    let P : Stop → Type 0 = λ s. StopIsSound s t.3 in
     subst P e stop
 
 pub never_broken : AreSafe → (script : Script) → ScriptChecks script script → (j : JobParts) → IsBegun script j → (replay_of script j).stop ≡ Over (meant.Trapped meant.Broken) → ⊥

@@ -1,8 +1,8 @@
 -- What a job is, and what is done on it.
-use Rattle.std.specs.Prelude.{◌≡◌, ℕ, List, ◌++◌, map, length, drop, Some}
+use Rattle.std.specs.Prelude.{◌≡◌, ℕ, List, [], ◌∷◌, ◌++◌, map, length, drop, Some}
 use Rattle.meaning.specs.Lists.{IsFirst}
 use Rattle.meaning.specs.Values.{Birth as AnyBirth, Put, Task}
-use Rattle.meaning.specs.Syntax.{Function, Script}
+use Rattle.meaning.specs.Syntax.{Kind, Function, results, Script}
 use Rattle.meaning.specs.Runs.{Piece}
 use Rattle.meaning.specs.Meaning.{find, run_birth, replay}
 use Rattle.meaning.specs.Kinds.{MarkedOf, AnswersFit}
@@ -40,10 +40,10 @@ whole_of d =
       stop = stop_of d.stop;
     }
 
--- a task of one of the script's functions, with arguments of its parameters' kinds
+-- a task of one of the script's functions that have one result, with arguments of its parameters' kinds
 abbrev pub IsTaskOf : Script → AnyBirth → Type 0
 IsTaskOf script (Put v) = ⊥
-IsTaskOf script (Task g args depth retries) = (f : Function) × (find script g ≡ Some f) × MarkedOf args f.parameters
+IsTaskOf script (Task g args depth retries) = (f : Function) × (find script g ≡ Some f) × MarkedOf args f.parameters × (u : Kind) × (results f ≡ u ∷ [])
 
 -- what is kept of each job of the script
 pub record IsBegun (script : Script) (j : JobParts) : Type 0 where

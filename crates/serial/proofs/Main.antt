@@ -1,7 +1,7 @@
 -- Main of a checked script is safe.
 use Rattle.std.proofs.Common.{◌≡◌, List, [], ◌∷◌, sym, subst}
 use Rattle.meaning.specs.Values.{Value, Int, Items, Named, Known, Values, none, more, Outcome, Val, Trapped, Broken, Id, main_name}
-use Rattle.meaning.specs.Syntax.{Number, Script, Kind}
+use Rattle.meaning.specs.Syntax.{Number, Script}
 use Rattle.meaning.specs.Runs.{Run, Ends, Prints, Bears, Gets, next_id}
 use Rattle.meaning.specs.Meaning.{serial_run}
 use Rattle.meaning.specs.Kinds.{IsPlain, ArePlain, AllPlain, EndsIn, MarkedOf, AnswersFit, IsSafeTask, AreSafe}
@@ -22,7 +22,7 @@ pub main_is_safe : AreSafe → (script : Script) → IsWellTyped script → IsSa
 main_is_safe safe script w =
     let f = w.main.0 in
     let marked : MarkedOf [] f.parameters = subst (MarkedOf []) (sym w.main.2) tt in
-    subst (λ (t : Kind). IsSafeTask (serial_run script) t first_id []) w.main.3 (safe script w.checks main_name f [] 0 first_id [] w.main.1 marked (no_answers (serial_run script) first_id))
+    safe script w.checks main_name f Number [] 0 first_id [] w.main.1 w.main.3 marked (no_answers (serial_run script) first_id)
 
 -- a number is no wrong operand, and what has no reference has no outcome
 pub not_broken : (c : Outcome) → EndsIn c Number → c ≡ Trapped Broken → ⊥

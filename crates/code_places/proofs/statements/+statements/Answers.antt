@@ -3,16 +3,16 @@ use Rattle.code_places.proofs.statements.+statements.Goals as goal
 
 pub add_statement-returns-in_default : goal.add_statement-returns-in_default
 add_statement-returns-in_default t c =
-    if_alone c.args.statement.now c.in-If.condition c.in-If.first c.in-If.second c.deref.result.now c.args.places.now.items
-    c.add_operand.new.places.items c.add_enclosed.new.places.items c.in-If.is c.in_default.is c.deref.ensures.value
+    if_alone c.args.statement.now c.in-If.condition c.in-If.first c.in-If.second c.deref-in-If.result.now c.args.places.now.items
+    c.add_operand.new.places.items c.add_enclosed.new.places.items c.in-If.is c.in_default.is c.deref-in-If.ensures.value
     c.in_ok-add_operand-in-If.ensures c.in_ok-add_enclosed-in-If.ensures
 
 pub add_statement-returns-in-Some : goal.add_statement-returns-in-Some
 add_statement-returns-in-Some t c =
     on_ok _ _ c.add_statements.result
-    (λ p. if_else c.args.statement.now c.in-If.condition c.in-If.first c.in-Some.second c.in-If.second c.deref.result.now c.deref-in-If.result.now
+    (λ p. if_else c.args.statement.now c.in-If.condition c.in-If.first c.in-Some.second c.in-If.second c.deref-in-If.result.now c.deref-in-If-2.result.now
     c.args.places.now.items c.add_operand.new.places.items c.add_enclosed.new.places.items c.add_statements.new.places.items c.in-If.is c.in-Some.is
-    c.deref.ensures.value c.deref-in-If.ensures.value c.in_ok-add_operand-in-If.ensures c.in_ok-add_enclosed-in-If.ensures p)
+    c.deref-in-If.ensures.value c.deref-in-If-2.ensures.value c.in_ok-add_operand-in-If.ensures c.in_ok-add_enclosed-in-If.ensures p)
     c.add_statements.ensures
 
 pub add_statement-returns-in_ok-add_expr-in-For-2 : goal.add_statement-returns-in_ok-add_expr-in-For-2

@@ -8,7 +8,7 @@ use Rattle.frame_code.specs.Views.{given_of, codes, names_of}
 use Rattle.frame_code.proofs.Sizes.{stmt_within}
 use Rattle.frame_code.proofs.Rows.{on_ok}
 use Rattle.frame_code.proofs.Patches.{patch_choice, patch_loop, count_codes}
-use Rattle.frame_code.proofs.Blocks.{if_size, for_size, choice_code, loop_is, names_cut, loop_cut, count_names}
+use Rattle.frame_code.proofs.Blocks.{if_size, for_size, choice_code, loop_is, results_code, names_cut, loop_cut, count_names}
 use Rattle.frame_code.proofs.statements.+statements.Goals as goal
 
 pub emit_block-emit_statement-requires : goal.emit_block-emit_statement-requires
@@ -114,3 +114,15 @@ emit_statement-returns-in_ok-emit_expr-in-For-2-clause-code t c =
     c.as_str-in-For.result.now c.in-For.is c.deref-in-For-3.ensures.value c.as_str-in-For.ensures.value
     (c.in_ok-free.ensures.value ∙ c.len.ensures ∙ c.args.names.now.ok.0 ∙ count_names names) c.in_ok-second-in-For.ensures.value one two p)
     c.emit_loop.ensures.code
+
+pub emit_statement-returns-in_ok-push-in-LetCall-clause-code : goal.emit_statement-returns-in_ok-push-in-LetCall-clause-code
+emit_statement-returns-in_ok-push-in-LetCall-clause-code t c =
+    let names = c.args.names.now.items in
+    on_ok _ _ c.push_names.result
+    (λ _. results_code (script_of c.args.script.now) (names_of names) c.args.statement.now c.in-LetCall.name c.in-LetCall.others c.in-LetCall.function
+    c.in-LetCall.arguments (names_of c.deref-in-LetCall.result.now) c.deref-in-LetCall-2.result.now (codes c.args.code.now.items)
+    (codes c.emit_results.new.code.items) c.in_ok-free.free c.len-in-LetCall.result c.as_str-in-LetCall.result.now c.in-LetCall.is
+    (ap names_of c.deref-in-LetCall.ensures.value) c.deref-in-LetCall-2.ensures.value c.as_str-in-LetCall.ensures.value
+    (c.in_ok-free.ensures.value ∙ c.len.ensures ∙ c.args.names.now.ok.0 ∙ count_names names) (c.len-in-LetCall.ensures ∙ c.in-LetCall.others.ok.0)
+    c.in_ok-emit_results-in-LetCall.ensures)
+    c.push_names.ensures

@@ -1,5 +1,5 @@
 -- The texts of what stands in vectors and blocks.
-use Rattle.std.proofs.Common.{◌≡◌, ℕ, ◌≤◌, List, [], ◌∷◌, ◌++◌, length, Result, Ok, Err, OnOk, refl, sym, ap, ◌∙◌, append_assoc, arith}
+use Rattle.std.proofs.Common.{◌≡◌, ℕ, ◌≤◌, List, [], ◌∷◌, ◌++◌, length, if◌then◌else◌, Result, Ok, Err, is_ok, OnOk, refl, sym, ap, ◌∙◌, append_assoc, arith}
 use Rattle.std.specs.Prelude.{codes, string_bytes}
 use Rattle.std.specs.declared.vec.Vec.{Vec}
 use Rattle.std.specs.declared.string.String.{String}
@@ -18,6 +18,11 @@ pub on_ok : {A B : Type 0} (P Q : Type 0) (r : Result A B) → (P → Q) → OnO
 on_ok P Q (Ok a) f p = f p
 on_ok P Q (Err b) f p = p
 
+-- a piece that is pushed, unless its text has no room
+pub pushed : {A B : Type 0} (r : Result A B) (before piece new : List ℕ) → new ≡ (if is_ok r then before ++ piece else before) → OnOk r (new ≡ before ++ piece)
+pushed (Ok a) before piece new e = e
+pushed (Err b) before piece new e = tt
+
 -- two pieces, one after the other
 two : (base a b mid new : List ℕ) → mid ≡ base ++ a → new ≡ mid ++ b → new ≡ base ++ (a ++ b)
 two base a b mid new first second = second ∙ ap (λ m. m ++ b) first ∙ append_assoc base a b
@@ -25,6 +30,14 @@ two base a b mid new first second = second ∙ ap (λ m. m ++ b) first ∙ appen
 -- and three
 pub three : (base a b c c1 c2 new : List ℕ) → c1 ≡ base ++ a → c2 ≡ c1 ++ b → new ≡ c2 ++ c → new ≡ base ++ (a ++ (b ++ c))
 three base a b c c1 c2 new e1 e2 e3 = two base a (b ++ c) c1 new e1 (two c1 b c c2 new e2 e3)
+
+-- six, of which the second is two
+pub six : (base a b1 b2 c d e f c1 c2 c3 c4 c5 new : List ℕ) → c1 ≡ base ++ a → c2 ≡ c1 ++ (b1 ++ b2) → c3 ≡ c2 ++ c → c4 ≡ c3 ++ d → c5 ≡ c4 ++ e →
+    new ≡ c5 ++ f → new ≡ base ++ (a ++ (b1 ++ (b2 ++ (c ++ (d ++ (e ++ f))))))
+six base a b1 b2 c d e f c1 c2 c3 c4 c5 new e1 e2 e3 e4 e5 e6 =
+    two base a ((b1 ++ b2) ++ (c ++ (d ++ (e ++ f)))) c1 new e1
+    (three c1 (b1 ++ b2) c (d ++ (e ++ f)) c2 c3 new e2 e3 (three c3 d e f c4 c5 new e4 e5 e6))
+    ∙ ap (λ t. base ++ (a ++ t)) (append_assoc b1 b2 (c ++ (d ++ (e ++ f))))
 
 -- a whole text of four
 pub whole : (start calls a b c d c1 c2 c3 new : List ℕ) → start ≡ [] → calls ≡ a → c1 ≡ start ++ calls → c2 ≡ c1 ++ b → c3 ≡ c2 ++ c → new ≡ c3 ++ d →

@@ -1,8 +1,9 @@
 -- How statements are written in Python: on lines of their own, each behind a margin.
-use Rattle.std.specs.Prelude.{ℕ, List, [], ◌++◌, codes}
+use Rattle.std.specs.Prelude.{ℕ, Bool, true, false, List, [], ◌++◌, codes}
+use Rattle.std.specs.List.{flat_map}
 use Rattle.meaning.specs.Values.{Name}
-use Rattle.meaning.specs.Syntax.{Expr, Stmt, Let, Set, Print, Return, If, For, Block, done, step}
-use Rattle.engine_text.specs.Expressions.{variable_name, expression_text}
+use Rattle.meaning.specs.Syntax.{Expr, Exprs, end, also, Stmt, Let, LetCall, Set, Print, Return, If, For, Block, done, step}
+use Rattle.engine_text.specs.Expressions.{variable_name, after_comma, separator, call_head, arguments_text, expression_text}
 
 abbrev pub deeper : List ℕ → List ℕ
 deeper margin = margin ++ codes "    "
@@ -11,9 +12,27 @@ deeper margin = margin ++ codes "    "
 abbrev pub assignment_text : List ℕ → Name → Expr → List ℕ
 assignment_text margin x e = margin ++ (variable_name x ++ (codes " = " ++ (expression_text e ++ codes "\n")))
 
--- return 1, and the like
+-- a further name
+abbrev pub other_name : Name → List ℕ
+other_name x = after_comma (variable_name x)
+
+-- v_x, v_y = call(fn_g, depth, 1): Python hands several values on as one tuple
+abbrev pub results_text : List ℕ → Name → List Name → Name → Exprs → List ℕ
+results_text margin x xs g args =
+    margin ++ (variable_name x ++ (flat_map other_name xs ++ (codes " = " ++ (call_head g ++ (arguments_text args ++ codes "\n")))))
+
+-- what is returned, later values than the first or all of them, and the line's end
+abbrev pub values_text : Bool → Exprs → List ℕ
+values_text later end = codes "\n"
+values_text later (also e es) = separator later ++ (expression_text e ++ values_text true es)
+
+-- return 1, 2
+abbrev pub return_text : List ℕ → Exprs → List ℕ
+return_text margin es = margin ++ (codes "return " ++ values_text false es)
+
+-- if 1: and the like
 abbrev pub word_text : List ℕ → List ℕ → Expr → List ℕ → List ℕ
-word_text margin word e end = margin ++ (word ++ (expression_text e ++ end))
+word_text margin word e tail = margin ++ (word ++ (expression_text e ++ tail))
 
 abbrev pub loop_name : Name → List ℕ
 loop_name x = codes "for " ++ (variable_name x ++ codes " in turns(")
@@ -28,9 +47,10 @@ loop_head margin x from to = margin ++ (loop_name x ++ bounds_text from to)
 abbrev mutual
   pub statement_text : List ℕ → Stmt → List ℕ
   statement_text margin (Let x e) = assignment_text margin x e
+  statement_text margin (LetCall x xs g args) = results_text margin x xs g args
   statement_text margin (Set x e) = assignment_text margin x e
   statement_text margin (Print e) = word_text margin (codes "show(") e (codes ")\n")
-  statement_text margin (Return e) = word_text margin (codes "return ") e (codes "\n")
+  statement_text margin (Return es) = return_text margin es
   statement_text margin (If e a b) = word_text margin (codes "if ") e (codes ":\n") ++ (block_text margin a ++ else_text margin b)
   statement_text margin (For x from to body) = loop_head margin x from to ++ block_text margin body
 

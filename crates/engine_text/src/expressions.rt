@@ -97,7 +97,10 @@ fn write_further(text: &mut String, expr: &CheckedExpr) -> Result<(), AllocError
 
 /// The arguments of a plain call, each after a comma, and the end of the call.
 #[cycle(expressions)]
-fn write_arguments(text: &mut String, arguments: &[CheckedExpr]) -> Result<(), AllocError>
+pub(crate) fn write_arguments(
+    text: &mut String,
+    arguments: &[CheckedExpr],
+) -> Result<(), AllocError>
     ensures { OnOk result (string_bytes text.new ≡ string_bytes text.old ++ arguments_text (exprs_of arguments.now)) }
 {
     for argument in arguments {

@@ -1,11 +1,14 @@
 // Statements, each on lines of its own behind a margin.
 
-ghost use Rattle.std.specs.Prelude.{◌≡◌, ◌++◌, IfOk, OnOk, string_bytes};
-ghost use Rattle.script_check.specs.Trees.{expr_of, statement_of, statements_of};
+ghost use Rattle.std.specs.Prelude.{◌≡◌, ◌++◌, false, map, IfOk, OnOk, string_bytes};
+ghost use Rattle.std.specs.List.{flat_map};
+ghost use Rattle.script_check.specs.Trees.{expr_of, exprs_of, statement_of, statements_of};
+ghost use Rattle.engine_text.specs.Expressions.{variable_name};
 ghost use Rattle.engine_text.specs.Statements.{assignment_text, block_text, bounds_text, deeper, else_text, lines_text, loop_head, loop_name, statement_text, word_text};
+ghost use Rattle.engine_text.specs.Statements.{other_name, results_text, return_text, values_text};
 
-use crate::calls::write_variable_name;
-use crate::expressions::write_expression;
+use crate::calls::{separate, write_call_head, write_variable_name};
+use crate::expressions::{write_arguments, write_expression};
 use script_check::{CheckedExpr, CheckedStatement};
 use std::alloc::{AllocError, Global};
 
@@ -32,6 +35,60 @@ fn write_assignment(
     text.push_str(" = ")?;
     write_expression(text, expr)?;
     text.push_str("\n")
+}
+
+/// Names, with a comma between two.
+fn write_names(text: &mut String, first: &str, others: &[String]) -> Result<(), AllocError>
+    ensures { OnOk result (string_bytes text.new ≡
+        string_bytes text.old ++ (variable_name first.now ++ flat_map other_name (map string_bytes others.now))) }
+{
+    write_variable_name(text, first)?;
+    for other in others {
+        text.push_str(", ")?;
+        write_variable_name(text, other.as_str())?;
+    }
+    Ok(())
+}
+
+/// A line that gives names the results of a call.
+fn write_results(
+    text: &mut String,
+    margin: &str,
+    first: &str,
+    others: &[String],
+    function: &str,
+    arguments: &[CheckedExpr],
+) -> Result<(), AllocError>
+    ensures { OnOk result (string_bytes text.new ≡
+        string_bytes text.old ++ results_text margin.now first.now (map string_bytes others.now) function.now (exprs_of arguments.now)) }
+{
+    text.push_str(margin)?;
+    write_names(text, first, others)?;
+    text.push_str(" = ")?;
+    write_call_head(text, function)?;
+    write_arguments(text, arguments)?;
+    text.push_str("\n")
+}
+
+/// Values, with a comma between two, and the line's end.
+fn write_values(text: &mut String, values: &[CheckedExpr]) -> Result<(), AllocError>
+    ensures { OnOk result (string_bytes text.new ≡ string_bytes text.old ++ values_text false (exprs_of values.now)) }
+{
+    let mut later = false;
+    for value in values {
+        separate(text, later)?;
+        write_expression(text, value)?;
+        later = true;
+    }
+    text.push_str("\n")
+}
+
+fn write_return(text: &mut String, margin: &str, values: &[CheckedExpr]) -> Result<(), AllocError>
+    ensures { OnOk result (string_bytes text.new ≡ string_bytes text.old ++ return_text margin.now (exprs_of values.now)) }
+{
+    text.push_str(margin)?;
+    text.push_str("return ")?;
+    write_values(text, values)
 }
 
 /// A line of a word, an expression and an end.
@@ -94,9 +151,19 @@ fn write_statement(
 {
     match statement {
         CheckedStatement::Let(name, expr) => write_assignment(text, margin, name.as_str(), expr),
+        CheckedStatement::LetCall(name, others, function, arguments) => {
+            write_results(
+                text,
+                margin,
+                name.as_str(),
+                others,
+                function.as_str(),
+                arguments,
+            )
+        }
         CheckedStatement::Set(name, expr) => write_assignment(text, margin, name.as_str(), expr),
         CheckedStatement::Print(expr) => write_word(text, margin, "show(", expr, ")\n"),
-        CheckedStatement::Return(expr) => write_word(text, margin, "return ", expr, "\n"),
+        CheckedStatement::Return(values) => write_return(text, margin, values),
         CheckedStatement::If(condition, first, second) => {
             write_word(text, margin, "if ", condition, ":\n")?;
             write_block(alloc, text, margin, &first.statements)?;

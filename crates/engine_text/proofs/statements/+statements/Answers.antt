@@ -29,9 +29,9 @@ write_else-returns t c =
 pub write_statement-returns-in_ok-write_block-in-If : goal.write_statement-returns-in_ok-write_block-in-If
 write_statement-returns-in_ok-write_block-in-If t c =
     on_ok _ _ c.write_else.result
-    (choice_written c.args.statement.now c.in-If.condition c.in-If.first c.in-If.second c.deref.result.now c.deref-in-If.result.now c.args.margin.now
+    (choice_written c.args.statement.now c.in-If.condition c.in-If.first c.in-If.second c.deref-in-If.result.now c.deref-in-If-2.result.now c.args.margin.now
     (string_bytes c.args.text.now) (string_bytes c.write_word-in-If.new.text) (string_bytes c.write_block.new.text) (string_bytes c.write_else.new.text)
-    c.in-If.is c.deref.ensures.value c.deref-in-If.ensures.value c.in_ok-write_word-in-If.ensures c.in_ok-write_block-in-If.ensures)
+    c.in-If.is c.deref-in-If.ensures.value c.deref-in-If-2.ensures.value c.in_ok-write_word-in-If.ensures c.in_ok-write_block-in-If.ensures)
     c.write_else.ensures
 
 pub write_statement-returns-in_ok-write_loop_head-in-For : goal.write_statement-returns-in_ok-write_loop_head-in-For

@@ -107,16 +107,20 @@ WORDS = {
     15: "MissingReturn: A function's body may end without a return. The place is the function's name.",
     16: "BadRetries: A remote call asks for more than 10 retries. The place is the number.",
     17: "Duplicate: A name is given again while it is in scope. The place is the second name.",
-    18: "WrongReturns: A wrong number of results: several are read and printed, and not run yet. The place is the function's name or the word return.",
+    18: "WrongReturns: A call has a function of another number of results, or a remote call one of several, which are not run yet; or another number of values is returned. The place is the function's name in the call, or the word return.",
     40: "BadLine: A line of a file of events is no event, or the last line has no line feed. Lines are counted from 1.",
     42: "WrongJob: A claim gave another job than the line of a recorded history says. The file was recorded of another run.",
 }
 
 # What is said of those texts that look like something that another language has.
 HINTS = {
-    "fn main() -> int { return 1 }\n": "a statement ends with ;",
-    "fn main() -> int {\n    let x = 3\n    return x;\n}\n": "a statement ends with ;",
-    "fn main() { return 1; }\n": "a function says of which type its result is: fn f() -> int { }",
+    "fn main() -> int { return 1 }\n": "a statement ends with ;, and the block of an if or a for stands in { }",
+    "fn main() -> int {\n    let x = 3\n    return x;\n}\n": "a statement ends with ;, and the block of an if or a for stands in { }",
+    "fn main() -> int { if 1 return 1; return 2; }\n": "a statement ends with ;, and the block of an if or a for stands in { }",
+    "fn main() -> int {\n    let x = 1;\n    if x == 1:\n        return 2;\n    return x;\n}\n": "a block stands in { } and not behind a :, and a variable's type isn't written: let x = 1;",
+    "fn main() -> int { let l = [1]; l.push(3); return 1; }\n": "there are no methods: push(l, 3), len(l)",
+    "fn main() -> int { let l = &1; return 1; }\n": "there is no &: put a makes a reference, and nothing works on bits",
+    "fn main() { return 1; }\n": "a function says of which type its result is, fn f() -> int { }, and a loop has two bounds, for i in 0 .. 10 { }",
     "fn main() -> int { let aB = 1; return 1; }\n": "names have small letters, digits and _ alone",
 }
 
@@ -163,7 +167,13 @@ SCRIPTS = [
     (2, "fn main() -> int { return 07; }\n", "07", 2, ["expected: a number has no leading zero", "found: 07"]),
     (2, "fn main() -> int { return 1 @ 2; }\n", "@", 1, ["found: @, the byte 64, which begins no token here"]),
     (16, "fn f() -> int { return 1; }\nfn main() -> int { return get remote(11) f(); }\n", "11", 2, ["expected: 10 at most", "found: 11"]),
-    (18, "fn f() -> (int, int) { return 1, 2; }\nfn main() -> int { return 1; }\n", "f() -> (", 1, ["expected: 1", "found: 2"]),
+    (18, "fn f() -> (int, int) { return 1; }\nfn main() -> int { return 1; }\n", "return 1; }", 6, ["expected: 2 values", "found: 1 value"]),
+    (18, "fn f() -> (int, int) { return 1, 2; }\nfn main() -> int { return f(); }\n", "f(); }", 1, ["expected: 1 result", "found: 2 results"]),
+    (18, "fn f() -> (int, int) { return 1, 2; }\nfn main() -> int { let a, b, c = f(); return a; }\n", "f(); return a", 1,
+     ["expected: 3 results", "found: 2 results"]),
+    (18, "fn f() -> (int, int) { return 1, 2; }\nfn main() -> int { let a, b = remote f(); return 1; }\n", "f(); return 1", 1,
+     ["found: a remote call for 2 results, which is not run yet"]),
+    (17, "fn f() -> (int, int) { return 1, 2; }\nfn main() -> int { let a, a = f(); return 1; }\n", "a = f", 1, ["first: 2:24"]),
     (14, "fn f() -> int { print 1; return 1; }\nfn main() -> int { return 1; }\n", "print", 5, ["found: a print in f"]),
     (13, "fn main(a: int) -> int { return a; }\n", "", 0, ["expected: fn main() -> int", "found: main has parameters"]),
     (15, "fn main() -> int { if 1 { return 1; } }\n", "main", 4, []),

@@ -52,7 +52,8 @@ pub record IsRunTrap (script : Script) (size : Size) (text : List ℕ) (places :
   pub tells : IsTrapTold script text places course.run.log asked told
 
 -- the same of a replay of what the file says
-pub record IsReplayTrap (script : Script) (size : Size) (text : List ℕ) (places : List Span) (says : EventFile) (asked : TrapAsked) (told : List ℕ) : Type 0 where
+pub record IsReplayTrap (script : Script) (size : Size) (text : List ℕ) (places : List Span) (says : EventFile) (asked : TrapAsked) (told : List ℕ) :
+    Type 0 where
   pub play : Play
   pub played : IsPlayed script says (first_play size) play
   pub meant : IsSoundLog script play.run

@@ -1,10 +1,10 @@
 -- What somebody who writes other languages may have meant: read off the token at fault and the bytes around it.
-use Rattle.std.specs.Prelude.{Bool, List, None, Option, Some, [], codes, drop, if◌then◌else◌, nat_eq, nat_le, nat_lt, not, slice_get, take, true, ℕ, ◌&&◌, ◌+◌, ◌-◌, ◌||◌, ◌∷◌, length, fold}
+use Rattle.std.specs.Prelude.{Bool, List, None, Option, Some, [], codes, drop, if◌then◌else◌, nat_eq, nat_lt, slice_get, take, true, ℕ, ◌&&◌, ◌+◌, ◌-◌, ◌||◌, ◌∷◌, length, fold}
 use Rattle.std.specs.Option.{unwrap_or}
 use Rattle.std.specs.Str.{bytes_eq}
 use Rattle.raysim_explain.specs.declared.hint.Hint.{Hint}
-use Rattle.raysim_explain.specs.declared.hint.Hint.TheVariants.{Greater, AtLeast, And, Or, Not, Text, Fraction, CapitalLetter, SlashComment, While}
-use Rattle.raysim_explain.specs.declared.hint.Hint.TheVariants.{ElseIf, Assignment, Statement, LoneCall, EmptyList, LastComma, TypedName, NoResult, Truth, Semicolon}
+use Rattle.raysim_explain.specs.declared.hint.Hint.TheVariants.{Greater, AtLeast, And, Ampersand, Or, Not, Text, Fraction, Method, CapitalLetter, SlashComment, While}
+use Rattle.raysim_explain.specs.declared.hint.Hint.TheVariants.{ElseIf, Assignment, Statement, LoneCall, EmptyList, LastComma, Colon, NoResult, Truth, Semicolon}
 
 -- the byte at a place, and 0 where there is none
 abbrev pub byte_at : List ℕ → ℕ → ℕ
@@ -27,15 +27,18 @@ byte_behind (b ∷ bs) = if is_blank b then byte_behind bs else b
 abbrev pub is_sum_sign : ℕ → Bool
 is_sum_sign b = nat_eq b 43 || (nat_eq b 45 || (nat_eq b 42 || (nat_eq b 47 || nat_eq b 37)))
 
--- of bytes that begin no token: > & | ! " ' . and capital letters
+abbrev pub is_letter : ℕ → Bool
+is_letter b = nat_lt 96 b && nat_lt b 123
+
+-- of bytes that begin no token, with the byte right behind the first: > & | ! " ' . and capital letters
 abbrev pub sign_hint : ℕ → ℕ → Option Hint
 sign_hint first second =
     if nat_eq first 62 then (if nat_eq second 61 then Some AtLeast else Some Greater)
-    else if nat_eq first 38 then Some And
+    else if nat_eq first 38 then (if nat_eq second 38 then Some And else Some Ampersand)
     else if nat_eq first 124 then Some Or
     else if nat_eq first 33 then Some Not
     else if nat_eq first 34 || nat_eq first 39 then Some Text
-    else if nat_eq first 46 then Some Fraction
+    else if nat_eq first 46 then (if is_letter second then Some Method else Some Fraction)
     else if nat_lt 64 first && nat_lt first 91 then Some CapitalLetter
     else None
 
@@ -74,7 +77,7 @@ token_hint token before behind =
     if bytes_eq token (codes "while") then Some While
     else if bytes_eq token (codes "if") && nat_eq before 101 then Some ElseIf
     else if bytes_eq token (codes "/") && nat_eq behind 47 then Some SlashComment
-    else if bytes_eq token (codes ":") then Some TypedName
+    else if bytes_eq token (codes ":") then Some Colon
     else if bytes_eq token (codes "{") && nat_eq before 41 then Some NoResult
     else if bytes_eq token (codes "]") && nat_eq before 91 then Some EmptyList
     else if nat_eq before 44 && (bytes_eq token (codes "]") || bytes_eq token (codes ")")) then Some LastComma
@@ -106,10 +109,12 @@ abbrev pub hint_words : Hint → List ℕ
 hint_words Greater = codes "there is no >: a > b is b < a"
 hint_words AtLeast = codes "there is no >=: a >= b is b <= a"
 hint_words And = codes "there is no &&: one if stands inside another, or a * b where both are 0 or 1"
+hint_words Ampersand = codes "there is no &: put a makes a reference, and nothing works on bits"
 hint_words Or = codes "there is no ||: 0 < a + b, where both are 0 or 1"
 hint_words Not = codes "there is no !: not a is a == 0"
 hint_words Text = codes "there are no texts: values are numbers, lists and references"
 hint_words Fraction = codes "there are no fractions, and .. stands between the bounds of a loop"
+hint_words Method = codes "there are no methods: push(l, 3), len(l)"
 hint_words CapitalLetter = codes "names have small letters, digits and _ alone"
 hint_words SlashComment = codes "a comment begins with #"
 hint_words While = codes "there is no while: a for over as many turns as there may be, in a function that returns when it is done"
@@ -119,7 +124,7 @@ hint_words Statement = codes "a statement begins with let, set, if, for, print o
 hint_words LoneCall = codes "a call alone is no statement: let unused = f();"
 hint_words EmptyList = codes "an empty list says of which type its items are: empty int"
 hint_words LastComma = codes "no comma stands behind the last one"
-hint_words TypedName = codes "a variable's type isn't written: let x = 1;"
-hint_words NoResult = codes "a function says of which type its result is: fn f() -> int { }"
+hint_words Colon = codes "a block stands in { } and not behind a :, and a variable's type isn't written: let x = 1;"
+hint_words NoResult = codes "a function says of which type its result is, fn f() -> int { }, and a loop has two bounds, for i in 0 .. 10 { }"
 hint_words Truth = codes "there are no truth values: 1 and 0 stand for them"
-hint_words Semicolon = codes "a statement ends with ;"
+hint_words Semicolon = codes "a statement ends with ;, and the block of an if or a for stands in { }"

@@ -1,7 +1,7 @@
 // What somebody who writes other languages may have meant. docs/refusals.md has the same in a table.
 
 ghost use Rattle.std.specs.Prelude.{◌≡◌};
-ghost use Rattle.raysim_explain.specs.Hints.{byte_at, byte_before, byte_behind, hint_of, hint_words, is_blank, is_sum_sign, is_statement_begun, name_hint, sign_hint, statement_hint, token_hint};
+ghost use Rattle.raysim_explain.specs.Hints.{byte_at, byte_before, byte_behind, hint_of, hint_words, is_blank, is_letter, is_sum_sign, is_statement_begun, name_hint, sign_hint, statement_hint, token_hint};
 ghost use Rattle.raysim_explain.specs.Hints.{is_statement_word, is_value_end, lacks_semicolon};
 
 use std::fmt;
@@ -12,10 +12,12 @@ pub enum Hint {
     Greater,
     AtLeast,
     And,
+    Ampersand,
     Or,
     Not,
     Text,
     Fraction,
+    Method,
     CapitalLetter,
     SlashComment,
     While,
@@ -25,7 +27,7 @@ pub enum Hint {
     LoneCall,
     EmptyList,
     LastComma,
-    TypedName,
+    Colon,
     NoResult,
     Truth,
     Semicolon,
@@ -75,17 +77,25 @@ fn byte_behind(text: &[u8]) -> u8
     0
 }
 
-/// Of bytes that begin no token.
+fn is_letter(byte: u8) -> bool
+    ensures { result ≡ is_letter byte }
+{
+    byte > 96 && byte < 123
+}
+
+/// Of bytes that begin no token: the first one, and the one right behind it.
 fn sign_hint(first: u8, second: u8) -> Option<Hint>
     ensures { result ≡ sign_hint first second }
 {
     match first {
         b'>' if second == b'=' => Some(Hint::AtLeast),
         b'>' => Some(Hint::Greater),
-        b'&' => Some(Hint::And),
+        b'&' if second == b'&' => Some(Hint::And),
+        b'&' => Some(Hint::Ampersand),
         b'|' => Some(Hint::Or),
         b'!' => Some(Hint::Not),
         b'"' | b'\'' => Some(Hint::Text),
+        b'.' if is_letter(second) => Some(Hint::Method),
         b'.' => Some(Hint::Fraction),
         b'A'..=b'Z' => Some(Hint::CapitalLetter),
         _ => None,
@@ -168,7 +178,7 @@ fn token_hint(token: &[u8], before: u8, behind: u8) -> Option<Hint>
         return Some(Hint::SlashComment);
     }
     if token == b":".as_slice() {
-        return Some(Hint::TypedName);
+        return Some(Hint::Colon);
     }
     if token == b"{".as_slice() && before == b')' {
         return Some(Hint::NoResult);
@@ -227,10 +237,12 @@ impl Hint {
             Hint::AtLeast => "there is no >=: a >= b is b <= a",
             Hint::And =>
                 "there is no &&: one if stands inside another, or a * b where both are 0 or 1",
+            Hint::Ampersand => "there is no &: put a makes a reference, and nothing works on bits",
             Hint::Or => "there is no ||: 0 < a + b, where both are 0 or 1",
             Hint::Not => "there is no !: not a is a == 0",
             Hint::Text => "there are no texts: values are numbers, lists and references",
             Hint::Fraction => "there are no fractions, and .. stands between the bounds of a loop",
+            Hint::Method => "there are no methods: push(l, 3), len(l)",
             Hint::CapitalLetter => "names have small letters, digits and _ alone",
             Hint::SlashComment => "a comment begins with #",
             Hint::While => {
@@ -244,10 +256,16 @@ impl Hint {
             Hint::LoneCall => "a call alone is no statement: let unused = f();",
             Hint::EmptyList => "an empty list says of which type its items are: empty int",
             Hint::LastComma => "no comma stands behind the last one",
-            Hint::TypedName => "a variable's type isn't written: let x = 1;",
-            Hint::NoResult => "a function says of which type its result is: fn f() -> int { }",
+            Hint::Colon => {
+                "a block stands in { } and not behind a :, and a variable's type isn't written: let x = 1;"
+            }
+            Hint::NoResult => {
+                "a function says of which type its result is, fn f() -> int { }, and a loop has two bounds, for i in 0 .. 10 { }"
+            }
             Hint::Truth => "there are no truth values: 1 and 0 stand for them",
-            Hint::Semicolon => "a statement ends with ;",
+            Hint::Semicolon => {
+                "a statement ends with ;, and the block of an if or a for stands in { }"
+            }
         }
     }
 }

@@ -182,7 +182,7 @@ impl RefusalCause {
             RefusalCause::Duplicate =>
                 "A name is given again while it is in scope. The place is the second name.",
             RefusalCause::WrongReturns =>
-                "A wrong number of results: several are read and printed, and not run yet. The place is the function's name or the word return.",
+                "A call has a function of another number of results, or a remote call one of several, which are not run yet; or another number of values is returned. The place is the function's name in the call, or the word return.",
             RefusalCause::Pinned =>
                 "An evict of an object's primary copy: a node gives up secondary copies alone.",
             RefusalCause::NoCopy => "The node that an event names has no copy of the object.",
@@ -233,7 +233,7 @@ impl RefusalCause {
             RefusalCause::MissingReturn => "fn main() -> int { if 1 { return 1; } }",
             RefusalCause::BadRetries => "let r = remote(11) f();",
             RefusalCause::Duplicate => "let x = 1; let x = 2;",
-            RefusalCause::WrongReturns => "fn f() -> (int, int) { return 1, 2; }",
+            RefusalCause::WrongReturns => "let a, b = one();",
             RefusalCause::Pinned => "evict 1 o1.1 where node 1 keeps the primary copy",
             RefusalCause::NoCopy => "evict 2 o1.1 where node 2 never fetched o1.1",
             RefusalCause::NoWorker => "claim 7 in a run with two workers",

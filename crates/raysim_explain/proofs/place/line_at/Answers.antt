@@ -1,4 +1,4 @@
-use Rattle.std.proofs.Common.{rules, ◌≡◌, ◌≢◌, ℕ, ◌+◌, ◌<◌, ◌≤◌, List, take, length, All, slice_index, sym, subst, suc}
+use Rattle.std.proofs.Common.{rules, ◌≢◌, ℕ, ◌+◌, ◌<◌, List, take, length, All, slice_index, sym, subst}
 use Rattle.std.proofs.Math.Seq.{take-suc}
 use Rattle.std.proofs.Math.Numerals.{suc-eq-add-one}
 use Rattle.std.proofs.lemmas.List.Elements.{All-push}

@@ -1,4 +1,4 @@
-use Rattle.std.proofs.Common.{◌-◌, ◌≡◌, ◌≢◌, ◌≤◌, length, take, All}
+use Rattle.std.proofs.Common.{◌-◌, ◌≢◌, ◌≤◌, length, take, All}
 use Rattle.raysim_explain.proofs.place.line_at.Given as goal
 
 abbrev pub invariant-loop-end : goal.invariant-loop-end

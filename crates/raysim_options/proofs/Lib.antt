@@ -1,4 +1,5 @@
 pub mod Faultless
+pub mod Folds
 pub mod Named
 pub mod Rows
 pub mod Stops

@@ -9,11 +9,12 @@ ghost use Rattle.raysim_options.specs.Reads.{Asks, FailsSo, HasCluster, IsOneFor
 
 mod commands;
 mod read;
+mod subcommands;
 
 use clap::error::ErrorKind;
 use clap::{Command, Error};
-pub use commands::{MOST_NODES, MOST_SLOTS, MOST_THREADS};
 use std::alloc::{AllocError, Global};
+pub use subcommands::{MOST_NODES, MOST_SLOTS, MOST_THREADS};
 
 /// What the program was asked to do. Texts are paths of files, as the words have them.
 #[derive(Drop)]

@@ -9,7 +9,7 @@ ghost use Rattle.raysim_options.specs.Reads.{IsStateOptions, asks_for_threads};
 ghost use Rattle.raysim_options.specs.App.{export_app};
 ghost use Rattle.raysim_options.specs.Reads.{IsExportOptions};
 
-use crate::commands::{MOST_NODES, MOST_SLOTS, MOST_THREADS};
+use crate::subcommands::{MOST_NODES, MOST_SLOTS, MOST_THREADS};
 use crate::{
     ExportOptions, FaultsOptions, LogOptions, MigrateOptions, Request, RunOptions, ScriptOptions,
     SimOptions, StateOptions, WhyOptions,

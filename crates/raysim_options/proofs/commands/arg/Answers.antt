@@ -51,9 +51,9 @@ returns-in-Number c =
     let valued : rule_of c.value_name.result ≡ with_value (with_long id (new_rule id)) = ap rule_of c.value_name.ensures ∙ ap with_value named in
     let parser : c.value_parser.result.value_parser ≡ Some (Signed (pos 1) (pos c.in-Number.most)) = search rules in record {
       rule = ap rule_of c.value_parser.ensures.others ∙ (ap (λ p. record (rule_of c.value_name.result) { parser = p }) parser
-      ∙ (ap (λ (r : Rule). record r { parser = Some (Signed (pos 1) (pos c.in-Number.most)) }) valued ∙ sym (ap (λ k. rule_of_kind k id) c.in-Number.is)));
+          ∙ (ap (λ (r : Rule). record r { parser = Some (Signed (pos 1) (pos c.in-Number.most)) }) valued ∙ sym (ap (λ k. rule_of_kind k id) c.in-Number.is)));
       local = ap is_global c.value_parser.ensures.others
-      ∙ (ap is_global c.value_name.ensures ∙ (ap is_global c.long-in-Number.ensures ∙ (ap is_global c.help-arg.ensures ∙ c.new.ensures.optional.1)));
+          ∙ (ap is_global c.value_name.ensures ∙ (ap is_global c.long-in-Number.ensures ∙ (ap is_global c.help-arg.ensures ∙ c.new.ensures.optional.1)));
     }
 
 pub returns-in-Worded : goal.returns-in-Worded
@@ -63,7 +63,7 @@ returns-in-Worded c =
     let named : rule_of c.long-in-Worded.result ≡ with_long id (new_rule id) = ap rule_of c.long-in-Worded.ensures ∙ ap (with_long id) start in record {
       rule = ap rule_of c.value_name-in-Worded.ensures ∙ (ap with_value named ∙ sym (ap (λ k. rule_of_kind k id) c.in-Worded.is));
       local = ap is_global c.value_name-in-Worded.ensures
-      ∙ (ap is_global c.long-in-Worded.ensures ∙ (ap is_global c.help-arg.ensures ∙ c.new.ensures.optional.1));
+          ∙ (ap is_global c.long-in-Worded.ensures ∙ (ap is_global c.help-arg.ensures ∙ c.new.ensures.optional.1));
     }
 
 pub returns-in-NeededWorded : goal.returns-in-NeededWorded
@@ -75,6 +75,6 @@ returns-in-NeededWorded c =
     ap rule_of c.value_name-in-NeededWorded.ensures ∙ ap with_value named in record {
       rule = ap rule_of c.required-in-NeededWorded.ensures ∙ (ap with_need valued ∙ sym (ap (λ k. rule_of_kind k id) c.in-NeededWorded.is));
       local = ap is_global c.required-in-NeededWorded.ensures
-      ∙ (ap is_global c.value_name-in-NeededWorded.ensures
-      ∙ (ap is_global c.long-in-NeededWorded.ensures ∙ (ap is_global c.help-arg.ensures ∙ c.new.ensures.optional.1)));
+          ∙ (ap is_global c.value_name-in-NeededWorded.ensures
+          ∙ (ap is_global c.long-in-NeededWorded.ensures ∙ (ap is_global c.help-arg.ensures ∙ c.new.ensures.optional.1)));
     }

@@ -1,26 +1,11 @@
 -- The steps of an attempt, as answers come in.
-use Rattle.std.proofs.Common.{◌≡◌, ℕ, zero, suc, List, [], ◌∷◌, ◌++◌, Some, refl, sym, ap, ◌∙◌, subst}
+use Rattle.std.proofs.Common.{◌≡◌, ℕ, zero, suc, List, [], ◌∷◌, ◌++◌, refl, sym, ap, ◌∙◌, subst}
 use Rattle.meaning.specs.Values.{Outcome, Val, Trapped}
 use Rattle.meaning.specs.Syntax.{Script}
 use Rattle.frame_laws.specs.Machine as machine
 use Rattle.frame_laws.specs.Machine.{State, Code, Act, Silent, Asks, Bore, Shows, act}
 use Rattle.frame_laws.specs.Law.{code_of}
-use Rattle.frame_laws.specs.Steps.{
-  Place,
-  Progress,
-  StandsAt,
-  StopsWith,
-  count_at,
-  gets,
-  comes_of,
-  one_on,
-  after_some,
-  beginning,
-  calls_left,
-  task_state,
-  StopsFrom,
-  HasSteps,
-}
+use Rattle.frame_laws.specs.Steps.{Place, Progress, StandsAt, StopsWith, count_at, gets, comes_of, one_on, after_some, beginning, StopsFrom, HasSteps}
 use Rattle.frame_laws.specs.Resuming.{Attempt, Deeds, Came}
 
 abbrev pub place : State → Deeds → List Outcome → Place

@@ -30,7 +30,7 @@ use Rattle.std.proofs.Common.{
   rules,
 }
 use Rattle.std.specs.Prelude.{slice_get, if◌then◌else◌, nat_lt}
-use Rattle.meaning.specs.Values.{Name, Trapped, Val, Broken, Value, Int, Items, Named, Known, Outcome, Argument, Put, Task, values_of}
+use Rattle.meaning.specs.Values.{Name, Trapped, Val, Broken, Value, Int, Items, Named, Known, Outcome, Returned, Aborted, Argument, Put, Task, values_of}
 use Rattle.meaning.specs.Syntax.{Kind, Expr, Num, Var, Unary, Binary, ListOf, Empty, Call, Remote, PutOf, GetOf, Exprs, end, also, Script}
 use Rattle.meaning.specs.Runs.{Run, Ends, Bears}
 use Rattle.meaning.specs.Meaning.{
@@ -189,7 +189,7 @@ module _ (script : Script) (code : Code) (limit n : ℕ) (few : n ≤ 32) where
     writes_outcome pc to i (Val v) registers next h e g = writes pc to i v registers (next v) h e (g v)
     writes_outcome pc to i (Trapped t) registers next h e g = at_once code limit (at pc registers) (fetched code limit (at pc registers) i _ h e)
 
-    goes_wrong : (pc : ℕ) (registers : List Value) → IsAt pc Wrong → Goes (Ends (Trapped Broken)) pc registers
+    goes_wrong : (pc : ℕ) (registers : List Value) → IsAt pc Wrong → Goes (Ends (Aborted Broken)) pc registers
     goes_wrong pc registers h = at_once code limit (at pc registers) (fetched code limit (at pc registers) Wrong _ h refl)
 
     -- what an expression's code does, into any register
@@ -329,7 +329,7 @@ module _ (script : Script) (code : Code) (limit n : ℕ) (few : n ≤ 32) where
     fetch_does t to pc a (Known c) registers next h e go =
         at_once code limit (at pc registers) (base + to, fetched code limit (at pc registers) (Fetch to a) _ h (ap (asks to) e), go)
 
-    -- one result
+    -- one result, or one reference
     takes_one : (next : Value → Run) (pc to : ℕ) (registers : List Value) → ((r : Value) → Goes (next r) pc (put_at registers (base + to) r)) →
         (rs : List Value) → length rs ≡ 1 → Goes (only rs next) pc (put_all registers (base + to) rs)
     takes_one next pc to registers go [] l = absurd (omega arith)
@@ -344,32 +344,32 @@ module _ (script : Script) (code : Code) (limit n : ℕ) (few : n ≤ 32) where
     -- a birth
     put_does : (to pc : ℕ) (a : Operand) (v : Value) (registers : List Value) (next : Value → Run) → IsAt pc (PutIn to a) →
         operand_value registers base a ≡ Some v → ((r : Value) → Goes (next r) (pc + 1) (put_at registers (base + to) r)) →
-        Goes (Bears (Put v) (Ends (Val v)) next) pc registers
+        Goes (Bears (Put v) (Ends (Returned (v ∷ []))) (λ rs. only rs next)) pc registers
     put_does to pc a v registers next h e go =
         at_once code limit (at pc registers) (
           base + to,
           fetched code limit (at pc registers) (PutIn to a) _ h (ap (λ o. on_value o (λ w. Bore (Put w) (base + to))) e),
           refl,
-          go,
+          takes_one next (pc + 1) to registers go,
         )
 
     spawn_does : (k : ℕ) (g : Name) (marks : List Bool) (d count to pc : ℕ) (vs low registers : List Value) (next : Value → Run) →
         IsAt pc (Spawn k g marks d count to) → length vs ≡ count → length low ≡ base + d → Holds (low ++ vs) registers →
         ((r : Value) → Goes (next r) (pc + 1) (put_at registers (base + to) r)) →
-        Goes (Bears (Task g (mark vs marks) (33 - n) k) (task_by (no_level n) (parameters_of (find script g)) (call_at script n g) (mark vs marks)) next) pc
-        registers
+        Goes (Bears (Task g (mark vs marks) (33 - n) k 0) (task_by (no_level n) (parameters_of (find script g)) (call_at script n g) (mark vs marks))
+        (λ rs. only rs next)) pc registers
     spawn_does k g marks d count to pc vs low registers next h c e held go =
         let left : limit - length callers ≡ n = omega (arith, levels) in
         let values : values_at registers (base + d) count ≡ vs =
         ap (λ m. values_at registers (base + d) m) (sym c) ∙ values_held low vs registers (base + d) (sym e) held in
-        let same : perform code limit (at pc registers) (Some (Spawn k g marks d count to)) ≡ Bore (Task g (mark vs marks) (33 - n) k) (base + to) =
-        ap (λ xs. Bore (Task g (mark xs marks) (33 - (limit - length callers)) k) (base + to)) values
-        ∙ ap (λ m. Bore (Task g (mark vs marks) (33 - m) k) (base + to)) left in
+        let same : perform code limit (at pc registers) (Some (Spawn k g marks d count to)) ≡ Bore (Task g (mark vs marks) (33 - n) k 0) (base + to) =
+        ap (λ xs. Bore (Task g (mark xs marks) (33 - (limit - length callers)) k 0) (base + to)) values
+        ∙ ap (λ m. Bore (Task g (mark vs marks) (33 - m) k 0) (base + to)) left in
         at_once code limit (at pc registers) (
           base + to,
           fetched code limit (at pc registers) (Spawn k g marks d count to) _ h same,
           sym (same_task script n g (mark vs marks) few),
-          go,
+          takes_one next (pc + 1) to registers go,
         )
 
     mutual

@@ -31,7 +31,7 @@ use Rattle.std.proofs.Common.{
   append-nil,
 }
 use Rattle.std.specs.Prelude.{slice_get, slice_set, ℤ, pos, ◌+ℤ◌, ◌-ℤ◌, int_lt, nat_lt, if◌then◌else◌}
-use Rattle.meaning.specs.Values.{Name, Loop, Value, Int, Items, Named, Known, Trapped, Outcome}
+use Rattle.meaning.specs.Values.{Name, Loop, Value, Int, Items, Named, Known, Completion, Aborted}
 use Rattle.meaning.specs.Syntax.{Expr, Stmt, Let, LetCall, Set, Print, Return, If, For, Block, done, step, Script}
 use Rattle.meaning.specs.Runs.{Run, Ends, Prints}
 use Rattle.meaning.specs.Meaning.{
@@ -155,7 +155,7 @@ module _ (script : Script) (code : Code) (limit n : ℕ) (few : n ≤ 32) (calls
       perform code limit (at pc registers) (Some i) ≡ Silent next → Does code limit script run next → Goes run pc registers
   silent pc i registers next run h e g = sooner code limit (at pc registers) next (fetched code limit (at pc registers) i _ h e) g
 
-  over : (pc : ℕ) (i : Instruction) (registers : List Value) (c : Outcome) → IsAt pc i → perform code limit (at pc registers) (Some i) ≡ Over c →
+  over : (pc : ℕ) (i : Instruction) (registers : List Value) (c : Completion) → IsAt pc i → perform code limit (at pc registers) (Some i) ≡ Over c →
       Goes (Ends c) pc registers
   over pc i registers c h e = at_once code limit (at pc registers) (fetched code limit (at pc registers) i _ h e)
 
@@ -495,10 +495,10 @@ module _ (script : Script) (code : Code) (limit n : ℕ) (few : n ≤ 32) (calls
         let run = turns (calls_below script n) (turn_count (m2 -ℤ m)) m a_turn (scope_at names first) next in
         by_test (nat_lt 10000 (turn_count (m2 -ℤ m))) e
       where
-        by_test : (b : Bool) → act code limit (at start registers) ≡ (if b then Over (Trapped Loop) else Silent
+        by_test : (b : Bool) → act code limit (at start registers) ≡ (if b then Over (Aborted Loop) else Silent
             (if int_lt m m2 then turn_at (at start registers) (length names) m (start + 1) else goes_to (at start registers)
             (start + 1 + (length inner + 1)))) →
-            Goes (if b then Ends (Trapped Loop) else turns (calls_below script n) (turn_count (m2 -ℤ m)) m a_turn (scope_at names first) next) start registers
+            Goes (if b then Ends (Aborted Loop) else turns (calls_below script n) (turn_count (m2 -ℤ m)) m a_turn (scope_at names first) next) start registers
         by_test true e = at_once code limit (at start registers) e
         by_test false e = sooner code limit (at start registers) _ e (turns_begin m m2 registers (int_lt m m2) refl l held)
 

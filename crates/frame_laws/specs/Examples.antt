@@ -1,11 +1,11 @@
 -- Worked examples of code, and of what the machine does on it.
-use Rattle.std.specs.Prelude.{ℕ, zero, suc, ◌+◌, true, false, List, [], ◌∷◌, pos, codes, slice_get}
-use Rattle.meaning.specs.Values.{Value, Int, Named, Outcome, Argument, Birth, Task, main_name, main_birth}
+use Rattle.std.specs.Prelude.{ℕ, zero, suc, ◌+◌, true, false, List, [], ◌∷◌, ◌++◌, pos, codes, slice_get}
+use Rattle.meaning.specs.Values.{Value, Int, Named, Outcome, Argument, Birth, Task, results_of, Returned, main_name, main_birth}
 use Rattle.meaning.specs.Syntax.{Add, Mul, Div, Rem, ItemAt, Binary, Call, Script}
 use Rattle.meaning.specs.Examples.{square, sq, parts, object, number, each, give, just, script_of}
 use Rattle.frame_laws.specs.Instructions.{Instruction, Slot, Const, Load, Two, Collect, Enter, Spawn, Fetch, Show, Back, SkipZero, Wrong}
 use Rattle.frame_laws.specs.Compile.{number_of}
-use Rattle.frame_laws.specs.Machine.{State, Code, Act, Silent, Over, Asks, Bore, Shows, resume, goes_to, act}
+use Rattle.frame_laws.specs.Machine.{State, Code, Act, Silent, Over, Asks, Bore, Shows, resume, resume_all, goes_to, act}
 use Rattle.frame_laws.specs.Law.{code_of, entry_or, first_state}
 use Rattle.frame_laws.specs.Steps.{HasSteps}
 
@@ -14,12 +14,18 @@ abbrev pub takes : (State → List Value → List Act) → State → ℕ → Lis
 takes next now to [] = []
 takes next now to (v ∷ given) = next (resume now to v) given
 
+-- with so many more of them in registers from one on, behind those in order that were taken
+abbrev pub takes_all : (State → List Value → List Act) → State → ℕ → ℕ → List Value → List Value → List Act
+takes_all next now to zero taken given = next (resume_all now to taken) given
+takes_all next now to (suc n) taken [] = []
+takes_all next now to (suc n) taken (v ∷ given) = takes_all next now to n (taken ++ v ∷ []) given
+
 -- an act that is seen, and what follows it
 abbrev pub shown : (State → List Value → List Act) → State → Act → List Value → List Act
 shown next now (Silent there) given = next there given
-shown next now (Over c) given = Over c ∷ []
+shown next now (Over e) given = Over e ∷ []
 shown next now (Shows v) given = Shows v ∷ next (goes_to now (now.pc + 1)) given
-shown next now (Bore b to) given = Bore b to ∷ takes next now to given
+shown next now (Bore b to) given = Bore b to ∷ takes_all next now to (results_of b) [] given
 shown next now (Asks r to) given = Asks r to ∷ takes next now to given
 
 -- what is seen of the machine in that many instructions, where each birth and each get takes the next of the given values
@@ -65,7 +71,11 @@ squaring_state args = first_state square (codes "sq") sq args
 
 -- fn f(n: int) calls itself with n - 1, by turns plainly and remotely: the task of f(0) that f(1) bears, where f(2) called it plainly
 abbrev pub third : Birth
-third = Task (codes "f") (plain (Int (pos 0))) 3 3
+third = Task (codes "f") (plain (Int (pos 0))) 3 3 0
+
+-- an end with one number
+abbrev pub gives : ℕ → Act
+gives n = Over (Returned (Int (pos n) ∷ []))
 
 -- Several results
 
@@ -111,7 +121,7 @@ MainHas script answers steps = HasSteps script main_birth (object 1 1) answers s
 
 -- a task of sq does
 abbrev pub SquaringHas : List Argument → List Outcome → ℕ → Type 0
-SquaringHas args answers steps = HasSteps square (Task (codes "sq") args 1 3) (object 2 1) answers steps
+SquaringHas args answers steps = HasSteps square (Task (codes "sq") args 1 3 0) (object 2 1) answers steps
 
 -- return (1 / 0) + (2 + 3);
 abbrev pub trap_before_sum : Script

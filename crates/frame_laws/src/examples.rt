@@ -1,7 +1,7 @@
 // Worked examples, computed from the definitions.
 
 ghost use Rattle.std.specs.Prelude.{◌≡◌, ◌+◌, ◌++◌, [], ◌∷◌, pos};
-ghost use Rattle.meaning.specs.Values.{Int, Trapped, DivZero, Loop, Broken};
+ghost use Rattle.meaning.specs.Values.{Int, Trapped, Aborted, DivZero, Loop, Broken};
 ghost use Rattle.meaning.specs.Examples.{square, squaring, loop, deep, value, parts_called, mixed_called};
 ghost use Rattle.frame_laws.specs.Machine.{Over, Asks, Bore, Shows, act, resume};
 ghost use Rattle.frame_laws.specs.Law.{code_of};
@@ -20,6 +20,7 @@ ghost use Rattle.frame_laws.specs.Examples.{
   SquaringHas,
   trap_before_sum,
   trap_behind_sum,
+  gives,
   parts_code,
   parts_called_code,
   two_code,
@@ -36,31 +37,31 @@ pub fn code_examples()
 
 /// What is seen of the machine: ends, births, gets and prints, until it is given nothing more.
 pub fn run_examples()
-    ensures square_of_seven { seen (code_of square) 31 9 (squaring_state (plain (Int (pos 7)))) [] ≡ Over (value 49) ∷ [] }
+    ensures square_of_seven { seen (code_of square) 31 9 (squaring_state (plain (Int (pos 7)))) [] ≡ gives 49 ∷ [] }
     ensures marked_argument { seen (code_of square) 31 9 (squaring_state (dereferenced reference)) (Int (pos 7) ∷ []) ≡
-        Asks reference 0 ∷ Over (value 49) ∷ [] }
+        Asks reference 0 ∷ gives 49 ∷ [] }
     ensures plain_and_remote { seen (code_of (deep 2)) 32 40 (main_state (deep 2)) (reference ∷ Int (pos 0) ∷ []) ≡
-        Bore third 2 ∷ Asks reference 2 ∷ Over (value 2) ∷ [] }
-    ensures loop_of_three { seen (code_of (loop 3)) 32 20 (main_state (loop 3)) [] ≡ Over (value 3) ∷ [] }
-    ensures loop_too_long { seen (code_of (loop 10001)) 32 9 (main_state (loop 10001)) [] ≡ Over (Trapped Loop) ∷ [] }
+        Bore third 2 ∷ Asks reference 2 ∷ gives 2 ∷ [] }
+    ensures loop_of_three { seen (code_of (loop 3)) 32 20 (main_state (loop 3)) [] ≡ gives 3 ∷ [] }
+    ensures loop_too_long { seen (code_of (loop 10001)) 32 9 (main_state (loop 10001)) [] ≡ Over (Aborted Loop) ∷ [] }
 {}
 
 /// An attempt stops at a get, and goes on from the state that was kept as if it hadn't stopped.
 pub fn frame_examples()
     ensures stops { seen (code_of square) 32 9 (main_state square) (reference ∷ []) ≡ Bore squaring 0 ∷ Asks reference 1 ∷ [] }
     ensures kept { act (code_of square) 32 at_the_get ≡ Asks reference 1 }
-    ensures goes_on { seen (code_of square) 32 9 (resume at_the_get 1 (Int (pos 49))) [] ≡ Shows (Int (pos 49)) ∷ Over (value 0) ∷ [] }
+    ensures goes_on { seen (code_of square) 32 9 (resume at_the_get 1 (Int (pos 49))) [] ≡ Shows (Int (pos 49)) ∷ gives 0 ∷ [] }
     ensures without_a_stop { seen (code_of square) 32 9 (main_state square) (reference ∷ Int (pos 49) ∷ []) ≡
-        Bore squaring 0 ∷ Asks reference 1 ∷ Shows (Int (pos 49)) ∷ Over (value 0) ∷ [] }
+        Bore squaring 0 ∷ Asks reference 1 ∷ Shows (Int (pos 49)) ∷ gives 0 ∷ [] }
 {}
 
 /// Plain calls of functions of several results: their code, what is seen of the machine, and the steps.
 pub fn several_examples()
     ensures instructions { (code_of (parts_called 17 5)).instructions ≡ parts_code ++ parts_called_code }
-    ensures called { seen (code_of (parts_called 17 5)) 32 20 (main_state (parts_called 17 5)) [] ≡ Over (value 32) ∷ [] }
+    ensures called { seen (code_of (parts_called 17 5)) 32 20 (main_state (parts_called 17 5)) [] ≡ gives 32 ∷ [] }
     ensures one_within_another { (code_of (mixed_called 4)).instructions ≡ two_code ++ (mixed_code ++ mixed_called_code) }
-    ensures four_results { seen (code_of (mixed_called 4)) 32 30 (main_state (mixed_called 4)) [] ≡ Shows (Int (pos 8)) ∷ Over (value 9) ∷ [] }
-    ensures another_number { seen (code_of one_of_two) 32 20 (main_state one_of_two) [] ≡ Over (Trapped Broken) ∷ [] }
+    ensures four_results { seen (code_of (mixed_called 4)) 32 30 (main_state (mixed_called 4)) [] ≡ Shows (Int (pos 8)) ∷ gives 9 ∷ [] }
+    ensures another_number { seen (code_of one_of_two) 32 20 (main_state one_of_two) [] ≡ Over (Aborted Broken) ∷ [] }
     // let q, r = parts(17, 5): 4, return a / b, a % b: 7, return q * 10 + r: 6
     ensures steps { MainHas (parts_called 17 5) [] (4 + 7 + 6) }
     // let a, b, c, d = mixed(4): 3, let a, l = two(n): 3, return n + 1, [n, n]: 7, return a, n * 2, 1, l: 7, print b: 2, return a + d[c]: 6

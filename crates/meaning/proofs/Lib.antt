@@ -1,3 +1,4 @@
 pub mod BirthLaws
+pub mod ResultLaws
 pub mod Names
 pub mod LoopExamples

@@ -2,11 +2,11 @@
 use Rattle.std.proofs.Common.{◌≡◌, ℕ, zero, suc, ◌+◌, ◌<◌, ◌≤◌, true, false, List, [], ◌∷◌, refl, sym, ap, ◌∙◌, subst, arith}
 use Rattle.std.proofs.lemmas.Bool.Decides.{nat_tests}
 use Rattle.std.specs.Prelude.{ℤ, pos, codes, nat_lt, if◌then◌else◌, ◌+ℤ◌, ◌^◌}
-use Rattle.meaning.specs.Values.{Value, Int, Items, Values, none, more, Outcome, Val, Trapped, Overflow, TooLong, Loop, DivZero, count, push_onto}
+use Rattle.meaning.specs.Values.{Value, Int, Items, Values, none, more, Outcome, Val, Trapped, Returned, Aborted, first_outcome, Overflow, TooLong, Loop, DivZero, count, push_onto}
 use Rattle.meaning.specs.Syntax.{Add, Push, Var, Binary, Set}
 use Rattle.meaning.specs.Runs.{Run, Ends, serial_end, serial_trace}
 use Rattle.meaning.specs.Syntax.{Script}
-use Rattle.meaning.specs.Meaning.{run_task, broken, only, value_in, calls_below, Scope, Calls, in_range, push, proceed, bind, leave, execute_all, turns, turns_within, call_at, serial_run}
+use Rattle.meaning.specs.Meaning.{run_task, broken, value_in, calls_below, Scope, Calls, in_range, push, proceed, bind, leave, execute_all, turns, turns_within, call_at, serial_run}
 use Rattle.meaning.specs.Law.{prints_of}
 use Rattle.meaning.proofs.BirthLaws.{at_test}
 use Rattle.meaning.specs.Examples.{MainGives, block, number, value, loop, first_trap}
@@ -35,20 +35,20 @@ module _ (calls : Calls) (return : List Value → Run) (next : Scope → Run) wh
       let here : then' (in_range (pos m +ℤ pos 1)) ≡ turns calls n (i +ℤ pos 1) count_up (counted (m + 1)) next = ap then' (fits_next m (omega arith)) in
       here ∙ counts n (m + 1) (i +ℤ pos 1) (omega arith) ∙ ap (λ k. next (counted k)) (omega arith)
 
--- a loop of at most 10,000 turns, and one of more
+-- a loop of at most 10,000 turns, and returned of more
 runs_turns : (calls : Calls) (n : ℕ) (body : ℤ → Scope → (Scope → Run) → Run) (scope : Scope) (next : Scope → Run) → n ≤ 10000 → turns_within calls (pos 0) (pos n) body scope next ≡ turns calls n (pos 0) body scope next
 runs_turns calls n body scope next h =
     let few : nat_lt 10000 n ≡ false = grind (arith, nat_tests) in
     let size : n + 0 ≡ n = omega arith in
-    subst (λ m. (if nat_lt 10000 m then Ends (Trapped Loop) else turns calls m (pos 0) body scope next) ≡ turns calls n (pos 0) body scope next) (sym size)
-    (ap (λ b. if b then Ends (Trapped Loop) else turns calls n (pos 0) body scope next) few)
+    subst (λ m. (if nat_lt 10000 m then Ends (Aborted Loop) else turns calls m (pos 0) body scope next) ≡ turns calls n (pos 0) body scope next) (sym size)
+    (ap (λ b. if b then Ends (Aborted Loop) else turns calls n (pos 0) body scope next) few)
 
-refuses_turns : (calls : Calls) (n : ℕ) (body : ℤ → Scope → (Scope → Run) → Run) (scope : Scope) (next : Scope → Run) → 10000 < n → turns_within calls (pos 0) (pos n) body scope next ≡ Ends (Trapped Loop)
+refuses_turns : (calls : Calls) (n : ℕ) (body : ℤ → Scope → (Scope → Run) → Run) (scope : Scope) (next : Scope → Run) → 10000 < n → turns_within calls (pos 0) (pos n) body scope next ≡ Ends (Aborted Loop)
 refuses_turns calls n body scope next h =
     let many : nat_lt 10000 n ≡ true = grind (arith, nat_tests) in
     let size : n + 0 ≡ n = omega arith in
-    subst (λ m. (if nat_lt 10000 m then Ends (Trapped Loop) else turns calls m (pos 0) body scope next) ≡ Ends (Trapped Loop)) (sym size)
-    (ap (λ b. if b then Ends (Trapped Loop) else turns calls n (pos 0) body scope next) many)
+    subst (λ m. (if nat_lt 10000 m then Ends (Aborted Loop) else turns calls m (pos 0) body scope next) ≡ Ends (Aborted Loop)) (sym size)
+    (ap (λ b. if b then Ends (Aborted Loop) else turns calls n (pos 0) body scope next) many)
 
 module _ (calls : Calls) (return : List Value → Run) (next : Scope → Run) (n : ℕ) where
   abbrev listed : Values → Scope
@@ -74,77 +74,77 @@ module _ (calls : Calls) (return : List Value → Run) (next : Scope → Run) (n
       let here : after_push k i (push vs (Int i)) ≡ turns calls k (i +ℤ pos 1) push_turn (listed (push_onto vs (Int i))) next = ap (λ b. after_push k i (if b then Val (Items (push_onto vs (Int i))) else Trapped TooLong)) room in
       here ∙ pushes k (i +ℤ pos 1) (push_onto vs (Int i)) (let e = count-push vs (Int i) in omega arith)
 
-  fills : (k : ℕ) (i : ℤ) (vs : Values) → count vs ≤ 4096 → 4096 < count vs + k → turns calls k i push_turn (listed vs) next ≡ Ends (Trapped TooLong)
+  fills : (k : ℕ) (i : ℤ) (vs : Values) → count vs ≤ 4096 → 4096 < count vs + k → turns calls k i push_turn (listed vs) next ≡ Ends (Aborted TooLong)
   fills zero i vs h g = absurd (omega arith)
   fills (suc k) i vs h g =
-      at_test (λ b. nat_lt (count vs) 4096 ≡ b → after_push k i (if b then Val (Items (push_onto vs (Int i))) else Trapped TooLong) ≡ Ends (Trapped TooLong)) (nat_lt (count vs) 4096)
+      at_test (λ b. nat_lt (count vs) 4096 ≡ b → after_push k i (if b then Val (Items (push_onto vs (Int i))) else Trapped TooLong) ≡ Ends (Aborted TooLong)) (nat_lt (count vs) 4096)
       (λ _ room. fills k (i +ℤ pos 1) (push_onto vs (Int i)) (let e = count-push vs (Int i) in grind (arith, nat_tests)) (let e = count-push vs (Int i) in omega arith))
       (λ _ _. refl) refl
 
--- how a task of one result goes on
-abbrev one : List Value → Run
-one vs = only vs (λ v. Ends (Val v))
+-- how a task goes on
+abbrev returned : List Value → Run
+returned vs = Ends (Returned vs)
 
 -- ---- the loop's script
 
 -- what follows the loop
 abbrev sum_returned : Scope → Run
-sum_returned scope = proceed (value_in scope (codes "s")) (λ v. Ends (Val v))
+sum_returned scope = proceed (value_in scope (codes "s")) (λ v. Ends (Returned (v ∷ [])))
 
-loop-run : (n : ℕ) → serial_run (loop n) ≡ turns_within (calls_below (loop n) 32) (pos 0) (pos n) (count_up (calls_below (loop n) 32) one (λ _. broken)) (counted (calls_below (loop n) 32) one (λ _. broken) 0) sum_returned
+loop-run : (n : ℕ) → serial_run (loop n) ≡ turns_within (calls_below (loop n) 32) (pos 0) (pos n) (count_up (calls_below (loop n) 32) returned (λ _. broken)) (counted (calls_below (loop n) 32) returned (λ _. broken) 0) sum_returned
 unfolding call_at
 loop-run n = refl
 
-main_gives : (script : Script) (run : Run) (prints : List Value) (c : Outcome) → serial_run script ≡ run → prints_of (serial_trace run) ≡ prints → serial_end run ≡ c → MainGives script prints c
-main_gives script run prints c e p r = record { printed = ap (λ (x : Run). prints_of (serial_trace x)) e ∙ p; ended = ap (λ (x : Run). serial_end x) e ∙ r }
+main_gives : (script : Script) (run : Run) (prints : List Value) (c : Outcome) → serial_run script ≡ run → prints_of (serial_trace run) ≡ prints → first_outcome (serial_end run) ≡ c → MainGives script prints c
+main_gives script run prints c e p r = record { printed = ap (λ (x : Run). prints_of (serial_trace x)) e ∙ p; ended = ap (λ (x : Run). first_outcome (serial_end x)) e ∙ r }
 
 pub loop_counts : (n : ℕ) → n ≤ 10000 → MainGives (loop n) [] (value n)
 loop_counts n h =
     let calls = calls_below (loop n) 32 in
-    main_gives (loop n) (sum_returned (counted calls one (λ _. broken) (0 + n))) [] (value n)
-    (loop-run n ∙ runs_turns calls n (count_up calls one (λ _. broken)) (counted calls one (λ _. broken) 0) sum_returned h ∙ counts calls one sum_returned n 0 (pos 0) (omega (arith, h)))
+    main_gives (loop n) (sum_returned (counted calls returned (λ _. broken) (0 + n))) [] (value n)
+    (loop-run n ∙ runs_turns calls n (count_up calls returned (λ _. broken)) (counted calls returned (λ _. broken) 0) sum_returned h ∙ counts calls returned sum_returned n 0 (pos 0) (omega (arith, h)))
     refl (ap (λ k. Val (Int (pos k))) (omega arith))
 
 pub loop_traps : (n : ℕ) → 10000 < n → MainGives (loop n) [] (Trapped Loop)
 loop_traps n h =
     let calls = calls_below (loop n) 32 in
-    main_gives (loop n) (Ends (Trapped Loop)) [] (Trapped Loop)
-    (loop-run n ∙ refuses_turns calls n (count_up calls one (λ _. broken)) (counted calls one (λ _. broken) 0) sum_returned h)
+    main_gives (loop n) (Ends (Aborted Loop)) [] (Trapped Loop)
+    (loop-run n ∙ refuses_turns calls n (count_up calls returned (λ _. broken)) (counted calls returned (λ _. broken) 0) sum_returned h)
     refl refl
 
 -- ---- the list's script
 
 abbrev list_returned : Scope → Run
-list_returned scope = proceed (value_in scope (codes "l")) (λ v. Ends (Val v))
+list_returned scope = proceed (value_in scope (codes "l")) (λ v. Ends (Returned (v ∷ [])))
 
 abbrev long_run : ℕ → Run
 long_run n = run_task (first_trap n) (codes "long") (record { value = Int (pos n); marked = false } ∷ []) 1
 
-long-run : (n : ℕ) → long_run n ≡ turns_within (calls_below (first_trap n) 31) (pos 0) (pos n) (push_turn (calls_below (first_trap n) 31) one list_returned n) (listed (calls_below (first_trap n) 31) one list_returned n none) list_returned
+long-run : (n : ℕ) → long_run n ≡ turns_within (calls_below (first_trap n) 31) (pos 0) (pos n) (push_turn (calls_below (first_trap n) 31) returned list_returned n) (listed (calls_below (first_trap n) 31) returned list_returned n none) list_returned
 unfolding call_at
 long-run n = refl
 
 -- what main does with what the list's call makes
-traps_second : (n : ℕ) (ws : Values) → serial_end (long_run n) ≡ Val (Items ws) → MainGives (first_trap n) [] (Trapped DivZero)
+traps_second : (n : ℕ) (ws : Values) → serial_end (long_run n) ≡ Returned (Items ws ∷ []) → MainGives (first_trap n) [] (Trapped DivZero)
 unfolding call_at
 traps_second n ws e = record { printed = rw e refl; ended = rw e refl }
 
-traps_first : (n : ℕ) → serial_end (long_run n) ≡ Trapped TooLong → MainGives (first_trap n) [] (Trapped TooLong)
+traps_first : (n : ℕ) → serial_end (long_run n) ≡ Aborted TooLong → MainGives (first_trap n) [] (Trapped TooLong)
 unfolding call_at
 traps_first n e = record { printed = rw e refl; ended = rw e refl }
 
 pub full_list : (n : ℕ) → n ≤ 4096 → MainGives (first_trap n) [] (Trapped DivZero)
 full_list n h =
     let calls = calls_below (first_trap n) 31 in
-    let body = push_turn calls one list_returned n in
-    let start = listed calls one list_returned n none in
-    let runs = long-run n ∙ runs_turns calls n body start list_returned (omega (arith, h)) ∙ pushes calls one list_returned n n (pos 0) none (omega (arith, h)) in
-    traps_second n (grown calls one list_returned n n (pos 0) none) (ap (λ (x : Run). serial_end x) runs)
+    let body = push_turn calls returned list_returned n in
+    let start = listed calls returned list_returned n none in
+    let runs = long-run n ∙ runs_turns calls n body start list_returned (omega (arith, h)) ∙ pushes calls returned list_returned n n (pos 0) none (omega (arith, h)) in
+    traps_second n (grown calls returned list_returned n n (pos 0) none) (ap (λ (x : Run). serial_end x) runs)
 
 pub too_long_list : (n : ℕ) → 4096 < n → n ≤ 10000 → MainGives (first_trap n) [] (Trapped TooLong)
 too_long_list n h g =
     let calls = calls_below (first_trap n) 31 in
-    let body = push_turn calls one list_returned n in
-    let start = listed calls one list_returned n none in
-    let runs = long-run n ∙ runs_turns calls n body start list_returned g ∙ fills calls one list_returned n n (pos 0) none (omega arith) (omega (arith, h)) in
+    let body = push_turn calls returned list_returned n in
+    let start = listed calls returned list_returned n none in
+    let runs = long-run n ∙ runs_turns calls n body start list_returned g ∙ fills calls returned list_returned n n (pos 0) none (omega arith) (omega (arith, h)) in
     traps_first n (ap (λ (x : Run). serial_end x) runs)

@@ -1,6 +1,6 @@
 -- Worked examples of scripts, and what main prints and how it ends.
 use Rattle.std.specs.Prelude.{◌≡◌, ℕ, true, false, List, [], ◌∷◌, ◌++◌, pos, codes, map}
-use Rattle.meaning.specs.Values.{Name, Value, Int, Outcome, Val, Birth, Task, Id}
+use Rattle.meaning.specs.Values.{Name, Value, Int, Items, none, more, Outcome, Val, first_outcome, Birth, Task, Id}
 use Rattle.meaning.specs.Syntax.{
   Kind,
   Number,
@@ -51,7 +51,7 @@ use Rattle.meaning.specs.Law.{prints_of}
 -- with every remote call a plain call, main prints this and ends so
 pub record MainGives (script : Script) (prints : List Value) (result : Outcome) : Type 0 where
   pub printed : prints_of (serial_trace (serial_run script)) ≡ prints
-  pub ended : serial_end (serial_run script) ≡ result
+  pub ended : first_outcome (serial_end (serial_run script)) ≡ result
 
 -- ---- short forms
 
@@ -284,11 +284,22 @@ object w n = record { owner = w; serial = n }
 
 -- the task that the square's main makes
 abbrev pub squaring : Birth
-squaring = Task (codes "sq") (record { value = Int (pos 7); marked = false } ∷ []) 1 3
+squaring = Task (codes "sq") (record { value = Int (pos 7); marked = false } ∷ []) 1 3 0
+
+-- a task of two
+abbrev pub making_two : Birth
+making_two = Task (codes "two") (record { value = Int (pos 4); marked = false } ∷ []) 1 3 1
+
+abbrev pub fours : Outcome
+fours = Val (Items (more (Int (pos 4)) (more (Int (pos 4)) none)))
+
+-- a task of parts
+abbrev pub parting : ℕ → ℕ → Birth
+parting a b = Task (codes "parts") (record { value = Int (pos a); marked = false } ∷ record { value = Int (pos b); marked = false } ∷ []) 1 3 1
 
 -- the task that main makes where another function prints
 abbrev pub louder : Birth
-louder = Task (codes "loud") [] 1 3
+louder = Task (codes "loud") [] 1 3 0
 
 abbrev pub this_piece : List Birth → List Value → Stop → Piece
 this_piece births prints stop = record { births = births; prints = prints; stop = stop }

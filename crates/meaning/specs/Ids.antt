@@ -1,8 +1,8 @@
 -- Which ids a value names.
-use Rattle.std.specs.Prelude.{◌≡◌, List, [], ◌∷◌, ◌⊎◌}
+use Rattle.std.specs.Prelude.{◌≡◌, true, List, [], ◌∷◌, ◌⊎◌}
 use Rattle.meaning.specs.Values.{Value, Int, Items, Named, Known, Values, none, more, Outcome, Val, Trapped, Argument, Birth, Put, Task, Id}
 use Rattle.meaning.specs.Runs.{Stop, Needs, Over}
-use Rattle.meaning.specs.Births.{Bearing}
+use Rattle.meaning.specs.Births.{Bearing, is_made_by}
 
 module _ (P : Id → Type 0) where
   abbrev mutual
@@ -27,7 +27,7 @@ module _ (P : Id → Type 0) where
 
   abbrev pub BirthIn : Birth → Type 0
   BirthIn (Put v) = ValueIn v
-  BirthIn (Task g args depth retries) = ArgumentsIn args
+  BirthIn (Task g args depth retries others) = ArgumentsIn args
 
   abbrev pub OutcomesIn : List Outcome → Type 0
   OutcomesIn [] = Unit {0}
@@ -39,11 +39,16 @@ module _ (P : Id → Type 0) where
 
   abbrev pub StopIn : Stop → Type 0
   StopIn (Needs r) = ValueIn r
-  StopIn (Over c) = OutcomeIn c
+  StopIn (Over cs) = OutcomesIn cs
 
+  abbrev pub IdsIn : List Id → Type 0
+  IdsIn [] = Unit {0}
+  IdsIn (o ∷ os) = P o × IdsIn os
+
+  -- all that was born is of the set
   abbrev pub ObjectsIn : List Bearing → Type 0
   ObjectsIn [] = Unit {0}
-  ObjectsIn (x ∷ xs) = P x.object × ObjectsIn xs
+  ObjectsIn (x ∷ xs) = ((o : Id) → is_made_by x o ≡ true → P o) × ObjectsIn xs
 
 module _ (z : Id) where
   abbrev mutual
@@ -68,7 +73,7 @@ module _ (z : Id) where
 
   abbrev pub StandsInBirth : Birth → Type 0
   StandsInBirth (Put v) = StandsIn v
-  StandsInBirth (Task g args depth retries) = StandsInArguments args
+  StandsInBirth (Task g args depth retries others) = StandsInArguments args
 
   abbrev pub StandsInOutcomes : List Outcome → Type 0
   StandsInOutcomes [] = ⊥
@@ -76,4 +81,4 @@ module _ (z : Id) where
 
   abbrev pub IsObjectOf : List Bearing → Type 0
   IsObjectOf [] = ⊥
-  IsObjectOf (x ∷ xs) = (x.object ≡ z) ⊎ IsObjectOf xs
+  IsObjectOf (x ∷ xs) = (is_made_by x z ≡ true) ⊎ IsObjectOf xs

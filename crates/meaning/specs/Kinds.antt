@@ -1,5 +1,5 @@
 -- What the checker allows, and what has which kind.
-use Rattle.std.specs.Prelude.{◌≡◌, ℕ, Bool, true, false, List, [], ◌∷◌, ◌++◌, ◌⊎◌, Option, Some, None, if◌then◌else◌}
+use Rattle.std.specs.Prelude.{◌≡◌, ℕ, Bool, true, false, List, [], ◌∷◌, ◌++◌, ◌⊎◌, length, map, Option, Some, None, if◌then◌else◌}
 use Rattle.meaning.specs.Values.{
   Name,
   Trap,
@@ -21,6 +21,9 @@ use Rattle.meaning.specs.Values.{
   Outcome,
   Val,
   Trapped,
+  Completion,
+  Returned,
+  Aborted,
   Argument,
   Birth,
   Put,
@@ -69,7 +72,7 @@ use Rattle.meaning.specs.Syntax.{
   Script,
 }
 use Rattle.meaning.specs.Meaning.{same_name, find, Scope, run_task}
-use Rattle.meaning.specs.Runs.{Run, Ends, Prints, Bears, Gets, Stop, Needs, Over, piece, next_id, serial_end, serial_trace}
+use Rattle.meaning.specs.Runs.{Run, Ends, Prints, Bears, Gets, Stop, Needs, Over, named, behind, piece, serial_end, serial_trace}
 use Rattle.meaning.specs.Law.{prints_of}
 
 -- Values
@@ -114,6 +117,18 @@ EachOf [] [] = Unit {0}
 EachOf [] (t ∷ ts) = ⊥
 EachOf (v ∷ vs) [] = ⊥
 EachOf (v ∷ vs) (t ∷ ts) = IsOf v t × EachOf vs ts
+
+-- as many outcomes, each of its kind
+abbrev pub EachEndsIn : List Outcome → List Kind → Type 0
+EachEndsIn [] [] = Unit {0}
+EachEndsIn [] (t ∷ ts) = ⊥
+EachEndsIn (c ∷ cs) [] = ⊥
+EachEndsIn (c ∷ cs) (t ∷ ts) = EndsIn c t × EachEndsIn cs ts
+
+-- ended with results of the kinds, or in a trap of the script
+abbrev pub CompletesIn : Completion → List Kind → Type 0
+CompletesIn (Returned vs) ts = EachOf vs ts
+CompletesIn (Aborted e) ts = IsSound e
 
 -- values of the kind have a reference in them
 abbrev pub has_reference : Kind → Bool
@@ -279,19 +294,20 @@ ScriptChecks script (f ∷ fs) = FunctionChecks script f × ScriptChecks script 
 
 -- Runs
 
--- the birth makes an object of the kind
-abbrev pub IsBirthOf : Script → Birth → Kind → Type 0
-IsBirthOf script (Put v) u = IsOf v u
-IsBirthOf script (Task g args depth retries) u = (f : Function) × (find script g ≡ Some f) × MarkedOf args f.parameters × (results f ≡ u ∷ [])
+-- the birth makes objects of these kinds
+abbrev pub IsBirthOf : Script → Birth → List Kind → Type 0
+IsBirthOf script (Put v) us = EachOf (v ∷ []) us
+IsBirthOf script (Task g args depth retries others) us =
+    (f : Function) × (find script g ≡ Some f) × MarkedOf args f.parameters × (us ≡ results f) × (length f.others ≡ others)
 
 -- the run never meets an operand of the wrong kind nor prints a reference, whatever of the right kinds its gets get; its
--- births make objects of the kinds of their references, and it ends in the kind
-abbrev pub IsSafe : Script → Run → Kind → Type 0
-IsSafe script (Ends c) t = EndsIn c t
-IsSafe script (Prints v next) t = IsPlain v × IsSafe script next t
-IsSafe script (Bears b made_by next) t =
-    (u : Kind) × IsBirthOf script b u × IsSafe script made_by u × ((r : Value) → IsOf r (RefKind u) → IsSafe script (next r) t)
-IsSafe script (Gets u r next) t = IsOf r (RefKind u) × ((v : Value) → IsOf v u → IsSafe script (next v) t)
+-- births make objects of the kinds of their references, and it ends in the kinds
+abbrev pub IsSafe : Script → Run → List Kind → Type 0
+IsSafe script (Ends e) ts = CompletesIn e ts
+IsSafe script (Prints v next) ts = IsPlain v × IsSafe script next ts
+IsSafe script (Bears b made_by next) ts =
+    (us : List Kind) × IsBirthOf script b us × IsSafe script made_by us × ((rs : List Value) → EachOf rs (map RefKind us) → IsSafe script (next rs) ts)
+IsSafe script (Gets u r next) ts = IsOf r (RefKind u) × ((v : Value) → IsOf v u → IsSafe script (next v) ts)
 
 -- what follows an answer that is of the kind
 abbrev pub Answers : List Outcome → Kind → (Value → List Outcome → Type 0) → Type 0
@@ -301,26 +317,25 @@ Answers (Trapped e ∷ answers) u next = IsSound e
 
 -- the answers are of the kinds asked for
 abbrev pub AnswersFit : Run → Id → List Outcome → Type 0
-AnswersFit (Ends c) base answers = Unit {0}
+AnswersFit (Ends e) base answers = Unit {0}
 AnswersFit (Prints v next) base answers = AnswersFit next base answers
-AnswersFit (Bears b made_by next) base answers = AnswersFit (next (Named base)) (next_id base) answers
+AnswersFit (Bears b made_by next) base answers = AnswersFit (next (named base b)) (behind base b) answers
 AnswersFit (Gets u r next) base answers = Answers answers u (λ v left. AnswersFit (next v) base left)
 
-abbrev pub StopIsSound : Stop → Kind → Type 0
-StopIsSound (Needs r) t = Unit {0}
-StopIsSound (Over c) t = EndsIn c t
+abbrev pub StopIsSound : Stop → List Kind → Type 0
+StopIsSound (Needs r) ts = Unit {0}
+StopIsSound (Over cs) ts = EachEndsIn cs ts
 
 -- a task never meets an operand of the wrong kind nor prints a reference, in a serial run or in pieces
-pub record IsSafeTask (run : Run) (t : Kind) (base : Id) (answers : List Outcome) : Type 0 where
-  pub serial : EndsIn (serial_end run) t
+pub record IsSafeTask (run : Run) (ts : List Kind) (base : Id) (answers : List Outcome) : Type 0 where
+  pub serial : CompletesIn (serial_end run) ts
   pub serial_prints : AllPlain (prints_of (serial_trace run))
-  pub stop : StopIsSound (piece run base answers).stop t
-  pub prints : AllPlain (piece run base answers).prints
+  pub stop : StopIsSound (piece (length ts) run base answers).stop ts
+  pub prints : AllPlain (piece (length ts) run base answers).prints
 
--- of a checked script each task of a function of one result, with arguments and answers of the kinds asked for is safe
+-- of a checked script each task with arguments and answers of the kinds asked for is safe
 abbrev pub AreSafe : Type 0
 AreSafe =
-    (script : Script) → ScriptChecks script script →
-    (g : Name) (f : Function) (u : Kind) (args : List Argument) (depth : ℕ) (base : Id) (answers : List Outcome) →
-    find script g ≡ Some f → results f ≡ u ∷ [] → MarkedOf args f.parameters → AnswersFit (run_task script g args depth) base answers →
-    IsSafeTask (run_task script g args depth) u base answers
+    (script : Script) → ScriptChecks script script → (g : Name) (f : Function) (args : List Argument) (depth : ℕ) (base : Id) (answers : List Outcome) →
+    find script g ≡ Some f → MarkedOf args f.parameters → AnswersFit (run_task script g args depth) base answers →
+    IsSafeTask (run_task script g args depth) (results f) base answers

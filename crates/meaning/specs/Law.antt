@@ -1,7 +1,7 @@
 -- The law of replay, and which ids a replay gives.
 use Rattle.std.specs.Prelude.{◌≡◌, ℕ, zero, suc, List, [], ◌∷◌, ◌++◌, map, length, Option, Some, None, ◌⊎◌}
 use Rattle.meaning.specs.Lists.{IsFirst}
-use Rattle.meaning.specs.Values.{Value, Outcome, Birth, Id}
+use Rattle.meaning.specs.Values.{Value, Outcome, Completion, outcomes, results_of, Birth, Id}
 use Rattle.meaning.specs.Syntax.{Script}
 use Rattle.meaning.specs.Runs.{Run, Item, TraceBirth, TraceGet, TracePrint, serial_end, serial_trace, outcome_of, Stop, Needs, Over, Piece}
 use Rattle.meaning.specs.Meaning.{run_birth, replay}
@@ -44,16 +44,16 @@ prints_of (TraceBirth b ∷ items) = prints_of items
 prints_of (TraceGet d ∷ items) = prints_of items
 prints_of (TracePrint v ∷ items) = v ∷ prints_of items
 
--- how a piece stops, beside what the run as read gets next, and how it ends
-abbrev pub StopsAs : Reading → Stop → Option Outcome → Outcome → Type 0
-StopsAs reading (Needs r) next end = next ≡ Some (outcome_of (read reading r))
-StopsAs reading (Over c) next end = (next ≡ None) × (end ≡ read_outcome reading c)
+-- how a piece of a run of so many results stops, beside what the run as read gets next, and how it ends
+abbrev pub StopsAs : Reading → ℕ → Stop → Option Outcome → Completion → Type 0
+StopsAs reading results (Needs r) next end = next ≡ Some (outcome_of (read reading r))
+StopsAs reading results (Over cs) next end = (next ≡ None) × (outcomes results end ≡ map (read_outcome reading) cs)
 
--- the piece as read is a beginning of the run
-pub record Begins (reading : Reading) (p : Piece) (n : ℕ) (run : Run) : Type 0 where
+-- the piece as read is a beginning of the run, which has so many results
+pub record Begins (reading : Reading) (results : ℕ) (p : Piece) (n : ℕ) (run : Run) : Type 0 where
   pub births : map (read_birth reading) p.births ≡ births_of (up_to n (serial_trace run))
   pub prints : map (read reading) p.prints ≡ prints_of (up_to n (serial_trace run))
-  pub stop : StopsAs reading p.stop (get_after n (serial_trace run)) (serial_end run)
+  pub stop : StopsAs reading results p.stop (get_after n (serial_trace run)) (serial_end run)
 
 -- Under every reading under which the births hold and the answers begin what the run as read gets, what a task does on
 -- the answers is a beginning of that run: all before its next get, or the whole.
@@ -64,7 +64,7 @@ LawOfReplay =
     let run = run_birth script (read_birth reading spec) in
     BirthsHold reading script base p.births →
     IsFirst (map (read_outcome reading) answers) (gets_of (serial_trace run)) →
-    Begins reading p (length answers) run
+    Begins reading (results_of spec) p (length answers) run
 
 -- the id stands in what makes the task, is one of the objects, or stands in an answer
 abbrev pub IsGiven : Birth → List Bearing → List Outcome → Id → Type 0

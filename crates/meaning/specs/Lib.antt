@@ -11,3 +11,4 @@ pub mod Mains
 pub mod Kinds
 pub mod KindLaw
 pub mod Examples
+pub mod Singles

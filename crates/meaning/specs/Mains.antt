@@ -82,7 +82,7 @@ KeepsMainApart script = AllByRecursion FunctionIsApart script
 -- a put, or a task of another function than main
 abbrev pub IsNotMains : Birth → Type 0
 IsNotMains (Put v) = Unit {0}
-IsNotMains (Task g args depth retries) = g ≢ main_name
+IsNotMains (Task g args depth retries others) = g ≢ main_name
 
 -- what a birth makes bears no task of main, and prints nothing unless it is main itself
 pub record LeavesMainApart (script : Script) (spec : Birth) (base : Id) (answers : List Outcome) : Type 0 where

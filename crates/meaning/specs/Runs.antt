@@ -1,13 +1,13 @@
--- What a run does, as a tree: it goes on with whatever reference a birth gives, and with whatever value a get gives.
-use Rattle.std.specs.Prelude.{◌+◌, List, [], ◌∷◌}
+-- What a run does, as a tree: it goes on with whatever references a birth gives, and with whatever value a get gives.
+use Rattle.std.specs.Prelude.{ℕ, zero, suc, ◌+◌, List, [], ◌∷◌, map}
 use Rattle.meaning.specs.Syntax.{Kind}
-use Rattle.meaning.specs.Values.{Value, Int, Items, Named, Known, Outcome, Val, Trapped, Birth, Id, Index}
+use Rattle.meaning.specs.Values.{Trap, Value, Int, Items, Named, Known, Outcome, Val, Trapped, Birth, results_of, Completion, Aborted, outcomes, Id, Index}
 
 pub data Run : Type 0 where
-  Ends : (c : Outcome) → Run
+  Ends : (e : Completion) → Run
   Prints : (v : Value) (next : Run) → Run
-  -- a birth, what makes its object, and what follows once the object has a reference
-  Bears : (b : Birth) (made_by : Run) (next : Value → Run) → Run
+  -- a birth, what makes its objects, and what follows once each of them has a reference
+  Bears : (b : Birth) (made_by : Run) (next : List Value → Run) → Run
   -- a get of a reference, with the kind of what is got
   Gets : (t : Kind) (r : Value) (next : Value → Run) → Run
 
@@ -27,27 +27,32 @@ outcome_of (Named o) = Trapped Index
 outcome_of (Known c) = c
 
 -- goes on with a value, or ends with a trap
-abbrev pub go_on : {A : Type 0} → (Outcome → A) → Outcome → (Value → A) → A
+abbrev pub go_on : {A : Type 0} → (Trap → A) → Outcome → (Value → A) → A
 go_on ends (Val v) next = next v
-go_on ends (Trapped t) next = ends (Trapped t)
+go_on ends (Trapped t) next = ends t
 
-abbrev pub serial_end : Run → Outcome
-serial_end (Ends c) = c
+-- the references of a birth that was made so
+abbrev pub known : Birth → Completion → List Value
+known b e = map Known (outcomes (results_of b) e)
+
+abbrev pub serial_end : Run → Completion
+serial_end (Ends e) = e
 serial_end (Prints v next) = serial_end next
-serial_end (Bears b made_by next) = serial_end (next (Known (serial_end made_by)))
-serial_end (Gets t r next) = go_on (λ c. c) (outcome_of r) (λ v. serial_end (next v))
+serial_end (Bears b made_by next) = serial_end (next (known b (serial_end made_by)))
+serial_end (Gets t r next) = go_on Aborted (outcome_of r) (λ v. serial_end (next v))
 
 abbrev pub serial_trace : Run → List Item
-serial_trace (Ends c) = []
+serial_trace (Ends e) = []
 serial_trace (Prints v next) = TracePrint v ∷ serial_trace next
-serial_trace (Bears b made_by next) = TraceBirth b ∷ serial_trace (next (Known (serial_end made_by)))
-serial_trace (Gets t r next) = TraceGet (outcome_of r) ∷ go_on (λ c. []) (outcome_of r) (λ v. serial_trace (next v))
+serial_trace (Bears b made_by next) = TraceBirth b ∷ serial_trace (next (known b (serial_end made_by)))
+serial_trace (Gets t r next) = TraceGet (outcome_of r) ∷ go_on (λ e. []) (outcome_of r) (λ v. serial_trace (next v))
 
--- The run in pieces: a birth takes the next id, and a get the next answer.
+-- The run in pieces: a birth takes the next ids, one a result, and a get the next answer.
 
+-- its end is an outcome for each result
 pub data Stop : Type 0 where
   Needs : (r : Value) → Stop
-  Over : (c : Outcome) → Stop
+  Over : (cs : List Outcome) → Stop
 
 -- what was born and printed, and where it stops
 pub record Piece : Type 0 where
@@ -67,13 +72,35 @@ stopped s = record { births = []; prints = []; stop = s }
 abbrev pub next_id : Id → Id
 next_id o = record { owner = o.owner; serial = o.serial + 1 }
 
+-- so many ids, from one on
+abbrev pub ids_from : Id → ℕ → List Id
+ids_from o zero = []
+ids_from o (suc n) = o ∷ ids_from (next_id o) n
+
+-- the id behind them
+abbrev pub past : Id → ℕ → Id
+past o n = record { owner = o.owner; serial = o.serial + n }
+
+-- the ids that a birth takes, as references
+abbrev pub named : Id → Birth → List Value
+named base b = map Named (ids_from base (results_of b))
+
+-- the id from which the next birth takes its ids
+abbrev pub behind : Id → Birth → Id
+behind base b = past base (results_of b)
+
 abbrev pub answered : {A : Type 0} → List Outcome → A → (Outcome → List Outcome → A) → A
 answered [] none_left some = none_left
 answered (c ∷ cs) none_left some = some c cs
 
-abbrev pub piece : Run → Id → List Outcome → Piece
-piece (Ends c) base answers = stopped (Over c)
-piece (Prints v next) base answers = with_print v (piece next base answers)
-piece (Bears b made_by next) base answers = with_birth b (piece (next (Named base)) (next_id base) answers)
-piece (Gets t r next) base answers =
-    answered answers (stopped (Needs r)) (λ c rest. go_on (λ e. stopped (Over e)) c (λ v. piece (next v) base rest))
+-- of a run that ends with so many results
+module _ (results : ℕ) where
+  abbrev pub over : Completion → Piece
+  over e = stopped (Over (outcomes results e))
+
+  abbrev pub piece : Run → Id → List Outcome → Piece
+  piece (Ends e) base answers = over e
+  piece (Prints v next) base answers = with_print v (piece next base answers)
+  piece (Bears b made_by next) base answers = with_birth b (piece (next (named base b)) (behind base b) answers)
+  piece (Gets t r next) base answers =
+      answered answers (stopped (Needs r)) (λ c rest. go_on (λ t'. over (Aborted t')) c (λ v. piece (next v) base rest))

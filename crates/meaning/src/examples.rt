@@ -33,6 +33,9 @@ ghost use Rattle.meaning.specs.Examples.{
   parts_called,
   mixed_called,
   parts_put,
+  making_two,
+  parting,
+  fours,
 };
 
 /// What main prints and how it ends where every remote call is a plain call.
@@ -64,10 +67,10 @@ pub fn limit_examples()
 /// What a task does on the answers that it has.
 pub fn replay_examples()
     ensures first_piece_of_main { replay square main_birth (object 1 1) [] ≡ this_piece (squaring ∷ []) [] (Needs (Named (object 1 1))) }
-    ensures piece_of_the_call { replay square squaring (object 2 1) [] ≡ this_piece [] [] (Over (value 49)) }
-    ensures whole_of_main { replay square main_birth (object 1 1) (value 49 ∷ []) ≡ this_piece (squaring ∷ []) (Int (pos 49) ∷ []) (Over (value 0)) }
+    ensures piece_of_the_call { replay square squaring (object 2 1) [] ≡ this_piece [] [] (Over (value 49 ∷ [])) }
+    ensures whole_of_main { replay square main_birth (object 1 1) (value 49 ∷ []) ≡ this_piece (squaring ∷ []) (Int (pos 49) ∷ []) (Over (value 0 ∷ [])) }
     ensures got_once { replay got_twice main_birth (object 1 1) (value 1 ∷ []) ≡ this_piece (Put (Int (pos 1)) ∷ []) [] (Needs (Named (object 1 1))) }
-    ensures got_again { replay got_twice main_birth (object 1 1) (value 1 ∷ value 1 ∷ []) ≡ this_piece (Put (Int (pos 1)) ∷ []) [] (Over (value 2)) }
+    ensures got_again { replay got_twice main_birth (object 1 1) (value 1 ∷ value 1 ∷ []) ≡ this_piece (Put (Int (pos 1)) ∷ []) [] (Over (value 2 ∷ [])) }
 {}
 
 /// Which scripts keep main apart, and that a task prints in one that doesn't.
@@ -76,14 +79,17 @@ pub fn main_examples()
     ensures another_prints { KeepsMainApart prints_elsewhere → ⊥ }
     ensures main_is_called { KeepsMainApart calls_main → ⊥ }
     ensures main_is_born { KeepsMainApart bears_main → ⊥ }
-    ensures another_task_prints { replay prints_elsewhere louder (object 2 1) [] ≡ this_piece [] (Int (pos 1) ∷ []) (Over (value 2)) }
+    ensures another_task_prints { replay prints_elsewhere louder (object 2 1) [] ≡ this_piece [] (Int (pos 1) ∷ []) (Over (value 2 ∷ [])) }
 {}
 
-/// Plain calls of functions of several results.
+/// Calls of functions of several results: each result has its outcome, and a trap is the outcome of each.
 pub fn several_examples()
     ensures two_bound { MainGives (parts_called 17 5) [] (value 32) }
     ensures trap_on_the_way { MainGives (parts_called 1 0) [] (Trapped DivZero) }
     ensures four_bound { MainGives (mixed_called 4) (Int (pos 8) ∷ []) (value 9) }
     ensures bound_before_a_get { replay parts_put main_birth (object 1 1) [] ≡ this_piece (Put (Int (pos 3)) ∷ []) [] (Needs (Named (object 1 1))) }
-    ensures bound_after_a_get { replay parts_put main_birth (object 1 1) (value 3 ∷ []) ≡ this_piece (Put (Int (pos 3)) ∷ []) [] (Over (value 32)) }
+    ensures bound_after_a_get { replay parts_put main_birth (object 1 1) (value 3 ∷ []) ≡ this_piece (Put (Int (pos 3)) ∷ []) [] (Over (value 32 ∷ [])) }
+    ensures two_results { replay (mixed_called 4) making_two (object 2 1) [] ≡ this_piece [] [] (Over (value 5 ∷ fours ∷ [])) }
+    ensures a_trap_is_each { replay (parts_called 1 0) (parting 1 0) (object 2 1) [] ≡
+        this_piece [] [] (Over (Trapped DivZero ∷ Trapped DivZero ∷ [])) }
 {}

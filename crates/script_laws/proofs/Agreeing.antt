@@ -40,7 +40,7 @@ module _ (P : Id → Type 0) (r q : Reading) (same : (o : Id) → P o → r o �
 
   pub birth_same : (b : Birth) → BirthIn P b → read_birth r b ≡ read_birth q b
   birth_same (Put v) h = ap (λ w. Put w) (value_same v h)
-  birth_same (Task g args depth retries) h = ap (λ as'. Task g as' depth retries) (arguments_same args h)
+  birth_same (Task g args depth retries others) h = ap (λ as'. Task g as' depth retries others) (arguments_same args h)
 
 module _ (P Q : Id → Type 0) (sub : (o : Id) → P o → Q o) where
   mutual
@@ -72,4 +72,4 @@ module _ (P Q : Id → Type 0) (sub : (o : Id) → P o → Q o) where
 
   pub birth_more : (b : Birth) → BirthIn P b → BirthIn Q b
   birth_more (Put v) h = value_more v h
-  birth_more (Task g args depth retries) h = arguments_more args h
+  birth_more (Task g args depth retries others) h = arguments_more args h

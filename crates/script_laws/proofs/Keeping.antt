@@ -1,10 +1,10 @@
 -- A run gives only what it is given: where the ids in values are of one set and the outcomes in them of another, all that it bears, prints, needs
 -- and ends with is so too.
-use Rattle.std.proofs.Common.{ℕ, zero, suc, ◌-◌, Bool, true, false, List, [], ◌∷◌, length, take, Option, Some, None}
+use Rattle.std.proofs.Common.{ℕ, zero, suc, ◌-◌, Bool, true, false, List, [], ◌∷◌, length, take, Option, Some, None, refl}
 use Rattle.std.specs.Prelude.{ℤ, pos, negsuc, nat_lt, if◌then◌else◌, ◌+ℤ◌, ◌-ℤ◌, ◌*ℤ◌, neg_ℤ, int_div}
 use Rattle.std.specs.List.{AllByRecursion}
 use Rattle.meaning.specs.Values.{Name, Broken, Value, Int, Items, Named, Known, Values, none, more, Outcome, Val, Trapped, Argument, Birth, Put, Task, Id}
-use Rattle.meaning.specs.Values.{values_of, count, item_at, push_onto}
+use Rattle.meaning.specs.Values.{Completion, Returned, Aborted, first_outcome, without_first, outcomes, values_of, count, item_at, push_onto}
 use Rattle.meaning.specs.Syntax.{Kind, Operator, Add, Sub, Mul, Div, Rem, Equal, Unequal, Less, LessEqual, ItemAt, Push, Prefix, Negate, Len}
 use Rattle.meaning.specs.Syntax.{Expr, Num, Var, Unary, Binary, ListOf, Empty, Call, Remote, PutOf, GetOf, Exprs, end, also}
 use Rattle.meaning.specs.Syntax.{Stmt, Let, LetCall, Set, Print, Return, If, For, Block, done, step, Parameter, Function, Script}
@@ -13,6 +13,7 @@ use Rattle.meaning.specs.Meaning.{broken, Variable, Scope, same_name, value_in, 
 use Rattle.meaning.specs.Meaning.{remainder, found, index, push, on_numbers, apply, apply_one, is_zero, turn_count, proceed, mark, get_from, dereference, only}
 use Rattle.meaning.specs.Meaning.{Calls, evaluate, evaluate_all, turns, turns_within, leave, execute, execute_all, find, parameters_of, enter, task_by}
 use Rattle.meaning.specs.Meaning.{calls_below, call_at, run_birth}
+use Rattle.meaning.specs.Singles.{IsSingle}
 
 -- whichever way a test goes
 pub either : {A : Type 0} (T : A → Type 0) (b : Bool) (x y : A) → T x → T y → T (if b then x else y)
@@ -35,7 +36,7 @@ module _ (P : Id → Type 0) (Q : Outcome → Type 0) where
     ValueWith (Named o) = P o
     ValueWith (Known c) = Q c
 
-    ItemsWith : Values → Type 0
+    pub ItemsWith : Values → Type 0
     ItemsWith none = Unit {0}
     ItemsWith (more v vs) = ValueWith v × ItemsWith vs
 
@@ -61,14 +62,33 @@ module _ (P : Id → Type 0) (Q : Outcome → Type 0) where
 
   abbrev pub BirthWith : Birth → Type 0
   BirthWith (Put v) = ValueWith v
-  BirthWith (Task g args depth retries) = ArgumentsWith args
+  BirthWith (Task g args depth retries others) = ArgumentsWith args
 
-  -- whatever such values it is given, it gives only such
+  abbrev pub CompletionWith : Completion → Type 0
+  CompletionWith (Returned vs) = ValuesWith vs
+  CompletionWith (Aborted t) = Unit {0}
+
+  -- whatever such values it is given, it gives only such, and bears what has one result
   abbrev pub KeepsWith : Run → Type 0
-  KeepsWith (Ends c) = OutcomeWith c
+  KeepsWith (Ends e) = CompletionWith e
   KeepsWith (Prints v next) = ValueWith v × KeepsWith next
-  KeepsWith (Bears b made_by next) = BirthWith b × ((v : Value) → ValueWith v → KeepsWith (next v))
+  KeepsWith (Bears b made_by next) = BirthWith b × ((rs : List Value) → ValuesWith rs → KeepsWith (next rs)) × IsSingle b
   KeepsWith (Gets t r next) = ReferenceWith r × ((v : Value) → ValueWith v → KeepsWith (next v))
+
+  first_with : (e : Completion) → CompletionWith e → OutcomeWith (first_outcome e)
+  first_with (Returned []) h = tt
+  first_with (Returned (v ∷ vs)) h = h.0
+  first_with (Aborted t) h = tt
+
+  others_with : (e : Completion) → CompletionWith e → CompletionWith (without_first e)
+  others_with (Returned []) h = tt
+  others_with (Returned (v ∷ vs)) h = h.1
+  others_with (Aborted t) h = tt
+
+  -- so are the outcomes of its results
+  pub outcomes_with : (n : ℕ) (e : Completion) → CompletionWith e → AllByRecursion OutcomeWith (outcomes n e)
+  outcomes_with zero e h = tt
+  outcomes_with (suc n) e h = (first_with e h, outcomes_with n (without_first e) (others_with e h))
 
   abbrev NextKeeps : (Value → Run) → Type 0
   NextKeeps next = (v : Value) → ValueWith v → KeepsWith (next v)
@@ -221,8 +241,9 @@ module _ (P : Id → Type 0) (Q : Outcome → Type 0) where
       evaluates (ListOf es) scope next so l = evaluates_all es scope _ so (λ vs hvs. l (Items (values_of vs)) (values_in vs hvs))
       evaluates (Empty k) scope next so l = l (Items none) tt
       evaluates (Call g args) scope next so l = evaluates_all args scope _ so (λ vs hvs. keep g vs _ hvs (λ ws hws. only_in ws next hws l))
-      evaluates (Remote k g marks args) scope next so l = evaluates_all args scope _ so (λ vs hvs. (marked_in vs marks hvs, l))
-      evaluates (PutOf a) scope next so l = evaluates a scope _ so (λ v hv. (hv, l))
+      evaluates (Remote k g marks args) scope next so l =
+          evaluates_all args scope _ so (λ vs hvs. (marked_in vs marks hvs, λ rs hrs. only_in rs next hrs l, refl))
+      evaluates (PutOf a) scope next so l = evaluates a scope _ so (λ v hv. (hv, λ rs hrs. only_in rs next hrs l, refl))
       evaluates (GetOf k a) scope next so l = evaluates a scope _ so (λ r hr. gets k r next hr l)
 
       evaluates_all : (es : Exprs) (scope : Scope) (next : List Value → Run) → ScopeWith scope → AllKeep next → KeepsWith (evaluate_all calls es scope next)
@@ -286,9 +307,9 @@ module _ (P : Id → Type 0) (Q : Outcome → Type 0) where
         ((vs : List Value) (next : List Value → Run) → ValuesWith vs → AllKeep next → KeepsWith (call vs next)) → ArgumentsWith args →
         KeepsWith (task_by b ps call args)
     tasks_keep true ps call args l h = tt
-    tasks_keep false ps call args l h = dereferenced ps args _ h (λ vs hvs. l vs _ hvs (λ ws hws. only_in ws _ hws (λ v hv. hv)))
+    tasks_keep false ps call args l h = dereferenced ps args _ h (λ vs hvs. l vs _ hvs (λ ws hws. hws))
 
     pub births_keep : (b : Birth) → BirthWith b → KeepsWith (run_birth script b)
-    births_keep (Put v) h = h
-    births_keep (Task g args depth retries) h =
+    births_keep (Put v) h = (h, tt)
+    births_keep (Task g args depth retries others) h =
         tasks_keep (nat_lt 32 depth) (parameters_of (find script g)) (call_at script (33 - depth) g) args (calls_keep (33 - depth) g) h

@@ -2,9 +2,9 @@
 use Rattle.std.proofs.Common.{◌≡◌, ℕ, zero, suc, ◌-◌, Bool, true, false, List, [], ◌∷◌, Some, refl, sym, ◌∙◌}
 use Rattle.std.specs.Prelude.{ℤ, pos, nat_lt, if◌then◌else◌, ◌+ℤ◌, ◌-ℤ◌}
 use Rattle.std.specs.List.{AllByRecursion}
-use Rattle.meaning.specs.Values.{Name, Value, Int, Items, Named, Known, Outcome, Val, Trapped, Argument, Birth, Put, Task, Id, main_name}
+use Rattle.meaning.specs.Values.{Name, Value, Int, Items, Named, Known, Outcome, Val, Trapped, Argument, Birth, Put, Task, results_of, Id, main_name}
 use Rattle.meaning.specs.Syntax.{Kind, Expr, Num, Var, Unary, Binary, ListOf, Empty, Call, Remote, PutOf, GetOf, Exprs, end, also, Stmt, Let, LetCall, Set, Print, Return, If, For, Block, done, step, Parameter, Script}
-use Rattle.meaning.specs.Runs.{Run, Ends, Prints, Bears, Gets, piece, next_id}
+use Rattle.meaning.specs.Runs.{Run, Ends, Prints, Bears, Gets, piece, named, behind}
 use Rattle.meaning.specs.Meaning.{broken, Scope, same_name, value_in, bind, bind_each, bind_all, apply, apply_one, is_zero, turn_count, proceed, get_from, dereference, only, Calls, evaluate, evaluate_all, turns, turns_within, leave, execute, execute_all, find, parameters_of, enter, task_by, calls_below, call_at, run_birth}
 use Rattle.meaning.proofs.BirthLaws.{at_test}
 use Rattle.meaning.proofs.Names.{same_name-true}
@@ -17,7 +17,7 @@ module _ (prints : Bool) where
   abbrev IsQuiet : Run → Type 0
   IsQuiet (Ends c) = Unit {0}
   IsQuiet (Prints v next) = (prints ≡ true) × IsQuiet next
-  IsQuiet (Bears b made_by next) = IsNotMains b × ((v : Value) → IsQuiet (next v))
+  IsQuiet (Bears b made_by next) = IsNotMains b × ((vs : List Value) → IsQuiet (next vs))
   IsQuiet (Gets t r next) = (v : Value) → IsQuiet (next v)
 
   abbrev IsQuietNext : (Value → Run) → Type 0
@@ -33,7 +33,7 @@ module _ (prints : Bool) where
   -- what makes the object may be run
   abbrev MayMake : Birth → Type 0
   MayMake (Put v) = Unit {0}
-  MayMake (Task g args depth retries) = MayRun g
+  MayMake (Task g args depth retries others) = MayRun g
 
   proceeds : (c : Outcome) (next : Value → Run) → IsQuietNext next → IsQuiet (proceed c next)
   proceeds (Val v) next l = l v
@@ -86,8 +86,8 @@ module _ (prints : Bool) where
       evaluates (ListOf es) scope next h l = evaluates_all es scope _ h (λ vs. l _)
       evaluates (Empty k) scope next h l = l _
       evaluates (Call g args) scope next h l = evaluates_all args scope _ h.1 (λ vs. quiet g (λ e. absurd (h.0 e)) vs _ (λ ws. takes_only ws next l))
-      evaluates (Remote k g marks args) scope next h l = evaluates_all args scope _ h.1 (λ vs. (h.0, l))
-      evaluates (PutOf a) scope next h l = evaluates a scope _ h (λ v. (tt, l))
+      evaluates (Remote k g marks args) scope next h l = evaluates_all args scope _ h.1 (λ vs. (h.0, λ rs. takes_only rs next l))
+      evaluates (PutOf a) scope next h l = evaluates a scope _ h (λ v. (tt, λ rs. takes_only rs next l))
       evaluates (GetOf k a) scope next h l = evaluates a scope _ h (λ r. gets k r next l)
 
       evaluates_all : (es : Exprs) (scope : Scope) (next : List Value → Run) → AllCallOthers es → IsQuietAll next → IsQuiet (evaluate_all calls es scope next)
@@ -151,39 +151,39 @@ module _ (prints : Bool) where
     tasks_quiet : (b : Bool) (ps : List Parameter) (call : List Value → (List Value → Run) → Run) (args : List Argument) →
         ((vs : List Value) (next : List Value → Run) → IsQuietAll next → IsQuiet (call vs next)) → IsQuiet (task_by b ps call args)
     tasks_quiet true ps call args l = tt
-    tasks_quiet false ps call args l = dereferenced ps args _ (λ vs. l vs _ (λ ws. takes_only ws _ (λ v. tt)))
+    tasks_quiet false ps call args l = dereferenced ps args _ (λ vs. l vs _ (λ ws. tt))
 
     births_quiet : (b : Birth) → MayMake b → IsQuiet (run_birth script b)
     births_quiet (Put v) may = tt
-    births_quiet (Task g args depth retries) may = tasks_quiet (nat_lt 32 depth) (parameters_of (find script g)) (call_at script (33 - depth) g) args (calls_quiet (33 - depth) g may)
+    births_quiet (Task g args depth retries others) may = tasks_quiet (nat_lt 32 depth) (parameters_of (find script g)) (call_at script (33 - depth) g) args (calls_quiet (33 - depth) g may)
 
-  born : (run : Run) (base : Id) (answers : List Outcome) → IsQuiet run → AllByRecursion IsNotMains (piece run base answers).births
-  born (Ends c) base answers h = tt
-  born (Prints v next) base answers h = born next base answers h.1
-  born (Bears b made_by next) base answers h = (h.0, born (next (Named base)) (next_id base) answers (h.1 (Named base)))
-  born (Gets t r next) base [] h = tt
-  born (Gets t r next) base (Val v ∷ answers) h = born (next v) base answers (h v)
-  born (Gets t r next) base (Trapped e ∷ answers) h = tt
+  born : (n : ℕ) (run : Run) (base : Id) (answers : List Outcome) → IsQuiet run → AllByRecursion IsNotMains (piece n run base answers).births
+  born n (Ends c) base answers h = tt
+  born n (Prints v next) base answers h = born n next base answers h.1
+  born n (Bears b made_by next) base answers h = (h.0, born n (next (named base b)) (behind base b) answers (h.1 (named base b)))
+  born n (Gets t r next) base [] h = tt
+  born n (Gets t r next) base (Val v ∷ answers) h = born n (next v) base answers (h v)
+  born n (Gets t r next) base (Trapped e ∷ answers) h = tt
 
-printed : (run : Run) (base : Id) (answers : List Outcome) → IsQuiet false run → (piece run base answers).prints ≡ []
-printed (Ends c) base answers h = refl
-printed (Prints v next) base answers h = absurd (cc)
-printed (Bears b made_by next) base answers h = printed (next (Named base)) (next_id base) answers (h.1 (Named base))
-printed (Gets t r next) base [] h = refl
-printed (Gets t r next) base (Val v ∷ answers) h = printed (next v) base answers (h v)
-printed (Gets t r next) base (Trapped e ∷ answers) h = refl
+printed : (n : ℕ) (run : Run) (base : Id) (answers : List Outcome) → IsQuiet false run → (piece n run base answers).prints ≡ []
+printed n (Ends c) base answers h = refl
+printed n (Prints v next) base answers h = absurd (cc)
+printed n (Bears b made_by next) base answers h = printed n (next (named base b)) (behind base b) answers (h.1 (named base b))
+printed n (Gets t r next) base [] h = refl
+printed n (Gets t r next) base (Val v ∷ answers) h = printed n (next v) base answers (h v)
+printed n (Gets t r next) base (Trapped e ∷ answers) h = refl
 
 where_prints_are_allowed : (b : Birth) → MayMake true b
 where_prints_are_allowed (Put v) = tt
-where_prints_are_allowed (Task g args depth retries) = λ _. refl
+where_prints_are_allowed (Task g args depth retries others) = λ _. refl
 
 where_none_are : (b : Birth) → IsNotMains b → MayMake false b
 where_none_are (Put v) h = tt
-where_none_are (Task g args depth retries) h = λ e. absurd (h e)
+where_none_are (Task g args depth retries others) h = λ e. absurd (h e)
 
 pub main_stays_apart : MainStaysApart
 main_stays_apart script apart spec base answers =
     record {
-      births = born true (run_birth script spec) base answers (births_quiet true script apart spec (where_prints_are_allowed spec));
-      prints = λ n. printed (run_birth script spec) base answers (births_quiet false script apart spec (where_none_are spec n));
+      births = born true (results_of spec) (run_birth script spec) base answers (births_quiet true script apart spec (where_prints_are_allowed spec));
+      prints = λ n. printed (results_of spec) (run_birth script spec) base answers (births_quiet false script apart spec (where_none_are spec n));
     }

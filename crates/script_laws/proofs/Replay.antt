@@ -6,30 +6,31 @@ use Rattle.std.proofs.lemmas.Bool.Decides.{nat_tests}
 use Rattle.std.specs.Prelude.{ℤ, pos, negsuc, nat_lt, if◌then◌else◌, ◌+ℤ◌, ◌-ℤ◌, int_div}
 use Rattle.std.specs.Prelude.{int_rem, int_lt, int_le, not, neg_ℤ, ◌*ℤ◌}
 use Rattle.std.specs.Ordering.{int_eq}
-use Rattle.meaning.specs.Values.{Name, Overflow, TooLong, Loop, TooDeep, Broken, Value, Int, Items, Named, Known, Values, none, more, Outcome, Val, Trapped, Argument, Birth, Put, Task, Id, values_of, count, item_at, push_onto}
+use Rattle.meaning.specs.Values.{Name, Overflow, TooLong, Loop, TooDeep, Broken, Value, Int, Items, Named, Known, Values, none, more, Outcome, Val, Trapped, Completion, Returned, Aborted, outcomes, Argument, Birth, Put, Task, results_of, Id, values_of, count, item_at, push_onto}
 use Rattle.meaning.specs.Syntax.{Kind, Number, ListKind, RefKind, Operator, Add, Sub, Mul, Div, Rem, Equal, Unequal, Less, LessEqual, ItemAt, Push, Prefix, Negate, Len, Expr, Num, Var, Unary, Binary, ListOf, Empty, Call, Remote, PutOf, GetOf, Exprs, end, also, Stmt, Let, LetCall, Set, Print, Return, If, For, Block, done, step, Parameter, Function, Script}
-use Rattle.meaning.specs.Runs.{Run, Ends, Prints, Bears, Gets, outcome_of, serial_end, serial_trace, go_on, Needs, Over, Piece, piece, next_id, stopped}
+use Rattle.meaning.specs.Runs.{Run, Ends, Prints, Bears, Gets, outcome_of, serial_end, serial_trace, go_on, known, Needs, Piece, over, piece, ids_from, named, behind}
 use Rattle.meaning.specs.Meaning.{broken, Variable, Scope, same_name, value_in, set_in, bind, bind_each, bind_all, as_number, as_items, fits, in_range, quotient, remainder, truth, found, index, push, on_numbers, apply, apply_one, is_zero, turn_count, proceed, mark, get_from, dereference, only, Calls, evaluate, evaluate_all, turns, turns_within, leave, execute, execute_all, find, parameters_of, enter, task_by, no_level, calls_below, call_at, run_task, run_birth}
 use Rattle.meaning.specs.Lists.{IsFirst}
 use Rattle.meaning.specs.Kinds.{IsOf, AreOf, EndsIn, IsBirthOf, IsSafe, Answers, AnswersFit}
+use Rattle.meaning.proofs.ResultLaws.{outcomes-read, results-read, names-read, known_are}
 use Rattle.script_laws.proofs.Safety.{serial_is_sound}
-use Rattle.meaning.specs.Readings.{Reading, read, read_items, read_outcome, read_argument, read_birth, BirthsHold}
+use Rattle.meaning.specs.Readings.{Reading, read, read_items, read_outcome, read_completion, read_argument, read_birth, end_under, BirthsHold}
 use Rattle.meaning.specs.Law.{gets_of, up_to, get_after, births_of, prints_of, StopsAs, Begins, LawOfReplay}
 
-module _ (script : Script) (reading : Reading) where
-  -- the birth as read makes an object of some kind
+module _ (script : Script) (reading : Reading) (results : ℕ) where
+  -- the birth as read makes objects of some kinds
   abbrev HasKind : Birth → Type 0
-  HasKind b = (u : Kind) × IsBirthOf script (read_birth reading b) u
+  HasKind b = (us : List Kind) × IsBirthOf script (read_birth reading b) us
 
   -- the piece of one run as read is a beginning of the other
   pub record Law (run run' : Run) : Type 0 where
-    pub by : (base : Id) (answers : List Outcome) → BirthsHold reading script base (piece run base answers).births → IsFirst (map (read_outcome reading) answers) (gets_of (serial_trace run')) → Begins reading (piece run base answers) (length answers) run'
+    pub by : (base : Id) (answers : List Outcome) → BirthsHold reading script base (piece results run base answers).births → IsFirst (map (read_outcome reading) answers) (gets_of (serial_trace run')) → Begins reading results (piece results run base answers) (length answers) run'
     -- and where the other is safe, the answers are of the kinds asked for
-    pub fits : (t : Kind) (base : Id) (answers : List Outcome) → BirthsHold reading script base (piece run base answers).births → IsFirst (map (read_outcome reading) answers) (gets_of (serial_trace run')) → IsSafe script run' t → AnswersFit run base answers
+    pub fits : (ts : List Kind) (base : Id) (answers : List Outcome) → BirthsHold reading script base (piece results run base answers).births → IsFirst (map (read_outcome reading) answers) (gets_of (serial_trace run')) → IsSafe script run' ts → AnswersFit run base answers
     -- each birth, if those before it hold, has a kind
-    pub kinds : (t : Kind) (base : Id) (answers : List Outcome) (bs : List Birth) (b : Birth) → IsFirst (bs ++ b ∷ []) (piece run base answers).births → BirthsHold reading script base bs → IsFirst (map (read_outcome reading) answers) (gets_of (serial_trace run')) → IsSafe script run' t → HasKind b
+    pub kinds : (ts : List Kind) (base : Id) (answers : List Outcome) (bs : List Birth) (b : Birth) → IsFirst (bs ++ b ∷ []) (piece results run base answers).births → BirthsHold reading script base bs → IsFirst (map (read_outcome reading) answers) (gets_of (serial_trace run')) → IsSafe script run' ts → HasKind b
     -- also with one more
-    pub more_fit : (t : Kind) (base : Id) (answers : List Outcome) (r : Value) (c : Outcome) → BirthsHold reading script base (piece run base answers).births → IsFirst (map (read_outcome reading) answers) (gets_of (serial_trace run')) → IsSafe script run' t → (piece run base answers).stop ≡ Needs r → outcome_of (read reading r) ≡ read_outcome reading c → AnswersFit run base (answers ++ c ∷ [])
+    pub more_fit : (ts : List Kind) (base : Id) (answers : List Outcome) (r : Value) (c : Outcome) → BirthsHold reading script base (piece results run base answers).births → IsFirst (map (read_outcome reading) answers) (gets_of (serial_trace run')) → IsSafe script run' ts → (piece results run base answers).stop ≡ Needs r → outcome_of (read reading r) ≡ read_outcome reading c → AnswersFit run base (answers ++ c ∷ [])
 
   -- what follows a value does the same as what follows it as read
   abbrev Follows : (Value → Run) → (Value → Run) → Type 0
@@ -65,7 +66,7 @@ module _ (script : Script) (reading : Reading) where
   none_fit : (run : Run) (base : Id) → AnswersFit run base []
   none_fit (Ends c) base = tt
   none_fit (Prints v next) base = none_fit next base
-  none_fit (Bears b m next) base = none_fit (next (Named base)) (next_id base)
+  none_fit (Bears b m next) base = none_fit (next (named base b)) (behind base b)
   none_fit (Gets t r next) base = tt
 
   -- so does a first answer that is of the kind as read
@@ -73,12 +74,12 @@ module _ (script : Script) (reading : Reading) where
   first_fits (Val v) t next base h = (of_read v t h, none_fit (next v) base)
   first_fits (Trapped e) t next base h = h
 
-  ends : (c : Outcome) → Law (Ends c) (Ends (read_outcome reading c))
-  ends c = record {
-    by = λ base answers h g. record { births = refl; prints = refl; stop = (refl, refl) };
+  ends : (e : Completion) → Law (Ends e) (Ends (read_completion reading e))
+  ends e = record {
+    by = λ base answers h g. record { births = refl; prints = refl; stop = (refl, outcomes-read reading results e) };
     fits = λ t base answers h g s. tt;
     kinds = λ t base answers bs b f h g s. absurd (none_first bs b f);
-    more_fit = λ t base answers r c' h g s e f. absurd (cc);
+    more_fit = λ t base answers r c' h g s e' f. absurd (cc);
   }
 
   prints : (v : Value) (next next' : Run) → Law next next' → Law (Prints v next) (Prints (read reading v) next')
@@ -93,91 +94,106 @@ module _ (script : Script) (reading : Reading) where
     more_fit = λ t base answers r c h g s e f. l.more_fit t base answers r c h g s.1 e f;
   }
 
-  bears : (b : Birth) (m m' : Run) (next next' : Value → Run) → serial_end (run_birth script (read_birth reading b)) ≡ serial_end m' → Follows next next' → Law (Bears b m next) (Bears (read_birth reading b) m' next')
+  abbrev pub FollowsAll : (List Value → Run) → (List Value → Run) → Type 0
+  FollowsAll next next' = (vs : List Value) → Law (next vs) (next' (map (read reading) vs))
+
+  -- the references of a birth that holds, as read
+  references : (b : Birth) (m' : Run) (base : Id) → serial_end (run_birth script (read_birth reading b)) ≡ serial_end m' →
+      map reading (ids_from base (results_of b)) ≡ outcomes (results_of b) (end_under reading script b) →
+      map (read reading) (named base b) ≡ known (read_birth reading b) (serial_end m')
+  references b m' base e h =
+      names-read reading (ids_from base (results_of b))
+      ∙ ap (λ cs. map Known cs) (h ∙ ap (λ d. outcomes (results_of b) d) e)
+      ∙ ap (λ n. map Known (outcomes n (serial_end m'))) (sym (results-read reading b))
+
+  bears : (b : Birth) (m m' : Run) (next next' : List Value → Run) → serial_end (run_birth script (read_birth reading b)) ≡ serial_end m' → FollowsAll next next' → Law (Bears b m next) (Bears (read_birth reading b) m' next')
   bears b m m' next next' e l = record {
     by = λ base answers h g.
-        let p = piece (next (Named base)) (next_id base) answers in
-        let P : Outcome → Type 0 = λ c. IsFirst (map (read_outcome reading) answers) (gets_of (serial_trace (next' (Known c)))) → Begins reading p (length answers) (next' (Known c)) in
-        let i : P (serial_end m') = subst P (h.0 ∙ e) ((l (Named base)).by (next_id base) answers h.1) in
+        let p = piece results (next (named base b)) (behind base b) answers in
+        let P : List Value → Type 0 = λ rs. IsFirst (map (read_outcome reading) answers) (gets_of (serial_trace (next' rs))) → Begins reading results p (length answers) (next' rs) in
+        let i : P (known (read_birth reading b) (serial_end m')) = subst P (references b m' base e h.0) ((l (named base b)).by (behind base b) answers h.1) in
         let j = i g in
         record {
           births = ap (λ bs. read_birth reading b ∷ bs) j.births;
           prints = j.prints;
           stop = j.stop;
         };
-    fits = λ t base answers h g s.
-        let P : Outcome → Type 0 = λ c. IsFirst (map (read_outcome reading) answers) (gets_of (serial_trace (next' (Known c)))) → IsSafe script (next' (Known c)) t → AnswersFit (next (Named base)) (next_id base) answers in
-        let i : P (serial_end m') = subst P (h.0 ∙ e) ((l (Named base)).fits t (next_id base) answers h.1) in
-        i g (s.3 (Known (serial_end m')) (serial_is_sound script m' s.0 s.2));
-    kinds = λ t base answers bs b' f h g s. here t base answers bs b' f h g s;
-    more_fit = λ t base answers r c h g s f d.
-        let P : Outcome → Type 0 = λ c'. IsFirst (map (read_outcome reading) answers) (gets_of (serial_trace (next' (Known c')))) → IsSafe script (next' (Known c')) t → AnswersFit (next (Named base)) (next_id base) (answers ++ c ∷ []) in
-        let i : P (serial_end m') = subst P (h.0 ∙ e) (λ g' s'. (l (Named base)).more_fit t (next_id base) answers r c h.1 g' s' f d) in
-        i g (s.3 (Known (serial_end m')) (serial_is_sound script m' s.0 s.2));
+    fits = λ ts base answers h g s.
+        let P : List Value → Type 0 = λ rs. IsFirst (map (read_outcome reading) answers) (gets_of (serial_trace (next' rs))) → IsSafe script (next' rs) ts → AnswersFit (next (named base b)) (behind base b) answers in
+        let i : P (known (read_birth reading b) (serial_end m')) = subst P (references b m' base e h.0) ((l (named base b)).fits ts (behind base b) answers h.1) in
+        i g (made ts s);
+    kinds = λ ts base answers bs b' f h g s. here ts base answers bs b' f h g s;
+    more_fit = λ ts base answers r c h g s f d.
+        let P : List Value → Type 0 = λ rs. IsFirst (map (read_outcome reading) answers) (gets_of (serial_trace (next' rs))) → IsSafe script (next' rs) ts → AnswersFit (next (named base b)) (behind base b) (answers ++ c ∷ []) in
+        let i : P (known (read_birth reading b) (serial_end m')) = subst P (references b m' base e h.0) (λ g' s'. (l (named base b)).more_fit ts (behind base b) answers r c h.1 g' s' f d) in
+        i g (made ts s);
   }
     where
-      here : (t : Kind) (base : Id) (answers : List Outcome) (bs : List Birth) (b' : Birth) → IsFirst (bs ++ b' ∷ []) (piece (Bears b m next) base answers).births → BirthsHold reading script base bs → IsFirst (map (read_outcome reading) answers) (gets_of (serial_trace (Bears (read_birth reading b) m' next'))) → IsSafe script (Bears (read_birth reading b) m' next') t → HasKind b'
-      here t base answers [] b' f h g s = subst HasKind f.0 (s.0, s.1)
-      here t base answers (x ∷ xs) b' f h g s =
-          let P : Outcome → Type 0 = λ c. IsFirst (map (read_outcome reading) answers) (gets_of (serial_trace (next' (Known c)))) → IsSafe script (next' (Known c)) t → HasKind b' in
-          let made : reading base ≡ serial_end m' = h.0 ∙ ap (λ y. serial_end (run_birth script (read_birth reading y))) (sym f.0) ∙ e in
-          let i : P (serial_end m') = subst P made ((l (Named base)).kinds t (next_id base) answers xs b' f.1 h.1) in
-          i g (s.3 (Known (serial_end m')) (serial_is_sound script m' s.0 s.2))
+      made : (ts : List Kind) → IsSafe script (Bears (read_birth reading b) m' next') ts → IsSafe script (next' (known (read_birth reading b) (serial_end m'))) ts
+      made ts s = s.3 _ (known_are script (read_birth reading b) s.0 (serial_end m') s.1 (serial_is_sound script m' s.0 s.2))
+
+      here : (ts : List Kind) (base : Id) (answers : List Outcome) (bs : List Birth) (b' : Birth) → IsFirst (bs ++ b' ∷ []) (piece results (Bears b m next) base answers).births → BirthsHold reading script base bs → IsFirst (map (read_outcome reading) answers) (gets_of (serial_trace (Bears (read_birth reading b) m' next'))) → IsSafe script (Bears (read_birth reading b) m' next') ts → HasKind b'
+      here ts base answers [] b' f h g s = subst HasKind f.0 (s.0, s.1)
+      here ts base answers (x ∷ xs) b' f h g s =
+          let P : List Value → Type 0 = λ rs. IsFirst (map (read_outcome reading) answers) (gets_of (serial_trace (next' rs))) → IsSafe script (next' rs) ts → HasKind b' in
+          let h' : BirthsHold reading script base (b ∷ xs) = subst (λ y. BirthsHold reading script base (y ∷ xs)) (sym f.0) h in
+          let i : P (known (read_birth reading b) (serial_end m')) = subst P (references b m' base e h'.0) ((l (named base b)).kinds ts (behind base b) answers xs b' f.1 h'.1) in
+          i g (made ts s)
 
   -- after a get that was answered
   abbrev After : Piece → ℕ → (Value → Run) → List Outcome → Outcome → Type 0
   After p n next' answers d =
-      IsFirst answers (gets_of (go_on (λ c. []) d (λ v. serial_trace (next' v)))) →
+      IsFirst answers (gets_of (go_on (λ e. []) d (λ v. serial_trace (next' v)))) →
       (map (read_birth reading) p.births ≡ births_of (up_to n (go_on (λ c. []) d (λ v. serial_trace (next' v)))))
       × (map (read reading) p.prints ≡ prints_of (up_to n (go_on (λ c. []) d (λ v. serial_trace (next' v)))))
-      × StopsAs reading p.stop (get_after n (go_on (λ c. []) d (λ v. serial_trace (next' v)))) (go_on (λ c. c) d (λ v. serial_end (next' v)))
+      × StopsAs reading results p.stop (get_after n (go_on (λ c. []) d (λ v. serial_trace (next' v)))) (go_on Aborted d (λ v. serial_end (next' v)))
 
   gets : (t : Kind) (r : Value) (next next' : Value → Run) → Follows next next' → Law (Gets t r next) (Gets t (read reading r) next')
   gets t r next next' l = record { by = go; fits = fit; kinds = kind; more_fit = one }
     where
-      kind : (u : Kind) (base : Id) (answers : List Outcome) (bs : List Birth) (b : Birth) → IsFirst (bs ++ b ∷ []) (piece (Gets t r next) base answers).births → BirthsHold reading script base bs → IsFirst (map (read_outcome reading) answers) (gets_of (serial_trace (Gets t (read reading r) next'))) → IsSafe script (Gets t (read reading r) next') u → HasKind b
-      kind u base [] bs b f h g s = absurd (none_first bs b f)
-      kind u base (Val v ∷ answers) bs b f h g s =
+      kind : (us : List Kind) (base : Id) (answers : List Outcome) (bs : List Birth) (b : Birth) → IsFirst (bs ++ b ∷ []) (piece results (Gets t r next) base answers).births → BirthsHold reading script base bs → IsFirst (map (read_outcome reading) answers) (gets_of (serial_trace (Gets t (read reading r) next'))) → IsSafe script (Gets t (read reading r) next') us → HasKind b
+      kind us base [] bs b f h g s = absurd (none_first bs b f)
+      kind us base (Val v ∷ answers) bs b f h g s =
           let ends_so : EndsIn (Val (read reading v)) t = subst (λ d. EndsIn d t) g.0 (known_ends (read reading r) t s.0) in
           let P : Outcome → Type 0 = λ d. IsFirst (map (read_outcome reading) answers) (gets_of (go_on (λ c. []) d (λ w. serial_trace (next' w)))) in
-          (l v).kinds u base answers bs b f h (subst P g.0 g.1) (s.1 (read reading v) ends_so)
-      kind u base (Trapped x ∷ answers) bs b f h g s = absurd (none_first bs b f)
+          (l v).kinds us base answers bs b f h (subst P g.0 g.1) (s.1 (read reading v) ends_so)
+      kind us base (Trapped x ∷ answers) bs b f h g s = absurd (none_first bs b f)
 
-      one : (u : Kind) (base : Id) (answers : List Outcome) (r' : Value) (c : Outcome) → BirthsHold reading script base (piece (Gets t r next) base answers).births → IsFirst (map (read_outcome reading) answers) (gets_of (serial_trace (Gets t (read reading r) next'))) → IsSafe script (Gets t (read reading r) next') u → (piece (Gets t r next) base answers).stop ≡ Needs r' → outcome_of (read reading r') ≡ read_outcome reading c → AnswersFit (Gets t r next) base (answers ++ c ∷ [])
-      one u base [] r' c h g s e f =
+      one : (us : List Kind) (base : Id) (answers : List Outcome) (r' : Value) (c : Outcome) → BirthsHold reading script base (piece results (Gets t r next) base answers).births → IsFirst (map (read_outcome reading) answers) (gets_of (serial_trace (Gets t (read reading r) next'))) → IsSafe script (Gets t (read reading r) next') us → (piece results (Gets t r next) base answers).stop ≡ Needs r' → outcome_of (read reading r') ≡ read_outcome reading c → AnswersFit (Gets t r next) base (answers ++ c ∷ [])
+      one us base [] r' c h g s e f =
           let same : r' ≡ r = cc in
           first_fits c t (next) base (subst (λ d. EndsIn d t) (ap (λ x. outcome_of (read reading x)) (sym same) ∙ f) (known_ends (read reading r) t s.0))
-      one u base (Val v ∷ answers) r' c h g s e f =
+      one us base (Val v ∷ answers) r' c h g s e f =
           let ends_so : EndsIn (Val (read reading v)) t = subst (λ d. EndsIn d t) g.0 (known_ends (read reading r) t s.0) in
           let P : Outcome → Type 0 = λ d. IsFirst (map (read_outcome reading) answers) (gets_of (go_on (λ c'. []) d (λ w. serial_trace (next' w)))) in
-          (of_read v t ends_so, (l v).more_fit u base answers r' c h (subst P g.0 g.1) (s.1 (read reading v) ends_so) e f)
-      one u base (Trapped x ∷ answers) r' c h g s e f = absurd (cc)
+          (of_read v t ends_so, (l v).more_fit us base answers r' c h (subst P g.0 g.1) (s.1 (read reading v) ends_so) e f)
+      one us base (Trapped x ∷ answers) r' c h g s e f = absurd (cc)
 
-      fit : (u : Kind) (base : Id) (answers : List Outcome) → BirthsHold reading script base (piece (Gets t r next) base answers).births → IsFirst (map (read_outcome reading) answers) (gets_of (serial_trace (Gets t (read reading r) next'))) → IsSafe script (Gets t (read reading r) next') u → AnswersFit (Gets t r next) base answers
-      fit u base [] h g s = tt
-      fit u base (Val v ∷ answers) h g s =
+      fit : (us : List Kind) (base : Id) (answers : List Outcome) → BirthsHold reading script base (piece results (Gets t r next) base answers).births → IsFirst (map (read_outcome reading) answers) (gets_of (serial_trace (Gets t (read reading r) next'))) → IsSafe script (Gets t (read reading r) next') us → AnswersFit (Gets t r next) base answers
+      fit us base [] h g s = tt
+      fit us base (Val v ∷ answers) h g s =
           let ends_so : EndsIn (Val (read reading v)) t = subst (λ c. EndsIn c t) g.0 (known_ends (read reading r) t s.0) in
           let P : Outcome → Type 0 = λ d. IsFirst (map (read_outcome reading) answers) (gets_of (go_on (λ c. []) d (λ w. serial_trace (next' w)))) in
-          (of_read v t ends_so, (l v).fits u base answers h (subst P g.0 g.1) (s.1 (read reading v) ends_so))
-      fit u base (Trapped e ∷ answers) h g s = subst (λ c. EndsIn c t) g.0 (known_ends (read reading r) t s.0)
+          (of_read v t ends_so, (l v).fits us base answers h (subst P g.0 g.1) (s.1 (read reading v) ends_so))
+      fit us base (Trapped e ∷ answers) h g s = subst (λ c. EndsIn c t) g.0 (known_ends (read reading r) t s.0)
 
-      go : (base : Id) (answers : List Outcome) → BirthsHold reading script base (piece (Gets t r next) base answers).births → IsFirst (map (read_outcome reading) answers) (gets_of (serial_trace (Gets t (read reading r) next'))) → Begins reading (piece (Gets t r next) base answers) (length answers) (Gets t (read reading r) next')
+      go : (base : Id) (answers : List Outcome) → BirthsHold reading script base (piece results (Gets t r next) base answers).births → IsFirst (map (read_outcome reading) answers) (gets_of (serial_trace (Gets t (read reading r) next'))) → Begins reading results (piece results (Gets t r next) base answers) (length answers) (Gets t (read reading r) next')
       go base [] h g = record { births = refl; prints = refl; stop = refl }
       go base (Val v ∷ answers) h g =
-          let p = piece (next v) base answers in
+          let p = piece results (next v) base answers in
           let first : After p (length answers) next' (map (read_outcome reading) answers) (Val (read reading v)) = λ g'. let b = (l v).by base answers h g' in (b.births, b.prints, b.stop) in
           let here = subst (After p (length answers) next' (map (read_outcome reading) answers)) (sym g.0) first g.1 in
           record { births = here.0; prints = here.1; stop = here.2 }
       go base (Trapped e ∷ answers) h g =
-          let p = stopped (Over (Trapped e)) in
-          let first : After p (length answers) next' (map (read_outcome reading) answers) (Trapped e) = λ g'. (refl, refl, (refl, refl)) in
+          let p = over results (Aborted e) in
+          let first : After p (length answers) next' (map (read_outcome reading) answers) (Trapped e) = λ g'. (refl, refl, (refl, outcomes-read reading results (Aborted e))) in
           let here = subst (After p (length answers) next' (map (read_outcome reading) answers)) (sym g.0) first g.1 in
           record { births = here.0; prints = here.1; stop = here.2 }
 
   -- an outcome as read, and what goes on with its value
   proceeds : (c : Outcome) (next next' : Value → Run) → Follows next next' → Law (proceed c next) (proceed (read_outcome reading c) next')
   proceeds (Val v) next next' l = l v
-  proceeds (Trapped t) next next' l = ends (Trapped t)
+  proceeds (Trapped t) next next' l = ends (Aborted t)
 
   -- Values and scopes as read
 
@@ -199,13 +215,13 @@ module _ (script : Script) (reading : Reading) where
   -- a number, or nothing that goes on
   number_runs : (v : Value) (f f' : ℤ → Run) → ((n : ℤ) → Law (f n) (f' n)) → Law (as_number broken v f) (as_number broken (read reading v) f')
   number_runs (Int n) f f' l = l n
-  number_runs (Items vs) f f' l = ends (Trapped Broken)
-  number_runs (Named o) f f' l = ends (Trapped Broken)
-  number_runs (Known c) f f' l = ends (Trapped Broken)
+  number_runs (Items vs) f f' l = ends (Aborted Broken)
+  number_runs (Named o) f f' l = ends (Aborted Broken)
+  number_runs (Known c) f f' l = ends (Aborted Broken)
 
   get_runs : (t : Kind) (r : Value) (next next' : Value → Run) → Follows next next' → Law (get_from t r next) (get_from t (read reading r) next')
-  get_runs t (Int n) next next' l = ends (Trapped Broken)
-  get_runs t (Items vs) next next' l = ends (Trapped Broken)
+  get_runs t (Int n) next next' l = ends (Aborted Broken)
+  get_runs t (Items vs) next next' l = ends (Aborted Broken)
   get_runs t (Named o) next next' l = gets t (Named o) next next' l
   get_runs t (Known c) next next' l = gets t (Known c) next next' l
 
@@ -295,34 +311,31 @@ module _ (script : Script) (reading : Reading) where
   mark-read (v ∷ vs) [] = ap (λ as'. record { value = read reading v; marked = false } ∷ as') (mark-read vs [])
   mark-read (v ∷ vs) (m ∷ ms) = ap (λ as'. record { value = read reading v; marked = m } ∷ as') (mark-read vs ms)
 
-  abbrev FollowsAll : (List Value → Run) → (List Value → Run) → Type 0
-  FollowsAll next next' = (vs : List Value) → Law (next vs) (next' (map (read reading) vs))
-
   abbrev FollowsScope : (Scope → Run) → (Scope → Run) → Type 0
   FollowsScope next next' = (scope : Scope) → Law (next scope) (next' (map read_variable scope))
 
   bound : (ps : List Parameter) (vs : List Value) (next next' : Scope → Run) → FollowsScope next next' → Law (bind_all broken ps vs next) (bind_all broken ps (map (read reading) vs) next')
   bound [] [] next next' l = l []
-  bound [] (v ∷ vs) next next' l = ends (Trapped Broken)
-  bound (p ∷ ps) [] next next' l = ends (Trapped Broken)
+  bound [] (v ∷ vs) next next' l = ends (Aborted Broken)
+  bound (p ∷ ps) [] next next' l = ends (Aborted Broken)
   bound (p ∷ ps) (v ∷ vs) next next' l = bound ps vs _ _ (λ scope. l (record { name = p.name; value = v } ∷ scope))
 
   binds : (xs : List Name) (vs : List Value) (scope : Scope) (next next' : Scope → Run) → FollowsScope next next' → Law (bind_each broken scope xs vs next) (bind_each broken (map read_variable scope) xs (map (read reading) vs) next')
   binds [] [] scope next next' l = l scope
-  binds [] (v ∷ vs) scope next next' l = ends (Trapped Broken)
-  binds (x ∷ xs) [] scope next next' l = ends (Trapped Broken)
+  binds [] (v ∷ vs) scope next next' l = ends (Aborted Broken)
+  binds (x ∷ xs) [] scope next next' l = ends (Aborted Broken)
   binds (x ∷ xs) (v ∷ vs) scope next next' l =
       subst (λ s. Law (bind_each broken (bind scope x v) xs vs next) (bind_each broken s xs (map (read reading) vs) next')) (bind-read scope x v)
       (binds xs vs (bind scope x v) next next' l)
 
   takes_only : (vs : List Value) (next next' : Value → Run) → Follows next next' → Law (only vs next) (only (map (read reading) vs) next')
-  takes_only [] next next' l = ends (Trapped Broken)
+  takes_only [] next next' l = ends (Aborted Broken)
   takes_only (v ∷ []) next next' l = l v
-  takes_only (v ∷ w ∷ vs) next next' l = ends (Trapped Broken)
+  takes_only (v ∷ w ∷ vs) next next' l = ends (Aborted Broken)
 
   dereferences : (ps : List Parameter) (args : List Argument) (next next' : List Value → Run) → FollowsAll next next' → Law (dereference ps args next) (dereference ps (map (read_argument reading) args) next')
   dereferences ps [] next next' l = l []
-  dereferences [] (a ∷ args) next next' l = ends (Trapped Broken)
+  dereferences [] (a ∷ args) next next' l = ends (Aborted Broken)
   dereferences (p ∷ ps) (a ∷ args) next next' l =
       let rest = λ (v : Value). dereferences ps args (λ vs. next (v ∷ vs)) (λ vs. next' (read reading v ∷ vs)) (λ vs. l (v ∷ vs)) in
       let got = get_runs p.kind a.value (λ v. dereference ps args (λ vs. next (v ∷ vs))) (λ v. dereference ps (map (read_argument reading) args) (λ vs. next' (v ∷ vs))) rest in
@@ -339,12 +352,12 @@ module _ (script : Script) (reading : Reading) where
     task : (g : Name) (args : List Argument) → run_task script g args calls.depth ≡ calls.task g args
 
   module _ (calls : Calls) (follow : CallsFollow calls) where
-    remote : (retries : ℕ) (g : Name) (marks : List Bool) (vs : List Value) (next next' : Value → Run) → Follows next next' →
-        Law (Bears (Task g (mark vs marks) calls.depth retries) (calls.task g (mark vs marks)) next) (Bears (Task g (mark (map (read reading) vs) marks) calls.depth retries) (calls.task g (mark (map (read reading) vs) marks)) next')
-    remote retries g marks vs next next' l =
+    remote : (retries others : ℕ) (g : Name) (marks : List Bool) (vs : List Value) (next next' : List Value → Run) → FollowsAll next next' →
+        Law (Bears (Task g (mark vs marks) calls.depth retries others) (calls.task g (mark vs marks)) next) (Bears (Task g (mark (map (read reading) vs) marks) calls.depth retries others) (calls.task g (mark (map (read reading) vs) marks)) next')
+    remote retries others g marks vs next next' l =
         let args = mark vs marks in
-        subst (λ args'. Law (Bears (Task g args calls.depth retries) (calls.task g args) next) (Bears (Task g args' calls.depth retries) (calls.task g args') next')) (mark-read vs marks)
-        (bears (Task g args calls.depth retries) (calls.task g args) (calls.task g (map (read_argument reading) args)) next next' (ap serial_end (follow.task g (map (read_argument reading) args))) l)
+        subst (λ args'. Law (Bears (Task g args calls.depth retries others) (calls.task g args) next) (Bears (Task g args' calls.depth retries others) (calls.task g args') next')) (mark-read vs marks)
+        (bears (Task g args calls.depth retries others) (calls.task g args) (calls.task g (map (read_argument reading) args)) next next' (ap serial_end (follow.task g (map (read_argument reading) args))) l)
 
     mutual
       evaluates : (e : Expr) (scope : Scope) (next next' : Value → Run) → Follows next next' → Law (evaluate calls e scope next) (evaluate calls e (map read_variable scope) next')
@@ -357,8 +370,8 @@ module _ (script : Script) (reading : Reading) where
       evaluates (ListOf items) scope next next' l =
           evaluates_all items scope _ _ (λ vs. subst (λ ws. Law (next (Items (values_of vs))) (next' (Items ws))) (values_of-read vs) (l (Items (values_of vs))))
       evaluates (Call g args) scope next next' l = evaluates_all args scope _ _ (λ vs. follow.plain g vs _ _ (λ ws. takes_only ws next next' l))
-      evaluates (Remote retries g marks args) scope next next' l = evaluates_all args scope _ _ (λ vs. remote retries g marks vs next next' l)
-      evaluates (PutOf a) scope next next' l = evaluates a scope _ _ (λ v. bears (Put v) _ _ next next' refl l)
+      evaluates (Remote retries g marks args) scope next next' l = evaluates_all args scope _ _ (λ vs. remote retries 0 g marks vs _ _ (λ rs. takes_only rs next next' l))
+      evaluates (PutOf a) scope next next' l = evaluates a scope _ _ (λ v. bears (Put v) _ _ _ _ refl (λ rs. takes_only rs next next' l))
       evaluates (GetOf t a) scope next next' l = evaluates a scope _ _ (λ r. get_runs t r next next' l)
 
       evaluates_all : (es : Exprs) (scope : Scope) (next next' : List Value → Run) → FollowsAll next next' → Law (evaluate_all calls es scope next) (evaluate_all calls es (map read_variable scope) next')
@@ -383,7 +396,7 @@ module _ (script : Script) (reading : Reading) where
     loops from to body body' scope next next' f l =
         let n = turn_count (to -ℤ from) in
         let run = turn n from body body' scope next next' f l in
-        elim (nat_lt 10000 n) as (λ b. Law (if b then Ends (Trapped Loop) else turns calls n from body scope next) (if b then Ends (Trapped Loop) else turns calls n from body' (map read_variable scope) next')) [ true ↦ ends (Trapped Loop) | false ↦ run ]
+        elim (nat_lt 10000 n) as (λ b. Law (if b then Ends (Aborted Loop) else turns calls n from body scope next) (if b then Ends (Aborted Loop) else turns calls n from body' (map read_variable scope) next')) [ true ↦ ends (Aborted Loop) | false ↦ run ]
 
     choice : (n : ℤ) (a a' b b' : Run) → Law a a' → Law b b' → Law (if is_zero n then b else a) (if is_zero n then b' else a')
     choice n a a' b b' la lb = elim (is_zero n) as (λ z. Law (if z then b else a) (if z then b' else a')) [ true ↦ lb | false ↦ la ]
@@ -415,8 +428,8 @@ module _ (script : Script) (reading : Reading) where
       executes_all (step s rest) scope next next' return return' l r = executes s scope _ _ return return' (λ after. executes_all rest after next next' return return' l r) r
 
     enters : (f : Option Function) (args : List Value) (next next' : List Value → Run) → FollowsAll next next' → Law (enter calls f args next) (enter calls f (map (read reading) args) next')
-    enters None args next next' l = ends (Trapped Broken)
-    enters (Some f) args next next' l = bound f.parameters args _ _ (λ scope. executes_all f.body scope _ _ next next' (λ _. ends (Trapped Broken)) l)
+    enters None args next next' l = ends (Aborted Broken)
+    enters (Some f) args next next' l = bound f.parameters args _ _ (λ scope. executes_all f.body scope _ _ next next' (λ _. ends (Aborted Broken)) l)
 
   -- the task that a remote call makes is the run of its birth
   same_task : (n : ℕ) (g : Name) (args : List Argument) → n ≤ 32 → run_task script g args (33 - n) ≡ task_by (no_level n) (parameters_of (find script g)) (call_at script n g) args
@@ -428,7 +441,7 @@ module _ (script : Script) (reading : Reading) where
 
   calls_follow : (n : ℕ) → n ≤ 33 → (g : Name) (args : List Value) (next next' : List Value → Run) → FollowsAll next next' → Law (call_at script n g args next) (call_at script n g (map (read reading) args) next')
   unfolding call_at
-  calls_follow zero h g args next next' l = ends (Trapped TooDeep)
+  calls_follow zero h g args next next' l = ends (Aborted TooDeep)
   calls_follow (suc n) h g args next next' l =
       enters (calls_below script n)
       (record { plain = calls_follow n (omega arith); task = λ g' args'. same_task n g' args' (omega arith) })
@@ -437,12 +450,12 @@ module _ (script : Script) (reading : Reading) where
   tasks_follow : (b : Bool) (ps : List Parameter) (call : List Value → (List Value → Run) → Run) (args : List Argument) →
       ((vs : List Value) (next next' : List Value → Run) → FollowsAll next next' → Law (call vs next) (call (map (read reading) vs) next')) →
       Law (task_by b ps call args) (task_by b ps call (map (read_argument reading) args))
-  tasks_follow true ps call args l = ends (Trapped TooDeep)
-  tasks_follow false ps call args l = dereferences ps args _ _ (λ vs. l vs _ _ (λ ws. takes_only ws _ _ (λ v. ends (Val v))))
+  tasks_follow true ps call args l = ends (Aborted TooDeep)
+  tasks_follow false ps call args l = dereferences ps args _ _ (λ vs. l vs _ _ (λ ws. ends (Returned ws)))
 
   pub births_follow : (b : Birth) → Law (run_birth script b) (run_birth script (read_birth reading b))
-  births_follow (Put v) = ends (Val v)
-  births_follow (Task g args depth retries) = tasks_follow (nat_lt 32 depth) (parameters_of (find script g)) (call_at script (33 - depth) g) args (calls_follow (33 - depth) (omega arith) g)
+  births_follow (Put v) = ends (Returned (v ∷ []))
+  births_follow (Task g args depth retries others) = tasks_follow (nat_lt 32 depth) (parameters_of (find script g)) (call_at script (33 - depth) g) args (calls_follow (33 - depth) (omega arith) g)
 
 pub law_of_replay : LawOfReplay
-law_of_replay script reading spec base answers h g = (births_follow script reading spec).by base answers h g
+law_of_replay script reading spec base answers h g = (births_follow script reading (results_of spec) spec).by base answers h g

@@ -1,12 +1,13 @@
 -- A checked script never meets an operand of the wrong kind.
-use Rattle.std.proofs.Common.{◌≡◌, ℕ, zero, suc, ◌-◌, Bool, true, false, List, [], ◌∷◌, ◌++◌, length, take, Option, Some, refl, sym, ap, ◌∙◌, subst, inl, inr, append_assoc, append-nil}
+use Rattle.std.proofs.Common.{◌≡◌, ℕ, zero, suc, ◌-◌, Bool, true, false, List, [], ◌∷◌, ◌++◌, length, map, take, Option, Some, refl, sym, ap, ◌∙◌, subst, inl, inr, append_assoc, append-nil}
 use Rattle.std.specs.Prelude.{ℤ, pos, negsuc, nat_lt, if◌then◌else◌, ◌+ℤ◌, ◌-ℤ◌, ◌*ℤ◌, neg_ℤ, int_div, int_rem}
-use Rattle.meaning.specs.Values.{Name, Overflow, TooLong, Loop, Broken, Value, Int, Items, Named, Known, Values, none, more, Outcome, Val, Trapped, Argument, Id, values_of, count, item_at, push_onto}
+use Rattle.meaning.specs.Values.{Name, Overflow, TooLong, Loop, Broken, Value, Int, Items, Named, Known, Values, none, more, Outcome, Val, Trapped, Returned, Aborted, Argument, Id, values_of, count, item_at, push_onto}
 use Rattle.meaning.specs.Syntax.{Kind, Number, ListKind, RefKind, Operator, Add, Sub, Mul, Div, Rem, Equal, Unequal, Less, LessEqual, ItemAt, Push, Prefix, Negate, Len, Expr, Num, Var, Unary, Binary, ListOf, Empty, Call, Remote, PutOf, GetOf, Exprs, end, also, Stmt, Let, LetCall, Set, Print, Return, If, For, Block, done, step, Parameter, Function, results, Script}
-use Rattle.meaning.specs.Runs.{Run, Ends, Prints, Bears, Gets, serial_end, serial_trace, piece, next_id}
+use Rattle.meaning.specs.Runs.{Run, Ends, Prints, Bears, Gets, serial_end, serial_trace, known, piece, named, behind}
 use Rattle.meaning.specs.Law.{prints_of}
 use Rattle.meaning.specs.Meaning.{broken, Variable, Scope, same_name, value_in, set_in, bind, bind_each, bind_all, as_number, as_items, fits, in_range, quotient, remainder, found, index, push, on_numbers, apply, apply_one, is_zero, turn_count, proceed, mark, get_from, dereference, only, Calls, evaluate, evaluate_all, turns, turns_within, leave, execute, execute_all, find, parameters_of, enter, task_by, no_level, calls_below, call_at, run_task}
-use Rattle.meaning.specs.Kinds.{IsOf, AreOf, EndsIn, EachOf, Typed, Context, kind_in, OperatorChecks, PrefixChecks, argument_kind, Checks, EachChecks, ArgumentsCheck, MarkedCheck, ResultsCheck, Binds, StmtChecks, BlockChecks, Returns, BlockReturns, ScopeOf, ArgumentsOf, MarkedOf, context_of, FunctionChecks, ScriptChecks, has_reference, IsPlain, ArePlain, AllPlain, IsSafe, AnswersFit, StopIsSound, AreSafe}
+use Rattle.meaning.specs.Kinds.{IsOf, AreOf, EndsIn, Typed, Context, kind_in, OperatorChecks, PrefixChecks, argument_kind, Checks, EachChecks, ArgumentsCheck, MarkedCheck, StmtChecks, BlockChecks, Returns, BlockReturns, ScopeOf, ArgumentsOf, MarkedOf, context_of, FunctionChecks, ScriptChecks, has_reference, IsPlain, ArePlain, AllPlain, EachOf, CompletesIn, ResultsCheck, Binds, IsSafe, AnswersFit, StopIsSound, AreSafe}
+use Rattle.meaning.proofs.ResultLaws.{known_are, named_are, outcomes_end}
 
 -- Operators
 
@@ -129,17 +130,17 @@ set_scope (w ∷ scope) (k ∷ context) x v t so e h =
 -- Expressions
 
 module _ (script : Script) where
-  abbrev NextSafe : Kind → Kind → (Value → Run) → Type 0
+  abbrev NextSafe : Kind → List Kind → (Value → Run) → Type 0
   NextSafe u t next = (v : Value) → IsOf v u → IsSafe script (next v) t
 
-  abbrev AllSafe : List Kind → Kind → (List Value → Run) → Type 0
+  abbrev AllSafe : List Kind → List Kind → (List Value → Run) → Type 0
   AllSafe us t next = (vs : List Value) → EachOf vs us → IsSafe script (next vs) t
 
-  proceeds : (c : Outcome) (u t : Kind) (next : Value → Run) → EndsIn c u → NextSafe u t next → IsSafe script (proceed c next) t
+  proceeds : (c : Outcome) (u : Kind) (t : List Kind) (next : Value → Run) → EndsIn c u → NextSafe u t next → IsSafe script (proceed c next) t
   proceeds (Val v) u t next h l = l v h
   proceeds (Trapped e) u t next h l = h
 
-  gets : (u t : Kind) (r : Value) (next : Value → Run) → IsOf r (RefKind u) → NextSafe u t next → IsSafe script (get_from u r next) t
+  gets : (u : Kind) (t : List Kind) (r : Value) (next : Value → Run) → IsOf r (RefKind u) → NextSafe u t next → IsSafe script (get_from u r next) t
   gets u t (Int n) next h l = absurd h
   gets u t (Items vs) next h l = absurd h
   gets u t (Named o) next h l = (h, l)
@@ -156,11 +157,11 @@ module _ (script : Script) where
   taken [] (b ∷ before) (k ∷ context) added sb so = absurd so
   taken (w ∷ scope) (b ∷ before) (k ∷ context) added sb so = (so.0, so.1, taken scope before context added sb.2 so.2)
 
-  abbrev ScopeSafe : Context → Kind → (Scope → Run) → Type 0
+  abbrev ScopeSafe : Context → List Kind → (Scope → Run) → Type 0
   ScopeSafe context t next = (scope : Scope) → ScopeOf scope context → IsSafe script (next scope) t
 
   -- safe after a block, whatever it added
-  abbrev BlockSafe : Context → Kind → (Scope → Run) → Type 0
+  abbrev BlockSafe : Context → List Kind → (Scope → Run) → Type 0
   BlockSafe context t next = (scope : Scope) (after : Context) → Extends context after → ScopeOf scope after → IsSafe script (next scope) t
 
   extends_all : (a b c : Context) → Extends a b → Extends b c → Extends a c
@@ -186,7 +187,7 @@ module _ (script : Script) where
   stmt_extends (If e a b) result context after h = subst (λ a. Extends context a) (sym h.3) (extends_itself context)
   stmt_extends (For x from to body) result context after h = subst (λ a. Extends context a) (sym h.3) (extends_itself context)
 
-  binds : (xs : List Name) (us : List Kind) (vs : List Value) (t : Kind) (context after : Context) (scope : Scope) (next : Scope → Run) → Binds xs us context after → EachOf vs us → ScopeOf scope context → ScopeSafe after t next → IsSafe script (bind_each broken scope xs vs next) t
+  binds : (xs : List Name) (us : List Kind) (vs : List Value) (t : List Kind) (context after : Context) (scope : Scope) (next : Scope → Run) → Binds xs us context after → EachOf vs us → ScopeOf scope context → ScopeSafe after t next → IsSafe script (bind_each broken scope xs vs next) t
   binds [] [] [] t context after scope next h hvs so l = l scope (subst (λ a. ScopeOf scope a) (sym h) so)
   binds [] [] (v ∷ vs) t context after scope next h hvs so l = absurd hvs
   binds [] (u ∷ us) vs t context after scope next h hvs so l = absurd h
@@ -195,7 +196,7 @@ module _ (script : Script) where
   binds (x ∷ xs) (u ∷ us) (v ∷ vs) t context after scope next h hvs so l =
       binds xs us vs t (context ++ record { name = x; kind = u } ∷ []) after (bind scope x v) next h hvs.1 (bound_scope scope context x v u so hvs.0) l
 
-  takes_only : (us : List Kind) (u : Kind) (vs : List Value) (t : Kind) (next : Value → Run) → us ≡ u ∷ [] → EachOf vs us → NextSafe u t next → IsSafe script (only vs next) t
+  takes_only : (us : List Kind) (u : Kind) (vs : List Value) (t : List Kind) (next : Value → Run) → us ≡ u ∷ [] → EachOf vs us → NextSafe u t next → IsSafe script (only vs next) t
   takes_only us u vs t next e h l = one vs (subst (λ ks. EachOf vs ks) e h)
     where
       one : (ws : List Value) → EachOf ws (u ∷ []) → IsSafe script (only ws next) t
@@ -203,7 +204,7 @@ module _ (script : Script) where
       one (v ∷ []) k = l v k.0
       one (v ∷ w ∷ ws) k = absurd k.1
 
-  bound_all : (ps : List Parameter) (vs : List Value) (t : Kind) (next : Scope → Run) → ArgumentsOf vs ps → ScopeSafe (context_of ps) t next → IsSafe script (bind_all broken ps vs next) t
+  bound_all : (ps : List Parameter) (vs : List Value) (t : List Kind) (next : Scope → Run) → ArgumentsOf vs ps → ScopeSafe (context_of ps) t next → IsSafe script (bind_all broken ps vs next) t
   bound_all [] [] t next h l = l [] tt
   bound_all [] (v ∷ vs) t next h l = absurd h
   bound_all (p ∷ ps) [] t next h l = absurd h
@@ -217,7 +218,7 @@ module _ (script : Script) where
       go true e' r = let e'' : k ≡ f = cc in subst (λ x. FunctionChecks script x) e'' h.0
       go false e' r = r e'
 
-  number_runs : (v : Value) (t : Kind) (f : ℤ → Run) → IsOf v Number → ((n : ℤ) → IsSafe script (f n) t) → IsSafe script (as_number broken v f) t
+  number_runs : (v : Value) (t : List Kind) (f : ℤ → Run) → IsOf v Number → ((n : ℤ) → IsSafe script (f n) t) → IsSafe script (as_number broken v f) t
   number_runs (Int n) t f h l = l n
   number_runs (Items vs) t f h l = absurd h
   number_runs (Named o) t f h l = absurd h
@@ -225,12 +226,15 @@ module _ (script : Script) where
 
   -- calls that never break
   record CallsSafe (calls : Calls) : Type 0 where
-    plain : (g : Name) (f : Function) → find script g ≡ Some f → (vs : List Value) (t : Kind) (next : List Value → Run) → ArgumentsOf vs f.parameters → AllSafe (results f) t next → IsSafe script (calls.plain g vs next) t
-    task : (g : Name) (f : Function) (u : Kind) → find script g ≡ Some f → results f ≡ u ∷ [] → (args : List Argument) → MarkedOf args f.parameters → IsSafe script (calls.task g args) u
+    plain : (g : Name) (f : Function) → find script g ≡ Some f → (vs : List Value) (t : List Kind) (next : List Value → Run) → ArgumentsOf vs f.parameters → AllSafe (results f) t next → IsSafe script (calls.plain g vs next) t
+    task : (g : Name) (f : Function) → find script g ≡ Some f → (args : List Argument) → MarkedOf args f.parameters → IsSafe script (calls.task g args) (results f)
 
   module _ (calls : Calls) (safe : CallsSafe calls) where
+    one_result : (f : Function) (u : Kind) → results f ≡ u ∷ [] → length f.others ≡ 0
+    one_result f u e = let none : f.others ≡ [] = cc in ap (λ (ts : List Kind). length ts) none
+
     mutual
-      evaluates : (e : Expr) (u t : Kind) (context : Context) (scope : Scope) (next : Value → Run) → Checks script context e u → ScopeOf scope context → NextSafe u t next → IsSafe script (evaluate calls e scope next) t
+      evaluates : (e : Expr) (u : Kind) (t : List Kind) (context : Context) (scope : Scope) (next : Value → Run) → Checks script context e u → ScopeOf scope context → NextSafe u t next → IsSafe script (evaluate calls e scope next) t
       evaluates (Num n) u t context scope next h so l = l (Int n) (subst (λ k. IsOf (Int n) k) (sym h) tt)
       evaluates (Var x) u t context scope next h so l = proceeds (value_in scope x) u t next (var_ends scope context x u so h) l
       evaluates (Unary op a) u t context scope next h so l =
@@ -243,25 +247,31 @@ module _ (script : Script) where
       evaluates (Call g args) u t context scope next h so l =
           evaluates_args args h.0.parameters t context scope _ h.2 so (λ vs hvs. safe.plain g h.0 h.1 vs t _ hvs (λ ws hws. takes_only (results h.0) u ws t next h.3 hws l))
       evaluates (Remote k g marks args) u t context scope next h so l =
-          evaluates_marked args marks h.0.parameters t context scope _ h.2 so (λ vs hvs. (h.3, (h.0, h.1, hvs, h.4), safe.task g h.0 h.3 h.1 h.4 (mark vs marks) hvs, λ r hr. l r (subst (λ k. IsOf r k) (sym h.5) hr)))
+          evaluates_marked args marks h.0.parameters t context scope _ h.2 so (λ vs hvs. (
+            results h.0,
+            (h.0, h.1, hvs, refl, one_result h.0 h.3 h.4),
+            safe.task g h.0 h.1 (mark vs marks) hvs,
+            λ rs hrs. takes_only (map RefKind (results h.0)) u rs t next (ap (λ ks. map RefKind ks) h.4 ∙ ap (λ k'. k' ∷ []) (sym h.5)) hrs l,
+          ))
       evaluates (PutOf a) u t context scope next h so l =
-          evaluates a h.0 t context scope _ h.1 so (λ v hv. (h.0, hv, hv, λ r hr. l r (subst (λ k. IsOf r k) (sym h.2) hr)))
+          evaluates a h.0 t context scope _ h.1 so (λ v hv.
+          (h.0 ∷ [], (hv, tt), (hv, tt), λ rs hrs. takes_only (RefKind h.0 ∷ []) u rs t next (ap (λ k. k ∷ []) (sym h.2)) hrs l))
       evaluates (GetOf k a) u t context scope next h so l =
           evaluates a (RefKind k) t context scope _ h.0 so (λ r hr. gets k t r next hr (λ v hv. l v (subst (λ k. IsOf v k) (sym h.1) hv)))
 
-      evaluates_each : (es : Exprs) (u t : Kind) (context : Context) (scope : Scope) (next : List Value → Run) → EachChecks script context es u → ScopeOf scope context → ((vs : List Value) → AreOf (values_of vs) u → IsSafe script (next vs) t) → IsSafe script (evaluate_all calls es scope next) t
+      evaluates_each : (es : Exprs) (u : Kind) (t : List Kind) (context : Context) (scope : Scope) (next : List Value → Run) → EachChecks script context es u → ScopeOf scope context → ((vs : List Value) → AreOf (values_of vs) u → IsSafe script (next vs) t) → IsSafe script (evaluate_all calls es scope next) t
       evaluates_each end u t context scope next h so l = l [] tt
       evaluates_each (also e es) u t context scope next h so l =
           evaluates e u t context scope _ h.0 so (λ v hv. evaluates_each es u t context scope _ h.1 so (λ vs hvs. l (v ∷ vs) (hv, hvs)))
 
-      evaluates_args : (es : Exprs) (ps : List Parameter) (t : Kind) (context : Context) (scope : Scope) (next : List Value → Run) → ArgumentsCheck script context es ps → ScopeOf scope context → ((vs : List Value) → ArgumentsOf vs ps → IsSafe script (next vs) t) → IsSafe script (evaluate_all calls es scope next) t
+      evaluates_args : (es : Exprs) (ps : List Parameter) (t : List Kind) (context : Context) (scope : Scope) (next : List Value → Run) → ArgumentsCheck script context es ps → ScopeOf scope context → ((vs : List Value) → ArgumentsOf vs ps → IsSafe script (next vs) t) → IsSafe script (evaluate_all calls es scope next) t
       evaluates_args end [] t context scope next h so l = l [] tt
       evaluates_args end (p ∷ ps) t context scope next h so l = absurd h
       evaluates_args (also e es) [] t context scope next h so l = absurd h
       evaluates_args (also e es) (p ∷ ps) t context scope next h so l =
           evaluates e p.kind t context scope _ h.0 so (λ v hv. evaluates_args es ps t context scope _ h.1 so (λ vs hvs. l (v ∷ vs) (hv, hvs)))
 
-      evaluates_marked : (es : Exprs) (ms : List Bool) (ps : List Parameter) (t : Kind) (context : Context) (scope : Scope) (next : List Value → Run) → MarkedCheck script context es ms ps → ScopeOf scope context → ((vs : List Value) → MarkedOf (mark vs ms) ps → IsSafe script (next vs) t) → IsSafe script (evaluate_all calls es scope next) t
+      evaluates_marked : (es : Exprs) (ms : List Bool) (ps : List Parameter) (t : List Kind) (context : Context) (scope : Scope) (next : List Value → Run) → MarkedCheck script context es ms ps → ScopeOf scope context → ((vs : List Value) → MarkedOf (mark vs ms) ps → IsSafe script (next vs) t) → IsSafe script (evaluate_all calls es scope next) t
       evaluates_marked end [] [] t context scope next h so l = l [] tt
       evaluates_marked end [] (p ∷ ps) t context scope next h so l = absurd h
       evaluates_marked end (m ∷ ms) ps t context scope next h so l = absurd h
@@ -270,33 +280,33 @@ module _ (script : Script) where
       evaluates_marked (also e es) (m ∷ ms) (p ∷ ps) t context scope next h so l =
           evaluates e (argument_kind m p.kind) t context scope _ h.0 so (λ v hv. evaluates_marked es ms ps t context scope _ h.1 so (λ vs hvs. l (v ∷ vs) (hv, hvs)))
 
-    evaluates_results : (es : Exprs) (us : List Kind) (t : Kind) (context : Context) (scope : Scope) (next : List Value → Run) → ResultsCheck script context es us → ScopeOf scope context → AllSafe us t next → IsSafe script (evaluate_all calls es scope next) t
+    evaluates_results : (es : Exprs) (us t : List Kind) (context : Context) (scope : Scope) (next : List Value → Run) → ResultsCheck script context es us → ScopeOf scope context → AllSafe us t next → IsSafe script (evaluate_all calls es scope next) t
     evaluates_results end [] t context scope next h so l = l [] tt
     evaluates_results end (u ∷ us) t context scope next h so l = absurd h
     evaluates_results (also e es) [] t context scope next h so l = absurd h
     evaluates_results (also e es) (u ∷ us) t context scope next h so l =
         evaluates e u t context scope _ h.0 so (λ v hv. evaluates_results es us t context scope _ h.1 so (λ vs hvs. l (v ∷ vs) (hv, hvs)))
 
-    left : (before : Scope) (context : Context) (t : Kind) (next : Scope → Run) → ScopeOf before context → ScopeSafe context t next → BlockSafe context t (leave calls before next)
+    left : (before : Scope) (context : Context) (t : List Kind) (next : Scope → Run) → ScopeOf before context → ScopeSafe context t next → BlockSafe context t (leave calls before next)
     left before context t next sb l = λ scope after x so. l _ (taken scope before context x.0 sb (subst (λ a. ScopeOf scope a) x.1 so))
 
-    choice : (n : ℤ) (t : Kind) (a b : Run) → IsSafe script a t → IsSafe script b t → IsSafe script (if is_zero n then b else a) t
+    choice : (n : ℤ) (t : List Kind) (a b : Run) → IsSafe script a t → IsSafe script b t → IsSafe script (if is_zero n then b else a) t
     choice n t a b ha hb = elim (is_zero n) as (λ z. IsSafe script (if z then b else a) t) [ true ↦ hb | false ↦ ha ]
 
-    turn : (n : ℕ) (i : ℤ) (body : ℤ → Scope → (Scope → Run) → Run) (context : Context) (t : Kind) (scope : Scope) (next : Scope → Run) →
+    turn : (n : ℕ) (i : ℤ) (body : ℤ → Scope → (Scope → Run) → Run) (context : Context) (t : List Kind) (scope : Scope) (next : Scope → Run) →
         ((i : ℤ) (scope : Scope) (next : Scope → Run) → ScopeOf scope context → ScopeSafe context t next → IsSafe script (body i scope next) t) → ScopeOf scope context → ScopeSafe context t next → IsSafe script (turns calls n i body scope next) t
     turn zero i body context t scope next f so l = l scope so
     turn (suc n) i body context t scope next f so l = f i scope _ so (λ after sa. turn n (i +ℤ pos 1) body context t after next f sa l)
 
-    loops : (from to : ℤ) (body : ℤ → Scope → (Scope → Run) → Run) (context : Context) (t : Kind) (scope : Scope) (next : Scope → Run) →
+    loops : (from to : ℤ) (body : ℤ → Scope → (Scope → Run) → Run) (context : Context) (t : List Kind) (scope : Scope) (next : Scope → Run) →
         ((i : ℤ) (scope : Scope) (next : Scope → Run) → ScopeOf scope context → ScopeSafe context t next → IsSafe script (body i scope next) t) → ScopeOf scope context → ScopeSafe context t next → IsSafe script (turns_within calls from to body scope next) t
     loops from to body context t scope next f so l =
         let n = turn_count (to -ℤ from) in
         let run = turn n from body context t scope next f so l in
-        elim (nat_lt 10000 n) as (λ b. IsSafe script (if b then Ends (Trapped Loop) else turns calls n from body scope next) t) [ true ↦ tt | false ↦ run ]
+        elim (nat_lt 10000 n) as (λ b. IsSafe script (if b then Ends (Aborted Loop) else turns calls n from body scope next) t) [ true ↦ tt | false ↦ run ]
 
     mutual
-      executes : (s : Stmt) (result : List Kind) (t : Kind) (context after : Context) (scope : Scope) (next : Scope → Run) (return : List Value → Run) → StmtChecks s script result context after → ScopeOf scope context → ScopeSafe after t next → AllSafe result t return → IsSafe script (execute calls s scope next return) t
+      executes : (s : Stmt) (result t : List Kind) (context after : Context) (scope : Scope) (next : Scope → Run) (return : List Value → Run) → StmtChecks s script result context after → ScopeOf scope context → ScopeSafe after t next → AllSafe result t return → IsSafe script (execute calls s scope next return) t
       executes (Let x e) result t context after scope next return h so l r =
           evaluates e h.0 t context scope _ h.1 so (λ v hv. l _ (subst (λ a. ScopeOf (bind scope x v) a) (sym h.2) (bound_scope scope context x v h.0 so hv)))
       executes (LetCall x xs g args) result t context after scope next return h so l r =
@@ -321,7 +331,7 @@ module _ (script : Script) where
           (λ scope' after' x' so'. left before context t k sb lk scope' after' (extends_all context (context ++ record { name = x; kind = Number } ∷ []) after' (record { name = x; kind = Number } ∷ [], refl) x') so') r)
           so l'))))
 
-      executes_all : (b : Block) (result : List Kind) (t : Kind) (context : Context) (scope : Scope) (next : Scope → Run) (return : List Value → Run) → BlockChecks b script result context → ScopeOf scope context → BlockSafe context t next → AllSafe result t return → IsSafe script (execute_all calls b scope next return) t
+      executes_all : (b : Block) (result t : List Kind) (context : Context) (scope : Scope) (next : Scope → Run) (return : List Value → Run) → BlockChecks b script result context → ScopeOf scope context → BlockSafe context t next → AllSafe result t return → IsSafe script (execute_all calls b scope next return) t
       executes_all done result t context scope next return h so l r = l scope context (extends_itself context) so
       executes_all (step s rest) result t context scope next return h so l r =
           executes s result t context h.0 scope _ return h.1 so
@@ -329,7 +339,7 @@ module _ (script : Script) where
 
     -- what returns never goes on
     mutual
-      returns : (s : Stmt) (result : List Kind) (t : Kind) (context after : Context) (scope : Scope) (next : Scope → Run) (return : List Value → Run) → Returns s → StmtChecks s script result context after → ScopeOf scope context → AllSafe result t return → IsSafe script (execute calls s scope next return) t
+      returns : (s : Stmt) (result t : List Kind) (context after : Context) (scope : Scope) (next : Scope → Run) (return : List Value → Run) → Returns s → StmtChecks s script result context after → ScopeOf scope context → AllSafe result t return → IsSafe script (execute calls s scope next return) t
       returns (Let x e) result t context after scope next return m h so r = absurd m
       returns (LetCall x xs g args) result t context after scope next return m h so r = absurd m
       returns (Set x e) result t context after scope next return m h so r = absurd m
@@ -340,16 +350,16 @@ module _ (script : Script) where
           (returns_all a result t context scope _ return m.0 h.1 so r) (returns_all b result t context scope _ return m.1 h.2 so r)))
       returns (For x from to body) result t context after scope next return m h so r = absurd m
 
-      returns_all : (b : Block) (result : List Kind) (t : Kind) (context : Context) (scope : Scope) (next : Scope → Run) (return : List Value → Run) → BlockReturns b → BlockChecks b script result context → ScopeOf scope context → AllSafe result t return → IsSafe script (execute_all calls b scope next return) t
+      returns_all : (b : Block) (result t : List Kind) (context : Context) (scope : Scope) (next : Scope → Run) (return : List Value → Run) → BlockReturns b → BlockChecks b script result context → ScopeOf scope context → AllSafe result t return → IsSafe script (execute_all calls b scope next return) t
       returns_all done result t context scope next return m h so r = absurd m
       returns_all (step s rest) result t context scope next return (inl m) h so r = returns s result t context h.0 scope _ return m h.1 so r
       returns_all (step s rest) result t context scope next return (inr m) h so r =
           executes s result t context h.0 scope _ return h.1 so (λ scope' so'. returns_all rest result t h.0 scope' next return m h.2 so' r) r
 
-    entered : (f : Function) (vs : List Value) (t : Kind) (next : List Value → Run) → FunctionChecks script f → ArgumentsOf vs f.parameters → AllSafe (results f) t next → IsSafe script (enter calls (Some f) vs next) t
+    entered : (f : Function) (vs : List Value) (t : List Kind) (next : List Value → Run) → FunctionChecks script f → ArgumentsOf vs f.parameters → AllSafe (results f) t next → IsSafe script (enter calls (Some f) vs next) t
     entered f vs t next h hvs l = bound_all f.parameters vs t _ hvs (λ scope so. returns_all f.body (results f) t (context_of f.parameters) scope _ next h.returns h.body so l)
 
-  dereferenced : (ps : List Parameter) (args : List Argument) (t : Kind) (next : List Value → Run) → MarkedOf args ps → ((vs : List Value) → ArgumentsOf vs ps → IsSafe script (next vs) t) → IsSafe script (dereference ps args next) t
+  dereferenced : (ps : List Parameter) (args : List Argument) (t : List Kind) (next : List Value → Run) → MarkedOf args ps → ((vs : List Value) → ArgumentsOf vs ps → IsSafe script (next vs) t) → IsSafe script (dereference ps args next) t
   dereferenced [] [] t next h l = l [] tt
   dereferenced (p ∷ ps) [] t next h l = absurd h
   dereferenced [] (a ∷ args) t next h l = absurd h
@@ -360,14 +370,14 @@ module _ (script : Script) where
       go true k rest = gets p.kind t a.value _ k rest
       go false k rest = rest a.value k
 
-  tasks_safe : (b : Bool) (call : Name → List Value → (List Value → Run) → Run) → ((g : Name) (f : Function) → find script g ≡ Some f → (vs : List Value) (t : Kind) (next : List Value → Run) → ArgumentsOf vs f.parameters → AllSafe (results f) t next → IsSafe script (call g vs next) t) → (g : Name) (f : Function) (u : Kind) → find script g ≡ Some f → results f ≡ u ∷ [] → (args : List Argument) → MarkedOf args f.parameters → IsSafe script (task_by b (parameters_of (find script g)) (call g) args) u
-  tasks_safe true call l g f u e one args h = tt
-  tasks_safe false call l g f u e one args h =
-      subst (λ o. IsSafe script (dereference (parameters_of o) args (λ vs. call g vs (λ ws. only ws (λ v. Ends (Val v))))) u) (sym e)
-      (dereferenced f.parameters args u _ h (λ vs hvs. l g f e vs u _ hvs (λ ws hws. takes_only (results f) u ws u _ one hws (λ v hv. hv))))
+  tasks_safe : (b : Bool) (call : Name → List Value → (List Value → Run) → Run) → ((g : Name) (f : Function) → find script g ≡ Some f → (vs : List Value) (t : List Kind) (next : List Value → Run) → ArgumentsOf vs f.parameters → AllSafe (results f) t next → IsSafe script (call g vs next) t) → (g : Name) (f : Function) → find script g ≡ Some f → (args : List Argument) → MarkedOf args f.parameters → IsSafe script (task_by b (parameters_of (find script g)) (call g) args) (results f)
+  tasks_safe true call l g f e args h = tt
+  tasks_safe false call l g f e args h =
+      subst (λ o. IsSafe script (dereference (parameters_of o) args (λ vs. call g vs (λ ws. Ends (Returned ws)))) (results f)) (sym e)
+      (dereferenced f.parameters args (results f) _ h (λ vs hvs. l g f e vs (results f) _ hvs (λ ws hws. hws)))
 
   module _ (checks : ScriptChecks script script) where
-    calls_safe : (n : ℕ) → (g : Name) (f : Function) → find script g ≡ Some f → (vs : List Value) (t : Kind) (next : List Value → Run) → ArgumentsOf vs f.parameters → AllSafe (results f) t next → IsSafe script (call_at script n g vs next) t
+    calls_safe : (n : ℕ) → (g : Name) (f : Function) → find script g ≡ Some f → (vs : List Value) (t : List Kind) (next : List Value → Run) → ArgumentsOf vs f.parameters → AllSafe (results f) t next → IsSafe script (call_at script n g vs next) t
     unfolding call_at
     calls_safe zero g f e vs t next hvs l = tt
     calls_safe (suc n) g f e vs t next hvs l =
@@ -375,55 +385,61 @@ module _ (script : Script) where
         (entered (calls_below script n) (record { plain = calls_safe n; task = tasks_safe (no_level n) (call_at script n) (calls_safe n) }) f vs t next (found_checks script g f checks e) hvs l)
 
     -- a task with arguments of the kinds asked for is safe
-    pub run_is_safe : (g : Name) (f : Function) (u : Kind) (args : List Argument) (depth : ℕ) → find script g ≡ Some f → results f ≡ u ∷ [] → MarkedOf args f.parameters → IsSafe script (run_task script g args depth) u
-    run_is_safe g f u args depth e one h = tasks_safe (nat_lt 32 depth) (call_at script (33 - depth)) (calls_safe (33 - depth)) g f u e one args h
+    pub run_is_safe : (g : Name) (f : Function) (args : List Argument) (depth : ℕ) → find script g ≡ Some f → MarkedOf args f.parameters → IsSafe script (run_task script g args depth) (results f)
+    run_is_safe g f args depth e h = tasks_safe (nat_lt 32 depth) (call_at script (33 - depth)) (calls_safe (33 - depth)) g f e args h
 
-  -- a safe run ends serially with a value of its kind, or with a trap of the script
-  pub serial_is_sound : (run : Run) (t : Kind) → IsSafe script run t → EndsIn (serial_end run) t
-  serial_is_sound (Ends c) t h = h
-  serial_is_sound (Prints v next) t h = serial_is_sound next t h.1
-  serial_is_sound (Bears b made_by next) t h = serial_is_sound (next (Known (serial_end made_by))) t (h.3 (Known (serial_end made_by)) (serial_is_sound made_by h.0 h.2))
-  serial_is_sound (Gets u (Int n) next) t h = absurd h.0
-  serial_is_sound (Gets u (Items vs) next) t h = absurd h.0
-  serial_is_sound (Gets u (Named o) next) t h = tt
-  serial_is_sound (Gets u (Known (Val v)) next) t h = serial_is_sound (next v) t (h.1 v h.0)
-  serial_is_sound (Gets u (Known (Trapped e)) next) t h = h.0
+  -- a safe run ends serially with values of its kinds, or with a trap of the script
+  pub serial_is_sound : (run : Run) (ts : List Kind) → IsSafe script run ts → CompletesIn (serial_end run) ts
+  serial_is_sound (Ends e) ts h = h
+  serial_is_sound (Prints v next) ts h = serial_is_sound next ts h.1
+  serial_is_sound (Bears b made_by next) ts h =
+      serial_is_sound (next (known b (serial_end made_by))) ts
+      (h.3 (known b (serial_end made_by)) (known_are script b h.0 (serial_end made_by) h.1 (serial_is_sound made_by h.0 h.2)))
+  serial_is_sound (Gets u (Int n) next) ts h = absurd h.0
+  serial_is_sound (Gets u (Items vs) next) ts h = absurd h.0
+  serial_is_sound (Gets u (Named o) next) ts h = tt
+  serial_is_sound (Gets u (Known (Val v)) next) ts h = serial_is_sound (next v) ts (h.1 v h.0)
+  serial_is_sound (Gets u (Known (Trapped e)) next) ts h = h.0
 
   -- and so does a piece, on such answers
-  piece_is_sound : (run : Run) (t : Kind) (base : Id) (answers : List Outcome) → IsSafe script run t → AnswersFit run base answers → StopIsSound (piece run base answers).stop t
-  piece_is_sound (Ends c) t base answers h f = h
-  piece_is_sound (Prints v next) t base answers h f = piece_is_sound next t base answers h.1 f
-  piece_is_sound (Bears b made_by next) t base answers h f = piece_is_sound (next (Named base)) t (next_id base) answers (h.3 (Named base) tt) f
-  piece_is_sound (Gets u r next) t base [] h f = tt
-  piece_is_sound (Gets u r next) t base (Val v ∷ answers) h f = piece_is_sound (next v) t base answers (h.1 v f.0) f.1
-  piece_is_sound (Gets u r next) t base (Trapped e ∷ answers) h f = f
+  piece_is_sound : (run : Run) (ts : List Kind) (base : Id) (answers : List Outcome) → IsSafe script run ts → AnswersFit run base answers → StopIsSound (piece (length ts) run base answers).stop ts
+  piece_is_sound (Ends e) ts base answers h f = outcomes_end ts e h
+  piece_is_sound (Prints v next) ts base answers h f = piece_is_sound next ts base answers h.1 f
+  piece_is_sound (Bears b made_by next) ts base answers h f =
+      piece_is_sound (next (named base b)) ts (behind base b) answers (h.3 (named base b) (named_are script b h.0 base h.1)) f
+  piece_is_sound (Gets u r next) ts base [] h f = tt
+  piece_is_sound (Gets u r next) ts base (Val v ∷ answers) h f = piece_is_sound (next v) ts base answers (h.1 v f.0) f.1
+  piece_is_sound (Gets u r next) ts base (Trapped e ∷ answers) h f = outcomes_end ts (Aborted e) f
 
   -- what it prints has no reference in it
-  serial_prints_plain : (run : Run) (t : Kind) → IsSafe script run t → AllPlain (prints_of (serial_trace run))
-  serial_prints_plain (Ends c) t h = tt
-  serial_prints_plain (Prints v next) t h = (h.0, serial_prints_plain next t h.1)
-  serial_prints_plain (Bears b made_by next) t h = serial_prints_plain (next (Known (serial_end made_by))) t (h.3 (Known (serial_end made_by)) (serial_is_sound made_by h.0 h.2))
-  serial_prints_plain (Gets u (Int n) next) t h = absurd h.0
-  serial_prints_plain (Gets u (Items vs) next) t h = absurd h.0
-  serial_prints_plain (Gets u (Named o) next) t h = tt
-  serial_prints_plain (Gets u (Known (Val v)) next) t h = serial_prints_plain (next v) t (h.1 v h.0)
-  serial_prints_plain (Gets u (Known (Trapped e)) next) t h = tt
+  serial_prints_plain : (run : Run) (ts : List Kind) → IsSafe script run ts → AllPlain (prints_of (serial_trace run))
+  serial_prints_plain (Ends e) ts h = tt
+  serial_prints_plain (Prints v next) ts h = (h.0, serial_prints_plain next ts h.1)
+  serial_prints_plain (Bears b made_by next) ts h =
+      serial_prints_plain (next (known b (serial_end made_by))) ts
+      (h.3 (known b (serial_end made_by)) (known_are script b h.0 (serial_end made_by) h.1 (serial_is_sound made_by h.0 h.2)))
+  serial_prints_plain (Gets u (Int n) next) ts h = absurd h.0
+  serial_prints_plain (Gets u (Items vs) next) ts h = absurd h.0
+  serial_prints_plain (Gets u (Named o) next) ts h = tt
+  serial_prints_plain (Gets u (Known (Val v)) next) ts h = serial_prints_plain (next v) ts (h.1 v h.0)
+  serial_prints_plain (Gets u (Known (Trapped e)) next) ts h = tt
 
-  prints_plain : (run : Run) (t : Kind) (base : Id) (answers : List Outcome) → IsSafe script run t → AnswersFit run base answers → AllPlain (piece run base answers).prints
-  prints_plain (Ends c) t base answers h f = tt
-  prints_plain (Prints v next) t base answers h f = (h.0, prints_plain next t base answers h.1 f)
-  prints_plain (Bears b made_by next) t base answers h f = prints_plain (next (Named base)) t (next_id base) answers (h.3 (Named base) tt) f
-  prints_plain (Gets u r next) t base [] h f = tt
-  prints_plain (Gets u r next) t base (Val v ∷ answers) h f = prints_plain (next v) t base answers (h.1 v f.0) f.1
-  prints_plain (Gets u r next) t base (Trapped e ∷ answers) h f = tt
+  prints_plain : (run : Run) (ts : List Kind) (base : Id) (answers : List Outcome) → IsSafe script run ts → AnswersFit run base answers → AllPlain (piece (length ts) run base answers).prints
+  prints_plain (Ends e) ts base answers h f = tt
+  prints_plain (Prints v next) ts base answers h f = (h.0, prints_plain next ts base answers h.1 f)
+  prints_plain (Bears b made_by next) ts base answers h f =
+      prints_plain (next (named base b)) ts (behind base b) answers (h.3 (named base b) (named_are script b h.0 base h.1)) f
+  prints_plain (Gets u r next) ts base [] h f = tt
+  prints_plain (Gets u r next) ts base (Val v ∷ answers) h f = prints_plain (next v) ts base answers (h.1 v f.0) f.1
+  prints_plain (Gets u r next) ts base (Trapped e ∷ answers) h f = tt
 
 pub are_safe : AreSafe
-are_safe script checks g f u args depth base answers e one h fit =
+are_safe script checks g f args depth base answers e h fit =
     let run = run_task script g args depth in
-    let safe = run_is_safe script checks g f u args depth e one h in
+    let safe = run_is_safe script checks g f args depth e h in
     record {
-      serial = serial_is_sound script run u safe;
-      serial_prints = serial_prints_plain script run u safe;
-      stop = piece_is_sound script run u base answers safe fit;
-      prints = prints_plain script run u base answers safe fit;
+      serial = serial_is_sound script run (results f) safe;
+      serial_prints = serial_prints_plain script run (results f) safe;
+      stop = piece_is_sound script run (results f) base answers safe fit;
+      prints = prints_plain script run (results f) base answers safe fit;
     }

@@ -6,6 +6,7 @@ ghost use Rattle.meaning.specs.Kinds.{AreSafe};
 ghost use Rattle.meaning.specs.KindLaw.{LawOfKinds};
 ghost use Rattle.meaning.specs.Mains.{MainStaysApart};
 ghost use Rattle.meaning.specs.Readings.{DenIsTheReading};
+ghost use Rattle.meaning.specs.Singles.{BirthsAreOfOneResult};
 
 /// Under every reading of ids under which births hold, what a task does on answers that begin what its run gets is a
 /// beginning of what the run does with every remote call a plain call, and where it ends, the whole.
@@ -19,7 +20,7 @@ pub fn law_of_ids()
 {}
 
 /// A task of a checked script never meets an operand of the wrong kind nor prints a reference, in a serial run or in
-/// pieces, and ends in its function's kind.
+/// pieces, and ends with results of its function's kinds.
 pub fn checked_scripts_are_safe()
     ensures { AreSafe }
 {}
@@ -39,4 +40,9 @@ pub fn main_stays_apart()
 /// Where births are of new objects and name only earlier ones, exactly one reading has all of them hold and 0 elsewhere.
 pub fn births_have_one_reading()
     ensures { DenIsTheReading }
+{}
+
+/// Whatever the script, what makes a birth's objects bears births of one result alone.
+pub fn births_are_of_one_result()
+    ensures { BirthsAreOfOneResult }
 {}

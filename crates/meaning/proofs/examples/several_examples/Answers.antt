@@ -21,3 +21,11 @@ returns-clause-bound_before_a_get c = refl
 pub returns-clause-bound_after_a_get : goal.returns-clause-bound_after_a_get
 unfolding call_at
 returns-clause-bound_after_a_get c = refl
+
+pub returns-clause-two_results : goal.returns-clause-two_results
+unfolding call_at
+returns-clause-two_results c = refl
+
+pub returns-clause-a_trap_is_each : goal.returns-clause-a_trap_is_each
+unfolding call_at
+returns-clause-a_trap_is_each c = refl

@@ -1,10 +1,11 @@
 -- Where an attempt stands.
-use Rattle.std.proofs.Common.{◌≡◌, ℕ, List, [], ◌∷◌, ◌++◌, map, Result, Ok, Err, IfOk, IfErr, IfSome, Option, Some, None, refl, sym, ap, ◌∙◌, subst}
+use Rattle.std.proofs.Common.{◌≡◌, ℕ, suc, List, [], ◌∷◌, ◌++◌, map, Result, Ok, Err, IfOk, IfErr, IfSome, Option, Some, None, refl, sym, ap, ◌∙◌, subst}
 use Rattle.std.specs.Prelude.{IsErrAnd}
 use Rattle.meaning.specs.Values as meant
 use Rattle.meaning.specs.Values.{Name, Id, Argument, Outcome, Task}
 use Rattle.meaning.specs.Syntax.{Script}
 use Rattle.meaning.specs.Meaning.{replay}
+use Rattle.meaning.specs.Singles.{IsSingle}
 use Rattle.task_spec.specs.Births.{birth_of}
 use Rattle.task_spec.specs.declared.birth.Birth.{Birth as TBirth}
 use Rattle.meaning.specs.Runs.{Stop}
@@ -16,6 +17,7 @@ use Rattle.frames.specs.Courses.{Past, no_past}
 use Rattle.frames.specs.Frames.{IsWaiting, KeepsFrame, past_behind}
 use Rattle.frames.specs.Tasks.{stopped_by, piece_at, Halts}
 use Rattle.frames.specs.declared.attempt.Attempt.{Attempt}
+use Rattle.frames.specs.declared.halt.Halt.{Halt}
 use Rattle.frames.specs.declared.frame.Frame.{Frame}
 use Rattle.evaluation.specs.TaskValues.{IsTaskStop, IsTaskPiece, AreTaskBirths, EachTaskValue}
 use Rattle.evaluation.specs.declared.piece.Piece.{Piece}
@@ -31,16 +33,20 @@ pub both_ok : {A B : Type 0} (P Q R : A → Type 0) (r : Result A B) → ((a : A
 both_ok P Q R (Ok a) f p q = f a p q
 both_ok P Q R (Err b) f p q = p
 
+-- of a task of one result
+pub stopped_single : (h : Halt) (spec : meant.Birth) (s : Stop) → IsSingle spec → stopped_by 1 h ≡ Some s → stopped_by (meant.results_of spec) h ≡ Some s
+stopped_single h spec s single is = ap (λ n. stopped_by (suc n) h) single ∙ is
+
 -- where it stopped
-pub stop_stands : (past : Past) (a : Attempt) (q : runs.Piece) (s : Stop) → Stands past a q → stopped_by a.halt ≡ Some s → q.stop ≡ s
+pub stop_stands : (past : Past) (a : Attempt) (q : runs.Piece) (s : Stop) → Stands past a q → stopped_by 1 a.halt ≡ Some s → q.stop ≡ s
 stop_stands past a q s stands e = ap (λ (p : runs.Piece). p.stop) (stands s e)
 
-not_task_at : (past : Past) (a : Attempt) (q : runs.Piece) (o : Option Stop) → stopped_by a.halt ≡ o → IsNoTaskStop o → Stands past a q → IsTaskPiece q → ⊥
+not_task_at : (past : Past) (a : Attempt) (q : runs.Piece) (o : Option Stop) → stopped_by 1 a.halt ≡ o → IsNoTaskStop o → Stands past a q → IsTaskPiece q → ⊥
 not_task_at past a q None e bars stands plain = absurd bars
 not_task_at past a q (Some s) e bars stands plain = bars (subst IsTaskStop (stop_stands past a q s stands e) plain.stop)
 
-pub not_task : (past : Past) (a : Attempt) (q : runs.Piece) → IsNoTaskStop (stopped_by a.halt) → Stands past a q → IsTaskPiece q → ⊥
-not_task past a q bars stands plain = not_task_at past a q (stopped_by a.halt) refl bars stands plain
+pub not_task : (past : Past) (a : Attempt) (q : runs.Piece) → IsNoTaskStop (stopped_by 1 a.halt) → Stands past a q → IsTaskPiece q → ⊥
+not_task past a q bars stands plain = not_task_at past a q (stopped_by 1 a.halt) refl bars stands plain
 
 -- what comes behind
 pub births_behind : (xs ys : List meant.Birth) → AreTaskBirths (xs ++ ys) → AreTaskBirths ys
@@ -53,10 +59,10 @@ values_behind (x ∷ xs) ys h = values_behind xs ys h.1
 
 -- a task's replay, by what was made of its birth
 pub stands_so : (script : Script) (spec : TBirth) (g : Name) (args : List Argument) (depth retries : ℕ) (base : Id) (given answers : List Outcome)
-    (a : Attempt) → Halts script (Task g args depth retries) base given a → birth_of spec ≡ Task g args depth retries → given ≡ answers →
+    (a : Attempt) → Halts script (Task g args depth retries 0) base given a → birth_of spec ≡ Task g args depth retries 0 → given ≡ answers →
     Stands no_past a (replay script (birth_of spec) base answers)
 stands_so script spec g args depth retries base given answers a halts is same =
-    λ s e. ap (λ b. replay script b base answers) is ∙ ap (replay script (Task g args depth retries) base) (sym same) ∙ halts s e
+    λ s e. ap (λ b. replay script b base answers) is ∙ ap (replay script (Task g args depth retries 0) base) (sym same) ∙ halts s e
 
 -- the piece of an attempt
 module _ (p : Piece) (a : Attempt) (of : IsPieceOf p a) where

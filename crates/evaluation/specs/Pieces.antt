@@ -19,9 +19,10 @@ use Rattle.evaluation.specs.declared.piece.PieceStop.{PieceStop}
 use Rattle.evaluation.specs.declared.piece.PieceStop.TheVariants as stops
 use Rattle.evaluation.specs.declared.piece.Piece.{Piece}
 
+-- of a task of one result
 abbrev pub stop_of : PieceStop → runs.Stop
 stop_of (stops.Needs o) = runs.Needs (Named o)
-stop_of (stops.Ends c) = runs.Over (content_of c)
+stop_of (stops.Ends c) = runs.Over (content_of c ∷ [])
 
 abbrev pub piece_of : Piece → runs.Piece
 piece_of p = record { births = map birth_of p.births.items; prints = map value_of p.prints.items; stop = stop_of p.stop }
@@ -33,13 +34,13 @@ IsNoTaskStop (Some s) = IsTaskStop s → ⊥
 
 -- behind that past the attempt did this
 abbrev pub Stands : Past → Attempt → runs.Piece → Type 0
-Stands past a q = (s : runs.Stop) → stopped_by a.halt ≡ Some s → q ≡ after past.births past.prints (piece_at a s)
+Stands past a q = (s : runs.Stop) → stopped_by 1 a.halt ≡ Some s → q ≡ after past.births past.prints (piece_at a s)
 
 -- the piece has what the attempt did
 pub record IsPieceOf (p : Piece) (a : Attempt) : Type 0 where
   pub births : map birth_of p.births.items ≡ map made_of a.births.items
   pub prints : map value_of p.prints.items ≡ map run_value_of a.prints.items
-  pub stop : stopped_by a.halt ≡ Some (stop_of p.stop)
+  pub stop : stopped_by 1 a.halt ≡ Some (stop_of p.stop)
 
 -- all answers of one that goes on with this one
 abbrev pub answered_so : Past → Content → List Outcome

@@ -35,7 +35,7 @@ AreTaskArguments (a ∷ args) = IsTaskValue a.value × AreTaskArguments args
 
 abbrev pub IsTaskBirth : Birth → Type 0
 IsTaskBirth (Put v) = IsTaskValue v
-IsTaskBirth (Task g args depth retries) = AreTaskArguments args
+IsTaskBirth (Task g args depth retries others) = AreTaskArguments args
 
 abbrev pub AreTaskBirths : List Birth → Type 0
 AreTaskBirths [] = Unit {0}
@@ -47,7 +47,7 @@ AreTaskOutcomes (c ∷ cs) = IsTaskOutcome c × AreTaskOutcomes cs
 
 abbrev pub IsTaskStop : Stop → Type 0
 IsTaskStop (Needs r) = IsNamed r
-IsTaskStop (Over c) = IsTaskOutcome c
+IsTaskStop (Over cs) = AreTaskOutcomes cs
 
 pub record IsTaskPiece (p : Piece) : Type 0 where
   pub births : AreTaskBirths p.births

@@ -2,27 +2,29 @@
 
 ghost use Rattle.std.specs.Prelude.{◌≡◌, ◌∷◌, [], IfOk, IfErr, None, Some, map, true};
 ghost use Rattle.meaning.specs.Values as meant;
-ghost use Rattle.meaning.specs.Values.{Id, Val, Trapped, Broken};
+ghost use Rattle.meaning.specs.Values.{Id, Val, Trapped, Broken, Returned, first_outcome};
 ghost use Rattle.meaning.specs.Runs.{Over, stopped};
 ghost use Rattle.meaning.specs.Runs as runs;
 ghost use Rattle.meaning.specs.Meaning.{replay};
+ghost use Rattle.meaning.specs.Singles.{IsSingle};
 ghost use Rattle.script_check.specs.Trees.{script_of};
 ghost use Rattle.values.specs.Values.{value_of, content_of};
 ghost use Rattle.task_spec.specs.Births.{birth_of};
 ghost use Rattle.frame_laws.specs.Resuming.{after};
 ghost use Rattle.frame_laws.specs.Steps.{HasSteps};
+ghost use Rattle.frames.specs.Values.{value_of as run_value_of};
 ghost use Rattle.frames.specs.Machines.{is_stop};
 ghost use Rattle.frames.specs.Courses.{Past, no_past};
 ghost use Rattle.frames.specs.Frames.{IsWaiting};
 ghost use Rattle.frames.specs.Tasks.{stopped_by};
-ghost use Rattle.evaluation.specs.TaskValues.{AreTaskOutcomes, IsTaskBirth, IsTaskPiece};
+ghost use Rattle.evaluation.specs.TaskValues.{AreTaskOutcomes, IsTaskBirth, IsTaskOutcome, IsTaskPiece};
 ghost use Rattle.evaluation.specs.Pieces.{IsNoTaskStop, IsPieceOf, Keeps, Stands, answered_so, piece_of, stop_of};
 
 use crate::convert::{
     ConversionError, from_arguments, from_content, from_contents, named, to_births, to_value,
     to_values,
 };
-use frames::{Attempt, Compiled, Frame, Halt, run_task};
+use frames::{Attempt, Compiled, Frame, Halt, Value, run_task};
 use ids::ObjectId;
 use std::alloc::{AllocError, AllocFailed, Global};
 use task_spec::Birth;
@@ -34,7 +36,7 @@ use values::{Content, RunValue};
 pub enum PieceStop {
     /// At a get of this object, for which there is no answer left.
     Needs(ObjectId),
-    /// At the end of the task, which has this content.
+    /// At the end of the task, whose one result has this content.
     Ends(Content),
 }
 
@@ -83,16 +85,31 @@ impl<T: Drop> From<AllocFailed<T>> for PieceError {
     }
 }
 
-/// Where a run stopped, as tasks have it.
+/// The content of the first of a run's results, as tasks have it.
+fn first_content(alloc: Global, values: &[Value]) -> Result<Content, ConversionError>
+    ensures value { IfOk result (λ c. first_outcome (Returned (map run_value_of values.now)) ≡ content_of c) }
+    ensures broken { IfErr result (λ e. e ≡ ConversionError.Broken → first_outcome (Returned (map run_value_of values.now)) ≡ Trapped Broken) }
+    ensures plain { IfErr result (λ e. e ≡ ConversionError.HasOutcome → IsTaskOutcome (first_outcome (Returned (map run_value_of values.now))) → ⊥) }
+{
+    if values.is_empty() {
+        return Err(ConversionError::Broken);
+    }
+    match to_value(alloc, &values[0]) {
+        Ok(value) => Ok(Content::Value(value)),
+        Err(error) => Err(error),
+    }
+}
+
+/// Where a run of one result stopped, as tasks have it.
 fn to_stop(alloc: Global, halt: &Halt) -> Result<PieceStop, ConversionError>
     requires { is_stop halt.now ≡ true }
-    ensures value { IfOk result (λ s. stopped_by halt.now ≡ Some (stop_of s)) }
-    ensures broken { IfErr result (λ e. e ≡ ConversionError.Broken → stopped_by halt.now ≡ Some (Over (Trapped Broken))) }
-    ensures plain { IfErr result (λ e. e ≡ ConversionError.HasOutcome → IsNoTaskStop (stopped_by halt.now)) }
+    ensures value { IfOk result (λ s. stopped_by 1 halt.now ≡ Some (stop_of s)) }
+    ensures broken { IfErr result (λ e. e ≡ ConversionError.Broken → stopped_by 1 halt.now ≡ Some (Over (Trapped Broken ∷ []))) }
+    ensures plain { IfErr result (λ e. e ≡ ConversionError.HasOutcome → IsNoTaskStop (stopped_by 1 halt.now)) }
 {
     match halt {
-        Halt::Over(value) => match to_value(alloc, value) {
-            Ok(value) => Ok(PieceStop::Ends(Content::Value(value))),
+        Halt::Over(values) => match first_content(alloc, values) {
+            Ok(content) => Ok(PieceStop::Ends(content)),
             Err(error) => Err(error),
         },
         Halt::Asks(reference, _) => match named(reference) {
@@ -112,7 +129,7 @@ fn to_piece(alloc: Global, attempt: &Attempt) -> Result<Piece, ConversionError>
     requires { is_stop attempt.now.halt ≡ true }
     ensures value { IfOk result (λ p. IsPieceOf p attempt.now) }
     ensures broken { IfErr result (λ e. e ≡ ConversionError.Broken → (past : Past) (q : runs.Piece) → Stands past attempt.now q →
-        q.stop ≡ Over (Trapped Broken)) }
+        q.stop ≡ Over (Trapped Broken ∷ [])) }
     ensures plain { IfErr result (λ e. e ≡ ConversionError.HasOutcome → (past : Past) (q : runs.Piece) → Stands past attempt.now q → IsTaskPiece q → ⊥) }
 {
     let stop = to_stop(alloc, &attempt.halt)?;
@@ -134,7 +151,7 @@ fn finish(alloc: Global, attempt: Attempt) -> Result<Piece, PieceError>
     ensures frame { IfOk result (λ p. p.frame ≡ attempt.frame) }
     ensures steps { IfOk result (λ p. p.steps ≡ attempt.steps) }
     ensures broken { IfErr result (λ e. e ≡ PieceError.Broken → (past : Past) (q : runs.Piece) → Stands past attempt q → IsTaskPiece q →
-        q.stop ≡ Over (Trapped Broken)) }
+        q.stop ≡ Over (Trapped Broken ∷ [])) }
 {
     match to_piece(alloc, &attempt) {
         Ok(piece) => Ok(with_frame(piece, attempt)),
@@ -178,7 +195,7 @@ fn with_frame(piece: Piece, attempt: Attempt) -> Piece
 
 /// A put's piece: it ends with its value at once.
 fn put_piece(alloc: Global, value: &RunValue) -> Result<Piece, AllocError>
-    ensures value { IfOk result (λ p. piece_of p ≡ stopped (Over (Val (value_of value.now)))) }
+    ensures value { IfOk result (λ p. piece_of p ≡ stopped (Over (Val (value_of value.now) ∷ []))) }
     ensures frame { IfOk result (λ p. p.frame ≡ None) }
     ensures steps { IfOk result (λ p. p.steps ≡ 0) }
 {
@@ -204,7 +221,7 @@ pub fn run_piece(
     ensures replayed { IfOk result (λ p. piece_of p ≡ replay (script_of script.now) (birth_of spec.now) base (map content_of answers.now)) }
     // It is broken only where the replay is.
     ensures broken { IfErr result (λ e. e ≡ PieceError.Broken →
-        (replay (script_of script.now) (birth_of spec.now) base (map content_of answers.now)).stop ≡ Over (Trapped Broken)) }
+        (replay (script_of script.now) (birth_of spec.now) base (map content_of answers.now)).stop ≡ Over (Trapped Broken ∷ [])) }
     // Its frame, if it has one, is where the task waits that was so answered.
     ensures keeps { IfOk result (λ p. Keeps (script_of script.now) (birth_of spec.now) base no_past (map content_of answers.now) p) }
     // Its steps are those that the task began since the last of the answers.
@@ -234,7 +251,7 @@ pub fn run_piece(
     }
 }
 
-/// Goes on from where a task waits, with the answer that it waits for. What is given is what the task does from there on.
+/// Goes on from where a task of one result waits, with the answer that it waits for. What is given is what the task does from there on.
 pub fn go_on(
     alloc: Global,
     script: &Compiled,
@@ -242,17 +259,19 @@ pub fn go_on(
     answer: &Content,
 ) -> Result<Piece, PieceError>
     // Behind what was done before, what is given is the task's replay.
-    ensures replayed { IfOk result (λ p. (spec : meant.Birth) (base : Id) (past : Past) → IsWaiting (script_of script.now) spec base past frame →
+    ensures replayed { IfOk result (λ p. (spec : meant.Birth) (base : Id) (past : Past) → IsSingle spec →
+        IsWaiting (script_of script.now) spec base past frame →
         after past.births past.prints (piece_of p) ≡ replay (script_of script.now) spec base (answered_so past answer.now)) }
     // It is broken only where the replay is, if no value of the task's has an outcome in it.
-    ensures broken { IfErr result (λ e. e ≡ PieceError.Broken → (spec : meant.Birth) (base : Id) (past : Past) → IsTaskBirth spec →
+    ensures broken { IfErr result (λ e. e ≡ PieceError.Broken → (spec : meant.Birth) (base : Id) (past : Past) → IsSingle spec → IsTaskBirth spec →
         AreTaskOutcomes past.answers → IsWaiting (script_of script.now) spec base past frame →
-        (replay (script_of script.now) spec base (answered_so past answer.now)).stop ≡ Over (Trapped Broken)) }
+        (replay (script_of script.now) spec base (answered_so past answer.now)).stop ≡ Over (Trapped Broken ∷ [])) }
     // Its frame, if it has one, is where the task waits that was so answered.
     ensures keeps { IfOk result (λ p. (spec : meant.Birth) (base : Id) (past : Past) → IsWaiting (script_of script.now) spec base past frame →
         Keeps (script_of script.now) spec base past (content_of answer.now ∷ []) p) }
     // Its steps are those that the task began since this answer.
-    ensures counts { IfOk result (λ p. (spec : meant.Birth) (base : Id) (past : Past) → IsWaiting (script_of script.now) spec base past frame →
+    ensures counts { IfOk result (λ p. (spec : meant.Birth) (base : Id) (past : Past) → IsSingle spec →
+        IsWaiting (script_of script.now) spec base past frame →
         HasSteps (script_of script.now) spec base (answered_so past answer.now) p.steps) }
 {
     let answer = from_content(alloc, answer)?;

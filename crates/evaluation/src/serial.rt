@@ -1,7 +1,7 @@
 // The serial run.
 
 ghost use Rattle.std.specs.Prelude.{◌≡◌, IfOk, IfErr, map};
-ghost use Rattle.meaning.specs.Values.{Trapped, Broken};
+ghost use Rattle.meaning.specs.Values.{Trapped, Broken, first_outcome};
 ghost use Rattle.meaning.specs.Runs.{serial_end, serial_trace};
 ghost use Rattle.meaning.specs.Law.{prints_of};
 ghost use Rattle.meaning.specs.Meaning.{serial_run};
@@ -54,12 +54,12 @@ fn to_serial(alloc: Global, run: &SerialEnd) -> Result<SerialRun, ConversionErro
 pub fn run_serially(alloc: Global, script: &Checked) -> Result<SerialRun, SerialError>
     // What is given is the script's meaning.
     ensures prints { IfOk result (λ r. map value_of r.prints.items ≡ prints_of (serial_trace (serial_run (script_of script.now)))) }
-    ensures end { IfOk result (λ r. content_of r.end ≡ serial_end (serial_run (script_of script.now))) }
+    ensures end { IfOk result (λ r. content_of r.end ≡ first_outcome (serial_end (serial_run (script_of script.now)))) }
     // It is broken only where the meaning is.
-    ensures broken { IfErr result (λ e. e ≡ SerialError.Broken → serial_end (serial_run (script_of script.now)) ≡ Trapped Broken) }
+    ensures broken { IfErr result (λ e. e ≡ SerialError.Broken → first_outcome (serial_end (serial_run (script_of script.now))) ≡ Trapped Broken) }
     // It has a reference only where the meaning has one.
     ensures plain { IfErr result (λ e. e ≡ SerialError.HasReference → EachTaskValue (prints_of (serial_trace (serial_run (script_of script.now)))) →
-        IsTaskOutcome (serial_end (serial_run (script_of script.now))) → ⊥) }
+        IsTaskOutcome (first_outcome (serial_end (serial_run (script_of script.now)))) → ⊥) }
 {
     match run_main(alloc, script) {
         Ok(run) => match to_serial(alloc, &run) {

@@ -3,6 +3,7 @@ pub mod Written
 pub mod Doing
 pub mod Calling
 pub mod Stepping
+pub mod Single
 pub mod Going
 pub mod Meeting
 pub mod SerialRuns

@@ -105,14 +105,14 @@ pub fn run_task(
     base: ObjectId,
     answers: Vec<Outcome>,
 ) -> Result<Attempt, AllocError>
-    ensures halts { IfOk result (λ a. (retries : ℕ) →
-        Halts (script_of script.now) (Task function.now (map argument_of arguments.now) depth retries) base (map outcome_of answers.items) a) }
+    ensures halts { IfOk result (λ a. (retries others : ℕ) →
+        Halts (script_of script.now) (Task function.now (map argument_of arguments.now) depth retries others) base (map outcome_of answers.items) a) }
     // Where it waits for an answer, its frame is where it waits.
-    ensures keeps { IfOk result (λ a. (retries : ℕ) → KeepsFrame (script_of script.now) (Task function.now (map argument_of arguments.now) depth retries)
-        base no_past (map outcome_of answers.items) a) }
+    ensures keeps { IfOk result (λ a. (retries others : ℕ) → KeepsFrame (script_of script.now)
+        (Task function.now (map argument_of arguments.now) depth retries others) base no_past (map outcome_of answers.items) a) }
     // Its steps are those that it began since the last of the answers.
-    ensures counts { IfOk result (λ a. (retries : ℕ) → CountsSteps (script_of script.now)
-        (Task function.now (map argument_of arguments.now) depth retries) base (map outcome_of answers.items) a) }
+    ensures counts { IfOk result (λ a. (retries others : ℕ) → CountsSteps (script_of script.now)
+        (Task function.now (map argument_of arguments.now) depth retries others) base (map outcome_of answers.items) a) }
     // It stopped where a run in pieces stops.
     ensures stops { IfOk result (λ a. is_stop a.halt ≡ true) }
 {

@@ -28,7 +28,8 @@ pub enum Made {
 /// register takes what they are given.
 #[derive(Drop)]
 pub enum Halt {
-    Over(Value),
+    /// With these results.
+    Over(Vec<Value>),
     Trap(Trap),
     /// An operand of the wrong kind, which a checked script never meets.
     Broken,

@@ -1,16 +1,18 @@
 // Tasks that no function takes: the script has none of that name, or it takes another number of arguments. A checked script makes none.
 
-ghost use Rattle.std.specs.Prelude.{◌≡◌, ◌∷◌, IfOk, IfErr, OnOk, List, Some, drop, false, length, map, take, true};
+ghost use Rattle.std.specs.Prelude.{◌≡◌, ◌∷◌, ℕ, IfOk, IfErr, OnOk, List, Some, drop, false, length, map, take, true};
 ghost use Rattle.meaning.specs.Values as meant;
+ghost use Rattle.meaning.specs.Values.{Returned, first_outcome};
 ghost use Rattle.meaning.specs.Meaning.{find, parameters_of};
 ghost use Rattle.meaning.specs.Runs.{Stop};
 ghost use Rattle.script_check.specs.Trees.{script_of};
 ghost use Rattle.frames.specs.Values.{outcome_of};
-ghost use Rattle.frames.specs.Machines.{argument_of, goes_on, is_stop, GivesHalt};
-ghost use Rattle.frames.specs.Tasks.{matched, mismatch_end, mismatch_stop, ended_by, stopped_by};
+ghost use Rattle.frames.specs.Values.{value_of};
+ghost use Rattle.frames.specs.Machines.{argument_of, goes_on, is_stop};
+ghost use Rattle.frames.specs.Tasks.{GivesEnd, matched, mismatch_end, mismatch_stop, ended_by, first_by, stopped_by};
 
 use crate::halt::{Halt, MarkedArgument};
-use crate::value::Outcome;
+use crate::value::{Outcome, Value};
 use script_check::CheckedFunction;
 use std::alloc::AllocError;
 
@@ -41,7 +43,7 @@ fn matched<'a>(
 /// Gets an argument of a serial run, where it has a mark.
 fn pass_known(argument: &MarkedArgument) -> Result<(), Halt>
     ensures goes { OnOk result ((args : List meant.Argument) → mismatch_end (argument_of argument.now ∷ args) ≡ mismatch_end args) }
-    ensures halt { IfErr result (λ h. (args : List meant.Argument) → GivesHalt (mismatch_end (argument_of argument.now ∷ args)) h) }
+    ensures halt { IfErr result (λ h. (args : List meant.Argument) → GivesEnd (mismatch_end (argument_of argument.now ∷ args)) h) }
 {
     if !argument.is_dereferenced {
         return Ok(());
@@ -57,10 +59,11 @@ fn pass_known(argument: &MarkedArgument) -> Result<(), Halt>
 
 /// Gets an argument of a run in pieces, where it has a mark. Gives how many answers are used then.
 fn pass_answered(argument: &MarkedArgument, answers: &[Outcome], used: usize) -> Result<usize, Halt>
-    ensures goes { IfOk result (λ n. (args : List meant.Argument) →
-        mismatch_stop (argument_of argument.now ∷ args) (map outcome_of (drop used answers.now)) ≡ mismatch_stop args (map outcome_of (drop n answers.now))) }
-    ensures halt { IfErr result (λ h. (args : List meant.Argument) (s : Stop) → stopped_by h ≡ Some s →
-        mismatch_stop (argument_of argument.now ∷ args) (map outcome_of (drop used answers.now)) ≡ s) }
+    ensures goes { IfOk result (λ n. (results : ℕ) (args : List meant.Argument) →
+        mismatch_stop results (argument_of argument.now ∷ args) (map outcome_of (drop used answers.now))
+        ≡ mismatch_stop results args (map outcome_of (drop n answers.now))) }
+    ensures halt { IfErr result (λ h. (results : ℕ) (args : List meant.Argument) (s : Stop) → stopped_by results h ≡ Some s →
+        mismatch_stop results (argument_of argument.now ∷ args) (map outcome_of (drop used answers.now)) ≡ s) }
     ensures ends { IfErr result (λ h. is_stop h ≡ true) }
 {
     if !argument.is_dereferenced {
@@ -78,14 +81,25 @@ fn pass_answered(argument: &MarkedArgument, answers: &[Outcome], used: usize) ->
     }
 }
 
-/// The outcome that a halt ends a run with. An error is the halt's want of memory.
+/// The outcome of the first of a run's results. A run that has none is broken.
+fn first(values: Vec<Value>) -> Outcome
+    ensures { outcome_of result ≡ first_outcome (Returned (map value_of values.items)) }
+{
+    let mut values = values;
+    if values.is_empty() {
+        return Outcome::Broken;
+    }
+    Outcome::Value(values.swap_remove(0))
+}
+
+/// The outcome of the first result of a run that a halt ends. An error is the halt's want of memory.
 pub(crate) fn outcome(halt: Halt) -> Result<Outcome, AllocError>
     requires { goes_on halt ≡ false }
-    ensures value { IfOk result (λ c. ended_by halt ≡ Some (outcome_of c)) }
+    ensures value { IfOk result (λ c. first_by halt ≡ Some (outcome_of c)) }
     ensures refused { IfErr result (λ _. halt ≡ Halt.NoMemory) }
 {
     match halt {
-        Halt::Over(value) => Ok(Outcome::Value(value)),
+        Halt::Over(values) => Ok(first(values)),
         Halt::Trap(trap) => Ok(Outcome::Trap(trap)),
         Halt::Broken => Ok(Outcome::Broken),
         Halt::NoMemory => Err(AllocError),
@@ -95,13 +109,13 @@ pub(crate) fn outcome(halt: Halt) -> Result<Outcome, AllocError>
     }
 }
 
-/// How such a task ends in a serial run.
+/// How such a task ends in a serial run: the outcome of its first result.
 pub(crate) fn end_mismatch(
     script: &[CheckedFunction],
     name: &str,
     arguments: &[MarkedArgument],
 ) -> Result<Outcome, AllocError>
-    ensures { IfOk result (λ c. mismatch_end (matched (script_of script.now) name.now (map argument_of arguments.now)) ≡ outcome_of c) }
+    ensures { IfOk result (λ c. first_outcome (mismatch_end (matched (script_of script.now) name.now (map argument_of arguments.now))) ≡ outcome_of c) }
 {
     for argument in matched(script, name, arguments) {
         if let Err(halt) = pass_known(argument) {
@@ -118,8 +132,8 @@ pub(crate) fn stop_mismatch(
     arguments: &[MarkedArgument],
     answers: &[Outcome],
 ) -> Halt
-    ensures stops { (s : Stop) → stopped_by result ≡ Some s →
-        mismatch_stop (matched (script_of script.now) name.now (map argument_of arguments.now)) (map outcome_of answers.now) ≡ s }
+    ensures stops { (results : ℕ) (s : Stop) → stopped_by results result ≡ Some s →
+        mismatch_stop results (matched (script_of script.now) name.now (map argument_of arguments.now)) (map outcome_of answers.now) ≡ s }
     ensures ends { is_stop result ≡ true }
 {
     let mut used = 0;

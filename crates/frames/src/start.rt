@@ -77,9 +77,9 @@ impl Course {
         base: ObjectId,
         answers: Vec<Outcome>,
     ) -> Result<Course, AllocError>
-        ensures stands { IfOk result (λ k. (script : Script) (g : Name) (f : Function) (depth retries : ℕ) → code_of code.now ≡ laws.code_of script →
+        ensures stands { IfOk result (λ k. (script : Script) (g : Name) (f : Function) (depth retries others : ℕ) → code_of code.now ≡ laws.code_of script →
             function ≡ number_of script g (length arguments.now) → find script g ≡ Some f → length arguments.now ≡ length f.parameters → depth ≤ 32 →
-            Standing script (32 - depth) (Task g (map argument_of arguments.now) depth retries) base no_past k) }
+            Standing script (32 - depth) (Task g (map argument_of arguments.now) depth retries others) base no_past k) }
         ensures answers { IfOk result (λ k. answers_of k ≡ map outcome_of answers.items) }
     {
         let state = first_state(alloc, code, function, arguments)?;

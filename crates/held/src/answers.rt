@@ -1,7 +1,6 @@
 // What an attempt was answered, which contracts see as outcomes.
 
-ghost use Rattle.std.specs.Prelude.{◌≡◌, ◌∷◌, ◌++◌, [], IfOk, OnOk, map};
-ghost use Rattle.values.specs.Values.{content_of};
+ghost use Rattle.std.specs.Prelude.{◌≡◌, ◌∷◌, ◌++◌, [], IfOk, OnOk};
 
 use crate::content::SharedContent;
 use std::alloc::{AllocError, Global};
@@ -29,20 +28,6 @@ impl Model for Answers {
     ghost view = { λ a. map content_of (arc_value a.inner).items };
 }
 
-/// Equal contents.
-fn copy_contents(
-    alloc: Global,
-    contents: &[values::Content],
-) -> Result<Vec<values::Content>, AllocError>
-    ensures { IfOk result (λ same. map content_of same.items ≡ map content_of contents.now) }
-{
-    let mut same = Vec::with_capacity(alloc, contents.len())?;
-    for content in contents {
-        same.push(content.copy(alloc)?)?;
-    }
-    Ok(same)
-}
-
 impl Answers {
     /// None yet. An error is want of memory.
     pub fn new(alloc: Global) -> Result<Answers, AllocError>
@@ -62,7 +47,7 @@ impl Answers {
             contents.push(content)?;
             return Ok(());
         }
-        let mut contents = copy_contents(alloc, &self.inner)?;
+        let mut contents = values::copy_contents(&self.inner, alloc)?;
         contents.push(content)?;
         self.inner = Arc::new(alloc, contents)?;
         Ok(())

@@ -56,7 +56,8 @@ module _ (script : Script) (k : KnownData) (f : Frame) where
       ap (λ b. replay script b j.base (j.answers)) (sym is.spec)
       ∙ ap (λ o. replay script k.spec o (j.answers)) (sym is.base)
       ∙ ap (replay script k.spec k.base) answers in
-      (piece waits.waits.stood.run f.next (c ∷ []), ap (λ (p : Piece). p.births) (same ∙ left), ap (λ (p : Piece). p.prints) (same ∙ left))
+      let rest = piece (meant.results_of k.spec) waits.waits.stood.run f.next (c ∷ []) in
+      (rest, ap (λ (p : Piece). p.births) (same ∙ left), ap (λ (p : Piece). p.prints) (same ∙ left))
 
   pub fits_next : (j : JobParts) → WaitsFor script k f → IsNext k j → IsBegun script j → Fits script j f
   fits_next j waits is begun =

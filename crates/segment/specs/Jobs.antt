@@ -1,8 +1,8 @@
 -- What a job is, and what is done on it.
-use Rattle.std.specs.Prelude.{◌≡◌, ℕ, List, [], ◌∷◌, ◌++◌, map, length, drop, Some}
+use Rattle.std.specs.Prelude.{◌≡◌, ℕ, List, ◌++◌, map, length, drop, Some}
 use Rattle.meaning.specs.Lists.{IsFirst}
 use Rattle.meaning.specs.Values.{Birth as AnyBirth, Put, Task}
-use Rattle.meaning.specs.Syntax.{Kind, Function, results, Script}
+use Rattle.meaning.specs.Syntax.{Function, Script}
 use Rattle.meaning.specs.Runs.{Piece}
 use Rattle.meaning.specs.Meaning.{find, run_birth, replay}
 use Rattle.meaning.specs.Kinds.{MarkedOf, AnswersFit}
@@ -43,7 +43,8 @@ whole_of d =
 -- a task of one of the script's functions that have one result, with arguments of its parameters' kinds
 abbrev pub IsTaskOf : Script → AnyBirth → Type 0
 IsTaskOf script (Put v) = ⊥
-IsTaskOf script (Task g args depth retries) = (f : Function) × (find script g ≡ Some f) × MarkedOf args f.parameters × (u : Kind) × (results f ≡ u ∷ [])
+IsTaskOf script (Task g args depth retries others) =
+    (f : Function) × (find script g ≡ Some f) × MarkedOf args f.parameters × (length f.others ≡ others) × (others ≡ 0)
 
 -- what is kept of each job of the script
 pub record IsBegun (script : Script) (j : JobParts) : Type 0 where

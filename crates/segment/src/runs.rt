@@ -1,6 +1,6 @@
 // How a job is run.
 
-ghost use Rattle.std.specs.Prelude.{◌≡◌, IfOk, IfErr, IfSome, drop};
+ghost use Rattle.std.specs.Prelude.{◌≡◌, ◌∷◌, [], IfOk, IfErr, IfSome, drop};
 ghost use Rattle.meaning.specs.Values.{Trapped, Broken};
 ghost use Rattle.meaning.specs.Runs.{Over};
 ghost use Rattle.script_check.specs.Trees.{script_of};
@@ -27,7 +27,7 @@ fn items_after<T: Drop>(items: Vec<T>, count: usize) -> Result<Vec<T>, AllocErro
 /// run makes again is dropped.
 fn run_again(alloc: Global, script: &Compiled, job: &JobParts) -> Result<Piece, PieceError>
     ensures beyond { IfOk result (λ p. piece_of p ≡ beyond job.now (replay_of (script_of script.now) job.now)) }
-    ensures broken { IfErr result (λ e. e ≡ PieceError.Broken → (replay_of (script_of script.now) job.now).stop ≡ Over (Trapped Broken)) }
+    ensures broken { IfErr result (λ e. e ≡ PieceError.Broken → (replay_of (script_of script.now) job.now).stop ≡ Over (Trapped Broken ∷ [])) }
     ensures waits { IfOk result (λ p. IsTrueOf (script_of script.now) (done_of job.now p) →
         IfSome p.frame (WaitsAfter (script_of script.now) (done_of job.now p))) }
     ensures counts { IfOk result (λ p. HasStepsOf (script_of script.now) job.now p.steps) }
@@ -61,7 +61,7 @@ pub(crate) fn run_on(
     requires begun { IsBegun (script_of script.now) job.now }
     requires fits { IfSome frame (Fits (script_of script.now) job.now) }
     ensures whole { IfOk result (λ p. IsTrueOf (script_of script.now) (done_of job.now p)) }
-    ensures broken { IfErr result (λ e. e ≡ PieceError.Broken → (replay_of (script_of script.now) job.now).stop ≡ Over (Trapped Broken)) }
+    ensures broken { IfErr result (λ e. e ≡ PieceError.Broken → (replay_of (script_of script.now) job.now).stop ≡ Over (Trapped Broken ∷ [])) }
     ensures waits { IfOk result (λ p. IfSome p.frame (WaitsAfter (script_of script.now) (done_of job.now p))) }
     ensures counts { IfOk result (λ p. HasStepsOf (script_of script.now) job.now p.steps) }
 {

@@ -2,7 +2,7 @@
 use Rattle.std.proofs.Common.{◌≡◌, List, [], ◌∷◌, sym, subst}
 use Rattle.meaning.specs.Values.{Value, Int, Items, Named, Known, Values, none, more, Outcome, Val, Trapped, Broken, Id, main_name}
 use Rattle.meaning.specs.Syntax.{Number, Script}
-use Rattle.meaning.specs.Runs.{Run, Ends, Prints, Bears, Gets, next_id}
+use Rattle.meaning.specs.Runs.{Run, Ends, Prints, Bears, Gets, named, behind}
 use Rattle.meaning.specs.Meaning.{serial_run}
 use Rattle.meaning.specs.Kinds.{IsPlain, ArePlain, AllPlain, EndsIn, MarkedOf, AnswersFit, IsSafeTask, AreSafe}
 use Rattle.script_check.specs.Scripts.{IsWellTyped}
@@ -10,19 +10,20 @@ use Rattle.evaluation.specs.TaskValues.{IsTaskValue, AreTaskValues, EachTaskValu
 
 -- no answers fit every run
 no_answers : (run : Run) (base : Id) → AnswersFit run base []
-no_answers (Ends c) base = tt
+no_answers (Ends e) base = tt
 no_answers (Prints v next) base = no_answers next base
-no_answers (Bears b made next) base = no_answers (next (Named base)) (next_id base)
+no_answers (Bears b made next) base = no_answers (next (named base b)) (behind base b)
 no_answers (Gets u r next) base = tt
 
 abbrev pub first_id : Id
 first_id = record { owner = 0; serial = 0 }
 
-pub main_is_safe : AreSafe → (script : Script) → IsWellTyped script → IsSafeTask (serial_run script) Number first_id []
+pub main_is_safe : AreSafe → (script : Script) → IsWellTyped script → IsSafeTask (serial_run script) (Number ∷ []) first_id []
 main_is_safe safe script w =
     let f = w.main.0 in
     let marked : MarkedOf [] f.parameters = subst (MarkedOf []) (sym w.main.2) tt in
-    safe script w.checks main_name f Number [] 0 first_id [] w.main.1 w.main.3 marked (no_answers (serial_run script) first_id)
+    subst (λ ts. IsSafeTask (serial_run script) ts first_id []) w.main.3
+    (safe script w.checks main_name f [] 0 first_id [] w.main.1 marked (no_answers (serial_run script) first_id))
 
 -- a number is no wrong operand, and what has no reference has no outcome
 pub not_broken : (c : Outcome) → EndsIn c Number → c ≡ Trapped Broken → ⊥

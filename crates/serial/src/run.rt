@@ -1,6 +1,7 @@
 // The serial run.
 
 ghost use Rattle.std.specs.Prelude.{◌≡◌, IfOk, map};
+ghost use Rattle.meaning.specs.Values.{first_outcome};
 ghost use Rattle.meaning.specs.Runs.{serial_end, serial_trace};
 ghost use Rattle.meaning.specs.Meaning.{serial_run};
 ghost use Rattle.meaning.specs.Law.{prints_of};
@@ -15,7 +16,7 @@ use std::alloc::Global;
 /// prints, in order, and its value or its trap.
 pub fn run_serial(alloc: Global, script: &Checked) -> Result<SerialRun, NoMemory>
     ensures prints { IfOk result (λ r. map value_of r.prints.items ≡ prints_of (serial_trace (serial_run (script_of script.now)))) }
-    ensures end { IfOk result (λ r. content_of r.end ≡ serial_end (serial_run (script_of script.now))) }
+    ensures end { IfOk result (λ r. content_of r.end ≡ first_outcome (serial_end (serial_run (script_of script.now)))) }
 {
     // Its clause says that the script is well typed.
     let _ = script.functions();

@@ -21,4 +21,4 @@ ids_read (a ∷ args) = id_read a ++ ids_read args
 -- a put dereferences none
 abbrev pub dereferenced_in : Birth → List Id
 dereferenced_in (Put v) = []
-dereferenced_in (Task g args depth retries) = ids_read args
+dereferenced_in (Task g args depth retries others) = ids_read args

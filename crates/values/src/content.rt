@@ -1,6 +1,6 @@
 // Contents of objects.
 
-ghost use Rattle.std.specs.Prelude.{◌≡◌, IfOk};
+ghost use Rattle.std.specs.Prelude.{◌≡◌, IfOk, map};
 ghost use Rattle.values.specs.Values.{content_of};
 ghost use Rattle.values.specs.Listed.{ids_in_outcome, each_once};
 
@@ -42,6 +42,17 @@ impl Content {
             Content::Trap(trap) => Ok(Content::Trap(*trap)),
         }
     }
+}
+
+/// Equal contents.
+pub fn copy_contents(contents: &[Content], alloc: Global) -> Result<Vec<Content>, AllocError>
+    ensures { IfOk result (λ copies. map content_of copies.items ≡ map content_of contents.now) }
+{
+    let mut copies = Vec::with_capacity(alloc, contents.len())?;
+    for content in contents {
+        copies.push(content.copy(alloc)?)?;
+    }
+    Ok(copies)
 }
 
 /// The ids in a content, in order of first place, each once.

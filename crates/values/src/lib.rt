@@ -7,7 +7,7 @@ mod fault;
 mod same;
 mod value;
 
-pub use content::{Content, Trap, ids_in};
+pub use content::{Content, Trap, copy_contents, ids_in};
 pub use fault::{Fault, FaultKind};
 pub use same::{are_same_contents, are_same_values};
 pub use value::{RunValue, add_ids};

@@ -1,4 +1,4 @@
-use Rattle.std.proofs.Common.{◌≡◌, ◌++◌, sym, ap, subst, ◌∙◌, map}
+use Rattle.std.proofs.Common.{◌≡◌, [], ◌∷◌, ◌++◌, sym, ap, subst, ◌∙◌, map}
 use Rattle.meaning.specs.Values.{Trapped, Broken as ABroken}
 use Rattle.meaning.specs.Runs.{Over}
 use Rattle.meaning.specs.Runs as runs
@@ -15,9 +15,10 @@ use Rattle.evaluation.proofs.piece.to_piece.Goals as goal
 pub returns-in_err-stop-clause-broken : goal.returns-in_err-stop-clause-broken
 returns-in_err-stop-clause-broken c =
     let a = c.args.attempt.now in
-    handed_on (λ (e : ConversionError). e ≡ Broken → (past : Past) (q : runs.Piece) → Stands past a q → q.stop ≡ Over (Trapped ABroken)) c.from_residual.result
+    handed_on (λ (e : ConversionError). e ≡ Broken → (past : Past) (q : runs.Piece) → Stands past a q → q.stop ≡ Over (Trapped ABroken ∷ []))
+    c.from_residual.result
     c.in_err-stop.field-0.0 c.from_residual.ensures.1
-    (λ e past q stands. stop_stands past a q (Over (Trapped ABroken)) stands (c.in_err-stop.ensures.broken e))
+    (λ e past q stands. stop_stands past a q (Over (Trapped ABroken ∷ [])) stands (c.in_err-stop.ensures.broken e))
 
 pub returns-in_err-stop-clause-plain : goal.returns-in_err-stop-clause-plain
 returns-in_err-stop-clause-plain c =
@@ -29,7 +30,8 @@ returns-in_err-stop-clause-plain c =
 pub returns-in_err-births-clause-broken : goal.returns-in_err-births-clause-broken
 returns-in_err-births-clause-broken c =
     let a = c.args.attempt.now in
-    handed_on (λ (e : ConversionError). e ≡ Broken → (past : Past) (q : runs.Piece) → Stands past a q → q.stop ≡ Over (Trapped ABroken)) c.from_residual-in_err-births.result
+    handed_on (λ (e : ConversionError). e ≡ Broken → (past : Past) (q : runs.Piece) → Stands past a q → q.stop ≡ Over (Trapped ABroken ∷ []))
+    c.from_residual-in_err-births.result
     c.in_err-births.field-0.0 c.from_residual-in_err-births.ensures.1
     (λ e past q stands. absurd (c.in_err-births.ensures.kind e))
 
@@ -46,7 +48,8 @@ returns-in_err-births-clause-plain c =
 pub returns-in_err-prints-clause-broken : goal.returns-in_err-prints-clause-broken
 returns-in_err-prints-clause-broken c =
     let a = c.args.attempt.now in
-    handed_on (λ (e : ConversionError). e ≡ Broken → (past : Past) (q : runs.Piece) → Stands past a q → q.stop ≡ Over (Trapped ABroken)) c.from_residual-in_err-prints.result
+    handed_on (λ (e : ConversionError). e ≡ Broken → (past : Past) (q : runs.Piece) → Stands past a q → q.stop ≡ Over (Trapped ABroken ∷ []))
+    c.from_residual-in_err-prints.result
     c.in_err-prints.field-0.0 c.from_residual-in_err-prints.ensures.1
     (λ e past q stands. absurd (c.in_err-prints.ensures.kind e))
 

@@ -1,4 +1,4 @@
-use Rattle.std.proofs.Common.{◌≡◌, Some, map, sym, ap, ◌∙◌, subst, arith}
+use Rattle.std.proofs.Common.{◌≡◌, suc, Some, map, sym, ap, ◌∙◌, subst, arith}
 use Rattle.meaning.specs.Values.{Task}
 use Rattle.meaning.specs.Meaning.{find, replay}
 use Rattle.script_check.specs.Trees.{script_of}
@@ -17,18 +17,18 @@ use Rattle.frames.proofs.Stopping.{nothing_at, deep_counts, mismatch_counts}
 use Rattle.frames.proofs.attempt.run_task.Goals as goal
 
 pub returns-then-number-functions-clause-halts : goal.returns-then-number-functions-clause-halts
-returns-then-number-functions-clause-halts c retries s e =
+returns-then-number-functions-clause-halts c retries others s e =
     let fs = c.functions-functions.result.now in
     let g = c.args.function.now in
     let args = map argument_of c.args.arguments.now in
     let answers = map outcome_of c.args.answers.items in
     let none = has_none fs g c.args.arguments.now c.number_of-number.result c.number_of-number.ensures c.if-number-functions.true in
     let done = c.nothing_done-then-number-functions in
-    ap (λ gs. replay (script_of gs) (Task g args c.args.depth retries) c.args.base answers) (sym (c.functions-functions.ensures.value ∙ c.script.ensures))
-    ∙ mismatch_piece (script_of fs) g args c.args.depth retries c.args.base answers (omega (arith, c.if-depth-gt-DEEPEST.false)) none
-    ∙ nothing_at done.result (mismatch_stop (matched (script_of fs) g args) answers) s done.ensures.births done.ensures.prints
-    (ap (λ os. mismatch_stop (matched (script_of fs) g args) (map outcome_of os)) (sym c.deref.ensures.value)
-    ∙ c.stop_mismatch-halt.ensures.stops s (subst (λ h. stopped_by h ≡ Some s) done.ensures.halt e))
+    ap (λ gs. replay (script_of gs) (Task g args c.args.depth retries others) c.args.base answers) (sym (c.functions-functions.ensures.value ∙ c.script.ensures))
+    ∙ mismatch_piece (script_of fs) g args c.args.depth retries others c.args.base answers (omega (arith, c.if-depth-gt-DEEPEST.false)) none
+    ∙ nothing_at done.result (mismatch_stop (suc others) (matched (script_of fs) g args) answers) s done.ensures.births done.ensures.prints
+    (ap (λ os. mismatch_stop (suc others) (matched (script_of fs) g args) (map outcome_of os)) (sym c.deref.ensures.value)
+    ∙ c.stop_mismatch-halt.ensures.stops (suc others) s (subst (λ h. stopped_by (suc others) h ≡ Some s) done.ensures.halt e))
 
 pub returns-clause-halts : goal.returns-clause-halts
 returns-clause-halts c =
@@ -41,10 +41,10 @@ returns-clause-halts c =
     let same = c.functions-functions.ensures.value ∙ c.script.ensures in
     let answers = c.run-halt.ensures.answers ∙ c.in_ok-course.ensures.answers in
     if_ok _ _ c.stop.result
-    (λ a halts retries s e.
-    let task = Task g (map argument_of xs) c.args.depth retries in
+    (λ a halts retries others s e.
+    let task = Task g (map argument_of xs) c.args.depth retries others in
     let stands =
-    c.in_ok-course.ensures.stands script g one.function c.args.depth retries c.code-code.ensures
+    c.in_ok-course.ensures.stands script g one.function c.args.depth retries others c.code-code.ensures
     (c.number_of-number.ensures ∙ ap (λ gs. number_of (script_of gs) g (length xs)) same) (ap (λ gs. find (script_of gs) g) (sym same) ∙ one.found) one.count
     (omega (arith, c.if-depth-gt-DEEPEST.false)) in
     let stops = c.run-halt.ensures.stops script task base no_past c.code-code.ensures stands in
@@ -62,10 +62,10 @@ returns-clause-keeps c =
     let same = c.functions-functions.ensures.value ∙ c.script.ensures in
     let answers = c.run-halt.ensures.answers ∙ c.in_ok-course.ensures.answers in
     if_ok _ _ c.stop.result
-    (λ a keeps retries.
-    let task = Task g (map argument_of xs) c.args.depth retries in
+    (λ a keeps retries others.
+    let task = Task g (map argument_of xs) c.args.depth retries others in
     let stands =
-    c.in_ok-course.ensures.stands script g one.function c.args.depth retries c.code-code.ensures
+    c.in_ok-course.ensures.stands script g one.function c.args.depth retries others c.code-code.ensures
     (c.number_of-number.ensures ∙ ap (λ gs. number_of (script_of gs) g (length xs)) same) (ap (λ gs. find (script_of gs) g) (sym same) ∙ one.found) one.count
     (omega (arith, c.if-depth-gt-DEEPEST.false)) in
     let stops = c.run-halt.ensures.stops script task base no_past c.code-code.ensures stands in
@@ -73,23 +73,23 @@ returns-clause-keeps c =
     c.stop.ensures.keeps
 
 pub returns-then-depth-gt-DEEPEST-clause-counts : goal.returns-then-depth-gt-DEEPEST-clause-counts
-returns-then-depth-gt-DEEPEST-clause-counts c retries s e =
+returns-then-depth-gt-DEEPEST-clause-counts c retries others s e =
     let args = map argument_of c.args.arguments.now in
     let answers = map outcome_of c.args.answers.items in
-    deep_counts (script_of c.args.script.now) c.args.function.now args c.args.depth retries c.args.base answers _ c.nothing_done.ensures.steps
+    deep_counts (script_of c.args.script.now) c.args.function.now args c.args.depth retries others c.args.base answers _ c.nothing_done.ensures.steps
     (omega (arith, c.if-depth-gt-DEEPEST.true))
 
 pub returns-then-number-functions-clause-counts : goal.returns-then-number-functions-clause-counts
-returns-then-number-functions-clause-counts c retries s e =
+returns-then-number-functions-clause-counts c retries others s e =
     let fs = c.functions-functions.result.now in
     let g = c.args.function.now in
     let args = map argument_of c.args.arguments.now in
     let answers = map outcome_of c.args.answers.items in
     let none = has_none fs g c.args.arguments.now c.number_of-number.result c.number_of-number.ensures c.if-number-functions.true in
     let done = c.nothing_done-then-number-functions in
-    subst (λ gs. HasSteps (script_of gs) (Task g args c.args.depth retries) c.args.base answers done.result.steps)
+    subst (λ gs. HasSteps (script_of gs) (Task g args c.args.depth retries others) c.args.base answers done.result.steps)
     (c.functions-functions.ensures.value ∙ c.script.ensures)
-    (mismatch_counts (script_of fs) g args c.args.depth retries c.args.base answers done.result.steps done.ensures.steps
+    (mismatch_counts (script_of fs) g args c.args.depth retries others c.args.base answers done.result.steps done.ensures.steps
     (omega (arith, c.if-depth-gt-DEEPEST.false)) none)
 
 pub returns-clause-counts : goal.returns-clause-counts
@@ -103,10 +103,10 @@ returns-clause-counts c =
     let same = c.functions-functions.ensures.value ∙ c.script.ensures in
     let answers = c.run-halt.ensures.answers ∙ c.in_ok-course.ensures.answers in
     if_ok _ _ c.stop.result
-    (λ a counts retries.
-    let task = Task g (map argument_of xs) c.args.depth retries in
+    (λ a counts retries others.
+    let task = Task g (map argument_of xs) c.args.depth retries others in
     let stands =
-    c.in_ok-course.ensures.stands script g one.function c.args.depth retries c.code-code.ensures
+    c.in_ok-course.ensures.stands script g one.function c.args.depth retries others c.code-code.ensures
     (c.number_of-number.ensures ∙ ap (λ gs. number_of (script_of gs) g (length xs)) same) (ap (λ gs. find (script_of gs) g) (sym same) ∙ one.found) one.count
     (omega (arith, c.if-depth-gt-DEEPEST.false)) in
     let stops = c.run-halt.ensures.stops script task base no_past c.code-code.ensures stands in

@@ -13,6 +13,7 @@ use Rattle.segment.specs.Frames.{Fits, before_of}
 use Rattle.segment.specs.Pieces.{done_of}
 use Rattle.segment.proofs.Beyond.{whole_made}
 use Rattle.segment.proofs.Lasts.{map_last, waits_last}
+use Rattle.segment.proofs.Safe.{task_single}
 use Rattle.segment.proofs.runs.run_on.Goals as goal
 
 pub returns-in_default-clause-whole : goal.returns-in_default-clause-whole
@@ -41,7 +42,8 @@ returns-clause-whole c =
     let fits : Fits script j c.in-Some.frame = subst (λ f. IfSome f (Fits script j)) c.in-Some.is c.requires.fits in
     let waits = waits_last script j c.in-Some.frame rest answer last fits in
     if_ok _ _ c.go_on.result
-    (λ p replayed. ap (replay script j.spec j.base) last ∙ sym (replayed j.spec j.base (before_of j rest) waits))
+    (λ p replayed. ap (replay script j.spec j.base) last
+    ∙ sym (replayed j.spec j.base (before_of j rest) (task_single script j.spec c.requires.begun.task) waits))
     c.go_on.ensures.replayed
 
 pub returns-clause-broken : goal.returns-clause-broken
@@ -58,7 +60,8 @@ returns-clause-broken c =
     let waits = waits_last script j c.in-Some.frame rest answer last fits in
     on_err _ _ c.go_on.result
     (λ e broken is. ap (λ cs. (replay script j.spec j.base cs).stop) last
-    ∙ broken is j.spec j.base (before_of j rest) (subst IsTaskBirth (ap (λ (x : JobParts). x.spec) c.job.view_is) c.attest_spec.ensures)
+    ∙ broken is j.spec j.base (before_of j rest) (task_single script j.spec c.requires.begun.task)
+    (subst IsTaskBirth (ap (λ (x : JobParts). x.spec) c.job.view_is) c.attest_spec.ensures)
     (plain_contents c.in-Some-split_last.field-0-1.now) waits)
     c.go_on.ensures.broken
 
@@ -93,5 +96,6 @@ returns-clause-counts c =
     let fits : Fits script j c.in-Some.frame = subst (λ f. IfSome f (Fits script j)) c.in-Some.is c.requires.fits in
     let waits = waits_last script j c.in-Some.frame rest answer last fits in
     if_ok _ _ c.go_on.result
-    (λ p counts. subst (λ cs. HasSteps script j.spec j.base cs p.steps) (sym last) (counts j.spec j.base (before_of j rest) waits))
+    (λ p counts. subst (λ cs. HasSteps script j.spec j.base cs p.steps) (sym last)
+    (counts j.spec j.base (before_of j rest) (task_single script j.spec c.requires.begun.task) waits))
     c.go_on.ensures.counts

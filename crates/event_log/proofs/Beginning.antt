@@ -5,17 +5,17 @@ use Rattle.std.specs.List.{flat_map}
 use Rattle.std.proofs.lemmas.List.Concat.{flat_map-append}
 use Rattle.sequence.proofs.Places.{and_left, and_right}
 use Rattle.meaning.specs.Values.{Name, Value, Argument, Birth, Task, Id}
-use Rattle.meaning.specs.Runs.{Stop, Needs, Over, next_id}
+use Rattle.meaning.specs.Runs.{Stop, Needs, Over, behind}
 use Rattle.meaning.specs.Births.{Bearing, numbered, birth_at}
 use Rattle.event_log.specs.Entries.{Attempt, Event, Claim, Commit, Deliver, Tick, Notice, NoticeNode, Evict, Lose, Kill, KillNode, Join, Entry, In, Opened, Begun}
-use Rattle.event_log.specs.Words.{attempt, main_bearing, births, born_in, opened, run_in, runs_of, resolved_in, resolves_of, released_in, releases_of}
+use Rattle.event_log.specs.Words.{attempt, main_bearing, births, born_in, opened, run_in, runs_of}
 use Rattle.event_log.specs.Events.{node_lives, is_live}
-use Rattle.event_log.specs.Rules.{Receiver, ToWorker, ToNode, worker_to, actor, IsHeard, Setting, IsOwn}
+use Rattle.event_log.specs.Rules.{Receiver, ToWorker, ToNode, worker_to, actor, IsHeard, Setting, IsOwn, IsUnresolved, AreUnreleased}
 use Rattle.event_log.specs.Legal.{EachAllowed}
 use Rattle.event_log.specs.Commits.{commit_entries}
 use Rattle.event_log.proofs.Extending.{births-more}
 use Rattle.event_log.proofs.OwnLaws.{is_plain, own-plain, node_of-opened}
-use Rattle.event_log.proofs.LeftLaws.{unchanged}
+use Rattle.event_log.proofs.LeftLaws.{unchanged, unresolved_on, unreleased_on}
 
 -- ---- entries of one event
 
@@ -31,7 +31,7 @@ own-more s log (x ∷ es) w p h =
     (own-more s (log ++ x ∷ []) es w (and_right (is_plain x) (all_plain es) p) (own-plain s log x w (and_left (is_plain x) (all_plain es) p) h))
 
 pub commits_plain : (a : Attempt) (next : Id) (news : List Birth) (vs : List Value) (stop : Stop) → all_plain (commit_entries a next news vs stop) ≡ true
-commits_plain a next (b ∷ news) vs stop = commits_plain a (next_id next) news vs stop
+commits_plain a next (b ∷ news) vs stop = commits_plain a (behind next b) news vs stop
 commits_plain a next [] (v ∷ vs) stop = commits_plain a next [] vs stop
 commits_plain a next [] [] (Over c) = refl
 commits_plain a next [] [] (Needs r) = refl
@@ -41,7 +41,7 @@ commits_plain a next [] [] (Needs r) = refl
 born_in_commit : (a : Attempt) (next : Id) (news : List Birth) (vs : List Value) (stop : Stop) → flat_map born_in (commit_entries a next news vs stop) ≡ numbered next news
 born_in_commit a next (b ∷ news) vs stop =
     let x : Bearing = record { object = next; birth = b } in
-    ap (λ xs. x ∷ xs) (born_in_commit a (next_id next) news vs stop)
+    ap (λ xs. x ∷ xs) (born_in_commit a (behind next b) news vs stop)
 born_in_commit a next [] (v ∷ vs) stop = born_in_commit a next [] vs stop
 born_in_commit a next [] [] (Over c) = refl
 born_in_commit a next [] [] (Needs r) = refl
@@ -61,9 +61,10 @@ pub record IsNewTask (s : Setting) (before : List Entry) (o : Id) (n : ℕ) : Ty
   pub args : List Argument
   pub depth : ℕ
   pub retries : ℕ
-  pub born : birth_at (births before) o ≡ Some (Task function args depth retries)
-  pub unreleased : releases_of o before ≡ []
-  pub unresolved : resolves_of o before ≡ []
+  pub others : ℕ
+  pub born : birth_at (births before) o ≡ Some (Task function args depth retries others)
+  pub unreleased : AreUnreleased before o
+  pub unresolved : IsUnresolved before o
   pub unbegun : runs_of o before ≡ []
   pub lives : node_lives s.nodes n before ≡ true
 
@@ -100,9 +101,10 @@ opens_and_begins s before o n h =
           args = h.args;
           depth = h.depth;
           retries = h.retries;
+          others = h.others;
           born = births-more before (x ∷ []) o _ h.born;
-          unreleased = unchanged (released_in o) before x refl ∙ h.unreleased;
-          unresolved = unchanged (resolved_in o) before x refl ∙ h.unresolved;
+          unreleased = unreleased_on before o x refl (λ _. refl) h.unreleased;
+          unresolved = unresolved_on before o x refl (λ _. refl) h.unresolved;
           node = n;
           place = node_of-opened before w n;
           next = sym (ap (λ ws. length ws) (unchanged (run_in o) before x refl ∙ h.unbegun));

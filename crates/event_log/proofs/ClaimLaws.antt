@@ -3,20 +3,27 @@ use Rattle.std.proofs.Common.{◌≡◌, ℕ, List, [], ◌∷◌, ◌++◌, len
 use Rattle.meaning.specs.Values.{Outcome, Id, Named}
 use Rattle.meaning.specs.Runs.{Needs}
 use Rattle.event_log.specs.Entries.{Attempt, Claim, Entry, In, Accepted}
-use Rattle.event_log.specs.Words.{attempt, run_in, own_in, got_in, printed_in, ended_in, faulted_in, accepted_in, resolved_in}
+use Rattle.event_log.specs.Words.{attempt, run_in, own_in, got_in, printed_in, ended_in, faulted_in, accepted_in}
 use Rattle.event_log.specs.Events.{was_told}
 use Rattle.event_log.specs.Rules.{Setting, IsOwn, HasContent, MayGet, MayAccept}
 use Rattle.event_log.specs.Claims.{CanGet, CanAccept, LawOfClaims}
 use Rattle.event_log.proofs.EventLaws.{word-more}
-use Rattle.event_log.proofs.Extending.{births-more}
+use Rattle.event_log.proofs.Extending.{births-more, parts-more}
 use Rattle.event_log.proofs.OwnLaws.{own_claim, own-plain, told-in, told-plain}
-use Rattle.event_log.proofs.LeftLaws.{unchanged}
+use Rattle.event_log.proofs.LeftLaws.{unchanged, unresolved_on}
 use Rattle.event_log.proofs.Stopping.{stops_on}
 
 -- an object's content stays its content
 pub content-more : (log : List Entry) (x : Entry) (y : Id) (c : Outcome) → HasContent log y c → HasContent (log ++ x ∷ []) y c
 content-more log x y c (inl h) = inl (h.0, births-more log (x ∷ []) y _ h.1, h.2)
-content-more log x y c (inr h) = inr (h.0, h.1, word-more (ended_in (attempt y h.0)) log (x ∷ []) h.1 c h.2)
+content-more log x y c (inr h) = inr (record {
+  part = h.part;
+  born = parts-more log (x ∷ []) y h.part h.born;
+  number = h.number;
+  contents = h.contents;
+  ended = (h.ended.0, word-more (ended_in (attempt h.part.born.object h.number)) log (x ∷ []) h.ended.0 h.contents h.ended.1);
+  content = h.content;
+})
 
 -- what an attempt can get, it can get behind an entry that says nothing of it
 pub can_get-more : (s : Setting) (log : List Entry) (w : ℕ) (a : Attempt) (y : Id) (c : Outcome) (x : Entry) → own_in a x ≡ [] → got_in a x ≡ [] → printed_in a x ≡ [] → ended_in a x ≡ [] → faulted_in a x ≡ [] →
@@ -38,15 +45,15 @@ can_accept-in log w seat b h =
     record {
       owner = h.owner;
       not_main = h.not_main;
-      content = h.content;
-      ended = (h.ended.0, word-more (ended_in b) log (i ∷ []) h.ended.0 h.content h.ended.1);
+      contents = h.contents;
+      ended = (h.ended.0, word-more (ended_in b) log (i ∷ []) h.ended.0 h.contents h.ended.1);
       last = ap (λ ws. length ws) (unchanged (run_in b.object) log i refl) ∙ h.last;
-      unresolved = unchanged (resolved_in b.object) log i refl ∙ h.unresolved;
+      unresolved = unresolved_on log b.object i refl (λ _. refl) h.unresolved;
       once = unchanged (accepted_in b) log i refl ∙ h.once;
     }
 
 pub may_accept : (s : Setting) (before : List Entry) (w : ℕ) (b : Attempt) → IsOwn s before w → CanAccept before w b → MayAccept s before b
-may_accept s before w b o h = record { own = subst (λ v. IsOwn s before v) (sym h.owner) o; not_main = h.not_main; content = h.content; ended = h.ended; last = h.last; unresolved = h.unresolved; once = h.once }
+may_accept s before w b o h = record { own = subst (λ v. IsOwn s before v) (sym h.owner) o; not_main = h.not_main; contents = h.contents; ended = h.ended; last = h.last; unresolved = h.unresolved; once = h.once }
 
 pub law_of_claims : LawOfClaims
 law_of_claims s log w seat h none =

@@ -4,7 +4,7 @@ use Rattle.std.specs.Prelude.{if◌then◌else◌}
 use Rattle.std.specs.List.{flat_map, AllByRecursion}
 use Rattle.std.proofs.lemmas.List.Concat.{flat_map-append}
 use Rattle.meaning.specs.Values.{Value, Birth, Id}
-use Rattle.meaning.specs.Runs.{Stop, Needs, Over, next_id}
+use Rattle.meaning.specs.Runs.{Stop, Needs, Over, behind}
 use Rattle.meaning.specs.Births.{Bearing, numbered}
 use Rattle.event_log.specs.Entries.{Attempt, Commit, Entry, In, Born, Printed, Ended, main_attempt}
 use Rattle.event_log.specs.Words.{own_in, own_births, printed_in, printed_by, ended_in, ends_of}
@@ -17,7 +17,7 @@ use Rattle.event_log.proofs.LeftLaws.{left_on, left_is_allowed}
 
 module _ (a : Attempt) where
   commits_no_event : (next : Id) (news : List Birth) (vs : List Value) (stop : Stop) (more : List Entry) → has_event more ≡ false → has_event (commit_entries a next news vs stop ++ more) ≡ false
-  commits_no_event next (b ∷ news) vs stop more h = commits_no_event (next_id next) news vs stop more h
+  commits_no_event next (b ∷ news) vs stop more h = commits_no_event (behind next b) news vs stop more h
   commits_no_event next [] (v ∷ vs) stop more h = commits_no_event next [] vs stop more h
   commits_no_event next [] [] (Over c) more h = h
   commits_no_event next [] [] (Needs r) more h = h
@@ -31,20 +31,20 @@ module _ (a : Attempt) where
   own_of_births : (next : Id) (news : List Birth) (vs : List Value) (stop : Stop) → own_births a (commit_entries a next news vs stop) ≡ numbered next news
   own_of_births next (b ∷ news) vs stop =
       let x : Bearing = record { object = next; birth = b } in
-      ap (λ t. (if t then x ∷ [] else []) ++ own_births a (commit_entries a (next_id next) news vs stop)) (same_attempt-refl a) ∙ ap (λ xs. x ∷ xs) (own_of_births (next_id next) news vs stop)
+      ap (λ t. (if t then x ∷ [] else []) ++ own_births a (commit_entries a (behind next b) news vs stop)) (same_attempt-refl a) ∙ ap (λ xs. x ∷ xs) (own_of_births (behind next b) news vs stop)
   own_of_births next [] (v ∷ vs) stop = own_of_births next [] vs stop
   own_of_births next [] [] (Over c) = refl
   own_of_births next [] [] (Needs r) = refl
 
   ends_of_commit : (next : Id) (news : List Birth) (vs : List Value) (stop : Stop) → ends_of a (commit_entries a next news vs stop) ≡ end_by stop
-  ends_of_commit next (b ∷ news) vs stop = ends_of_commit (next_id next) news vs stop
+  ends_of_commit next (b ∷ news) vs stop = ends_of_commit (behind next b) news vs stop
   ends_of_commit next [] (v ∷ vs) stop = ends_of_commit next [] vs stop
   ends_of_commit next [] [] (Over c) = ap (λ t. (if t then c ∷ [] else []) ++ []) (same_attempt-refl a)
   ends_of_commit next [] [] (Needs r) = refl
 
   -- where only main prints
   prints_of_commit : (next : Id) (news : List Birth) (vs : List Value) (stop : Stop) → (vs ≡ []) ⊎ (a ≡ main_attempt) → printed_by a (commit_entries a next news vs stop) ≡ vs
-  prints_of_commit next (b ∷ news) vs stop m = prints_of_commit (next_id next) news vs stop m
+  prints_of_commit next (b ∷ news) vs stop m = prints_of_commit (behind next b) news vs stop m
   prints_of_commit next [] (v ∷ vs) stop (inl e) = absurd (cc)
   prints_of_commit next [] (v ∷ vs) stop (inr e) =
       ap (λ x. printed_in x (Printed v) ++ printed_by a (commit_entries a next [] vs stop)) e
@@ -58,7 +58,7 @@ module _ (a : Attempt) where
   all-append (x ∷ xs) h = (h.0, all-append xs h.1)
 
   only_of : (next : Id) (news : List Birth) (vs : List Value) (stop : Stop) → (vs ≡ []) ⊎ (a ≡ main_attempt) → AllByRecursion (λ b. b ≡ a) (flat_map outcome_in (commit_entries a next news vs stop))
-  only_of next (b ∷ news) vs stop m = (refl, only_of (next_id next) news vs stop m)
+  only_of next (b ∷ news) vs stop m = (refl, only_of (behind next b) news vs stop m)
   only_of next [] (v ∷ vs) stop (inl e) = absurd (cc)
   only_of next [] (v ∷ vs) stop (inr e) = (sym e, only_of next [] vs stop (inr e))
   only_of next [] [] (Over c) m = (refl, tt)

@@ -1,16 +1,17 @@
 -- What is left to log of an attempt may stand in a commit of its job.
 use Rattle.std.proofs.Common.{◌≡◌, ℕ, ◌+◌, true, List, [], ◌∷◌, ◌++◌, ◌⊎◌, inl, inr, refl, sym, ap, ◌∙◌, subst, arith, append-nil, append_assoc}
 use Rattle.std.specs.Prelude.{if◌then◌else◌, ◌==◌}
-use Rattle.std.specs.List.{flat_map}
+use Rattle.std.specs.List.{flat_map, AllByRecursion}
 use Rattle.std.proofs.lemmas.Bool.Decides.{nat_tests}
 use Rattle.meaning.specs.Lists.{IsFirst}
-use Rattle.meaning.specs.Values.{Value, Birth, Id}
-use Rattle.meaning.specs.Runs.{Stop, Needs, Over, Piece, next_id}
+use Rattle.meaning.specs.Values.{Value, Birth, results_of, Id}
+use Rattle.meaning.specs.Runs.{Stop, Needs, Over, Piece, behind}
 use Rattle.meaning.specs.Meaning.{replay}
-use Rattle.meaning.specs.Births.{Bearing, numbered}
+use Rattle.meaning.specs.Births.{Bearing, numbered, objects_at}
 use Rattle.event_log.specs.Entries.{Attempt, Entry, Born, Printed, main_attempt}
-use Rattle.event_log.specs.Words.{births, born_in, next_serial, own_in, own_births, got_in, printed_in, printed_by, ended_in, faulted_in}
-use Rattle.event_log.specs.Rules.{Setting, Replays, IsOwnCommit, MayBear, MayPrint}
+use Rattle.event_log.specs.Words.{births, born_in, next_serial, own_in, own_births, got_in, printed_in, printed_by, ended_in, faulted_in, resolved_in, released_in, releases_of}
+use Rattle.event_log.specs.Breaks.{Among}
+use Rattle.event_log.specs.Rules.{Setting, Replays, IsOwnCommit, IsUnresolved, AreUnreleased, MayBear, MayPrint}
 use Rattle.event_log.specs.Legal.{EachAllowed}
 use Rattle.event_log.specs.Commits.{commit_entries, IsLeft}
 use Rattle.event_log.proofs.WordLaws.{word_push, births_push, next_serial-push, same_attempt-refl}
@@ -28,11 +29,25 @@ begins_with xs x ys zs e = subst (λ ws. IsFirst (xs ++ x ∷ []) ws) (append_as
 pub unchanged : {X : Type 0} (f : Entry → List X) (log : List Entry) (e : Entry) → f e ≡ [] → flat_map f (log ++ e ∷ []) ≡ flat_map f log
 unchanged f log e h = word_push f log e ∙ (ap (λ ys. flat_map f log ++ ys) h ∙ append-nil (flat_map f log))
 
-births_kept : (before : List Entry) (e : Entry) → born_in e ≡ [] → births (before ++ e ∷ []) ≡ births before
+pub births_kept : (before : List Entry) (e : Entry) → born_in e ≡ [] → births (before ++ e ∷ []) ≡ births before
 births_kept before e h = births_push before e ∙ (ap (λ xs. births before ++ xs) h ∙ append-nil (births before))
 
-one : (n : ℕ) → ◌≡◌ {A = ℕ} (if n == n then 1 else 0) 1
-one n = let e : (n == n) ≡ true = grind (arith, nat_tests) in ap {B = ℕ} (λ t. if t then 1 else 0) e
+-- behind an entry that bears and resolves, or releases, nothing
+
+pub unresolved_on : (before : List Entry) (o : Id) (e : Entry) → born_in e ≡ [] → ((p : Id) → resolved_in p e ≡ []) → IsUnresolved before o → IsUnresolved (before ++ e ∷ []) o
+unresolved_on before o e hb hr h =
+    (h.0, subst (λ bs. Among h.0 (objects_at bs o)) (sym (births_kept before e hb)) h.1, unchanged (resolved_in h.0) before e (hr h.0) ∙ h.2)
+
+all_unreleased : (before : List Entry) (e : Entry) → ((p : Id) → released_in p e ≡ []) → (os : List Id) → AllByRecursion (λ p. releases_of p before ≡ []) os → AllByRecursion (λ p. releases_of p (before ++ e ∷ []) ≡ []) os
+all_unreleased before e hr [] h = tt
+all_unreleased before e hr (o ∷ os) h = (unchanged (released_in o) before e (hr o) ∙ h.0, all_unreleased before e hr os h.1)
+
+pub unreleased_on : (before : List Entry) (o : Id) (e : Entry) → born_in e ≡ [] → ((p : Id) → released_in p e ≡ []) → AreUnreleased before o → AreUnreleased (before ++ e ∷ []) o
+unreleased_on before o e hb hr h =
+    subst (λ bs. AllByRecursion (λ p. releases_of p (before ++ e ∷ []) ≡ []) (objects_at bs o)) (sym (births_kept before e hb)) (all_unreleased before e hr (objects_at (births before) o) h)
+
+as_many : (n r : ℕ) → ◌≡◌ {A = ℕ} (if n == n then r else 0) r
+as_many n r = let e : (n == n) ≡ true = grind (arith, nat_tests) in ap {B = ℕ} (λ t. if t then r else 0) e
 
 -- the attempt still goes on behind an entry that is no answer, end or fault of it
 pub replays_on : (s : Setting) (before : List Entry) (a : Attempt) (base : Id) (p : Piece) (e : Entry) → got_in a e ≡ [] → ended_in a e ≡ [] → faulted_in a e ≡ [] →
@@ -77,27 +92,27 @@ module _ (s : Setting) (a : Attempt) (base : Id) (p : Piece) where
   )
 
   pub bears : (before : List Entry) (next : Id) (b : Birth) (bs : List Birth) (vs : List Value) → IsOwnCommit before a next.owner → IsLeft s before a base next p (b ∷ bs) vs →
-      MayBear s before next a b × IsLeft s (before ++ Born next a b ∷ []) a base (next_id next) p bs vs
+      MayBear s before next a b × IsLeft s (before ++ Born next a b ∷ []) a base (behind next b) p bs vs
   bears before next b bs vs o h =
       let x : Bearing = record { object = next; birth = b } in
       let e = Born next a b in
       let own : own_births a (before ++ e ∷ []) ≡ own_births a before ++ x ∷ [] = word_push (own_in a) before e ∙ ap (λ t. own_births a before ++ (if t then x ∷ [] else [])) (same_attempt-refl a) in
       let m = next_serial-push next.owner (births before) x in
-      let n = one next.owner in
+      let n = as_many next.owner (results_of b) in
       let k = h.fresh in
-      let l : next.serial + 1 ≡ next_serial next.owner (births before ++ x ∷ []) = omega (arith, k, m, n) in (
+      let l : next.serial + results_of b ≡ next_serial next.owner (births before ++ x ∷ []) = omega (arith, k, m, n) in (
         record {
           job = o;
           base = base;
           p = p;
           replays = h.replays;
-          own = begins_with (own_births a before) x (numbered (next_id next) bs) (numbered base p.births) h.own;
+          own = begins_with (own_births a before) x (numbered (behind next b) bs) (numbered base p.births) h.own;
           next = h.fresh;
         },
         record {
           replays = replays_on s before a base p e refl refl refl h.replays;
           fresh = l ∙ ap (λ xs. next_serial next.owner xs) (sym (births_push before e));
-          own = ap (λ xs. xs ++ numbered (next_id next) bs) own ∙ append_assoc (own_births a before) (x ∷ []) (numbered (next_id next) bs) ∙ h.own;
+          own = ap (λ xs. xs ++ numbered (behind next b) bs) own ∙ append_assoc (own_births a before) (x ∷ []) (numbered (behind next b) bs) ∙ h.own;
           prints = ap (λ xs. xs ++ vs) (unchanged (printed_in a) before e refl) ∙ h.prints;
           of_main = h.of_main;
         },
@@ -148,4 +163,4 @@ pub left_is_allowed : (s : Setting) (before : List Entry) (a : Attempt) (base ne
 left_is_allowed s before a base next p [] vs o h = prints_if_main s a base p before next vs h.of_main o h
 left_is_allowed s before a base next p (b ∷ bs) vs o h =
     let r = bears s a base p before next b bs vs o h in
-    (r.0, left_is_allowed s (before ++ Born next a b ∷ []) a base (next_id next) p bs vs (own_commit-plain before (Born next a b) a next.owner refl o) r.1)
+    (r.0, left_is_allowed s (before ++ Born next a b ∷ []) a base (behind next b) p bs vs (own_commit-plain before (Born next a b) a next.owner refl o) r.1)

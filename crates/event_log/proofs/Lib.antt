@@ -14,3 +14,5 @@ pub mod ClaimLaws
 pub mod FreshLaws
 pub mod Beginning
 pub mod CauseLaws
+pub mod SingleLaws
+pub mod OneResult

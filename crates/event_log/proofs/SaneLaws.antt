@@ -3,10 +3,10 @@ use Rattle.std.proofs.Common.{◌≡◌, ℕ, zero, suc, ◌+◌, ◌<◌, ◌�
 use Rattle.std.specs.Prelude.{if◌then◌else◌, ◌==◌, slice_get}
 use Rattle.std.specs.List.{flat_map}
 use Rattle.std.proofs.lemmas.Bool.Decides.{nat_tests}
-use Rattle.meaning.specs.Values.{Outcome, Birth, Id}
-use Rattle.meaning.specs.Births.{same_id, Bearing, birth_at}
+use Rattle.meaning.specs.Values.{Outcome, results_of, Id}
+use Rattle.meaning.specs.Births.{same_id, Bearing, is_made_by, Part, part_of, part_at, IsFirstOf, AreGrouped}
 use Rattle.meaning.specs.Readings.{IsBorn}
-use Rattle.meaning.proofs.BirthLaws.{same_id-true, same_id-refl, at_test, or_else, birth_at-push}
+use Rattle.meaning.proofs.BirthLaws.{same_id-true, same_id-refl, at_test, or_else, part_at-push, made_owner, made_from, made_below, grouped_push, none_grouped}
 use Rattle.event_log.specs.Entries.{Attempt, Entry, Begun, Born, Ended, Accepted, Faulted, Resolved, Released, main_attempt}
 use Rattle.event_log.specs.Words.{same_attempt, births, born_in, main_bearing, next_serial, run_in, runs_of, worker_of, ended_in, ends_of, Lack, faulted_in, faults_of, accepted_in, accepts_of, resolved_in, resolves_of, released_in, releases_of}
 use Rattle.event_log.specs.Events.{node_of}
@@ -61,15 +61,15 @@ no_length xs e = ap (λ ys. length ys) e
 -- ---- what was begun
 
 abbrev pub BegunWell : List Entry → Type 0
-BegunWell log = (o : Id) (k w : ℕ) → slice_get (runs_of o log) k ≡ Some w → IsBorn (births log) o × ((n : ℕ) × (node_of w log ≡ Some n))
+BegunWell log = (o : Id) (k w : ℕ) → slice_get (runs_of o log) k ≡ Some w → IsFirstOf (births log) o × ((n : ℕ) × (node_of w log ≡ Some n))
 
-begun_now : (s : Setting) (before : List Entry) (x : Entry) → Allowed s before x → (o : Id) (j w : ℕ) → slice_get (run_in o x) j ≡ Some w → IsBorn (births before) o × ((n : ℕ) × (node_of w before ≡ Some n))
+begun_now : (s : Setting) (before : List Entry) (x : Entry) → Allowed s before x → (o : Id) (j w : ℕ) → slice_get (run_in o x) j ≡ Some w → IsFirstOf (births before) o × ((n : ℕ) × (node_of w before ≡ Some n))
 begun_now s before (Begun a v) h o j w e =
     let f = one_at (same_id a.object o) v w j e in
-    (subst (λ p. IsBorn (births before) p) (same_id-true a.object o f.0) (_, h.born), subst (λ u. (n : ℕ) × (node_of u before ≡ Some n)) f.1 (h.node, h.place))
+    (subst (λ p. IsFirstOf (births before) p) (same_id-true a.object o f.0) (_, h.born), subst (λ u. (n : ℕ) × (node_of u before ≡ Some n)) f.1 (h.node, h.place))
 begun_now s before x h o j w e = absurd (none_at j w e)
 
-begun_more : (before : List Entry) (x : Entry) (o : Id) (w : ℕ) → IsBorn (births before) o × ((n : ℕ) × (node_of w before ≡ Some n)) → IsBorn (births (before ++ x ∷ [])) o × ((n : ℕ) × (node_of w (before ++ x ∷ []) ≡ Some n))
+begun_more : (before : List Entry) (x : Entry) (o : Id) (w : ℕ) → IsFirstOf (births before) o × ((n : ℕ) × (node_of w before ≡ Some n)) → IsFirstOf (births (before ++ x ∷ [])) o × ((n : ℕ) × (node_of w (before ++ x ∷ []) ≡ Some n))
 begun_more before x o w h = ((h.0.0, births-more before (x ∷ []) o h.0.0 h.0.1), (h.1.0, node_of-more before (x ∷ []) w h.1.0 h.1.1))
 
 pub begun_step : (s : Setting) (before : List Entry) (x : Entry) → BegunWell before → Allowed s before x → BegunWell (before ++ x ∷ [])
@@ -78,7 +78,7 @@ begun_step s before x p h o k w e = begun_more before x o w (elim (word_last (ru
 pub begun_first : BegunWell opening
 begun_first o k w e =
     let f = one_at (same_id main_attempt.object o) 1 w k (subst (λ xs. slice_get xs k ≡ Some w) (append-nil (run_in o (Begun main_attempt 1))) e) in
-    (subst (λ p. IsBorn (births opening) p) (same_id-true main_attempt.object o f.0) (_, ap (λ t. if t then Some main_bearing.birth else None) (same_id-refl main_attempt.object)), subst (λ u. (n : ℕ) × (node_of u opening ≡ Some n)) f.1 (1, refl))
+    (subst (λ p. IsFirstOf (births opening) p) (same_id-true main_attempt.object o f.0) (_, ap (λ t. if t then Some main_bearing.birth else None) (same_id-refl main_attempt.object)), subst (λ u. (n : ℕ) × (node_of u opening ≡ Some n)) f.1 (1, refl))
 
 -- ---- what ended, has a fault or was accepted
 
@@ -89,9 +89,9 @@ worker-more : (before : List Entry) (x : Entry) (a : Attempt) → HasWorker befo
 worker-more before x a h = (h.0, word-more (run_in a.object) before (x ∷ []) a.number h.0 h.1)
 
 abbrev EndedWell : List Entry → Type 0
-EndedWell log = (a : Attempt) (k : ℕ) (c : Outcome) → slice_get (ends_of a log) k ≡ Some c → HasWorker log a
+EndedWell log = (a : Attempt) (k : ℕ) (c : List Outcome) → slice_get (ends_of a log) k ≡ Some c → HasWorker log a
 
-ended_now : (s : Setting) (before : List Entry) (x : Entry) → Allowed s before x → (a : Attempt) (j : ℕ) (c : Outcome) → slice_get (ended_in a x) j ≡ Some c → HasWorker before a
+ended_now : (s : Setting) (before : List Entry) (x : Entry) → Allowed s before x → (a : Attempt) (j : ℕ) (c : List Outcome) → slice_get (ended_in a x) j ≡ Some c → HasWorker before a
 ended_now s before (Ended b d) h a j c e = subst (λ p. HasWorker before p) (same_attempt-true b a (one_at (same_attempt b a) d c j e).0) (h.worker, h.job.runs)
 ended_now s before x h a j c e = absurd (none_at j c e)
 
@@ -109,7 +109,7 @@ faulted_step : (s : Setting) (before : List Entry) (x : Entry) → FaultedWell b
 faulted_step s before x p h a k l e = worker-more before x a (elim (word_last (faulted_in a) before x k l e) [ inl old ↦ p a k l old | inr new ↦ faulted_now s before x h a new.0 l new.1 ])
 
 abbrev HasEnd : List Entry → Attempt → Type 0
-HasEnd log a = (c : Outcome) × Among c (ends_of a log)
+HasEnd log a = (cs : List Outcome) × Among cs (ends_of a log)
 
 end-more : (before : List Entry) (x : Entry) (a : Attempt) → HasEnd before a → HasEnd (before ++ x ∷ []) a
 end-more before x a h = (h.0, (h.1.0, word-more (ended_in a) before (x ∷ []) h.1.0 h.0 h.1.1))
@@ -118,7 +118,7 @@ abbrev AcceptedWell : List Entry → Type 0
 AcceptedWell log = (a : Attempt) (k : ℕ) (b : Attempt) → slice_get (accepts_of a log) k ≡ Some b → HasEnd log a
 
 accepted_now : (s : Setting) (before : List Entry) (x : Entry) → Allowed s before x → (a : Attempt) (j : ℕ) (b : Attempt) → slice_get (accepted_in a x) j ≡ Some b → HasEnd before a
-accepted_now s before (Accepted d) h a j b e = subst (λ p. HasEnd before p) (same_attempt-true d a (one_at (same_attempt d a) d b j e).0) (h.content, h.ended)
+accepted_now s before (Accepted d) h a j b e = subst (λ p. HasEnd before p) (same_attempt-true d a (one_at (same_attempt d a) d b j e).0) (h.contents, h.ended)
 accepted_now s before x h a j b e = absurd (none_at j b e)
 
 accepted_step : (s : Setting) (before : List Entry) (x : Entry) → AcceptedWell before → Allowed s before x → AcceptedWell (before ++ x ∷ [])
@@ -194,42 +194,65 @@ released_once s before x p h o = once_by (released_in o) before x (released_firs
 -- ---- serials
 
 abbrev Bound : List Bearing → Type 0
-Bound bs = (o : Id) (b : Birth) → birth_at bs o ≡ Some b → o.serial < next_serial o.owner bs
+Bound bs = (o : Id) → IsBorn bs o → o.serial < next_serial o.owner bs
 
-one_more : (n : ℕ) → ◌≡◌ {A = ℕ} (if n == n then 1 else 0) 1
-one_more n = let e : (n == n) ≡ true = grind (arith, nat_tests) in ap {B = ℕ} (λ t. if t then 1 else 0) e
+as_many : (n r : ℕ) → ◌≡◌ {A = ℕ} (if n == n then r else 0) r
+as_many n r = let e : (n == n) ≡ true = grind (arith, nat_tests) in ap {B = ℕ} (λ t. if t then r else 0) e
 
--- the new birth, where there was none of the object
-bound_new : (bs : List Bearing) (x : Bearing) (o : Id) (b : Birth) → x.object.serial ≡ next_serial x.object.owner bs → birth_at (x ∷ []) o ≡ Some b → o.serial < next_serial o.owner (bs ++ x ∷ [])
-bound_new bs x o b next e =
-    at_test (λ t. (if t then Some x.birth else None) ≡ Some b → o.serial < next_serial o.owner (bs ++ x ∷ [])) (same_id x.object o)
-    (λ t _. subst (λ (p : Id). p.serial < next_serial p.owner (bs ++ x ∷ [])) (same_id-true x.object o t)
-    (let m = next_serial-push x.object.owner bs x in let n = one_more x.object.owner in omega (arith, m, n, next)))
-    (λ t k. absurd (cc)) e
+-- the new birth's objects
+bound_made : (bs : List Bearing) (x : Bearing) (o : Id) → x.object.serial ≡ next_serial x.object.owner bs → is_made_by x o ≡ true → o.serial < next_serial o.owner (bs ++ x ∷ [])
+bound_made bs x o next m =
+    let k = made_below x o m in
+    let i = next_serial-push x.object.owner bs x in
+    let n = as_many x.object.owner (results_of x.birth) in
+    let here : o.serial < next_serial x.object.owner (bs ++ x ∷ []) = omega (arith, k, i, n, next) in
+    subst (λ w. o.serial < next_serial w (bs ++ x ∷ [])) (made_owner x o m) here
 
-bound_by : (bs : List Bearing) (x : Bearing) (o : Id) (b : Birth) (p : Option Birth) → x.object.serial ≡ next_serial x.object.owner bs → ((c : Birth) → p ≡ Some c → o.serial < next_serial o.owner bs) →
-    or_else p (birth_at (x ∷ []) o) ≡ Some b → o.serial < next_serial o.owner (bs ++ x ∷ [])
-bound_by bs x o b None next old e = bound_new bs x o b next e
-bound_by bs x o b (Some c) next old e = let k = old c refl in let m = next_serial-push o.owner bs x in omega (arith, k, m)
+-- one of them, where there was none of the object
+bound_new : (bs : List Bearing) (x : Bearing) (o : Id) (p : Part) → x.object.serial ≡ next_serial x.object.owner bs → part_at (x ∷ []) o ≡ Some p → o.serial < next_serial o.owner (bs ++ x ∷ [])
+bound_new bs x o p next e =
+    at_test (λ t. (if t then Some (part_of x o) else None) ≡ Some p → (t ≡ true → o.serial < next_serial o.owner (bs ++ x ∷ [])) → o.serial < next_serial o.owner (bs ++ x ∷ [])) (is_made_by x o)
+    (λ t _ f. f refl) (λ t k f. absurd (cc)) e (bound_made bs x o next)
+
+bound_by : (bs : List Bearing) (x : Bearing) (o : Id) (p : Part) (q : Option Part) → x.object.serial ≡ next_serial x.object.owner bs → ((c : Part) → q ≡ Some c → o.serial < next_serial o.owner bs) →
+    or_else q (part_at (x ∷ []) o) ≡ Some p → o.serial < next_serial o.owner (bs ++ x ∷ [])
+bound_by bs x o p None next old e = bound_new bs x o p next e
+bound_by bs x o p (Some c) next old e = let k = old c refl in let m = next_serial-push o.owner bs x in omega (arith, k, m)
 
 bound_push : (bs : List Bearing) (x : Bearing) → x.object.serial ≡ next_serial x.object.owner bs → Bound bs → Bound (bs ++ x ∷ [])
-bound_push bs x next h o b e = bound_by bs x o b (birth_at bs o) next (h o) (sym (birth_at-push bs x o) ∙ e)
+bound_push bs x next h o b = bound_by bs x o b.0 (part_at bs o) next (λ c e. h o (c, e)) (sym (part_at-push bs x o) ∙ b.1)
+
+-- so its objects are new
+new_by : (bs : List Bearing) (x : Bearing) → x.object.serial ≡ next_serial x.object.owner bs → Bound bs → (o : Id) (p : Option Part) → is_made_by x o ≡ true → part_at bs o ≡ p → p ≡ None
+new_by bs x next bound o None m e = refl
+new_by bs x next bound o (Some p) m e =
+    let h = bound o (p, e) in
+    let from = made_from x o m in
+    let same_owner = ap (λ w. next_serial w bs) (made_owner x o m) in
+    absurd (omega (arith, h, next, from, same_owner))
+
+-- each owner's serials are given in order, and births keep together
+abbrev pub Ordered : List Bearing → Type 0
+Ordered bs = Bound bs × AreGrouped bs
+
+ordered_push : (bs : List Bearing) (x : Bearing) → x.object.serial ≡ next_serial x.object.owner bs → Ordered bs → Ordered (bs ++ x ∷ [])
+ordered_push bs x next h = (bound_push bs x next h.0, grouped_push bs x (λ o m. new_by bs x next h.0 o (part_at bs o) m refl) h.1)
 
 abbrev SerialsBound : List Entry → Type 0
-SerialsBound log = Bound (births log)
+SerialsBound log = Ordered (births log)
 
 bound_same : (before : List Entry) (x : Entry) → born_in x ≡ [] → SerialsBound before → SerialsBound (before ++ x ∷ [])
-bound_same before x e h = subst (λ bs. Bound bs) (sym (births_push before x ∙ (ap (λ xs. births before ++ xs) e ∙ append-nil (births before)))) h
+bound_same before x e h = subst (λ bs. Ordered bs) (sym (births_push before x ∙ (ap (λ xs. births before ++ xs) e ∙ append-nil (births before)))) h
 
 bound_step : (s : Setting) (before : List Entry) (x : Entry) → SerialsBound before → Allowed s before x → SerialsBound (before ++ x ∷ [])
-bound_step s before (Born o a b) p h = subst (λ bs. Bound bs) (sym (births_push before (Born o a b))) (bound_push (births before) (record { object = o; birth = b }) h.next p)
+bound_step s before (Born o a b) p h = subst (λ bs. Ordered bs) (sym (births_push before (Born o a b))) (ordered_push (births before) (record { object = o; birth = b }) h.next p)
 bound_step s before x p h = bound_same before x refl p
 
 bound_nothing : Bound []
-bound_nothing o b e = absurd (cc)
+bound_nothing o b = let e = b.1 in absurd (cc)
 
 bound_first : SerialsBound opening
-bound_first = bound_push [] main_bearing refl bound_nothing
+bound_first = ordered_push [] main_bearing refl (bound_nothing, none_grouped)
 
 -- ---- the opening
 
@@ -247,7 +270,8 @@ pub legal_logs_are_sane : LegalLogsAreSane
 legal_logs_are_sane s log h = record {
   driver = always (λ l. node_of 1 l ≡ Some 1) driver_step s log refl h;
   main = always (λ l. worker_of main_attempt l ≡ Some 1) main_step s log main_first h;
-  serials = always SerialsBound bound_step s log bound_first h;
+  serials = (always SerialsBound bound_step s log bound_first h).0;
+  grouped = (always SerialsBound bound_step s log bound_first h).1;
   born = λ o k w e. (always BegunWell begun_step s log begun_first h o k w e).0;
   opened = λ o k w e. (always BegunWell begun_step s log begun_first h o k w e).1;
   ended = always EndedWell ended_step s log (λ a k c e. absurd (none_at k c e)) h;
@@ -269,7 +293,8 @@ pub allowed_sane : (s : Setting) (log es : List Entry) → Legal s log → EachA
 allowed_sane s log es h a = record {
   driver = each_keeps (λ l. node_of 1 l ≡ Some 1) driver_step s es log (always (λ l. node_of 1 l ≡ Some 1) driver_step s log refl h) a;
   main = each_keeps (λ l. worker_of main_attempt l ≡ Some 1) main_step s es log (always (λ l. worker_of main_attempt l ≡ Some 1) main_step s log main_first h) a;
-  serials = each_keeps SerialsBound bound_step s es log (always SerialsBound bound_step s log bound_first h) a;
+  serials = (each_keeps SerialsBound bound_step s es log (always SerialsBound bound_step s log bound_first h) a).0;
+  grouped = (each_keeps SerialsBound bound_step s es log (always SerialsBound bound_step s log bound_first h) a).1;
   born = λ o k w e. (each_keeps BegunWell begun_step s es log (always BegunWell begun_step s log begun_first h) a o k w e).0;
   opened = λ o k w e. (each_keeps BegunWell begun_step s es log (always BegunWell begun_step s log begun_first h) a o k w e).1;
   ended = each_keeps EndedWell ended_step s es log (always EndedWell ended_step s log (λ a k c e. absurd (none_at k c e)) h) a;

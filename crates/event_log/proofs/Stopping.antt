@@ -1,7 +1,7 @@
 -- Where an attempt stops, behind a commit and behind entries of others.
 use Rattle.std.proofs.Common.{◌≡◌, ℕ, List, [], ◌∷◌, ◌++◌, ◌⊎◌, inl, inr, refl, sym, ◌∙◌, subst, append-nil, append_assoc}
 use Rattle.meaning.specs.Values.{Value, Birth, Id}
-use Rattle.meaning.specs.Runs.{Stop, Needs, Over, Piece, next_id}
+use Rattle.meaning.specs.Runs.{Stop, Needs, Over, Piece, behind}
 use Rattle.event_log.specs.Entries.{Attempt, Commit, Entry, In, Born, Printed, main_attempt}
 use Rattle.event_log.specs.Words.{own_in, own_births, got_in, printed_in, printed_by, ended_in, faulted_in}
 use Rattle.event_log.specs.Rules.{Setting, Stops, IsOwnCommit}
@@ -56,8 +56,8 @@ stop_from : (s : Setting) (a : Attempt) (base next : Id) (p : Piece) (r : Value)
     IsLeft s before a base next p news vs → Stops s (before ++ commit_entries a next news vs p.stop) a p.stop
 stop_from s a base next p r e before [] vs o h = print_or_stop s a base next p r e before vs h.of_main o h
 stop_from s a base next p r e before (b ∷ bs) vs o h =
-    subst (λ x. Stops s x a p.stop) (append_assoc before (Born next a b ∷ []) (commit_entries a (next_id next) bs vs p.stop))
-    (stop_from s a base (next_id next) p r e (before ++ Born next a b ∷ []) bs vs (own_commit-plain before (Born next a b) a next.owner refl o) (bears s a base p before next b bs vs o h).1)
+    subst (λ x. Stops s x a p.stop) (append_assoc before (Born next a b ∷ []) (commit_entries a (behind next b) bs vs p.stop))
+    (stop_from s a base (behind next b) p r e (before ++ Born next a b ∷ []) bs vs (own_commit-plain before (Born next a b) a next.owner refl o) (bears s a base p before next b bs vs o h).1)
 
 -- behind a commit that stops at a get, the attempt needs what it gets
 pub stops_after_commit : (s : Setting) (log : List Entry) (j seat : ℕ) (a : Attempt) (base next : Id) (p : Piece) (news : List Birth) (vs : List Value) (r : Value) → p.stop ≡ Needs r →

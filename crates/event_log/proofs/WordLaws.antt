@@ -4,7 +4,7 @@ use Rattle.std.specs.Prelude.{if◌then◌else◌, ◌==◌}
 use Rattle.std.specs.List.{flat_map}
 use Rattle.std.proofs.lemmas.List.Concat.{flat_map-append}
 use Rattle.std.proofs.lemmas.Bool.Decides.{nat_tests}
-use Rattle.meaning.specs.Values.{Value, Outcome, Id}
+use Rattle.meaning.specs.Values.{Value, Outcome, results_of, Id}
 use Rattle.meaning.specs.Births.{same_id, Bearing}
 use Rattle.meaning.proofs.BirthLaws.{same_id-true, same_id-refl}
 use Rattle.event_log.specs.Entries.{Attempt, Entry}
@@ -18,7 +18,7 @@ pub record Deeds : Type 0 where
   pub answers : List Outcome
   pub answered : List Received
   pub prints : List Value
-  pub ends : List Outcome
+  pub ends : List (List Outcome)
   pub faults : List Lack
 
 abbrev pub deeds : Attempt → List Entry → Deeds
@@ -33,7 +33,7 @@ join d x = record { answers = d.answers ++ x.answers; answered = d.answered ++ x
 abbrev pub nothing_done : Deeds
 nothing_done = record { answers = []; answered = []; prints = []; ends = []; faults = [] }
 
-pub deeds_parts : (a a' : List Outcome) (b b' : List Received) (c c' : List Value) (d d' : List Outcome) (e e' : List Lack) → a ≡ a' → b ≡ b' → c ≡ c' → d ≡ d' → e ≡ e' →
+pub deeds_parts : (a a' : List Outcome) (b b' : List Received) (c c' : List Value) (d d' : List (List Outcome)) (e e' : List Lack) → a ≡ a' → b ≡ b' → c ≡ c' → d ≡ d' → e ≡ e' →
     ◌≡◌ {A = Deeds} (record { answers = a; answered = b; prints = c; ends = d; faults = e }) (record { answers = a'; answered = b'; prints = c'; ends = d'; faults = e' })
 deeds_parts a a' b b' c c' d d' e e' ea eb ec ed ee = cc
 
@@ -60,6 +60,6 @@ pub same_attempt-refl : (a : Attempt) → same_attempt a a ≡ true
 unfolding same_attempt
 same_attempt-refl a = grind (arith, nat_tests, same_id-refl a.object)
 
-pub next_serial-push : (w : ℕ) (xs : List Bearing) (x : Bearing) → next_serial w (xs ++ x ∷ []) ≡ next_serial w xs + (if x.object.owner == w then 1 else 0)
+pub next_serial-push : (w : ℕ) (xs : List Bearing) (x : Bearing) → next_serial w (xs ++ x ∷ []) ≡ next_serial w xs + (if x.object.owner == w then results_of x.birth else 0)
 next_serial-push w [] x = omega arith
 next_serial-push w (y ∷ xs) x = let e = next_serial-push w xs x in omega arith

@@ -1,8 +1,9 @@
 -- What breaks an attempt, and what causes a fault.
 use Rattle.std.specs.Prelude.{◌≡◌, ℕ, zero, suc, ◌+◌, ◌≤◌, Bool, true, false, ◌&&◌, ◌||◌, if◌then◌else◌, List, [], ◌∷◌, ◌++◌, length, Option, Some}
 use Rattle.std.specs.Prelude.{None, slice_get, not}
+use Rattle.std.specs.List.{list_any}
 use Rattle.meaning.specs.Values.{Value, Argument, Put, Task, Id}
-use Rattle.meaning.specs.Births.{birth_at}
+use Rattle.meaning.specs.Births.{birth_at, Part, part_at, objects_at}
 use Rattle.event_log.specs.Entries.{Attempt, FaultKind, OwnerDied, PutLost, RetriesUsed, Fault, Event, Entry, In, Ended}
 use Rattle.event_log.specs.Words.{same_attempt, attempt, births, runs_of, worker_of, accepts_of}
 use Rattle.event_log.specs.Events.{refused_next, kills, kills_node, loses, node_of, is_killed, was_lost}
@@ -13,19 +14,20 @@ Among x xs = (k : ℕ) × (slice_get xs k ≡ Some x)
 
 -- the entry is the attempt's end
 abbrev pub is_end_of : Attempt → Entry → Bool
-is_end_of a (Ended b c) = same_attempt b a
+is_end_of a (Ended b cs) = same_attempt b a
 is_end_of a _ = false
 
--- an attempt as one that can break: its worker and node, and whether it was accepted
+-- an attempt as one that can break: its worker and node, whether it was accepted, and the objects that it makes
 pub record Standing : Type 0 where
   pub attempt : Attempt
   pub worker : ℕ
   pub node : ℕ
   pub is_accepted : Bool
+  pub objects : List Id
 
--- a kill of its worker, unless it was accepted; or, where it has ended, a kill of its node or a loss of its object there
+-- a kill of its worker, unless it was accepted; or, where it has ended, a kill of its node or a loss of one of its objects there
 abbrev pub breaks : Standing → Bool → Event → Bool
-breaks s has_ended e = (kills s.worker s.node e && not s.is_accepted) || (has_ended && (kills_node s.node e || loses s.node s.attempt.object e))
+breaks s has_ended e = (kills s.worker s.node e && not s.is_accepted) || (has_ended && (kills_node s.node e || list_any (λ o. loses s.node o e) s.objects))
 
 -- the places of the accepted events that break it, the first entry's place being k
 unfoldable pub breaks_from : Standing → ℕ → Bool → List Entry → List ℕ
@@ -46,17 +48,19 @@ unfoldable pub breaks_of : Attempt → List Entry → List ℕ
 breaks_of a log =
     at_worker (worker_of a log) [] (λ w.
     at_worker (node_of w log) [] (λ n.
-    breaks_from (record { attempt = a; worker = w; node = n; is_accepted = is_some (accepts_of a log) }) 0 false log))
+    breaks_from
+    (record { attempt = a; worker = w; node = n; is_accepted = is_some (accepts_of a log); objects = objects_at (births log) a.object })
+    0 false log))
 
 abbrev pub Broken : List Entry → Attempt → Type 0
 Broken log a = (place : ℕ) × Among place (breaks_of a log)
 
--- the object's attempts below the number are broken
+-- the attempts of the task with this first object below the number are broken
 abbrev pub AllBroken : List Entry → Id → ℕ → Type 0
 AllBroken log o zero = Unit {0}
 AllBroken log o (suc number) = AllBroken log o number × Broken log (attempt o number)
 
--- from that attempt and place on, the object's attempts are broken at these places, each behind the one before
+-- from that attempt and place on, the task's attempts are broken at these places, each behind the one before
 abbrev pub BreakRising : List Entry → Id → ℕ → ℕ → List ℕ → Type 0
 BreakRising log o number from [] = Unit {0}
 BreakRising log o number from (place ∷ places) =
@@ -75,15 +79,18 @@ pub record PutIsLost (log : List Entry) (z : Id) : Type 0 where
 
 -- all runs that its task is allowed were begun, and are broken by events at rising places
 pub record RetriesAreUsed (log : List Entry) (z : Id) : Type 0 where
+  pub part : Part
+  pub born : part_at (births log) z ≡ Some part
   pub function : List ℕ
   pub args : List Argument
   pub depth : ℕ
   pub retries : ℕ
-  pub task : birth_at (births log) z ≡ Some (Task function args depth retries)
-  pub begun : length (runs_of z log) ≡ retries + 1
+  pub others : ℕ
+  pub task : part.born.birth ≡ Task function args depth retries others
+  pub begun : length (runs_of part.born.object log) ≡ retries + 1
   pub places : List ℕ
   pub all : length places ≡ retries + 1
-  pub broken : BreakRising log z 0 0 places
+  pub broken : BreakRising log part.born.object 0 0 places
 
 -- what caused the fault
 abbrev pub CauseOf : FaultKind → List Entry → Id → Type 0

@@ -4,10 +4,10 @@ use Rattle.meaning.specs.Values.{Outcome, Id, Named}
 use Rattle.meaning.specs.Runs.{Needs}
 use Rattle.meaning.specs.Births.{same_id}
 use Rattle.event_log.specs.Entries.{Attempt, Claim, Entry, Got, Accepted, main_object}
-use Rattle.event_log.specs.Words.{worker_of, ends_of, accepts_of, resolves_of}
+use Rattle.event_log.specs.Words.{worker_of, ends_of, accepts_of}
 use Rattle.event_log.specs.Events.{has_job_out, is_live, was_told}
 use Rattle.event_log.specs.Breaks.{Among}
-use Rattle.event_log.specs.Rules.{Setting, Stops, HasContent, IsLast}
+use Rattle.event_log.specs.Rules.{Setting, Stops, HasContent, IsLast, IsUnresolved}
 use Rattle.event_log.specs.Laws.{MayAdd}
 
 -- the worker lives and runs the attempt, which needs the object, whose content this is; it wasn't told that its owner is dead
@@ -21,10 +21,10 @@ pub record CanGet (s : Setting) (log : List Entry) (w : ℕ) (a : Attempt) (y : 
 pub record CanAccept (log : List Entry) (w : ℕ) (b : Attempt) : Type 0 where
   pub owner : b.object.owner ≡ w
   pub not_main : same_id b.object main_object ≡ false
-  pub content : Outcome
-  pub ended : Among content (ends_of b log)
+  pub contents : List Outcome
+  pub ended : Among contents (ends_of b log)
   pub last : IsLast log b
-  pub unresolved : resolves_of b.object log ≡ []
+  pub unresolved : IsUnresolved log b.object
   pub once : accepts_of b log ≡ []
 
 -- the claim of a live worker of which no job is out may stand alone, with an answer, or with what is accepted and an answer

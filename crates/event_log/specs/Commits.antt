@@ -2,7 +2,7 @@
 use Rattle.std.specs.Prelude.{◌≡◌, ℕ, true, false, List, [], ◌∷◌, ◌++◌, ◌⊎◌, Some}
 use Rattle.std.specs.List.{flat_map}
 use Rattle.meaning.specs.Values.{Value, Birth, Id}
-use Rattle.meaning.specs.Runs.{Stop, Needs, Over, Piece, next_id}
+use Rattle.meaning.specs.Runs.{Stop, Needs, Over, Piece, behind}
 use Rattle.meaning.specs.Births.{numbered}
 use Rattle.event_log.specs.Entries.{Attempt, Commit, Entry, In, Born, Printed, Ended, main_attempt}
 use Rattle.event_log.specs.Words.{births, next_serial, own_births, worker_of, printed_by}
@@ -13,9 +13,9 @@ use Rattle.event_log.specs.Laws.{MayAdd}
 
 -- the births, which take ids from `next` on, then the prints, then the end if there is one
 abbrev pub commit_entries : Attempt → Id → List Birth → List Value → Stop → List Entry
-commit_entries a next (b ∷ bs) vs stop = Born next a b ∷ commit_entries a (next_id next) bs vs stop
+commit_entries a next (b ∷ bs) vs stop = Born next a b ∷ commit_entries a (behind next b) bs vs stop
 commit_entries a next [] (v ∷ vs) stop = Printed v ∷ commit_entries a next [] vs stop
-commit_entries a next [] [] (Over c) = Ended a c ∷ []
+commit_entries a next [] [] (Over cs) = Ended a cs ∷ []
 commit_entries a next [] [] (Needs r) = []
 
 -- what is left to log of an attempt: its births and prints so far, followed by the new ones, are those of its replay

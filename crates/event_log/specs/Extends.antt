@@ -1,18 +1,19 @@
 -- What stays true of a log as it grows.
 use Rattle.std.specs.Prelude.{◌≡◌, ℕ, true, false, List, ◌++◌, slice_get, Some}
 use Rattle.meaning.specs.Values.{Outcome, Birth, Id}
-use Rattle.meaning.specs.Births.{birth_at}
+use Rattle.meaning.specs.Births.{birth_at, Part, part_at}
 use Rattle.event_log.specs.Entries.{Attempt, Fault, Entry}
 use Rattle.event_log.specs.Words.{births, bearers_of, runs_of, answers_of, ends_of, Lack, faults_of, accepts_of, resolves_of, releases_of, opened}
 use Rattle.event_log.specs.Events.{refused_next, claims, commits, node_is_killed, is_killed, was_told, was_lost}
 
 -- whatever the one says of births, attempts, objects, workers and jobs, the other says too
 pub record Extends (log later : List Entry) : Type 0 where
+  pub parts : (o : Id) (p : Part) → part_at (births log) o ≡ Some p → part_at (births later) o ≡ Some p
   pub births : (o : Id) (b : Birth) → birth_at (births log) o ≡ Some b → birth_at (births later) o ≡ Some b
   pub bearers : (o : Id) (k : ℕ) (a : Attempt) → slice_get (bearers_of o log) k ≡ Some a → slice_get (bearers_of o later) k ≡ Some a
   pub runs : (o : Id) (k w : ℕ) → slice_get (runs_of o log) k ≡ Some w → slice_get (runs_of o later) k ≡ Some w
   pub answers : (a : Attempt) (k : ℕ) (c : Outcome) → slice_get (answers_of a log) k ≡ Some c → slice_get (answers_of a later) k ≡ Some c
-  pub ends : (a : Attempt) (k : ℕ) (c : Outcome) → slice_get (ends_of a log) k ≡ Some c → slice_get (ends_of a later) k ≡ Some c
+  pub ends : (a : Attempt) (k : ℕ) (cs : List Outcome) → slice_get (ends_of a log) k ≡ Some cs → slice_get (ends_of a later) k ≡ Some cs
   pub faults : (a : Attempt) (k : ℕ) (x : Lack) → slice_get (faults_of a log) k ≡ Some x → slice_get (faults_of a later) k ≡ Some x
   pub accepts : (a : Attempt) (k : ℕ) (b : Attempt) → slice_get (accepts_of a log) k ≡ Some b → slice_get (accepts_of a later) k ≡ Some b
   pub resolves : (o : Id) (k : ℕ) (f : Fault) → slice_get (resolves_of o log) k ≡ Some f → slice_get (resolves_of o later) k ≡ Some f

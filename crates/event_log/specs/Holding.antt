@@ -1,8 +1,8 @@
 -- Which objects are held, and so are not released.
-use Rattle.std.specs.Prelude.{◌≡◌, ℕ, Bool, true, false, ◌&&◌, ◌||◌, if◌then◌else◌, List, [], ◌∷◌, ◌++◌, Option, Some, None, not}
+use Rattle.std.specs.Prelude.{◌≡◌, ℕ, Bool, true, false, ◌&&◌, ◌||◌, if◌then◌else◌, List, [], ◌∷◌, ◌++◌, Option, Some, None, slice_get, not}
 use Rattle.std.specs.List.{list_any}
 use Rattle.meaning.specs.Values.{Value, Outcome, Val, Argument, Birth, Put, Task, Id}
-use Rattle.meaning.specs.Births.{same_id, birth_at}
+use Rattle.meaning.specs.Births.{same_id, is_made_by, Part, part_at, objects_in, objects_at}
 use Rattle.values.specs.Listed.{ids_listed, ids_in_outcome}
 use Rattle.event_log.specs.Entries.{Attempt, Entry, Begun, Born, Got, Ended, main_object}
 use Rattle.event_log.specs.Words.{attempt, births, Lineage, lines, worker_of, ends_of, faults_of, accepts_of, releases_of}
@@ -20,7 +20,8 @@ anchored_from log found [] = found
 anchored_from log found (x ∷ xs) =
     anchored_from log (if is_live x.object.owner log && is_one_of found x.bearer.object then found ++ x.object ∷ [] else found) xs
 
--- the objects whose owner lives and that are main's own or of which the object of the attempt that bore them is anchored
+-- the objects whose owner lives and that are main's own or of which the object of the attempt that bore them is anchored; of one
+-- birth all are anchored or none, and the first stands for all
 unfoldable pub anchored : List Entry → List Id
 anchored log = anchored_from log (if is_live 1 log then main_object ∷ [] else []) (lines log)
 
@@ -36,24 +37,33 @@ ids_of_arguments (a ∷ args) = ids_listed a.value ++ ids_of_arguments args
 -- the ids in a put value or in a task's arguments
 abbrev pub ids_of_birth : Birth → List Id
 ids_of_birth (Put v) = ids_listed v
-ids_of_birth (Task g args depth retries) = ids_of_arguments args
+ids_of_birth (Task g args depth retries others) = ids_of_arguments args
 
--- the object's put value or arguments have the id, or a content with which an attempt of it ended
+abbrev pub ids_of_outcomes : List Outcome → List Id
+ids_of_outcomes [] = []
+ids_of_outcomes (c ∷ cs) = ids_in_outcome c ++ ids_of_outcomes cs
+
+-- the object's put value or arguments have the id, or one of the contents with which an attempt of its task ended
 pub data HasId (log : List Entry) (e z : Id) : Type 0 where
-  InBirth : (birth : Birth) → birth_at (births log) e ≡ Some birth → Among z (ids_of_birth birth) → HasId log e z
-  InContent : (number : ℕ) (c : Outcome) → Among c (ends_of (attempt e number) log) → Among z (ids_in_outcome c) → HasId log e z
+  InBirth : (part : Part) → part_at (births log) e ≡ Some part → Among z (ids_of_birth part.born.birth) → HasId log e z
+  InContents :
+      (part : Part) (number : ℕ) (cs : List Outcome) → part_at (births log) e ≡ Some part → Among cs (ends_of (attempt part.born.object number) log) →
+      Among z (ids_of_outcomes cs) → HasId log e z
 
 -- ---- safe ids
 
--- the attempt made that content of the object: it put it, or ended with it
+-- the attempt made that content of the object: it put it, or ended with it in its place
 pub data Makes (log : List Entry) (b : Attempt) (y : Id) : Outcome → Type 0 where
   ByPut : (v : Value) → Among (Born y b (Put v)) log → Makes log b y (Val v)
-  ByEnd : (c : Outcome) → b.object ≡ y → Among (Ended b c) log → Makes log b y c
+  ByEnd :
+      (part : Part) (cs : List Outcome) (c : Outcome) → part_at (births log) y ≡ Some part → b.object ≡ part.born.object → Among (Ended b cs) log →
+      slice_get cs part.place ≡ Some c → Makes log b y c
 
 -- an id is safe in an attempt where the owners of all objects by which it came there live
 pub data Safe (log : List Entry) : Attempt → Id → Type 0 where
   -- the attempt bore it
-  Bore : (a : Attempt) (z : Id) (birth : Birth) → Among (Born z a birth) log → Safe log a z
+  Bore :
+      (a : Attempt) (z o : Id) (birth : Birth) → Among (Born o a birth) log → is_made_by (record { object = o; birth = birth }) z ≡ true → Safe log a z
   -- it stands in the arguments, the owner of the attempt's object lives, and it is safe in the attempt that bore that object
   Given : (a b : Attempt) (z : Id) (birth : Birth) → Among (Born a.object b birth) log → Among z (ids_of_birth birth) → is_live a.object.owner log ≡ true →
       Safe log b z → Safe log a z
@@ -65,6 +75,10 @@ pub data Safe (log : List Entry) : Attempt → Id → Type 0 where
 
 abbrev pub is_released : Id → List Entry → Bool
 is_released o log = is_some (releases_of o log)
+
+abbrev pub are_released : List Id → List Entry → Bool
+are_released [] log = true
+are_released (o ∷ os) log = is_released o log && are_released os log
 
 -- the attempt neither ended nor has a fault
 abbrev pub is_open : Attempt → List Entry → Bool
@@ -82,10 +96,12 @@ pub data IsHeld (z : Id) (log : List Entry) : Type 0 where
   -- by an open attempt of an anchored object, on a live worker, in which it is safe
   ByAttempt : (a : Attempt) (w : ℕ) → Among (Begun a w) log → is_anchored a.object log ≡ true → is_live w log ≡ true → is_open a log ≡ true →
       Safe log a z → IsHeld z log
-  -- by an anchored object that isn't released and has it in its arguments or put value, where it is safe in the attempt that bore that object
-  ByBirth : (e : Id) (b : Attempt) (birth : Birth) → Among (Born e b birth) log → is_anchored e log ≡ true → is_released e log ≡ false →
-      Among z (ids_of_birth birth) → Safe log b z → IsHeld z log
-  -- by an anchored object that isn't released, an attempt of which ended with a content that has it, where it is safe in that attempt, which
-  -- was accepted or its worker lives
-  ByContent : (a : Attempt) (c : Outcome) → Among (Ended a c) log → is_anchored a.object log ≡ true → is_released a.object log ≡ false →
-      may_count a log ≡ true → Among z (ids_in_outcome c) → Safe log a z → IsHeld z log
+  -- by an anchored object that has it in its arguments or put value, as long as one of its birth's objects isn't released, where it is safe in
+  -- the attempt that bore that object
+  ByBirth : (e : Id) (b : Attempt) (birth : Birth) → Among (Born e b birth) log → is_anchored e log ≡ true →
+      are_released (objects_in (record { object = e; birth = birth })) log ≡ false → Among z (ids_of_birth birth) → Safe log b z → IsHeld z log
+  -- by an anchored object, an attempt of which ended with a content that has it, as long as one of the attempt's objects isn't released, where
+  -- it is safe in that attempt, which was accepted or its worker lives
+  ByContents : (a : Attempt) (cs : List Outcome) → Among (Ended a cs) log → is_anchored a.object log ≡ true →
+      are_released (objects_at (births log) a.object) log ≡ false → may_count a log ≡ true → Among z (ids_of_outcomes cs) → Safe log a z →
+      IsHeld z log

@@ -16,7 +16,7 @@ use Rattle.event_log.specs.Rules.{Receiver, Setting, Replays, Allowed}
 abbrev pub outcome_in : Entry → List Attempt
 outcome_in (Born o a b) = a ∷ []
 outcome_in (Printed v) = main_attempt ∷ []
-outcome_in (Ended a c) = a ∷ []
+outcome_in (Ended a cs) = a ∷ []
 outcome_in _ = []
 
 -- the job was given out and not committed, its worker lives, its attempt runs there, and no other attempt is said to do
@@ -29,9 +29,9 @@ pub record CommitsJob (before : List Entry) (j : ℕ) (a : Attempt) (es : List E
   pub runs : worker_of a before ≡ Some worker
   pub alone : AllByRecursion (λ b. b ≡ a) (flat_map outcome_in es)
 
-abbrev pub end_by : Stop → List Outcome
+abbrev pub end_by : Stop → List (List Outcome)
 end_by (Needs r) = []
-end_by (Over c) = c ∷ []
+end_by (Over cs) = cs ∷ []
 
 -- the entries have all that the attempt's replay on its answers so far bears and prints, and its end, where it ends
 pub record CommitsAll (s : Setting) (before : List Entry) (a : Attempt) (es : List Entry) : Type 0 where

@@ -15,3 +15,4 @@ pub mod Commits
 pub mod Claims
 pub mod Sane
 pub mod Fresh
+pub mod Singles

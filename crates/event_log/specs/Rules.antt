@@ -1,9 +1,10 @@
 -- What each entry of a log needs of those before it.
 use Rattle.std.specs.Prelude.{◌≡◌, ℕ, ◌+◌, ◌≤◌, true, false, List, [], ◌∷◌, ◌++◌, ◌⊎◌, length, slice_get, Option, Some, None}
+use Rattle.std.specs.List.{AllByRecursion}
 use Rattle.meaning.specs.Lists.{IsFirst}
 use Rattle.meaning.specs.Values.{Name, Value, Outcome, Val, Argument, Birth, Put, Task, Id, Named}
 use Rattle.meaning.specs.Runs.{Stop, Needs, Over, Piece}
-use Rattle.meaning.specs.Births.{same_id, numbered, birth_at}
+use Rattle.meaning.specs.Births.{same_id, numbered, birth_at, Part, part_at, objects_at}
 use Rattle.meaning.specs.Meaning.{replay}
 use Rattle.task_spec.specs.Dereferenced.{dereferenced_in}
 use Rattle.event_log.specs.Entries.{Attempt, OwnerDied, PutLost, RetriesUsed, Fault, Event, Claim, Commit, Deliver, Tick, Notice, NoticeNode, Entry}
@@ -66,19 +67,36 @@ pub record Stops (s : Setting) (before : List Entry) (a : Attempt) (stop : Stop)
   pub prints : printed_by a before ≡ p.prints
   pub stopped : p.stop ≡ stop
 
--- the object's content: what was put, or what an attempt of it ended with
-abbrev pub HasContent : List Entry → Id → Outcome → Type 0
-HasContent before y c =
-    ((v : Value) × (birth_at (births before) y ≡ Some (Put v)) × (c ≡ Val v)) ⊎ ((number k : ℕ) × (slice_get (ends_of (attempt y number) before) k ≡ Some c))
+-- an attempt of the task of which the object is a result ended with the content in its place
+pub record IsResult (before : List Entry) (y : Id) (c : Outcome) : Type 0 where
+  pub part : Part
+  pub born : part_at (births before) y ≡ Some part
+  pub number : ℕ
+  pub contents : List Outcome
+  pub ended : Among contents (ends_of (attempt part.born.object number) before)
+  pub content : slice_get contents part.place ≡ Some c
 
--- it is the last attempt of its object that was begun
+-- the object's content: what was put, or what an attempt ended with in its place
+abbrev pub HasContent : List Entry → Id → Outcome → Type 0
+HasContent before y c = ((v : Value) × (birth_at (births before) y ≡ Some (Put v)) × (c ≡ Val v)) ⊎ IsResult before y c
+
+-- it is the last attempt of its task that was begun
 abbrev pub IsLast : List Entry → Attempt → Type 0
 IsLast before a = length (runs_of a.object before) ≡ a.number + 1
 
 -- steps from an object to one from which a call computes it, by arguments that are dereferenced
 abbrev pub AreSteps : List Entry → Id → List Id → Id → Type 0
 AreSteps before o [] x = o ≡ x
-AreSteps before o (p ∷ ps) x = ((b : Birth) × (birth_at (births before) o ≡ Some b) × Among p (dereferenced_in b)) × AreSteps before p ps x
+AreSteps before o (p ∷ ps) x =
+    ((q : Part) × (part_at (births before) o ≡ Some q) × Among p (dereferenced_in q.born.birth)) × AreSteps before p ps x
+
+-- one of the objects of the birth with this first object isn't resolved
+abbrev pub IsUnresolved : List Entry → Id → Type 0
+IsUnresolved before o = (p : Id) × Among p (objects_at (births before) o) × (resolves_of p before ≡ [])
+
+-- none of them is released
+abbrev pub AreUnreleased : List Entry → Id → Type 0
+AreUnreleased before o = AllByRecursion (λ p. releases_of p before ≡ []) (objects_at (births before) o)
 
 -- ---- what each entry needs before it
 
@@ -95,24 +113,25 @@ pub record MayOpen (s : Setting) (before : List Entry) (w n : ℕ) : Type 0 wher
   pub next : w ≡ length (opened before) + 1
   pub lives : node_lives s.nodes n before ≡ true
 
--- in an own event of the owner, the next attempt of a task that is neither released nor resolved; all earlier ones are
--- broken, and there are no more than the retries
+-- in an own event of the owner, the next attempt of a task none of whose objects is released and not all are resolved; all
+-- earlier ones are broken, and there are no more than the retries
 pub record MayBegin (s : Setting) (before : List Entry) (a : Attempt) (w : ℕ) : Type 0 where
   pub own : IsOwn s before a.object.owner
   pub function : Name
   pub args : List Argument
   pub depth : ℕ
   pub retries : ℕ
-  pub born : birth_at (births before) a.object ≡ Some (Task function args depth retries)
-  pub unreleased : releases_of a.object before ≡ []
-  pub unresolved : resolves_of a.object before ≡ []
+  pub others : ℕ
+  pub born : birth_at (births before) a.object ≡ Some (Task function args depth retries others)
+  pub unreleased : AreUnreleased before a.object
+  pub unresolved : IsUnresolved before a.object
   pub node : ℕ
   pub place : node_of w before ≡ Some node
   pub next : a.number ≡ length (runs_of a.object before)
   pub broken : AllBroken before a.object a.number
   pub few : a.number ≤ retries
 
--- in a commit of the attempt's own, the next birth of its replay, with the next id of its worker
+-- in a commit of the attempt's own, the next birth of its replay, with the next ids of its worker
 pub record MayBear (s : Setting) (before : List Entry) (o : Id) (a : Attempt) (b : Birth) : Type 0 where
   pub job : IsOwnCommit before a o.owner
   pub base : Id
@@ -132,10 +151,10 @@ pub record MayPrint (s : Setting) (before : List Entry) (v : Value) : Type 0 whe
   pub prints : IsFirst (printed_by main_attempt before ++ v ∷ []) p.prints
 
 -- in a commit of the attempt's own, its replay ends so
-pub record MayEnd (s : Setting) (before : List Entry) (a : Attempt) (c : Outcome) : Type 0 where
+pub record MayEnd (s : Setting) (before : List Entry) (a : Attempt) (cs : List Outcome) : Type 0 where
   pub worker : ℕ
   pub job : IsOwnCommit before a worker
-  pub stops : Stops s before a (Over c)
+  pub stops : Stops s before a (Over cs)
 
 -- in an own event of the attempt's worker, which wasn't told that the object's owner is dead, the attempt needs the object,
 -- and the content is the object's
@@ -147,14 +166,15 @@ pub record MayGet (s : Setting) (before : List Entry) (a : Attempt) (y : Id) (c 
   pub content : HasContent before y c
   pub untold : was_told worker y.owner before ≡ false
 
--- in an own event of the owner, once: the attempt, which isn't main's, ended, is the last one begun, and its object isn't resolved
+-- in an own event of the owner, once: the attempt, which isn't main's, ended, is the last one begun, and not all its objects are
+-- resolved
 pub record MayAccept (s : Setting) (before : List Entry) (a : Attempt) : Type 0 where
   pub own : IsOwn s before a.object.owner
   pub not_main : same_id a.object main_object ≡ false
-  pub content : Outcome
-  pub ended : Among content (ends_of a before)
+  pub contents : List Outcome
+  pub ended : Among contents (ends_of a before)
   pub last : IsLast before a
-  pub unresolved : resolves_of a.object before ≡ []
+  pub unresolved : IsUnresolved before a.object
   pub once : accepts_of a before ≡ []
 
 -- the object was released, and the fault is OwnerDied of an object of a dead owner that had its id
@@ -184,18 +204,22 @@ pub record MayFault (s : Setting) (before : List Entry) (a : Attempt) (y : Id) (
 abbrev pub IsLoss : Fault → Id → Type 0
 IsLoss f o = (f ≡ record { kind = PutLost; object = o }) ⊎ (f ≡ record { kind = RetriesUsed; object = o })
 
--- the last attempt of the object has the fault
+-- the last attempt of the object's task has the fault
 pub record LastFaulted (before : List Entry) (o : Id) (f : Fault) : Type 0 where
+  pub part : Part
+  pub born : part_at (births before) o ≡ Some part
   pub number : ℕ
-  pub last : IsLast before (attempt o number)
+  pub last : IsLast before (attempt part.born.object number)
   pub got : Id
-  pub faulted : Among (record { object = got; fault = f }) (faults_of (attempt o number) before)
+  pub faulted : Among (record { object = got; fault = f }) (faults_of (attempt part.born.object number) before)
 
--- the last attempt of the object is broken, and an object from which it has to be made again is lost for good
+-- the last attempt of the object's task is broken, and an object from which it has to be made again is lost for good
 pub record LostBelow (before : List Entry) (o : Id) (f : Fault) : Type 0 where
+  pub part : Part
+  pub born : part_at (births before) o ≡ Some part
   pub number : ℕ
-  pub last : IsLast before (attempt o number)
-  pub broken : Broken before (attempt o number)
+  pub last : IsLast before (attempt part.born.object number)
+  pub broken : Broken before (attempt part.born.object number)
   pub below : Id
   pub steps : List Id
   pub reached : AreSteps before o steps below
@@ -209,12 +233,21 @@ pub record MayResolve (s : Setting) (before : List Entry) (o : Id) (f : Fault) :
   pub reason : LastFaulted before o f ⊎ IsLoss f o ⊎ LostBelow before o f
   pub cause : Cause before f
 
--- nothing more will be made of the object: it was put, is resolved, or its last attempt is accepted
+-- the attempt is the last one of its task, or another object of the task is resolved, so that no other will be begun
+abbrev pub IsFinal : List Entry → Attempt → Type 0
+IsFinal before a = IsLast before a ⊎ ((p : Id) × (f : Fault) × Among p (objects_at (births before) a.object) × Among f (resolves_of p before))
+
+-- an attempt of the object's task is accepted, and it is final
+pub record IsAccepted (before : List Entry) (o : Id) : Type 0 where
+  pub part : Part
+  pub born : part_at (births before) o ≡ Some part
+  pub number : ℕ
+  pub accepted : Among (attempt part.born.object number) (accepts_of (attempt part.born.object number) before)
+  pub final : IsFinal before (attempt part.born.object number)
+
+-- nothing more will be made of the object: it was put, is resolved, or a final attempt of its task is accepted
 abbrev pub IsSettled : List Entry → Id → Type 0
-IsSettled before o =
-    ((v : Value) × (birth_at (births before) o ≡ Some (Put v)))
-    ⊎ ((f : Fault) × Among f (resolves_of o before))
-    ⊎ ((number : ℕ) × IsLast before (attempt o number) × Among (attempt o number) (accepts_of (attempt o number) before))
+IsSettled before o = ((v : Value) × (birth_at (births before) o ≡ Some (Put v))) ⊎ ((f : Fault) × Among f (resolves_of o before)) ⊎ IsAccepted before o
 
 -- in an own event of the owner, once: the object is settled, the attempt that bore it has ended or has a fault, and the
 -- object isn't held
@@ -224,7 +257,7 @@ pub record MayRelease (s : Setting) (before : List Entry) (o : Id) : Type 0 wher
   pub settled : IsSettled before o
   pub bearer : Attempt
   pub bore : Among bearer (bearers_of o before)
-  pub over : ((c : Outcome) × Among c (ends_of bearer before)) ⊎ ((x : Lack) × Among x (faults_of bearer before))
+  pub over : ((cs : List Outcome) × Among cs (ends_of bearer before)) ⊎ ((x : Lack) × Among x (faults_of bearer before))
   pub unheld : IsHeld o before → ⊥
 
 -- the entry may stand behind those before; for an event see below
@@ -236,7 +269,7 @@ Allowed s before (Begun a w) = MayBegin s before a w
 Allowed s before (Born o a b) = MayBear s before o a b
 Allowed s before (Got a y c) = MayGet s before a y c
 Allowed s before (Printed v) = MayPrint s before v
-Allowed s before (Ended a c) = MayEnd s before a c
+Allowed s before (Ended a cs) = MayEnd s before a cs
 Allowed s before (Accepted a) = MayAccept s before a
 Allowed s before (Faulted a y f) = MayFault s before a y f
 Allowed s before (Resolved o f) = MayResolve s before o f

@@ -1,7 +1,7 @@
 -- What follows of every legal log.
 use Rattle.std.specs.Prelude.{◌≡◌, ℕ, ◌+◌, ◌<◌, ◌≤◌, List, length, slice_get, Some}
-use Rattle.meaning.specs.Values.{Outcome, Birth, Id}
-use Rattle.meaning.specs.Births.{birth_at}
+use Rattle.meaning.specs.Values.{Outcome, Id}
+use Rattle.meaning.specs.Births.{AreGrouped, IsFirstOf}
 use Rattle.meaning.specs.Readings.{IsBorn}
 use Rattle.event_log.specs.Entries.{Attempt, Entry, main_attempt}
 use Rattle.event_log.specs.Words.{births, next_serial, runs_of, worker_of, ends_of, Lack, faults_of, accepts_of, resolves_of, releases_of}
@@ -15,15 +15,17 @@ pub record Sane (log : List Entry) : Type 0 where
   pub driver : node_of 1 log ≡ Some 1
   pub main : worker_of main_attempt log ≡ Some 1
   -- an object's serial is below the one that its owner gives next
-  pub serials : (o : Id) (b : Birth) → birth_at (births log) o ≡ Some b → o.serial < next_serial o.owner (births log)
+  pub serials : (o : Id) → IsBorn (births log) o → o.serial < next_serial o.owner (births log)
+  -- the birth of each object stands at its first object
+  pub grouped : AreGrouped (births log)
   -- what was begun was born, and its worker was opened
-  pub born : (o : Id) (k w : ℕ) → slice_get (runs_of o log) k ≡ Some w → IsBorn (births log) o
+  pub born : (o : Id) (k w : ℕ) → slice_get (runs_of o log) k ≡ Some w → IsFirstOf (births log) o
   pub opened : (o : Id) (k w : ℕ) → slice_get (runs_of o log) k ≡ Some w → (n : ℕ) × (node_of w log ≡ Some n)
   -- what ended or has a fault was begun
-  pub ended : (a : Attempt) (k : ℕ) (c : Outcome) → slice_get (ends_of a log) k ≡ Some c → (w : ℕ) × (worker_of a log ≡ Some w)
+  pub ended : (a : Attempt) (k : ℕ) (cs : List Outcome) → slice_get (ends_of a log) k ≡ Some cs → (w : ℕ) × (worker_of a log ≡ Some w)
   pub faulted : (a : Attempt) (k : ℕ) (x : Lack) → slice_get (faults_of a log) k ≡ Some x → (w : ℕ) × (worker_of a log ≡ Some w)
   -- what was accepted has ended
-  pub accepted : (a : Attempt) (k : ℕ) (b : Attempt) → slice_get (accepts_of a log) k ≡ Some b → (c : Outcome) × Among c (ends_of a log)
+  pub accepted : (a : Attempt) (k : ℕ) (b : Attempt) → slice_get (accepts_of a log) k ≡ Some b → (cs : List Outcome) × Among cs (ends_of a log)
   -- an attempt ends or has a fault at most once, and each of these comes at most once
   pub one_end : (a : Attempt) → length (ends_of a log) + length (faults_of a log) ≤ 1
   pub one_acceptance : (a : Attempt) → length (accepts_of a log) ≤ 1

@@ -1,7 +1,7 @@
 -- What an attempt was answered, and what it means that it begins its serial run.
 use Rattle.std.specs.Prelude.{◌≡◌, ℕ, List, [], ◌∷◌, ◌++◌, map, slice_get, Some}
 use Rattle.meaning.specs.Lists.{IsFirst}
-use Rattle.meaning.specs.Values.{Value, Outcome, Birth}
+use Rattle.meaning.specs.Values.{Value, Outcome, outcomes, results_of, Birth}
 use Rattle.meaning.specs.Syntax.{Script}
 use Rattle.meaning.specs.Runs.{Run, serial_end, serial_trace}
 use Rattle.meaning.specs.Meaning.{run_birth, serial_run}
@@ -31,19 +31,19 @@ AnswersBegin reading (x ∷ xs) [] = ⊥
 AnswersBegin reading (Content c ∷ xs) (d ∷ ds) = (d ≡ read_outcome reading c) × AnswersBegin reading xs ds
 AnswersBegin reading (Lacking x ∷ xs) (d ∷ ds) = (d ≡ reading x.object) × (xs ≡ [])
 
--- the attempt's answers and prints are all that the run gets and prints, and the content is how the run ends
-pub record IsWhole (reading : Reading) (log : List Entry) (a : Attempt) (run : Run) (c : Outcome) : Type 0 where
+-- the attempt's answers and prints are all that the run gets and prints, and the contents are the outcomes of its results
+pub record IsWhole (reading : Reading) (log : List Entry) (a : Attempt) (results : ℕ) (run : Run) (cs : List Outcome) : Type 0 where
   pub no_fault : (observed a log).answers ≡ map Content (answers_of a log)
   pub gets : gets_of (serial_trace run) ≡ map (read_outcome reading) (answers_of a log)
   pub prints : prints_of (serial_trace run) ≡ map (read reading) (observed a log).prints
-  pub outcome : serial_end run ≡ read_outcome reading c
+  pub outcome : outcomes results (serial_end run) ≡ map (read_outcome reading) cs
 
--- what the attempt was answered and has printed, as read, is a beginning of what the run gets and prints; where it ended,
--- the whole
-pub record BeginsRun (reading : Reading) (log : List Entry) (a : Attempt) (run : Run) : Type 0 where
+-- what the attempt was answered and has printed, as read, is a beginning of what the run gets and prints, which has so many
+-- results; where it ended, the whole
+pub record BeginsRun (reading : Reading) (log : List Entry) (a : Attempt) (results : ℕ) (run : Run) : Type 0 where
   pub answers : AnswersBegin reading (observed a log).answers (gets_of (serial_trace run))
   pub prints : IsFirst (map (read reading) (observed a log).prints) (prints_of (serial_trace run))
-  pub ended : (k : ℕ) (c : Outcome) → slice_get (ends_of a log) k ≡ Some c → IsWhole reading log a run c
+  pub ended : (k : ℕ) (cs : List Outcome) → slice_get (ends_of a log) k ≡ Some cs → IsWhole reading log a results run cs
 
 -- all births hold under the log's reading, and each attempt begins the run of its own birth as read; main's is the serial run
 -- of the script
@@ -52,8 +52,8 @@ pub record ReadsAsSerial (script : Script) (log : List Entry) : Type 0 where
   pub hold : AllHold script (reading_of script log) (births log)
   pub each :
       (a : Attempt) (spec : Birth) → birth_at (births log) a.object ≡ Some spec →
-      BeginsRun (reading_of script log) log a (run_birth script (read_birth (reading_of script log) spec))
-  pub main : BeginsRun (reading_of script log) log main_attempt (serial_run script)
+      BeginsRun (reading_of script log) log a (results_of spec) (run_birth script (read_birth (reading_of script log) spec))
+  pub main : BeginsRun (reading_of script log) log main_attempt 1 (serial_run script)
 
 -- a get of main was answered with the fault, and its cause stands before that
 pub record IsCaused (log : List Entry) (x : Lack) : Type 0 where
@@ -64,5 +64,5 @@ pub record IsCaused (log : List Entry) (x : Lack) : Type 0 where
 
 -- main begins the serial run of the script, and each fault that it has is caused
 pub record MainBegins (script : Script) (log : List Entry) : Type 0 where
-  pub begins : BeginsRun (reading_of script log) log main_attempt (serial_run script)
+  pub begins : BeginsRun (reading_of script log) log main_attempt 1 (serial_run script)
   pub faults : (k : ℕ) (x : Lack) → slice_get (faults_of main_attempt log) k ≡ Some x → IsCaused log x

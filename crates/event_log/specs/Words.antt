@@ -1,8 +1,8 @@
 -- What a log says. Each word joins what the entries say one by one.
 use Rattle.std.specs.Prelude.{ℕ, ◌+◌, ◌==◌, if◌then◌else◌, List, [], ◌∷◌, Option, slice_get}
 use Rattle.std.specs.List.{flat_map}
-use Rattle.meaning.specs.Values.{Value, Outcome, Id, main_birth}
-use Rattle.meaning.specs.Births.{Bearing, same_id}
+use Rattle.meaning.specs.Values.{Value, Outcome, results_of, Id, main_birth}
+use Rattle.meaning.specs.Births.{Bearing, same_id, is_made_by}
 use Rattle.event_log.specs.Entries.{Attempt, Fault, Event, Entry, In, Opened, Begun, Born, Got, Printed, Ended, Accepted, Faulted, Resolved}
 use Rattle.event_log.specs.Entries.{Released, main_object, main_attempt}
 unfoldable pub use Rattle.ids.specs.Attempts.{same_attempt}
@@ -26,7 +26,7 @@ births log = main_bearing ∷ flat_map born_in log
 -- the serial of the worker's next object: main's own object is number 0 of worker 1, and other workers begin with 1
 abbrev pub next_serial : ℕ → List Bearing → ℕ
 next_serial w [] = if w == 1 then 0 else 1
-next_serial w (x ∷ xs) = (if x.object.owner == w then 1 else 0) + next_serial w xs
+next_serial w (x ∷ xs) = (if x.object.owner == w then results_of x.birth else 0) + next_serial w xs
 
 -- what the attempt bore
 abbrev pub own_in : Attempt → Entry → List Bearing
@@ -36,7 +36,7 @@ own_in a _ = []
 abbrev pub own_births : Attempt → List Entry → List Bearing
 own_births a log = flat_map (own_in a) log
 
--- an object, and the attempt that bore it
+-- the first object of a birth, and the attempt that bore it
 pub record Lineage : Type 0 where
   pub object : Id
   pub bearer : Attempt
@@ -49,7 +49,7 @@ abbrev pub lines : List Entry → List Lineage
 lines log = flat_map line_in log
 
 abbrev pub bearer_in : Id → Entry → List Attempt
-bearer_in o (Born p a b) = if same_id p o then a ∷ [] else []
+bearer_in o (Born p a b) = if is_made_by (record { object = p; birth = b }) o then a ∷ [] else []
 bearer_in o _ = []
 
 -- the attempt that bore the object
@@ -98,21 +98,21 @@ printed_in a _ = []
 abbrev pub printed_by : Attempt → List Entry → List Value
 printed_by a log = flat_map (printed_in a) log
 
--- the contents with which it ended
-abbrev pub ended_in : Attempt → Entry → List Outcome
-ended_in a (Ended b c) = if same_attempt b a then c ∷ [] else []
+-- the contents with which it ended, one a result
+abbrev pub ended_in : Attempt → Entry → List (List Outcome)
+ended_in a (Ended b cs) = if same_attempt b a then cs ∷ [] else []
 ended_in a _ = []
 
-abbrev pub ends_of : Attempt → List Entry → List Outcome
+abbrev pub ends_of : Attempt → List Entry → List (List Outcome)
 ends_of a log = flat_map (ended_in a) log
 
--- an attempt, and the content with which it ended
+-- an attempt, and the contents with which it ended
 pub record Ending : Type 0 where
   pub attempt : Attempt
-  pub content : Outcome
+  pub contents : List Outcome
 
 abbrev pub ending_in : Entry → List Ending
-ending_in (Ended a c) = record { attempt = a; content = c } ∷ []
+ending_in (Ended a cs) = record { attempt = a; contents = cs } ∷ []
 ending_in _ = []
 
 abbrev pub endings : List Entry → List Ending

@@ -4,7 +4,7 @@ use Rattle.std.specs.Prelude.{if◌then◌else◌}
 use Rattle.std.specs.List.{AllByRecursion}
 use Rattle.meaning.specs.Lists.{IsFirst}
 use Rattle.meaning.specs.Values.{Birth, Id, main_birth}
-use Rattle.meaning.specs.Runs.{Piece, next_id}
+use Rattle.meaning.specs.Runs.{Piece, behind}
 use Rattle.meaning.specs.Births.{Bearing, same_id, birth_at, numbered}
 use Rattle.meaning.specs.Mains.{KeepsMainApart, IsNotMains}
 use Rattle.meaning.proofs.BirthLaws.{at_test, same_id-true, or_else, birth_at-push}
@@ -39,7 +39,7 @@ of_numbered : (P : Birth → Type 0) (xs : List Bearing) (x : Bearing) (base : I
 of_numbered P [] x base [] h all = absurd h
 of_numbered P [] x base (b ∷ bs) h all = subst (λ (y : Bearing). P y.birth) h.0 all.0
 of_numbered P (y ∷ ys) x base [] h all = absurd h
-of_numbered P (y ∷ ys) x base (b ∷ bs) h all = of_numbered P ys x (next_id base) bs h.1 all.1
+of_numbered P (y ∷ ys) x base (b ∷ bs) h all = of_numbered P ys x (behind base b) bs h.1 all.1
 
 module _ (s : Setting) (keeps : KeepsMainApart s.script) where
   born : (log : List Entry) (o : Id) (a : Attempt) (b : Birth) → MayBear s log o a b → IsNotMains b

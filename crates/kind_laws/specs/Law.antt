@@ -11,19 +11,19 @@ use Rattle.event_log.specs.Words.{births, answers_of}
 use Rattle.event_log.specs.Rules.{Setting, Stops, HasContent}
 use Rattle.event_log.specs.Legal.{Legal}
 
--- the birth makes an object of some kind
-abbrev pub HasKind : Script → Birth → Type 0
-HasKind script b = (u : Kind) × IsBirthOf script b u
+-- the birth makes objects of some kinds
+abbrev pub HasKinds : Script → Birth → Type 0
+HasKinds script b = (us : List Kind) × IsBirthOf script b us
 
 -- the births of a log have kinds, and with the content of the object that it needs an attempt has answers of the kinds that it
 -- asks for
 pub record KeepsKinds (s : Setting) (log : List Entry) : Type 0 where
-  pub kinds : (o : Id) (b : Birth) → birth_at (births log) o ≡ Some b → HasKind s.script b
+  pub kinds : (o : Id) (b : Birth) → birth_at (births log) o ≡ Some b → HasKinds s.script b
   pub next : (a : Attempt) (y : Id) (c : Outcome) (h : Stops s log a (Needs (Named y))) → HasContent log y c →
       AnswersFit (run_birth s.script h.replays.spec) h.base (answers_of a log ++ c ∷ [])
 
 -- every legal log of a script whose functions are allowed, and whose main has no parameters and gives a number
 abbrev pub LegalLogsKeepKinds : Type 0
 LegalLogsKeepKinds =
-    (s : Setting) (log : List Entry) → ScriptChecks s.script s.script → IsBirthOf s.script main_birth Number → Legal s log →
+    (s : Setting) (log : List Entry) → ScriptChecks s.script s.script → IsBirthOf s.script main_birth (Number ∷ []) → Legal s log →
     KeepsKinds s log

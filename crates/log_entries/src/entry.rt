@@ -1,9 +1,13 @@
 // Entries of the log.
 
+ghost use Rattle.std.specs.Prelude.{◌≡◌, ◌∷◌, [], IfOk};
+
 use crate::event::Event;
 use crate::refusal::Refusal;
 use held::{Origin, Printed, SharedContent};
 use ids::{AttemptId, NodeId, ObjectId, WorkerId};
+use sequence::Seq;
+use std::alloc::{AllocError, Global};
 use values::Fault;
 
 /// What a log says, oldest first: each event, and behind it what came of it.
@@ -26,7 +30,7 @@ pub enum Entry {
         attempt: AttemptId,
         worker: WorkerId,
     },
-    /// The attempt made the object.
+    /// The attempt made the birth's objects, of which this is the first.
     Born {
         object: ObjectId,
         attempt: AttemptId,
@@ -40,10 +44,10 @@ pub enum Entry {
     },
     /// Main printed the value.
     Printed(Printed),
-    /// The attempt ended with the content.
+    /// The attempt ended, with a content for each result.
     Ended {
         attempt: AttemptId,
-        content: SharedContent,
+        contents: Seq<SharedContent>,
     },
     /// The attempt's owner learned that it ended.
     Accepted(AttemptId),
@@ -60,4 +64,13 @@ pub enum Entry {
     },
     /// The object is no longer needed.
     Released(ObjectId),
+}
+
+/// The contents of an attempt with one result. An error is want of memory.
+pub fn only_content(alloc: Global, content: SharedContent) -> Result<Seq<SharedContent>, AllocError>
+    ensures { IfOk result (λ cs. cs ≡ content ∷ []) }
+{
+    let mut contents = Seq::new(alloc);
+    contents.push(content)?;
+    Ok(contents)
 }

@@ -5,6 +5,6 @@ mod entry;
 mod event;
 mod refusal;
 
-pub use entry::Entry;
+pub use entry::{Entry, only_content};
 pub use event::Event;
 pub use refusal::Refusal;

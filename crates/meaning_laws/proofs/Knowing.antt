@@ -34,7 +34,7 @@ module _ (s : Setting) (before : List Entry) (a : Attempt) where
 pub attempts_give_only_known : AttemptsGiveOnlyKnown
 attempts_give_only_known s before a = record {
   bears = bears_known s before a;
-  ends = λ c h. stops_known s before a (Over c) h.stops;
+  ends = λ cs h. stops_known s before a (Over cs) h.stops;
   gets = λ y c h. stops_known s before a (Needs (Named y)) h.needs;
   faults = λ y f h. stops_known s before a (Needs (Named y)) h.needs;
 }

@@ -2,14 +2,14 @@
 use Rattle.std.proofs.Common.{◌≡◌, ℕ, List, [], ◌∷◌, ◌++◌, length, map, Some, None, refl, sym, ap, ◌∙◌, subst, append-nil, append_assoc}
 use Rattle.std.specs.Prelude.{if◌then◌else◌, slice_get}
 use Rattle.std.specs.List.{flat_map}
-use Rattle.meaning.specs.Values.{Outcome, Birth, main_birth}
+use Rattle.meaning.specs.Values.{Outcome, Birth, results_of, main_birth}
 use Rattle.meaning.specs.Syntax.{Script}
 use Rattle.meaning.specs.Runs.{serial_trace}
 use Rattle.meaning.specs.Meaning.{run_birth}
 use Rattle.meaning.specs.Births.{birth_at}
 use Rattle.meaning.specs.Readings.{Reading, read, read_outcome, read_birth, den}
 use Rattle.meaning.specs.Law.{gets_of, get_after}
-use Rattle.meaning.proofs.BirthLaws.{same_id-refl}
+use Rattle.meaning.proofs.BirthLaws.{same_id-refl, none_grouped}
 use Rattle.event_log.specs.Entries.{Attempt, Entry, In, Refused, Opened, Begun, Born, Got, Printed, Ended, Accepted, Faulted, Resolved, Released, main_object, main_attempt}
 use Rattle.event_log.specs.Words.{births, born_in, Lack, Content, Lacking, main_bearing, ends_of}
 use Rattle.event_log.specs.Rules.{Setting, Allowed}
@@ -25,10 +25,11 @@ use Rattle.meaning_laws.proofs.Steps.{silent, got, faulted, ended, printed, born
 -- no birth at all
 good_nothing : (script : Script) → Good script [] (λ a. []) (λ a. nothing_done)
 good_nothing script = record {
-  hold = λ o b e. absurd (cc);
-  named = λ o b e. absurd (cc);
+  hold = λ o p e. absurd (cc);
+  named = λ o p e. absurd (cc);
   earlier = tt;
-  bound = λ o b e. absurd (cc);
+  bound = λ o b. let e = b.1 in absurd (cc);
+  grouped = none_grouped;
   born = λ a. tt;
   told = λ a. refl;
 }
@@ -72,7 +73,7 @@ no_lacks reading (x ∷ y ∷ xs) h = absurd h
 
 -- what was told, in the law's words
 begins_run : (script : Script) (log : List Entry) (a : Attempt) (spec : Birth) → Told script (births log) spec (deeds a log) →
-    BeginsRun (den script (births log)) log a (run_birth script (read_birth (den script (births log)) spec))
+    BeginsRun (den script (births log)) log a (results_of spec) (run_birth script (read_birth (den script (births log)) spec))
 begins_run script log a spec t =
     let r = den script (births log) in
     let run = run_birth script (read_birth r spec) in
@@ -83,12 +84,12 @@ begins_run script log a spec t =
       ended = whole;
     }
   where
-    whole : (k : ℕ) (c : Outcome) → slice_get (ends_of a log) k ≡ Some c → IsWhole (den script (births log)) log a (run_birth script (read_birth (den script (births log)) spec)) c
+    whole : (k : ℕ) (c : List Outcome) → slice_get (ends_of a log) k ≡ Some c → IsWhole (den script (births log)) log a (results_of spec) (run_birth script (read_birth (den script (births log)) spec)) c
     whole k c e =
         let r = den script (births log) in
         let run = run_birth script (read_birth r spec) in
         let d = deeds a log in
-        let f = end_at run (map (read_outcome r) d.answers) (map (read r) d.prints) (read_outcome r) d.ends k c t.fits.ended e in
+        let f = end_at (results_of spec) run (map (read_outcome r) d.answers) (map (read r) d.prints) (map (read_outcome r)) d.ends k c t.fits.ended e in
         let last : get_after (length (map (read_outcome r) d.answers)) (serial_trace run) ≡ None =
         subst (λ cs. get_after (length cs) (serial_trace run) ≡ None) f.0 (none_after (serial_trace run)) in
         let clear : d.faults ≡ [] = no_lacks r d.faults (subst (λ o. FaultsFit o (map (λ (x : Lack). r x.object) d.faults)) last t.fits.faulted) in

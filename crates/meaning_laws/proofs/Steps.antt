@@ -1,27 +1,27 @@
 -- Each allowed entry keeps what is true of a legal log.
-use Rattle.std.proofs.Common.{◌≡◌, ℕ, Bool, true, false, List, [], ◌∷◌, ◌++◌, length, map, Option, Some, None, inl, inr, refl, sym, ap, ◌∙◌, subst, append-nil}
+use Rattle.std.proofs.Common.{◌-◌, arith, ◌≡◌, ℕ, Bool, true, false, List, [], ◌∷◌, ◌++◌, length, map, Some, None, inl, inr, refl, sym, ap, ◌∙◌, subst, append-nil}
 use Rattle.std.proofs.lemmas.List.{length-map}
 use Rattle.std.specs.Prelude.{if◌then◌else◌, slice_get}
 use Rattle.meaning.specs.Lists.{IsFirst}
-use Rattle.meaning.specs.Values.{Value, Named, Outcome, Birth, Put, Id}
+use Rattle.meaning.specs.Values.{Value, Named, Outcome, Val, Birth, Put, results_of, Returned, outcome_at, Id}
 use Rattle.meaning.specs.Syntax.{Script}
 use Rattle.meaning.specs.Runs.{serial_end, serial_trace, Needs, Over, Piece, piece}
 use Rattle.meaning.specs.Meaning.{run_birth}
-use Rattle.meaning.specs.Births.{Bearing, birth_at, numbered}
+use Rattle.meaning.specs.Births.{Bearing, birth_at, is_made_by, Part, part_of, part_at, numbered}
 use Rattle.meaning.specs.Ids.{BirthIn, OutcomeIn, ValueIn, OutcomesIn, ValuesIn, ObjectsIn, StopIn}
 use Rattle.meaning.specs.Readings.{Reading, read, read_outcome, read_birth, BirthsHold, den, IsBorn}
 use Rattle.meaning.specs.Law.{gets_of, prints_of, get_after, StopsAs, Begins}
 use Rattle.script_laws.proofs.Replay.{law_of_replay}
 use Rattle.script_laws.proofs.Ids.{births_keep}
 use Rattle.script_laws.proofs.Given.{born_by_piece, stop_by_piece}
-use Rattle.meaning.proofs.BirthLaws.{at_test}
+use Rattle.meaning.proofs.BirthLaws.{at_test, first_is_made}
 use Rattle.script_laws.proofs.Dens.{new_born}
 use Rattle.event_log.specs.Entries.{Attempt, Fault, Entry, Born, Got, Printed, Ended, Faulted, main_attempt}
 use Rattle.event_log.specs.Words.{same_attempt, births, born_in, own_births, own_in, Lack, Content, Lacking}
 use Rattle.event_log.specs.Rules.{Setting, Replays, Stops, HasContent, MayBear, MayPrint, MayEnd, MayGet, MayFault}
 use Rattle.event_log.proofs.WordLaws.{word_push, Deeds, deeds, deeds_in, join, nothing_done, deeds_push, join_nothing, deeds_parts, births_push, same_attempt-true}
 use Rattle.meaning_laws.proofs.Traces.{first_more, whole_gets, whole_trace, prints_further, map_first}
-use Rattle.meaning_laws.proofs.Good.{AllBorn, Told, Stands, Good, GoodLog, births_hold, objects_born, end_at, outcome_at}
+use Rattle.meaning_laws.proofs.Good.{AllBorn, Told, Stands, Good, GoodLog, births_hold, objects_born, spec_named, end_at, end_in, outcome_in, result_at}
 use Rattle.meaning_laws.proofs.Births.{good_birth, all_born, fresh}
 
 map_append : {X Y : Type 0} (f : X → Y) (xs ys : List X) → map f (xs ++ ys) ≡ map f xs ++ map f ys
@@ -37,7 +37,7 @@ values_first P [] ws f h = tt
 values_first P (v ∷ vs) [] f h = absurd f
 values_first P (v ∷ vs) (w ∷ ws) f h = (subst (λ x. ValueIn P x) f.0 h.0, values_first P vs ws f.1 h.1)
 
-all_append : (bs xs : List Bearing) (x : Bearing) → AllBorn bs xs → birth_at bs x.object ≡ Some x.birth → AllBorn bs (xs ++ x ∷ [])
+all_append : (bs xs : List Bearing) (x : Bearing) → AllBorn bs xs → ((o : Id) → is_made_by x o ≡ true → part_at bs o ≡ Some (part_of x o)) → AllBorn bs (xs ++ x ∷ [])
 all_append bs [] x h k = (k, tt)
 all_append bs (y ∷ xs) x h k = (h.0, all_append bs xs x h.1 k)
 
@@ -53,6 +53,7 @@ kept script log e nb mine g new =
       named = g.named;
       earlier = g.earlier;
       bound = g.bound;
+      grouped = g.grouped;
       born = λ a. subst (λ xs. AllBorn (births log) xs) (sym (same_own a)) (g.born a);
       told = λ a. subst (λ d. Stands script (births log) (birth_at (births log) a.object) d) (sym (deeds_push a log e)) (new a);
     })
@@ -89,12 +90,12 @@ module _ (s : Setting) (log : List Entry) (g : GoodLog s.script log) where
 
   -- the law of replay for an attempt whose births are logged
   replayed : (a : Attempt) (base : Id) (p : Piece) (h : Replays s log a base p) → own_births a log ≡ numbered base p.births →
-      Begins reading p (length (deeds a log).answers) (run_birth script (read_birth reading h.spec))
+      Begins reading (results_of h.spec) p (length (deeds a log).answers) (run_birth script (read_birth reading h.spec))
   replayed a base p h own =
       let t = told_of a base p h in
       let holds : BirthsHold reading script base p.births = births_hold script (births log) base p.births g.hold (subst (λ xs. AllBorn (births log) xs) own (g.born a)) in
       let answers = t.fits.answers in
-      subst (λ q. BirthsHold reading script base q.births → Begins reading q (length (deeds a log).answers) (run_birth script (read_birth reading h.spec))) (sym h.replayed)
+      subst (λ q. BirthsHold reading script base q.births → Begins reading (results_of h.spec) q (length (deeds a log).answers) (run_birth script (read_birth reading h.spec))) (sym h.replayed)
       (λ holds'. law_of_replay script reading h.spec base (deeds a log).answers holds' answers) holds
 
   -- what it stops with and has printed names only what is born
@@ -103,9 +104,9 @@ module _ (s : Setting) (log : List Entry) (g : GoodLog s.script log) where
   piece_in a base p h own =
       let t = told_of a base p h in
       let objects = objects_born (births log) (numbered base p.births) (subst (λ xs. AllBorn (births log) xs) own (g.born a)) in
-      let keeps = births_keep (IsBorn (births log)) script h.spec (g.named a.object h.spec h.born) in
+      let keeps = births_keep (IsBorn (births log)) script h.spec (spec_named script (births log) (λ b. own_births b log) (λ b. deeds b log) g a.object h.spec h.born) in
       subst (λ q. ObjectsIn (IsBorn (births log)) (numbered base q.births) → StopIn (IsBorn (births log)) q.stop × ValuesIn (IsBorn (births log)) q.prints) (sym h.replayed)
-      (λ o. stop_by_piece (IsBorn (births log)) (run_birth script h.spec) base (deeds a log).answers keeps t.answers_in o) objects
+      (λ o. stop_by_piece (IsBorn (births log)) (results_of h.spec) (run_birth script h.spec) base (deeds a log).answers keeps t.answers_in o) objects
 
   no_faults : (a : Attempt) (base : Id) (p : Piece) (h : Replays s log a base p) → (deeds a log).answered ≡ map Content (deeds a log).answers
   no_faults a base p h =
@@ -124,26 +125,34 @@ module _ (s : Setting) (log : List Entry) (g : GoodLog s.script log) where
       let run = run_birth script (read_birth reading h.replays.spec) in
       let b = replayed a h.base h.p h.replays h.own in
       let s : get_after (length (deeds a log).answers) (serial_trace run) ≡ Some (reading y) =
-      subst (λ st. StopsAs reading st (get_after (length (deeds a log).answers) (serial_trace run)) (serial_end run)) h.stopped b.stop in
+      subst (λ st. StopsAs reading (results_of h.replays.spec) st (get_after (length (deeds a log).answers) (serial_trace run)) (serial_end run)) h.stopped b.stop in
       subst (λ n. get_after n (serial_trace run) ≡ Some (reading y)) (sym (length-map (deeds a log).answers (read_outcome reading))) s
 
-  content_by : (y : Id) (c : Outcome) (number k : ℕ) (o : Option Birth) → birth_at (births log) y ≡ o → slice_get (deeds (record { object = y; number = number }) log).ends k ≡ Some c →
-      Stands script (births log) o (deeds (record { object = y; number = number }) log) → (reading y ≡ read_outcome reading c) × OutcomeIn (IsBorn (births log)) c
-  content_by y c number k None e f s =
-      let nothing : slice_get nothing_done.ends k ≡ Some c = subst (λ (d : Deeds). slice_get d.ends k ≡ Some c) s f in
-      absurd (cc)
-  content_by y c number k (Some spec) e f t =
-      let d = deeds (record { object = y; number = number }) log in
-      let run = run_birth script (read_birth reading spec) in (
-        g.hold y spec e ∙ (end_at run (map (read_outcome reading) d.answers) (map (read reading) d.prints) (read_outcome reading) d.ends k c t.fits.ended f).2,
-        outcome_at (IsBorn (births log)) d.ends k c t.ends_in f,
+  -- what was put is what the id stands for
+  put_is : (y : Id) (v : Value) → birth_at (births log) y ≡ Some (Put v) → reading y ≡ read_outcome reading (Val v)
+  put_is y v h =
+      let none_before : y.serial - y.serial ≡ 0 = omega arith in
+      g.hold y _ (g.grouped.whole y y (Put v) h (first_is_made (record { object = y; birth = Put v }))) ∙ ap (λ i. outcome_at i (Returned (read reading v ∷ []))) none_before
+
+  content_by : (y : Id) (p : Part) (number k : ℕ) (cs : List Outcome) (c : Outcome) → part_at (births log) y ≡ Some p → slice_get (deeds (record { object = p.born.object; number = number }) log).ends k ≡ Some cs → slice_get cs p.place ≡ Some c →
+      Told script (births log) p.born.birth (deeds (record { object = p.born.object; number = number }) log) → (reading y ≡ read_outcome reading c) × OutcomeIn (IsBorn (births log)) c
+  content_by y p number k cs c e f i t =
+      let d = deeds (record { object = p.born.object; number = number }) log in
+      let spec = p.born.birth in
+      let run = run_birth script (read_birth reading spec) in
+      let whole = end_at (results_of spec) run (map (read_outcome reading) d.answers) (map (read reading) d.prints) (map (read_outcome reading)) d.ends k cs t.fits.ended f in (
+        g.hold y p e ∙ result_at (read_outcome reading) (results_of spec) (serial_end run) cs p.place c whole.2 i,
+        outcome_in (IsBorn (births log)) cs p.place c (end_in (IsBorn (births log)) d.ends k cs t.ends_in f) i,
       )
 
   -- a content of an object is what its id stands for
   pub content_is : (y : Id) (c : Outcome) → HasContent log y c → (reading y ≡ read_outcome reading c) × OutcomeIn (IsBorn (births log)) c
   content_is y c (inl h) =
-      (g.hold y (Put h.0) h.1 ∙ ap (λ d. read_outcome reading d) (sym h.2), subst (λ d. OutcomeIn (IsBorn (births log)) d) (sym h.2) (g.named y (Put h.0) h.1))
-  content_is y c (inr h) = content_by y c h.0 h.1 (birth_at (births log) y) refl h.2 (g.told (record { object = y; number = h.0 }))
+      (put_is y h.0 h.1 ∙ ap (λ d. read_outcome reading d) (sym h.2), subst (λ d. OutcomeIn (IsBorn (births log)) d) (sym h.2) (spec_named script (births log) (λ b. own_births b log) (λ b. deeds b log) g y (Put h.0) h.1))
+  content_is y c (inr h) =
+      let a : Attempt = record { object = h.part.born.object; number = h.number } in
+      let told = subst (λ o. Stands script (births log) o (deeds a log)) (g.grouped.firsts y h.part h.born) (g.told a) in
+      content_by y h.part h.number h.ended.0 h.contents c h.born h.ended.1 h.content told
 
   pub got : (a : Attempt) (y : Id) (c : Outcome) → MayGet s log a y c → GoodLog script (log ++ Got a y c ∷ [])
   got a y c h = kept script log (Got a y c) refl (λ _. refl) g (λ b. of_one script log a b
@@ -201,7 +210,7 @@ module _ (s : Setting) (log : List Entry) (g : GoodLog s.script log) where
             };
           }))
 
-  pub ended : (a : Attempt) (c : Outcome) → MayEnd s log a c → GoodLog script (log ++ Ended a c ∷ [])
+  pub ended : (a : Attempt) (c : List Outcome) → MayEnd s log a c → GoodLog script (log ++ Ended a c ∷ [])
   ended a c h = kept script log (Ended a c) refl (λ _. refl) g (λ b. of_one script log a b
       (λ t. record { answers = []; answered = []; prints = []; ends = if t then c ∷ [] else []; faults = [] }) g refl
       (let r = h.stops.replays in stands_as a h.stops.base h.stops.p r _ (subst (λ d. Told script (births log) r.spec d) (sym (joined a h.stops.base h.stops.p r (record { answers = []; answered = []; prints = []; ends = c ∷ []; faults = [] }))) new)))
@@ -216,7 +225,7 @@ module _ (s : Setting) (log : List Entry) (g : GoodLog s.script log) where
           let n = length d.answers in
           let b = replayed a h.stops.base h.stops.p r h.stops.own in
           let i : StopIn (IsBorn (births log)) (Over c) = subst (λ s. StopIn (IsBorn (births log)) s) h.stops.stopped (piece_in a h.stops.base h.stops.p r h.stops.own).0 in
-          let s : StopsAs reading (Over c) (get_after n (serial_trace run)) (serial_end run) = subst (λ st. StopsAs reading st (get_after n (serial_trace run)) (serial_end run)) h.stops.stopped b.stop in
+          let s : StopsAs reading (results_of r.spec) (Over c) (get_after n (serial_trace run)) (serial_end run) = subst (λ st. StopsAs reading (results_of h.stops.replays.spec) st (get_after n (serial_trace run)) (serial_end run)) h.stops.stopped b.stop in
           let last : get_after (length (map ro d.answers)) (serial_trace run) ≡ None = subst (λ m. get_after m (serial_trace run) ≡ None) (sym (length-map d.answers ro)) s.0 in
           let all_printed : prints_of (serial_trace run) ≡ map (read reading) d.prints =
           ap prints_of (sym (whole_trace n (serial_trace run) s.0)) ∙ sym b.prints ∙ ap (λ vs. map (read reading) vs) (sym h.stops.prints) in
@@ -274,11 +283,11 @@ module _ (s : Setting) (log : List Entry) (g : GoodLog s.script log) where
       let bs = births log in
       let r = h.replays in
       let t = told_of a h.base h.p r in
-      let keeps = births_keep (IsBorn bs) script r.spec (g.named a.object r.spec r.born) in
-      let own : IsFirst (own_births a log ++ x ∷ []) (numbered h.base (piece (run_birth script r.spec) h.base (deeds a log).answers).births) =
+      let keeps = births_keep (IsBorn bs) script r.spec (spec_named script (births log) (λ b'. own_births b' log) (λ b'. deeds b' log) g a.object r.spec r.born) in
+      let own : IsFirst (own_births a log ++ x ∷ []) (numbered h.base (piece (results_of r.spec) (run_birth script r.spec) h.base (deeds a log).answers).births) =
       subst (λ (q : Piece). IsFirst (own_births a log ++ x ∷ []) (numbered h.base q.births)) r.replayed h.own in
       let named : BirthIn (IsBorn bs) b =
-      born_by_piece (IsBorn bs) (run_birth script r.spec) h.base (deeds a log).answers (own_births a log) x keeps t.answers_in (objects_born bs (own_births a log) (g.born a)) own in
+      born_by_piece (IsBorn bs) (results_of r.spec) (run_birth script r.spec) h.base (deeds a log).answers (own_births a log) x keeps t.answers_in (objects_born bs (own_births a log) (g.born a)) own in
       let new = good_birth script bs x (λ a'. own_births a' log) (λ a'. deeds a' log) g h.next named in
       let more = all_born script bs x (λ a'. own_births a' log) (λ a'. deeds a' log) g h.next named in
       let here = new_born script bs x (fresh script bs x (λ a'. own_births a' log) (λ a'. deeds a' log) g h.next named) in
@@ -288,6 +297,7 @@ module _ (s : Setting) (log : List Entry) (g : GoodLog s.script log) where
         named = new.named;
         earlier = new.earlier;
         bound = new.bound;
+        grouped = new.grouped;
         born = λ a'. subst (λ xs. AllBorn (bs ++ x ∷ []) xs) (sym (word_push (own_in a') log (Born o a b)))
             (at_test (λ q. AllBorn (bs ++ x ∷ []) (own_births a' log ++ (if q then x ∷ [] else []))) (same_attempt a a')
             (λ _. all_append (bs ++ x ∷ []) (own_births a' log) x (more (own_births a' log) (g.born a')) here)

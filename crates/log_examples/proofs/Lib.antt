@@ -8,3 +8,4 @@ mod RetriedLog
 mod PutLostLog
 mod OwnerDiedLog
 mod ReleasingLog
+mod SeveralResults

@@ -5,20 +5,21 @@ use Rattle.std.proofs.Math.Seq.{take-append_seam, drop-append_seam}
 use Rattle.meaning.specs.Values.{Name, Value, Outcome, Argument, Birth, Put, Task, Val, Id, main_birth}
 use Rattle.meaning.specs.Runs.{Piece}
 use Rattle.meaning.specs.Meaning.{replay, call_at}
-use Rattle.meaning.specs.Births.{same_id, numbered, birth_at}
+use Rattle.meaning.specs.Births.{same_id, numbered, birth_at, is_made_by, Part, part_of, part_at}
 use Rattle.meaning.proofs.BirthLaws.{same_id-true}
 use Rattle.meaning.specs.Examples.{value, object, square, squaring}
 use Rattle.event_log.specs.Entries.{Attempt, Entry, OwnerDied, PutLost, Event, Claim, Commit, Deliver, Tick, Notice, Kill, In, Refused, Opened, Begun, Born, Got, Printed, Ended, Accepted, Faulted, Resolved, Released, main_object, main_attempt}
 use Rattle.event_log.specs.Entries.{Refusal, Pinned, NoWorker, NotReady, Limit}
-use Rattle.event_log.specs.Words.{same_attempt, attempt, births, runs_of}
+use Rattle.event_log.specs.Words.{same_attempt, attempt, births, runs_of, ends_of}
 use Rattle.event_log.specs.Events.{accepted_events, under_way_from, is_committed, has_job_out, is_killed, is_live, was_told, was_lost}
 use Rattle.event_log.specs.Breaks.{Among, PutIsLost, breaks_from, breaks_of}
-use Rattle.event_log.specs.Holding.{is_one_of, anchored, Bore, Given, ByAttempt, ByBirth}
+use Rattle.event_log.specs.Holding.{is_one_of, anchored, Given, ByAttempt, ByBirth}
 use Rattle.event_log.specs.Rules.{Receiver, ToWorker, ToNode, IsHeard, Setting, Allowed}
 use Rattle.event_log.specs.Causes.{IsRefusal}
 use Rattle.event_log.specs.Serial.{MainBegins}
-use Rattle.event_log.specs.Legal.{Happens, CommitsAll, Legal, opening}
+use Rattle.event_log.specs.Legal.{Happens, CommitsAll, opening}
 use Rattle.event_log.proofs.Growing.{entries_have_their_needs}
+use Rattle.event_log.proofs.OneResult.{bore-first}
 use Rattle.log_examples.specs.Logs.{first_of, number, square_setting, calling_mid}
 use Rattle.log_examples.specs.FaultLogs.{making_one, used_up, retried_setting, owner_died_setting}
 use Rattle.log_examples.specs.ReleaseLogs.{releasing_setting}
@@ -46,12 +47,14 @@ one_for_two e = absurd (omega arith)
 other_put : (v : Value) → ◌≡◌ {A = Option Birth} (Some (Put (number 1))) (Some (Put v)) → value 2 ≡ Val v → ⊥
 other_put v e f = absurd (cc)
 
-never_ended : (k : ℕ) → ◌≡◌ {A = Option Outcome} (slice_get [] k) (Some (value 2)) → ⊥
-never_ended k e = absurd (cc)
+-- the first put is no task's result
+never_ended : (p : Part) → part_at (births (opening ++ take 4 wrong_content)) (object 1 1) ≡ Some p → (number : ℕ) (cs : List Outcome) →
+    Among cs (ends_of (attempt p.born.object number) (opening ++ take 4 wrong_content)) → ⊥
+never_ended p e n cs h = none_there cs h
 
 pub wrong_content_is_wrong : IsWrong two_puts_setting wrong_content
 unfolding same_id same_attempt
-wrong_content_is_wrong = wrong_by two_puts_setting (take 4 wrong_content) (Got main_attempt (object 1 1) (value 2)) [] (λ h. elim h.content [ inl x ↦ other_put x.0 x.1 x.2 | inr x ↦ never_ended x.1 x.2 ])
+wrong_content_is_wrong = wrong_by two_puts_setting (take 4 wrong_content) (Got main_attempt (object 1 1) (value 2)) [] (λ h. elim h.content [ inl x ↦ other_put x.0 x.1 x.2 | inr x ↦ never_ended x.part x.born x.number x.contents x.ended ])
 
 pub begun_again_is_wrong : IsWrong square_setting begun_again
 unfolding same_id same_attempt accepted_events breaks_from breaks_of
@@ -65,12 +68,12 @@ pub released_while_held_is_wrong : IsWrong passed_setting released_while_held
 unfolding same_id same_attempt accepted_events is_live is_one_of anchored
 released_while_held_is_wrong = wrong_by passed_setting (take 9 released_while_held) (Released (object 1 1)) []
     (λ h. h.unheld (ByAttempt (first_of (object 1 2)) 2 (10, refl) refl refl refl
-    (Given (first_of (object 1 2)) main_attempt (object 1 1) calling_mid (5, refl) (0, refl) refl (Bore main_attempt (object 1 1) (Put (number 6)) (4, refl)))))
+    (Given (first_of (object 1 2)) main_attempt (object 1 1) calling_mid (5, refl) (0, refl) refl (bore-first _ main_attempt (object 1 1) (Put (number 6)) (4, refl)))))
 
 pub released_out_of_order_is_wrong : IsWrong releasing_setting released_out_of_order
 unfolding same_id same_attempt accepted_events is_live is_one_of anchored
 released_out_of_order_is_wrong = wrong_by releasing_setting (take 47 released_out_of_order) (Released (object 1 1)) []
-    (λ h. h.unheld (ByBirth (object 1 2) main_attempt calling_mid (5, refl) refl refl (0, refl) (Bore main_attempt (object 1 1) (Put (number 6)) (4, refl))))
+    (λ h. h.unheld (ByBirth (object 1 2) main_attempt calling_mid (5, refl) refl refl (0, refl) (bore-first _ main_attempt (object 1 1) (Put (number 6)) (4, refl))))
 
 pub fault_without_cause_is_wrong : IsWrong square_setting fault_without_cause
 unfolding accepted_events is_killed
@@ -88,7 +91,7 @@ that_worker w e = cc
 
 pub end_of_the_dead_is_wrong : IsWrong square_setting end_of_the_dead
 unfolding same_id accepted_events is_live
-end_of_the_dead_is_wrong = wrong_by square_setting (take 11 end_of_the_dead) (Ended (first_of (object 1 1)) (value 49)) [] (λ h. not_so (subst (λ w. is_live w (opening ++ take 11 end_of_the_dead) ≡ true) (that_worker h.worker h.job.runs) h.job.lives))
+end_of_the_dead_is_wrong = wrong_by square_setting (take 11 end_of_the_dead) (Ended (first_of (object 1 1)) (value 49 ∷ [])) [] (λ h. not_so (subst (λ w. is_live w (opening ++ take 11 end_of_the_dead) ≡ true) (that_worker h.worker h.job.runs) h.job.lives))
 
 pub entry_of_a_refused_event_is_wrong : IsWrong square_setting entry_of_a_refused_event
 unfolding under_way_from
@@ -198,15 +201,27 @@ not_lost h =
 pub lost_before_its_birth_is_wrong : IsWrong two_puts_setting lost_before_its_birth
 lost_before_its_birth_is_wrong = wrong_by two_puts_setting (take 5 lost_before_its_birth) (Resolved (object 1 1) (record { kind = PutLost; object = object 1 1 })) [] (λ h. not_lost h.cause)
 
-that_task : (g : Name) (args : List Argument) (d k : ℕ) → ◌≡◌ {A = Option Birth} (Some (making_one 1)) (Some (Task g args d k)) → ◌≡◌ {A = ℕ} k 1
-that_task g args d k e = cc
+that_task : (p : Part) (g : Name) (args : List Argument) (d k others : ℕ) →
+    ◌≡◌ {A = Option Part} (Some (part_of (record { object = object 1 1; birth = making_one 1 }) (object 1 1))) (Some p) → p.born.birth ≡ Task g args d k others → ◌≡◌ {A = ℕ} k 1
+that_task p g args d k others e f =
+    let same : part_of (record { object = object 1 1; birth = making_one 1 }) (object 1 1) ≡ p = cc in
+    let task : making_one 1 ≡ Task g args d k others = ap (λ (q : Part). q.born.birth) same ∙ f in
+    cc
+
+that_first : (p : Part) → ◌≡◌ {A = Option Part} (Some (part_of (record { object = object 1 1; birth = making_one 1 }) (object 1 1))) (Some p) → p.born.object ≡ object 1 1
+that_first p e =
+    let same : part_of (record { object = object 1 1; birth = making_one 1 }) (object 1 1) ≡ p = cc in
+    ap (λ (q : Part). q.born.object) (sym same)
 
 one_of_two : (k : ℕ) → ◌≡◌ {A = ℕ} k 1 → ◌≡◌ {A = ℕ} 1 (k + 1) → ⊥
 one_of_two k e f = absurd (omega (arith, e, f))
 
 pub used_up_too_soon_is_wrong : IsWrong retried_setting used_up_too_soon
-unfolding same_id
-used_up_too_soon_is_wrong = wrong_by retried_setting (take 10 used_up_too_soon) (Resolved (object 1 1) (used_up (object 1 1))) [] (λ h. one_of_two h.cause.retries (that_task h.cause.function h.cause.args h.cause.depth h.cause.retries h.cause.task) h.cause.begun)
+unfolding same_id is_made_by
+used_up_too_soon_is_wrong = wrong_by retried_setting (take 10 used_up_too_soon) (Resolved (object 1 1) (used_up (object 1 1))) [] (λ h.
+    let c = h.cause in
+    one_of_two c.retries (that_task c.part c.function c.args c.depth c.retries c.others c.born c.task)
+    (subst (λ o. length (runs_of o (opening ++ take 10 used_up_too_soon)) ≡ c.retries + 1) (that_first c.part c.born) c.begun))
 
 first_worker : (w : ℕ) → ◌≡◌ {A = Option ℕ} (Some 1) (Some w) → ◌≡◌ {A = ℕ} w 1
 first_worker w e = cc

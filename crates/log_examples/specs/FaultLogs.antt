@@ -23,7 +23,7 @@ abbrev pub calls_one : ℕ → Script
 calls_one k = script_of (one ∷ []) (give (GetOf Number (Remote k (codes "one") [] end)) ∷ [])
 
 abbrev pub making_one : ℕ → Birth
-making_one k = Task (codes "one") [] 1 k
+making_one k = Task (codes "one") [] 1 k 0
 
 abbrev pub used_up : Id → Fault
 used_up o = record { kind = RetriesUsed; object = o }
@@ -78,7 +78,7 @@ retried_rest =
     ∷ In (Deliver 6) 0
     ∷ In (Claim 3) 0
     ∷ In (Commit 2) 0
-    ∷ Ended (second_of (object 1 1)) (value 1)
+    ∷ Ended (second_of (object 1 1)) (value 1 ∷ [])
     ∷ In (Deliver 7) 0
     ∷ Accepted (second_of (object 1 1))
     ∷ Got main_attempt (object 1 1) (value 1)
@@ -86,7 +86,7 @@ retried_rest =
     ∷ In (Deliver 9) 0
     ∷ In (Claim 1) 0
     ∷ In (Commit 3) 0
-    ∷ Ended main_attempt (value 1)
+    ∷ Ended main_attempt (value 1 ∷ [])
     ∷ Released (object 1 1)
     ∷ In (Deliver 10) 0
     ∷ []
@@ -120,10 +120,10 @@ abbrev pub read : Value → Argument
 read v = record { value = v; marked = true }
 
 abbrev pub calling_f : Birth
-calling_f = Task (codes "f") (read (Named (object 1 1)) ∷ []) 1 3
+calling_f = Task (codes "f") (read (Named (object 1 1)) ∷ []) 1 3 0
 
 abbrev pub calling_g : Birth
-calling_g = Task (codes "g") (read (Named (object 1 2)) ∷ []) 1 3
+calling_g = Task (codes "g") (read (Named (object 1 2)) ∷ []) 1 3 0
 
 abbrev pub lost : Id → Fault
 lost o = record { kind = PutLost; object = o }
@@ -187,10 +187,10 @@ put_lost_log = opening ++ put_lost_rest
 -- ---- an owner dies
 
 abbrev pub calling_outer : Birth
-calling_outer = Task (codes "outer") [] 1 3
+calling_outer = Task (codes "outer") [] 1 3 0
 
 abbrev pub calling_leaf : Birth
-calling_leaf = Task (codes "leaf") [] 2 3
+calling_leaf = Task (codes "leaf") [] 2 3 0
 
 abbrev pub reference_to : Id → Outcome
 reference_to o = Val (Named o)
@@ -216,7 +216,7 @@ owner_died_rest =
     ∷ In (Claim 2) 0
     ∷ In (Commit 2) 0
     ∷ Born (object 2 1) (first_of (object 1 1)) calling_leaf
-    ∷ Ended (first_of (object 1 1)) (reference_to (object 2 1))
+    ∷ Ended (first_of (object 1 1)) (reference_to (object 2 1) ∷ [])
     ∷ In (Deliver 4) 0
     ∷ Opened 3 1
     ∷ In (Deliver 5) 0
@@ -229,7 +229,7 @@ owner_died_rest =
     ∷ In (Deliver 9) 0
     ∷ In (Claim 3) 0
     ∷ In (Commit 3) 0
-    ∷ Ended (first_of (object 2 1)) (value 4)
+    ∷ Ended (first_of (object 2 1)) (value 4 ∷ [])
     ∷ In (Deliver 10) 0
     ∷ Accepted (first_of (object 2 1))
     ∷ In (Deliver 11) 0

@@ -2,3 +2,4 @@ pub mod Logs
 pub mod WrongLogs
 pub mod FaultLogs
 pub mod ReleaseLogs
+pub mod SeveralResults

@@ -54,7 +54,7 @@ square_rest =
     ∷ In (Deliver 3) 0
     ∷ In (Claim 2) 0
     ∷ In (Commit 2) 0
-    ∷ Ended (first_of (object 1 1)) (value 49)
+    ∷ Ended (first_of (object 1 1)) (value 49 ∷ [])
     -- the owner hears of the end, and main waits for it
     ∷ In (Deliver 4) 0
     ∷ Accepted (first_of (object 1 1))
@@ -64,7 +64,7 @@ square_rest =
     ∷ In (Claim 1) 0
     ∷ In (Commit 3) 0
     ∷ Printed (number 49)
-    ∷ Ended main_attempt (value 0)
+    ∷ Ended main_attempt (value 0 ∷ [])
     ∷ Released (object 1 1)
     ∷ []
 
@@ -74,7 +74,7 @@ square_log = opening ++ square_rest
 -- ---- a trap that nobody gets
 
 abbrev pub dividing : Birth
-dividing = Task (codes "div") (given (number 1) ∷ given (number 0) ∷ []) 1 3
+dividing = Task (codes "div") (given (number 1) ∷ given (number 0) ∷ []) 1 3 0
 
 -- let r = remote div(1, 0); return 5;
 abbrev pub trap_setting : Setting
@@ -85,7 +85,7 @@ trap_rest =
     In (Claim 1) 0
     ∷ In (Commit 1) 0
     ∷ Born (object 1 1) main_attempt dividing
-    ∷ Ended main_attempt (value 5)
+    ∷ Ended main_attempt (value 5 ∷ [])
     ∷ In (Deliver 1) 0
     ∷ Opened 2 1
     ∷ In (Deliver 2) 0
@@ -93,7 +93,7 @@ trap_rest =
     ∷ In (Deliver 3) 0
     ∷ In (Claim 2) 0
     ∷ In (Commit 2) 0
-    ∷ Ended (first_of (object 1 1)) (Trapped DivZero)
+    ∷ Ended (first_of (object 1 1)) (Trapped DivZero ∷ [])
     ∷ In (Deliver 4) 0
     ∷ Accepted (first_of (object 1 1))
     ∷ Released (object 1 1)
@@ -108,10 +108,10 @@ trap_log = opening ++ trap_rest
 -- ---- a reference that is passed on
 
 abbrev pub calling_mid : Birth
-calling_mid = Task (codes "mid") (given (Named (object 1 1)) ∷ []) 1 3
+calling_mid = Task (codes "mid") (given (Named (object 1 1)) ∷ []) 1 3 0
 
 abbrev pub calling_add : Birth
-calling_add = Task (codes "add") (given (Named (object 1 1)) ∷ []) 2 3
+calling_add = Task (codes "add") (given (Named (object 1 1)) ∷ []) 2 3 0
 
 -- let p = put 6; let m = remote mid(p); return get m;
 abbrev pub passing_setting : Setting
@@ -133,7 +133,7 @@ passing_rest =
     -- the fourth message, which says that the reference is held, stays under way
     ∷ In (Commit 2) 0
     ∷ Born (object 2 1) (first_of (object 1 2)) calling_add
-    ∷ Ended (first_of (object 1 2)) (value 0)
+    ∷ Ended (first_of (object 1 2)) (value 0 ∷ [])
     ∷ In (Deliver 5) 0
     ∷ Opened 3 1
     ∷ In (Deliver 6) 0
@@ -147,7 +147,7 @@ passing_rest =
     ∷ Got (first_of (object 2 1)) (object 1 1) (value 6)
     ∷ In (Claim 3) 0
     ∷ In (Commit 4) 0
-    ∷ Ended (first_of (object 2 1)) (value 7)
+    ∷ Ended (first_of (object 2 1)) (value 7 ∷ [])
     ∷ In (Deliver 10) 0
     ∷ Accepted (first_of (object 2 1))
     ∷ []

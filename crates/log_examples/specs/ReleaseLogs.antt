@@ -33,7 +33,7 @@ further_rest =
     ∷ In (Deliver 20) 0
     ∷ In (Claim 1) 0
     ∷ In (Commit 5) 0
-    ∷ Ended main_attempt (value 0)
+    ∷ Ended main_attempt (value 0 ∷ [])
     ∷ Released (object 1 2)
     ∷ Released (object 1 1)
     ∷ In (Deliver 21) 0

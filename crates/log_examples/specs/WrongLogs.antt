@@ -59,7 +59,7 @@ released_while_held =
     ∷ In (Commit 1) 0
     ∷ Born (object 1 1) main_attempt (Put (number 6))
     ∷ Born (object 1 2) main_attempt calling_mid
-    ∷ Ended main_attempt (value 0)
+    ∷ Ended main_attempt (value 0 ∷ [])
     ∷ In (Deliver 1) 0
     ∷ Opened 2 1
     ∷ In (Deliver 2) 0
@@ -83,7 +83,7 @@ skipped_serial = In (Claim 1) 0 ∷ In (Commit 1) 0 ∷ Born (object 1 2) main_a
 
 -- the outcome of a dead worker's job
 abbrev pub end_of_the_dead : List Entry
-end_of_the_dead = take 9 square_rest ++ (In (Kill 2) 0 ∷ In (Commit 2) 0 ∷ Ended (first_of (object 1 1)) (value 49) ∷ [])
+end_of_the_dead = take 9 square_rest ++ (In (Kill 2) 0 ∷ In (Commit 2) 0 ∷ Ended (first_of (object 1 1)) (value 49 ∷ []) ∷ [])
 
 -- a worker is told of the death of one that lives
 abbrev pub notice_of_the_living : List Entry

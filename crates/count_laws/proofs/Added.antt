@@ -6,10 +6,9 @@ use Rattle.std.proofs.lemmas.List.Concat.{flat_map-append}
 use Rattle.sequence.proofs.Places.{and_left, and_right}
 use Rattle.meaning.specs.Runs.{Needs, Over, Stop, next_id}
 use Rattle.meaning.specs.Values.{Birth, Id, Value}
-use Rattle.event_log.specs.Commits.{commit_entries}
 use Rattle.event_log.specs.Entries.{Accepted, Attempt, Begun, Born, Ended, Entry, Faulted, Got, In, Opened, Printed, Refused, Released, Resolved}
 use Rattle.event_log.specs.Words.{born_in, opened, opened_in}
-use Rattle.protocol.specs.Commits.{bears_all, commit_by, commit_step, next_id_here, with_outcomes}
+use Rattle.protocol.specs.Commits.{bears_all, commit_by, commit_step, next_id_here, single_entries, with_outcomes}
 use Rattle.protocol.specs.Jobs.{Outcomes, stop_of}
 use Rattle.protocol.specs.Nodes.{There, no_out}
 use Rattle.protocol.specs.Steps.{Here, logs_all, with_run}
@@ -90,13 +89,13 @@ module _ (k : ℕ) where
 
 -- ---- a commit
 
-commit_bears : (a : Attempt) (o : Id) (bs : List Birth) (vs : List Value) (stop : Stop) → length (flat_map born_in (commit_entries a o bs vs stop)) ≡ length bs
+commit_bears : (a : Attempt) (o : Id) (bs : List Birth) (vs : List Value) (stop : Stop) → length (flat_map born_in (single_entries a o bs vs stop)) ≡ length bs
 commit_bears a o (b ∷ bs) vs stop = ap suc (commit_bears a (next_id o) bs vs stop)
 commit_bears a o [] (v ∷ vs) stop = commit_bears a o [] vs stop
 commit_bears a o [] [] (Over c) = refl
 commit_bears a o [] [] (Needs y) = refl
 
-commit_opens : (a : Attempt) (o : Id) (bs : List Birth) (vs : List Value) (stop : Stop) → length (opened (commit_entries a o bs vs stop)) ≡ 0
+commit_opens : (a : Attempt) (o : Id) (bs : List Birth) (vs : List Value) (stop : Stop) → length (opened (single_entries a o bs vs stop)) ≡ 0
 commit_opens a o (b ∷ bs) vs stop = commit_opens a (next_id o) bs vs stop
 commit_opens a o [] (v ∷ vs) stop = commit_opens a o [] vs stop
 commit_opens a o [] [] (Over c) = refl
@@ -104,7 +103,7 @@ commit_opens a o [] [] (Needs y) = refl
 
 pub commit_adds : (h : Here) (d : Outcomes) (run : Run) → h.worker.run ≡ Some run → h.there.out ≡ no_out → h.there.opened ≡ 0 → Adds (length d.births) (commit_step h d).there
 commit_adds h d run at silent closed =
-    let es : List Entry = commit_entries run.attempt (next_id_here h) d.births d.prints (stop_of d.stop) in
+    let es : List Entry = single_entries run.attempt (next_id_here h) d.births d.prints (stop_of d.stop) in
     let g : Here = logs_all (with_run h (with_outcomes run d)) es in
     let begun : Adds (length d.births) g.there = record {
       born = ap (λ o. length (flat_map born_in (o.entries ++ es))) silent ∙ commit_bears run.attempt (next_id_here h) d.births d.prints (stop_of d.stop);

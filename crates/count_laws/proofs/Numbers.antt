@@ -1,7 +1,7 @@
 -- No cause that the log shows, or that refuses an event before it is tried, has the number of the limits.
 use Rattle.std.proofs.Common.{refl, sym, ap, ◌∙◌}
 use Rattle.std.proofs.lemmas.Bool.{true≢false}
-use Rattle.std.specs.Prelude.{◌≡◌, ℕ, ◌==◌, ◌++◌, Bool, true, false, if◌then◌else◌, List, Option, Some, None, is_some, not, ◌&&◌}
+use Rattle.std.specs.Prelude.{◌≡◌, ℕ, ◌++◌, Bool, true, false, if◌then◌else◌, List, Option, Some, None, is_some, not, ◌&&◌}
 use Rattle.std.specs.List.{list_any}
 use Rattle.meaning.specs.Values.{Id}
 use Rattle.event_log.specs.Causes as causes

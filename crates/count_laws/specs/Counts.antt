@@ -13,7 +13,7 @@ pub record Counts : Type 0 where
   pub workers : ℕ
   pub objects : ℕ
 
--- the nodes that there were at first and those that joined; the workers that were opened; main's object and those that were born
+-- the nodes that there were at first and those that joined; the workers that were opened; main's object and those that were born, one a birth
 abbrev pub counted : Setting → List Entry → Counts
 counted s log = record { nodes = s.nodes + length (joins log); workers = length (opened log); objects = length (births log) }
 

@@ -33,10 +33,9 @@ use Rattle.lease_discipline.specs.Asks as A
 use Rattle.values.specs.Listed.{each_once, ids_in_outcome}
 use Rattle.meaning.specs.Values.{Birth}
 use Rattle.std.specs.Prelude.{◌&&◌}
-use Rattle.event_log.specs.Commits.{commit_entries}
 use Rattle.event_log.specs.Entries.{Entry}
 use Rattle.event_log.specs.Words.{same_attempt}
-use Rattle.protocol.specs.Commits.{bears_all, claim_by, claim_step, commit_by, commit_step, ends, next_id_here, stops_by, with_outcomes}
+use Rattle.protocol.specs.Commits.{bears_all, claim_by, claim_step, commit_by, commit_step, ends, next_id_here, stops_by, with_outcomes, single_entries}
 use Rattle.protocol.specs.Deliveries.{reached}
 use Rattle.protocol.specs.Holders.{holds_ids, passes_on}
 use Rattle.protocol.specs.Jobs.{AtEnd, AtGet, Stopped, stop_of}
@@ -380,7 +379,7 @@ module _ (c : Whole) (me : ℕ) (x : Worker) (at : worker_at c me ≡ Some x) wh
       by_run : (r : Option Run) → R (commit_by h o r)
       by_run None = q
       by_run (Some run) =
-          let es : List Entry = commit_entries run.attempt (next_id_here h) o.births o.prints (stop_of o.stop) in
+          let es : List Entry = single_entries run.attempt (next_id_here h) o.births o.prints (stop_of o.stop) in
           let g : Here = logs_all (with_run h (with_outcomes run o)) es in
           let borne : Here = bears_all g run.attempt o.births in
           stops_asks borne o.stop borne.worker.run

@@ -80,7 +80,7 @@ owed_by s es ls g = g 1 1 first_one 0 2 one_once (2, refl, refl) unbegun_yet bor
 
 -- ---- a tick
 
-no_end : (a : Attempt) (c : Outcome) → Among (Ended a c) opening → ⊥
+no_end : (a : Attempt) (c : List Outcome) → Among (Ended a c) opening → ⊥
 no_end a c (zero, e) = absurd (cc)
 no_end a c (suc zero, e) = absurd (cc)
 no_end a c (suc (suc k), e) = absurd (cc)
@@ -93,7 +93,7 @@ no_commit j e = absurd (cc)
 
 tick_owes_nothing : (s : Setting) → RepliesAreMade (nothing_comes s)
 tick_owes_nothing s = record {
-  births = λ o a f args depth retries n logged at. absurd (among-nothing _ logged);
+  births = λ o a f args depth retries others n logged at. absurd (among-nothing _ logged);
   new_waits = λ w a y waits. absurd (no_commit waits.job waits.commit);
   elsewhere = λ n w a t m b last unbegun. absurd (no_delivery b.0 b.1);
   gives = λ n w a t v spec b unbegun born. absurd (no_delivery b.0 b.1);

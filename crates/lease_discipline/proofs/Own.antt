@@ -9,7 +9,6 @@ use Rattle.values.specs.Listed.{each_once, ids_in_outcome}
 use Rattle.event_log.specs.Entries.{Attempt, Entry}
 use Rattle.event_log.specs.Words.{same_attempt}
 use Rattle.event_log.specs.Breaks.{Among}
-use Rattle.event_log.specs.Commits.{commit_entries}
 use Rattle.event_log.proofs.WordLaws.{same_attempt-true, same_attempt-refl}
 use Rattle.protocol.specs.Numbered.{item_at}
 use Rattle.protocol.specs.Sets.{has}
@@ -21,7 +20,7 @@ use Rattle.protocol.specs.Tables.{Fetching, HasEnded, HasFaulted, Out, Phase, Re
 use Rattle.protocol.specs.Steps.{Here, logs_all, own_id, store_here, with_phase, with_run, with_store}
 use Rattle.protocol.specs.Runs.{begins_run, is_free, leaves_if_free, push_reached}
 use Rattle.protocol.specs.Holders.{holds_ids, passes_on}
-use Rattle.protocol.specs.Commits.{bears_all, claim_by, claim_step, commit_by, commit_step, ends, next_id_here, stops_by, with_outcomes}
+use Rattle.protocol.specs.Commits.{bears_all, claim_by, claim_step, commit_by, commit_step, ends, next_id_here, stops_by, with_outcomes, single_entries}
 use Rattle.protocol.specs.Refusals.{is_ready_phase, is_ready_run}
 use Rattle.protocol.specs.Whole.{Whole}
 use Rattle.protocol_owed.specs.Courses.{GoesOn, HasStopped, Rests, has_begun}
@@ -400,7 +399,7 @@ module _ (c : Whole) (me n : â„•) (old : Worker) (there : item_at c.workers me â
     where
       by_run : Here_does (commit_by h o (Some run))
       by_run =
-          let es : List Entry = commit_entries run.attempt (next_id_here h) o.births o.prints (stop_of o.stop) in
+          let es : List Entry = single_entries run.attempt (next_id_here h) o.births o.prints (stop_of o.stop) in
           let next : Run = with_outcomes run o in
           let g : Here = logs_all (with_run h next) es in
           let started : Here_does g = logs_does c me n old there (with_run h next) es

@@ -14,7 +14,6 @@ use Rattle.event_log.specs.Rules.{Setting}
 use Rattle.event_log.specs.Words.{worker_of}
 use Rattle.event_log.proofs.WordLaws.{same_attempt-true}
 use Rattle.event_log.proofs.SaneLaws.{legal_logs_are_sane}
-use Rattle.event_log.specs.Legal as L
 use Rattle.event_log.specs.Breaks.{Among}
 use Rattle.protocol.specs.Answers.{Answer, Refuses, Takes, answer, logged, whole_after}
 use Rattle.protocol.specs.Jobs.{Given}

@@ -6,7 +6,6 @@ use Rattle.sequence.proofs.Places.{list_any-push_left, or_cases}
 use Rattle.meaning.proofs.BirthLaws.{at_test}
 use Rattle.meaning.specs.Values.{Birth, Id, Outcome}
 use Rattle.values.specs.Listed.{each_once, ids_in_outcome}
-use Rattle.event_log.specs.Commits.{commit_entries}
 use Rattle.event_log.specs.Entries.{Attempt, Entry, Faulted, Got}
 use Rattle.protocol.specs.Numbered.{item_at}
 use Rattle.protocol.specs.Sets.{first_item, has, least, repeated, rest_of}
@@ -25,7 +24,7 @@ use Rattle.protocol.specs.Runs.{asks_for_slot, begins_run, gives_slot_back, leav
 use Rattle.protocol.specs.Asking.{asks_at, rests, with_begun}
 use Rattle.protocol.specs.Tables.{AskedAt}
 use Rattle.protocol.specs.Holders.{holds_ids, passes_on}
-use Rattle.protocol.specs.Commits.{bears_all, with_object, claim_by, claim_step, commit_by, commit_step, ends, next_id_here, stops_by, with_outcomes}
+use Rattle.protocol.specs.Commits.{bears_all, with_object, claim_by, claim_step, commit_by, commit_step, ends, next_id_here, stops_by, with_outcomes, single_entries}
 use Rattle.protocol.specs.Whole.{Whole}
 use Rattle.protocol_owed.specs.Courses.{GoesOn, HasStopped, IsOut, Rests}
 use Rattle.protocol_owed.proofs.CourseEvents.{append_split, one_of}
@@ -470,7 +469,7 @@ module _ (c : Whole) (me n : ℕ) (old : Worker) (there : item_at c.workers me �
 
       by_run : Turns (commit_by h o (Some run))
       by_run =
-          let es : List Entry = commit_entries run.attempt (next_id_here h) o.births o.prints (stop_of o.stop) in
+          let es : List Entry = single_entries run.attempt (next_id_here h) o.births o.prints (stop_of o.stop) in
           let next : Run = with_outcomes run o in
           let g : Here = logs_all (with_run h next) es in
           let started : Turns (with_run h next) = worker_turns h (record h.worker { run = Some next }) refl (λ i. i) (inr (inl slot)) t in

@@ -15,7 +15,7 @@ use Rattle.protocol_owed.specs.Turns.{ClaimIsAnswered, SlotsAreRight}
 
 -- `remote(0) one()`
 abbrev pub one_once : Birth
-one_once = Task (codes "one") [] 1 0
+one_once = Task (codes "one") [] 1 0 0
 
 -- its first attempt
 abbrev pub first_one : Attempt

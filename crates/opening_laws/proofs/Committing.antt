@@ -1,11 +1,10 @@
 -- A commit opens one worker at most.
 use Rattle.std.proofs.Common.{Bool, List, None, Option, Some, [], arith, false, refl, true, ℕ, ◌+◌, ◌∷◌, ◌≡◌, ◌≤◌}
 use Rattle.std.specs.Prelude.{if◌then◌else◌}
-use Rattle.event_log.specs.Commits.{commit_entries}
 use Rattle.event_log.specs.Entries.{Attempt, OwnerDied}
 use Rattle.event_log.specs.Holding.{ids_of_birth}
 use Rattle.meaning.specs.Values.{Birth, Id, Outcome, Put, Task, Val}
-use Rattle.protocol.specs.Commits.{asks_where, bears, bears_all, bears_as, commit_by, commit_step, ends, needs, next_id_here, stops_by, with_object}
+use Rattle.protocol.specs.Commits.{asks_where, bears, bears_all, bears_as, commit_by, commit_step, ends, needs, next_id_here, single_entries, stops_by, with_object}
 use Rattle.protocol.specs.Commits.{with_outcomes}
 use Rattle.protocol.specs.Holders.{holds_ids, passes_on}
 use Rattle.protocol.specs.Jobs.{AtEnd, AtGet, Outcomes, Stopped, stop_of}
@@ -44,8 +43,8 @@ bears_as_spends : (h : Here) (a : Attempt) (o : Id) (b : Birth) (ids : List Id) 
 bears_as_spends h a o (Put v) ids =
     let g : Here = with_store (with_object h (put_object a ids h.worker.node)) (with_primary (store_here h) o 0 (Val v)) in
     spends_then {g = g} (spends_same refl refl) (holds_ids_spends ids g o)
-bears_as_spends h a o (Task g args depth retries) ids =
-    let x : Here = with_object h (new_object (ByTask (new_task (Task g args depth retries))) a ids) in
+bears_as_spends h a o (Task g args depth retries others) ids =
+    let x : Here = with_object h (new_object (ByTask (new_task (Task g args depth retries others))) a ids) in
     spends_then {g = x} (spends_same refl refl) (spends_then (holds_ids_spends ids x o) (spends_same refl refl))
 
 bears_all_spends : (bs : List Birth) (h : Here) (a : Attempt) → Spends h (bears_all h a bs)
@@ -105,7 +104,7 @@ stops_by_opens h (AtEnd c) (Some run) = ends_opens h run c
 -- ---- the commit
 
 abbrev logged_here : Here → Run → Outcomes → Here
-logged_here h run d = logs_all (with_run h (with_outcomes run d)) (commit_entries run.attempt (next_id_here h) d.births d.prints (stop_of d.stop))
+logged_here h run d = logs_all (with_run h (with_outcomes run d)) (single_entries run.attempt (next_id_here h) d.births d.prints (stop_of d.stop))
 
 commit_by_opens : (h : Here) (d : Outcomes) (r : Option Run) → (commit_by h d r).there.opened ≤ h.there.opened + 1
 commit_by_opens h d None = one_over h.there.opened

@@ -12,9 +12,9 @@ use Rattle.event_log.specs.Entries.{Refusal, Limit}
 use Rattle.event_log.specs.Words.{attempt, births, next_serial, runs_of}
 use Rattle.event_log.specs.Events.{node_is_killed, node_of}
 use Rattle.event_log.specs.Breaks.{Among}
-use Rattle.event_log.specs.Legal.{Legal, opening}
-use Rattle.event_log.specs.Legal as L
+use Rattle.event_log.specs.Legal.{Legal}
 use Rattle.event_log.specs.Sane.{Sane}
+use Rattle.event_log.proofs.FreshLaws.{born_if_first}
 use Rattle.event_log.proofs.SaneLaws.{legal_logs_are_sane}
 use Rattle.event_log.specs.Rules.{Setting}
 use Rattle.protocol.specs.Numbered.{changed_at, item_at}
@@ -546,15 +546,15 @@ module _ (s : Setting) (r : Running) (keeps : RunKeeps s r) (calm : IsCalm r.log
       by_object None e f = absurd (cc)
       by_object (Some object) e f = by_maker object object.maker (k.objects o.serial object e).maker f
 
-  birth_is_paid : (o : Id) (a : Attempt) (f : Name) (args : List Argument) (depth retries n : ℕ) → Among (Born o a (Task f args depth retries)) entries →
+  birth_is_paid : (o : Id) (a : Attempt) (f : Name) (args : List Argument) (depth retries others n : ℕ) → Among (Born o a (Task f args depth retries others)) entries →
       node_of o.owner log ≡ Some n → Sends letters (TheWorker o.owner) (TheNode n) (Ask (attempt o 0) 0)
-  birth_is_paid o a f args depth retries n born place =
+  birth_is_paid o a f args depth retries others n born place =
       let x = lives_there s log next d o.owner (calm_live log o.owner n still place) in
       let k = d.knows.workers o.owner x.0 x.1 x.2 in
-      let stands : birth_at (births log) o ≡ Some (Task f args depth retries) =
-      birth_stands (setting_of s next) log legal o a (Task f args depth retries)
-      (subst (λ es. Among (Born o a (Task f args depth retries)) es) (sym grows) (behind r.log (In event seat) entries (Born o a
-      (Task f args depth retries)) born)) in
+      let stands : birth_at (births log) o ≡ Some (Task f args depth retries others) =
+      birth_stands (setting_of s next) log legal o a (Task f args depth retries others)
+      (subst (λ es. Among (Born o a (Task f args depth retries others)) es) (sym grows) (behind r.log (In event seat) entries (Born o a
+      (Task f args depth retries others)) born)) in
       let node : x.0.node ≡ n = same_node x.0.node n (sym (places s log next d o.owner x.0 x.1) ∙ place) in
       by_task x.0 x.1 k stands node (task_of (item_at x.0.objects o.serial)) refl
     where
@@ -570,15 +570,15 @@ module _ (s : Setting) (r : Running) (keeps : RunKeeps s r) (calm : IsCalm r.log
           Sends letters (TheWorker o.owner) (TheNode n) (Ask (attempt o 0) 0)
       new_letter x node sent = elim (among-append_cases r.whole.network letters _ (subst (λ ls. Sends ls (TheWorker o.owner) (TheNode x.node) (Ask
           (attempt o 0) 0)) sends sent)) [
-            | inl old ↦ absurd (unasked o a (Task f args depth retries) born x.node (o.owner, old))
+            | inl old ↦ absurd (unasked o a (Task f args depth retries others) born x.node (o.owner, old))
             | inr new ↦ subst (λ m. Sends letters (TheWorker o.owner) (TheNode m) (Ask (attempt o 0) 0)) node new
           ]
 
-      is_task : (value : Value) → birth_at (births log) o ≡ Some (Task f args depth retries) → birth_at (births log) o ≡ Some (Put value) → ⊥
-      is_task value e g = let h : ◌≡◌ {A = Option Birth} (Some (Task f args depth retries)) (Some (Put value)) = sym e ∙ g in absurd (cc)
+      is_task : (value : Value) → birth_at (births log) o ≡ Some (Task f args depth retries others) → birth_at (births log) o ≡ Some (Put value) → ⊥
+      is_task value e g = let h : ◌≡◌ {A = Option Birth} (Some (Task f args depth retries others)) (Some (Put value)) = sym e ∙ g in absurd (cc)
 
       by_task : (x : Worker) → worker_at next o.owner ≡ Some x → KnowsWorker (setting_of s next) (past log d.asked) o.owner x →
-          birth_at (births log) o ≡ Some (Task f args depth retries) → x.node ≡ n → (p : Option OwnTask) → task_of (item_at x.objects o.serial) ≡ p →
+          birth_at (births log) o ≡ Some (Task f args depth retries others) → x.node ≡ n → (p : Option OwnTask) → task_of (item_at x.objects o.serial) ≡ p →
           Sends letters (TheWorker o.owner) (TheNode n) (Ask (attempt o 0) 0)
       by_task x at k stands node (Some task) e = new_letter x node (asked_first o x at task e k)
       by_task x at k stands node None e = absurd (by_object (item_at x.objects o.serial) refl e)
@@ -589,7 +589,7 @@ module _ (s : Setting) (r : Running) (keeps : RunKeeps s r) (calm : IsCalm r.log
 
           by_object : (p : Option Object) → item_at x.objects o.serial ≡ p → task_of p ≡ None → ⊥
           by_object (Some object) i g = by_maker object object.maker (k.objects o.serial object i).maker g
-          by_object None i g = missing i (sane.serials o (Task f args depth retries) stands) k.serial
+          by_object None i g = missing i (sane.serials o (born_if_first (births log) o (Task f args depth retries others) stands)) k.serial
             where
               sane : Sane log
               sane = legal_logs_are_sane (setting_of s next) log legal
@@ -603,7 +603,7 @@ module _ (s : Setting) (r : Running) (keeps : RunKeeps s r) (calm : IsCalm r.log
                       let first : Legal (setting_of s r.whole) r.log = keeps.step.sound.between.legal in
                       let new : next_serial o.owner (births r.log) ≤ o.serial =
                       born_behind (setting_of s next) r.log event seat entries (subst (Legal (setting_of s next)) grows legal) first.rest
-                      first.begins o a (Task f args depth retries) born in
+                      first.begins o a (Task f args depth retries others) born in
                       let some = some_serial o.owner r.log in
                       omega (arith, z, new, some)
 
@@ -651,7 +651,7 @@ elsewheres_are_asked s slots some slot apart gs right g step is taken calm = λ 
     subst (λ ls. Sends ls (TheWorker w) (TheNode m) (Ask a (t + 1))) (ap (λ (o : Outbox). o.letters) same ∙ sym k.letters) f
 
 pub births_are_asked : BirthsAreAsked
-births_are_asked s slots some slot apart gs right g step is taken calm = λ o a f args depth retries n born place.
+births_are_asked s slots some slot apart gs right g step is taken calm = λ o a f args depth retries others n born place.
     let r : Running = after_events (opening_run s.nodes slots) gs in
     let k : IsTaken r.whole g.event g.handed step = is_taken r.whole g.event g.handed step taken in
     let next : RunKeeps s (after_event r g) = next_keeps s slots some slot apart gs right g is in
@@ -659,4 +659,4 @@ births_are_asked s slots some slot apart gs right g step is taken calm = λ o a 
     next.step next.asks next.routes calm g.event g.seat step.entries step.letters (last_log r g step taken)
     (ap (λ (c : Whole). c.network) (last_whole r g step taken ∙ k.whole) ∙ happens_network r.whole g.event g.handed ∙
     ap (λ ls. r.whole.network ++ ls) (sym k.letters))
-    o a f args depth retries n born place
+    o a f args depth retries others n born place

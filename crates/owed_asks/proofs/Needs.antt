@@ -7,7 +7,6 @@ use Rattle.sequence.proofs.Places.{and_left, and_right}
 use Rattle.meaning.proofs.BirthLaws.{at_test}
 use Rattle.meaning.specs.Values.{Id, Outcome}
 use Rattle.values.specs.Listed.{each_once, ids_in_outcome}
-use Rattle.event_log.specs.Commits.{commit_entries}
 use Rattle.event_log.specs.Entries.{Attempt, Commit, Deliver, Entry, Event, Faulted, Got, OwnerDied}
 use Rattle.event_log.specs.Entries.{Refusal, NoJob, Stale}
 use Rattle.event_log.specs.Events.{from_one}
@@ -23,7 +22,7 @@ use Rattle.protocol.specs.Tables.{needed_by, object_needed}
 use Rattle.protocol.specs.Steps.{Here, is_own, logs, logs_all, says, store_here, with_phase, with_run, with_store}
 use Rattle.protocol.specs.Runs.{faults, gives_slot_back, leaves_if_free}
 use Rattle.protocol.specs.Holders.{holds_ids, passes_on}
-use Rattle.protocol.specs.Commits.{asks_where, bears_all, commit_by, commit_step, ends, needs, next_id_here, rests_if_waiting, stops_by, with_outcomes}
+use Rattle.protocol.specs.Commits.{asks_where, bears_all, commit_by, commit_step, ends, needs, next_id_here, rests_if_waiting, stops_by, with_outcomes, single_entries}
 use Rattle.protocol.specs.Releases.{release_step}
 use Rattle.protocol.specs.Deliveries.{reached}
 use Rattle.protocol.specs.Whole.{Whole, after_worker, here, node_at, worker_at, worker_does_at, worker_does_by}
@@ -193,7 +192,7 @@ commit_asks h o run e = subst (λ r. AsksOwner h.me (release_step (commit_by h o
   where
     by_run : AsksOwner h.me (release_step (commit_by h o (Some run)))
     by_run =
-        let es : List Entry = commit_entries run.attempt (next_id_here h) o.births o.prints (stop_of o.stop) in
+        let es : List Entry = single_entries run.attempt (next_id_here h) o.births o.prints (stop_of o.stop) in
         let g : Here = logs_all (with_run h (with_outcomes run o)) es in
         let borne : Here = bears_all g run.attempt o.births in
         let goes : pace_by borne.worker.run ≡ GoesOn =

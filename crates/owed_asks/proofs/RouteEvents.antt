@@ -5,7 +5,6 @@ use Rattle.std.specs.List.{list_any}
 use Rattle.meaning.proofs.BirthLaws.{at_test}
 use Rattle.meaning.specs.Values.{Birth, Id, Outcome}
 use Rattle.values.specs.Listed.{each_once, ids_in_outcome}
-use Rattle.event_log.specs.Commits.{commit_entries}
 use Rattle.event_log.specs.Entries.{Attempt, Entry, Event, Claim, Commit, Deliver, Tick, Notice, NoticeNode, Evict, Lose, Kill, KillNode, Join}
 use Rattle.event_log.specs.Entries.{Refusal, Limit}
 use Rattle.event_log.specs.Words.{same_attempt}
@@ -22,7 +21,7 @@ use Rattle.protocol.specs.Tables.{HasEnded, Out, OwnTask, Run, Waits, Worker, ne
 use Rattle.protocol.specs.Steps.{Here, logs_all, store_here, with_phase, with_run, with_store}
 use Rattle.protocol.specs.Runs.{begins_run, is_free, leaves_if_free, push_reached}
 use Rattle.protocol.specs.Holders.{holds_ids, passes_on}
-use Rattle.protocol.specs.Commits.{bears_all, claim_by, claim_step, commit_by, commit_step, ends, next_id_here, stops_by, with_outcomes}
+use Rattle.protocol.specs.Commits.{bears_all, claim_by, claim_step, commit_by, commit_step, ends, next_id_here, stops_by, with_outcomes, single_entries}
 use Rattle.protocol.specs.Notices.{notice_step, notice_node_step}
 use Rattle.protocol.specs.Ticks.{tick_step}
 use Rattle.protocol.specs.Releases.{release_step}
@@ -163,7 +162,7 @@ module _ (c : Whole) (me n : ℕ) where
       by_run : (r : Option Run) → R (commit_by h o r)
       by_run None = q
       by_run (Some run) =
-          let es : List Entry = commit_entries run.attempt (next_id_here h) o.births o.prints (stop_of o.stop) in
+          let es : List Entry = single_entries run.attempt (next_id_here h) o.births o.prints (stop_of o.stop) in
           let g : Here = logs_all (with_run h (with_outcomes run o)) es in
           let borne : Here = bears_all g run.attempt o.births in
           stops_routes borne o.stop borne.worker.run

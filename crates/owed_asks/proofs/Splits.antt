@@ -6,13 +6,14 @@ use Rattle.std.specs.List.{flat_map, list_any}
 use Rattle.std.proofs.lemmas.List.Concat.{flat_map-append}
 use Rattle.std.proofs.lemmas.Bool.Decides.{nat_tests}
 use Rattle.std.proofs.lemmas.Bool.{false_from_ne_true}
+use Rattle.sequence.proofs.Places.{and_left, and_right, or_cases}
 use Rattle.meaning.proofs.BirthLaws.{at_test, same_id-refl, same_id-true}
-use Rattle.meaning.specs.Values.{Birth, Id, main_birth}
-use Rattle.meaning.specs.Births.{Bearing, birth_at, same_id}
+use Rattle.meaning.specs.Values.{Birth, results_of, Id, main_birth}
+use Rattle.meaning.specs.Births.{Bearing, birth_at, objects_at, same_id}
 use Rattle.event_log.specs.Entries.{Attempt, Event, Entry, In, Refused, Opened, Begun, Born, Got, Printed, Ended, Accepted, Faulted, Resolved, Released}
 use Rattle.event_log.specs.Entries.{main_object, Claim, Commit, Deliver, Tick, Notice, NoticeNode, Evict, Lose, Kill, KillNode, Join}
 use Rattle.event_log.specs.Words.{accepts_of, births, born_in, main_bearing, next_serial, worker_of}
-use Rattle.event_log.specs.Events.{accepted_events, is_live, kills, kills_node, node_is_killed, node_of, refused_next}
+use Rattle.event_log.specs.Events.{accepted_events, is_live, kills, kills_node, loses, node_is_killed, node_of, refused_next}
 use Rattle.event_log.specs.Breaks.{Among, Standing, breaks, breaks_from, breaks_of}
 use Rattle.event_log.specs.Breaks as B
 use Rattle.event_log.specs.Legal.{Legal, has_event, opening}
@@ -168,8 +169,9 @@ births_step s before (Born p a c) q may =
         p.serial < next_serial p.owner (births before ++ record { object = p; birth = c } ∷ [])
     one_more p c next =
         let push = next_serial-push p.owner (births before) (record { object = p; birth = c }) in
-        let one : ◌≡◌ {A = ℕ} (if p.owner == p.owner then 1 else 0) 1 = ap (λ t. if t then 1 else 0) (equal p.owner) in
-        omega (arith, next, push, one)
+        let all : ◌≡◌ {A = ℕ} (if p.owner == p.owner then results_of c else 0) (results_of c) = ap (λ t. if t then results_of c else 0) (equal p.owner) in
+        let some : 1 ≤ results_of c = omega arith in
+        omega (arith, next, push, all, some)
       where
         equal : (n : ℕ) → (n == n) ≡ true
         equal n = grind (arith, nat_tests)
@@ -291,26 +293,34 @@ pub calm_node : (log : List Entry) (n : ℕ) → IsCalm log → node_is_killed n
 unfolding node_is_killed
 calm_node log n calm = no_such log (kills_node n) (node_kills_fail n) calm
 
+loss_fails : (n : ℕ) (o : Id) (e : Event) → loses n o e ≡ true → is_failure e ≡ true
+loss_fails n o (Lose m p) e = refl
+loss_fails n o (Kill v) e = absurd (cc)
+loss_fails n o (KillNode m) e = absurd (cc)
+loss_fails n o (Claim v) e = absurd (cc)
+loss_fails n o (Commit j) e = absurd (cc)
+loss_fails n o (Deliver k) e = absurd (cc)
+loss_fails n o (Tick v) e = absurd (cc)
+loss_fails n o (Notice v u) e = absurd (cc)
+loss_fails n o (NoticeNode v m) e = absurd (cc)
+loss_fails n o (Evict m p) e = absurd (cc)
+loss_fails n o Join e = absurd (cc)
+
+losses_fail : (n : ℕ) (os : List Id) (e : Event) → list_any (λ o. loses n o e) os ≡ true → is_failure e ≡ true
+losses_fail n [] e h = absurd (cc)
+losses_fail n (o ∷ os) e h = elim (or_cases (loses n o e) (list_any (λ p. loses n p e) os) h) [ inl g ↦ loss_fails n o e g | inr g ↦ losses_fail n os e g ]
+
 breaks_fail : (x : Standing) (b : Bool) (e : Event) → breaks x b e ≡ true → is_failure e ≡ true
-breaks_fail x b (Kill v) e = refl
-breaks_fail x b (KillNode m) e = refl
-breaks_fail x b (Lose m o) e = refl
-breaks_fail x true (Claim v) e = absurd (cc)
-breaks_fail x false (Claim v) e = absurd (cc)
-breaks_fail x true (Commit j) e = absurd (cc)
-breaks_fail x false (Commit j) e = absurd (cc)
-breaks_fail x true (Deliver k) e = absurd (cc)
-breaks_fail x false (Deliver k) e = absurd (cc)
-breaks_fail x true (Tick v) e = absurd (cc)
-breaks_fail x false (Tick v) e = absurd (cc)
-breaks_fail x true (Notice v u) e = absurd (cc)
-breaks_fail x false (Notice v u) e = absurd (cc)
-breaks_fail x true (NoticeNode v m) e = absurd (cc)
-breaks_fail x false (NoticeNode v m) e = absurd (cc)
-breaks_fail x true (Evict m o) e = absurd (cc)
-breaks_fail x false (Evict m o) e = absurd (cc)
-breaks_fail x true Join e = absurd (cc)
-breaks_fail x false Join e = absurd (cc)
+breaks_fail x b e h =
+    let kept : Bool = not x.is_accepted in
+    let lost : Bool = kills_node x.node e || list_any (λ o. loses x.node o e) x.objects in
+    elim (or_cases (kills x.worker x.node e && kept) (b && lost) h) [
+      | inl g ↦ kills_fail x.worker x.node e (and_left (kills x.worker x.node e) kept g)
+      | inr g ↦ elim (or_cases (kills_node x.node e) (list_any (λ o. loses x.node o e) x.objects) (and_right b lost g)) [
+        | inl k ↦ node_kills_fail x.node e k
+        | inr k ↦ losses_fail x.node x.objects e k
+      ]
+    ]
 
 any_split : (f : Event → Bool) (xs ys : List Event) → list_any f (xs ++ ys) ≡ false → (list_any f xs ≡ false) × (list_any f ys ≡ false)
 any_split f [] ys e = (refl, e)
@@ -363,6 +373,7 @@ calm_unbroken a log place calm e = by_worker (worker_of a log) e
           node = n;
           is_accepted = B.is_some
               (accepts_of a log);
+          objects = objects_at (births log) a.object;
         }) 0 false log)) → ⊥
     by_node w None f = let g = f.1 in absurd (cc)
     by_node w (Some n) f =
@@ -372,11 +383,12 @@ calm_unbroken a log place calm e = by_worker (worker_of a log) e
           node = n;
           is_accepted = B.is_some
               (accepts_of a log);
+          objects = objects_at (births log) a.object;
         }) log 0 false calm) f in
         let i = g.1 in absurd (cc)
 
     by_worker : (o : Option ℕ) → Among place (B.at_worker o [] (λ w. B.at_worker (node_of w log) []
-        (λ n. breaks_from (record { attempt = a; worker = w; node = n; is_accepted = B.is_some (accepts_of a log) }) 0 false log))) → ⊥
+        (λ n. breaks_from (record { attempt = a; worker = w; node = n; is_accepted = B.is_some (accepts_of a log); objects = objects_at (births log) a.object }) 0 false log))) → ⊥
     by_worker None f = let g = f.1 in absurd (cc)
     by_worker (Some w) f = by_node w (node_of w log) f
 

@@ -7,7 +7,6 @@ use Rattle.sequence.proofs.Places.{and_right, or_cases}
 use Rattle.meaning.proofs.BirthLaws.{at_test}
 use Rattle.meaning.specs.Values.{Birth, Id, Outcome}
 use Rattle.values.specs.Listed.{each_once, ids_in_outcome}
-use Rattle.event_log.specs.Commits.{commit_entries}
 use Rattle.event_log.specs.Entries.{Attempt, Entry, Event, Claim, Commit, Deliver, Tick, Notice, NoticeNode, Evict, Lose, Kill, KillNode, Join, main_attempt}
 use Rattle.event_log.specs.Entries.{Refusal, NoWorker, NotReady, NoJob, Stale, NotDead, Limit}
 use Rattle.event_log.specs.Breaks.{Among}
@@ -23,7 +22,7 @@ use Rattle.protocol.specs.Tables.{Fetching, HasEnded, Out, Run, has_stopped, Wai
 use Rattle.protocol.specs.Steps.{Here, logs_all, store_here, with_phase, with_run, with_store}
 use Rattle.protocol.specs.Runs.{begins_run, gives_slot_back, is_free, leaves_if_free, push_reached}
 use Rattle.protocol.specs.Holders.{holds_ids, passes_on}
-use Rattle.protocol.specs.Commits.{asks_where, bears_all, claim_by, claim_step, commit_by, commit_step, ends, needs, next_id_here, stops_by, with_outcomes}
+use Rattle.protocol.specs.Commits.{asks_where, bears_all, claim_by, claim_step, commit_by, commit_step, ends, needs, next_id_here, stops_by, with_outcomes, single_entries}
 use Rattle.protocol.specs.Notices.{notice_step, notice_node_step}
 use Rattle.protocol.specs.Ticks.{tick_step}
 use Rattle.protocol.specs.Releases.{release_step}
@@ -262,7 +261,7 @@ module _ (c : Whole) (me n : ℕ) (old : Worker) (at : item_at c.workers me ≡ 
 
       by_run : U None (commit_by h o (Some run))
       by_run =
-          let es : List Entry = commit_entries run.attempt (next_id_here h) o.births o.prints (stop_of o.stop) in
+          let es : List Entry = single_entries run.attempt (next_id_here h) o.births o.prints (stop_of o.stop) in
           let next : Run = with_outcomes run o in
           let g : Here = logs_all (with_run h next) es in
           let v : U None (with_run h next) = worker_uses c me n old at None None h (record h.worker { run = Some next }) refl refl refl (λ _. inl

@@ -3,7 +3,7 @@ use Rattle.std.proofs.Common.{◌≡◌, ℕ, true, List, [], ◌∷◌, Some, N
 use Rattle.meaning.specs.Births.{Bearing, birth_at, numbered}
 use Rattle.meaning.specs.Meaning.{replay, run_birth}
 use Rattle.meaning.specs.Runs.{Bears, Ends, Gets, Needs, Piece, Prints, Run, piece, with_print}
-use Rattle.meaning.specs.Values.{Birth, Id, Named, Outcome, Trapped, Val, Value}
+use Rattle.meaning.specs.Values.{Birth, results_of, Id, Named, Outcome, Trapped, Val, Value}
 use Rattle.event_log.specs.Entries.{Attempt}
 use Rattle.event_log.specs.Rules.{Setting, Stops}
 use Rattle.event_log.specs.Words.{answers_of, births, own_births}
@@ -20,27 +20,27 @@ use Rattle.lease_discipline.proofs.Told.{lives_there, logs_tell}
 
 -- ---- where nothing is born, the base of births doesn't matter
 
-same_piece : (run : Run) (base other : Id) (answers : List Outcome) → (piece run base answers).births ≡ [] → piece run base answers ≡ piece run other answers
-same_piece (Ends c) base other answers e = refl
-same_piece (Prints v next) base other answers e = ap (with_print v) (same_piece next base other answers e)
-same_piece (Bears b made_by next) base other answers e = absurd (cc)
-same_piece (Gets t r next) base other [] e = refl
-same_piece (Gets t r next) base other (Val v ∷ rest) e = same_piece (next v) base other rest e
-same_piece (Gets t r next) base other (Trapped x ∷ rest) e = refl
+same_piece : (n : ℕ) (run : Run) (base other : Id) (answers : List Outcome) → (piece n run base answers).births ≡ [] → piece n run base answers ≡ piece n run other answers
+same_piece n (Ends c) base other answers e = refl
+same_piece n (Prints v next) base other answers e = ap (with_print v) (same_piece n next base other answers e)
+same_piece n (Bears b made_by next) base other answers e = absurd (cc)
+same_piece n (Gets t r next) base other [] e = refl
+same_piece n (Gets t r next) base other (Val v ∷ rest) e = same_piece n (next v) base other rest e
+same_piece n (Gets t r next) base other (Trapped x ∷ rest) e = refl
 
 -- two accounts of the same births and the same replay stop alike
-stops_alike : (run : Run) (base other : Id) (answers : List Outcome) (p : Piece) (bs : List Birth) (vs : List Value) (y z : Id) → p ≡ piece run base answers →
-    piece run other answers ≡ piece_of bs vs z → numbered base p.births ≡ numbered other bs → p.stop ≡ Needs (Named y) → y ≡ z
-stops_alike run base other answers p [] vs y z e f same stop =
-    let none : (piece run other answers).births ≡ [] = ap (λ (q : Piece). q.births) f in
-    let is : p ≡ piece_of [] vs z = e ∙ sym (same_piece run other base answers none) ∙ f in
+stops_alike : (n : ℕ) (run : Run) (base other : Id) (answers : List Outcome) (p : Piece) (bs : List Birth) (vs : List Value) (y z : Id) → p ≡ piece n run base answers →
+    piece n run other answers ≡ piece_of bs vs z → numbered base p.births ≡ numbered other bs → p.stop ≡ Needs (Named y) → y ≡ z
+stops_alike n run base other answers p [] vs y z e f same stop =
+    let none : (piece n run other answers).births ≡ [] = ap (λ (q : Piece). q.births) f in
+    let is : p ≡ piece_of [] vs z = e ∙ sym (same_piece n run other base answers none) ∙ f in
     same_needs y z (sym stop ∙ ap (λ (q : Piece). q.stop) is)
   where
     same_needs : (y z : Id) → Needs (Named y) ≡ Needs (Named z) → y ≡ z
     same_needs y z g = cc
-stops_alike run base other answers p (b ∷ bs) vs y z e f same stop =
+stops_alike n run base other answers p (b ∷ bs) vs y z e f same stop =
     let bases : base ≡ other = by_births p.births same in
-    let is : p ≡ piece_of (b ∷ bs) vs z = e ∙ ap (λ o. piece run o answers) bases ∙ f in
+    let is : p ≡ piece_of (b ∷ bs) vs z = e ∙ ap (λ o. piece n run o answers) bases ∙ f in
     same_needs y z (sym stop ∙ ap (λ (q : Piece). q.stop) is)
   where
     same_needs : (y z : Id) → Needs (Named y) ≡ Needs (Named z) → y ≡ z
@@ -91,7 +91,7 @@ waits_for s r step w a y waits =
         let born : birth_at (births r.log) a.object ≡ Some run.spec = ap (λ (i : Attempt). birth_at (births r.log) i.object) (sym present) ∙ k.spec in
         let spec : stops.replays.spec ≡ run.spec = same_birth stops.replays.spec run.spec (sym stops.replays.born ∙ born) in
         let answers : answers_of a r.log ≡ run.answers = ap (λ i. answers_of i r.log) (sym present) ∙ k.answers in
-        stops_alike (run_birth s.script run.spec) stops.base run.base run.answers stops.p run.births run.prints y z
+        stops_alike (results_of run.spec) (run_birth s.script run.spec) stops.base run.base run.answers stops.p run.births run.prints y z
         (stops.replays.replayed ∙ ap (λ i. replay s.script i stops.base (answers_of a r.log)) spec ∙ ap (replay s.script run.spec stops.base) answers) q.1
         (sym stops.own ∙ ap (λ i. own_births i r.log) (sym present) ∙ k.own) stops.stopped
 

@@ -5,12 +5,11 @@ use Rattle.meaning.specs.Values.{Birth, Id, Outcome, Put, Task, Val, Value}
 use Rattle.values.specs.Cells.{is_small}
 use Rattle.values.specs.Listed.{each_once, ids_in_outcome}
 use Rattle.event_log.specs.Breaks.{Among}
-use Rattle.event_log.specs.Commits.{commit_entries}
 use Rattle.event_log.specs.Entries.{Attempt, Born, Ended, Entry}
 use Rattle.event_log.specs.Holding.{ids_of_birth}
 use Rattle.event_log.specs.Words.{attempt}
 use Rattle.numbered.proofs.Lists.{changed-length}
-use Rattle.protocol.specs.Commits.{bears, bears_all, commit_by, commit_step, next_id_here, stops_by, with_object, with_outcomes}
+use Rattle.protocol.specs.Commits.{bears, bears_all, commit_by, commit_step, next_id_here, stops_by, with_object, with_outcomes, single_entries}
 use Rattle.protocol.specs.Asking.{asks_at}
 use Rattle.protocol.specs.Holders.{holds_ids, passes_on}
 use Rattle.protocol.specs.Jobs.{AtEnd, AtGet, Outcomes, Stopped, stop_of}
@@ -53,8 +52,8 @@ asks_same h o task s = record { node = s.node; objects = changed-length h.worker
 -- after a birth there is one object more
 bears-same : (h : Here) (a : Attempt) (b : Birth) → IsSame h.worker.node (length h.worker.objects + 1) h.me (bears h a b)
 bears-same h a (Put v) = holds_ids-same _ _ _ _ (next_id_here h) (each_once (ids_of_birth (Put v))) (record { node = refl; objects = length-append h.worker.objects _; number = refl })
-bears-same h a (Task g args depth retries) =
-    let b : Birth = Task g args depth retries in
+bears-same h a (Task g args depth retries others) =
+    let b : Birth = Task g args depth retries others in
     let ids : List Id = each_once (ids_of_birth b) in
     let o : Id = next_id_here h in
     let x : Here = with_object h (new_object (ByTask (new_task b)) a ids) in
@@ -69,7 +68,7 @@ next_birth h a b =
     own : ℕ → ℕ → Id
     own w k = record { owner = w; serial = k }
 
-no_birth : (a b : Attempt) (next o : Id) (vs : List Value) (stop : Stop) (x : Birth) → Among (Born o b x) (commit_entries a next [] vs stop) → ⊥
+no_birth : (a b : Attempt) (next o : Id) (vs : List Value) (stop : Stop) (x : Birth) → Among (Born o b x) (single_entries a next [] vs stop) → ⊥
 no_birth a b next o (v ∷ vs) stop x (zero, e) = cc
 no_birth a b next o (v ∷ vs) stop x (suc k, e) = no_birth a b next o vs stop x (k, e)
 no_birth a b next o [] (Over c) x (zero, e) = cc
@@ -77,7 +76,7 @@ no_birth a b next o [] (Over c) x (suc k, e) = cc
 no_birth a b next o [] (Needs y) x (k, e) = cc
 
 -- what is born is of the owner whose ids come next
-born_own : (a b : Attempt) (next o : Id) (x : Birth) (bs : List Birth) (vs : List Value) (stop : Stop) → Among (Born o b x) (commit_entries a next bs vs stop) →
+born_own : (a b : Attempt) (next o : Id) (x : Birth) (bs : List Birth) (vs : List Value) (stop : Stop) → Among (Born o b x) (single_entries a next bs vs stop) →
     o.owner ≡ next.owner
 born_own a b next o x (y ∷ bs) vs stop (zero, e) = let same : next ≡ o = cc in ap (λ (i : Id). i.owner) (sym same)
 born_own a b next o x (y ∷ bs) vs stop (suc k, e) = born_own a b (next_id next) o x bs vs stop (k, e)
@@ -85,9 +84,9 @@ born_own a b next o x [] vs stop i = absurd (no_birth a b next o vs stop x i)
 
 -- each put that the commit bears is in the store
 births_stored : (bs : List Birth) (h : Here) (a : Attempt) (vs : List Value) (stop : Stop) (o : Id) (b : Attempt) (v : Value) →
-    Among (Born o b (Put v)) (commit_entries a (next_id_here h) bs vs stop) → IsStored o 0 (bears_all h a bs)
+    Among (Born o b (Put v)) (single_entries a (next_id_here h) bs vs stop) → IsStored o 0 (bears_all h a bs)
 births_stored [] h a vs stop o b v born = absurd (no_birth a b (next_id_here h) o vs stop (Put v) born)
-births_stored (Task g args depth retries ∷ bs) h a vs stop o b v (zero, e) = absurd (cc)
+births_stored (Task g args depth retries others ∷ bs) h a vs stop o b v (zero, e) = absurd (cc)
 births_stored (Put u ∷ bs) h a vs stop o b v (zero, e) =
     let same : next_id_here h ≡ o = cc in
     let ids : List Id = each_once (ids_of_birth (Put u)) in
@@ -97,7 +96,7 @@ births_stored (Put u ∷ bs) h a vs stop o b v (zero, e) =
     subst (λ i. IsStored i 0 (bears_all h a (Put u ∷ bs))) same (M.bears_all-kept (IsStored p 0) (stored_stays p 0) (bears h a (Put u)) a bs held)
 births_stored (b ∷ bs) h a vs stop o d v (suc k, e) =
     births_stored bs (bears h a b) a vs stop o d v
-    (subst (λ n. Among (Born o d (Put v)) (commit_entries a n bs vs stop)) (sym (next_birth h a b)) (k, e))
+    (subst (λ n. Among (Born o d (Put v)) (single_entries a n bs vs stop)) (sym (next_birth h a b)) (k, e))
 
 -- ---- ends
 
@@ -114,8 +113,8 @@ bears_runs : (a : Attempt) (h : Here) (b : Birth) → Runs a h → Runs a (bears
 bears_runs a h (Put v) r =
     let ids : List Id = each_once (ids_of_birth (Put v)) in
     held_runs a (with_store (with_object h (put_object a ids h.worker.node)) (with_primary (store_here h) (next_id_here h) 0 (Val v))) (next_id_here h) ids r
-bears_runs a h (Task g args depth retries) r =
-    let spec : Birth = Task g args depth retries in
+bears_runs a h (Task g args depth retries others) r =
+    let spec : Birth = Task g args depth retries others in
     let ids : List Id = each_once (ids_of_birth spec) in
     held_runs a (with_object h (new_object (ByTask (new_task spec)) a ids)) (next_id_here h) ids r
 
@@ -123,7 +122,7 @@ bears_all_runs : (a : Attempt) (bs : List Birth) (h : Here) → Runs a h → Run
 bears_all_runs a [] h r = r
 bears_all_runs a (b ∷ bs) h r = bears_all_runs a bs (bears h a b) (bears_runs a h b r)
 
-end_logged : (a b : Attempt) (c : Outcome) (o : Id) (bs : List Birth) (vs : List Value) (stop : Stop) → Among (Ended b c) (commit_entries a o bs vs stop) → (a ≡ b) × (stop ≡ Over c)
+end_logged : (a b : Attempt) (c : List Outcome) (o : Id) (bs : List Birth) (vs : List Value) (stop : Stop) → Among (Ended b c) (single_entries a o bs vs stop) → (a ≡ b) × (stop ≡ Over c)
 end_logged a b c o (x ∷ bs) vs stop (zero, e) = absurd (cc)
 end_logged a b c o (x ∷ bs) vs stop (suc k, e) = end_logged a b c (next_id o) bs vs stop (k, e)
 end_logged a b c o [] (v ∷ vs) stop (zero, e) = absurd (cc)
@@ -145,7 +144,7 @@ ends_stored h run c big =
     let there : IsStored o n held = M.holds_ids-kept (IsStored o n) kept g o ids now in
     kept.frees (leaves_if_free held) (M.leaves_if_free-kept (IsStored o n) kept held there)
 
-stop_ends : (t : Stopped) (c : Outcome) → stop_of t ≡ Over c → t ≡ AtEnd c
+stop_ends : (t : Stopped) (c : Outcome) → stop_of t ≡ Over (c ∷ []) → t ≡ AtEnd c
 stop_ends (AtGet y) c e = absurd (cc)
 stop_ends (AtEnd d) c e = let f : d ≡ c = cc in ap AtEnd f
 
@@ -153,7 +152,7 @@ stop_ends (AtEnd d) c e = let f : d ≡ c = cc in ap AtEnd f
 
 module _ (h : Here) (d : Outcomes) (run : Run) (at : h.worker.run ≡ Some run) where
   abbrev pub es : List Entry
-  es = commit_entries run.attempt (next_id_here h) d.births d.prints (stop_of d.stop)
+  es = single_entries run.attempt (next_id_here h) d.births d.prints (stop_of d.stop)
 
   abbrev logged : Here
   logged = logs_all (with_run h (with_outcomes run d)) es
@@ -168,7 +167,7 @@ module _ (h : Here) (d : Outcomes) (run : Run) (at : h.worker.run ≡ Some run) 
       (subst (λ r. IsStored o 0 (commit_by h d r)) (sym at)
       (M.stops_by-kept (IsStored o 0) (stored_stays o 0) borne d.stop borne.worker.run (births_stored d.births logged run.attempt d.prints (stop_of d.stop) o a v i)))
   new_stored o n (inr (c, i, big)) =
-      let q = end_logged run.attempt (attempt o n) c (next_id_here h) d.births d.prints (stop_of d.stop) i in
+      let q = end_logged run.attempt (attempt o n) (c ∷ []) (next_id_here h) d.births d.prints (stop_of d.stop) i in
       let r = bears_all_runs run.attempt d.births logged (with_outcomes run d, refl, refl) in
       let same : r.0.attempt ≡ attempt o n = r.2 ∙ q.0 in
       let stored : IsStored r.0.attempt.object r.0.attempt.number (stops_by borne (AtEnd c) (Some r.0)) = ends_stored borne r.0 c big in
@@ -195,4 +194,4 @@ module _ (h : Here) (d : Outcomes) (run : Run) (at : h.worker.run ≡ Some run) 
 
   -- what ends is its attempt
   pub new_end_own : (o : Id) (n : ℕ) → IsNewEnd es o n → run.attempt ≡ attempt o n
-  new_end_own o n (c, i, big) = (end_logged run.attempt (attempt o n) c (next_id_here h) d.births d.prints (stop_of d.stop) i).0
+  new_end_own o n (c, i, big) = (end_logged run.attempt (attempt o n) (c ∷ []) (next_id_here h) d.births d.prints (stop_of d.stop) i).0

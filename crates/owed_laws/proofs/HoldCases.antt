@@ -8,16 +8,16 @@ use Rattle.meaning.proofs.BirthLaws.{at_test}
 use Rattle.meaning.specs.Readings.{IsBorn}
 use Rattle.meaning.specs.Values.{Birth, Id, Outcome}
 use Rattle.event_log.specs.Breaks.{Among}
-use Rattle.event_log.specs.Commits.{commit_entries}
 use Rattle.event_log.specs.Entries.{Attempt, Deliver, Ended, Entry, Event, In, main_attempt}
 use Rattle.event_log.specs.Events.{accepted_events}
-use Rattle.event_log.specs.Holding.{HasId, InBirth, InContent}
+use Rattle.event_log.specs.Holding.{HasId, InBirth, InContents}
 use Rattle.event_log.specs.Rules.{Setting}
 use Rattle.event_log.specs.Sane.{Sane}
-use Rattle.event_log.specs.Words.{attempt, births, next_serial, same_attempt}
+use Rattle.event_log.specs.Words.{births, next_serial, same_attempt}
+use Rattle.event_log.proofs.FreshLaws.{born_if_first}
 use Rattle.event_log.proofs.SaneLaws.{legal_logs_are_sane}
 use Rattle.event_log.proofs.WordLaws.{same_attempt-true}
-use Rattle.protocol.specs.Commits.{claim_by, claim_step, commit_step, next_id_here}
+use Rattle.protocol.specs.Commits.{claim_by, claim_step, commit_step, next_id_here, single_entries}
 use Rattle.protocol.specs.Deliveries.{reached}
 use Rattle.protocol.specs.Ends.{accepts, finished_reached}
 use Rattle.protocol.specs.Holders.{hold_ack_reached, holding}
@@ -222,9 +222,8 @@ module _ (s : Setting) (log : List Entry) (c : Whole) (step : IsInStep s log c) 
 
       -- whoever holds was born
       holder_born : (f z : Id) → HasId log f z → IsBorn (births log) f
-      holder_born f z (InBirth birth born i) = (birth, born)
-      holder_born f z (InContent number content ended i) =
-          let ran = sane.ended (attempt f number) ended.0 content ended.1 in sane.born f number ran.0 ran.1
+      holder_born f z (InBirth part born i) = (part, born)
+      holder_born f z (InContents part number cs born ended i) = (part, born)
 
       young : (i v : ℕ) (f o : Id) → item_at (c.network ++ []) i ≡ Some (letter (TheWorker me) (TheWorker v) (Hold f o)) → f.owner ≡ me → f.serial < length x.objects + 1
       young i v f o said own =
@@ -232,7 +231,7 @@ module _ (s : Setting) (log : List Entry) (c : Whole) (step : IsInStep s log c) 
           (ap (λ ls. item_at ls i) (sym (append-nil c.network)) ∙ said) in
           let true_it : HasId log f o = all_among (Says (past log b.asked)) c.network (letter (TheWorker me) (TheWorker v) (Hold f o)) b.knows.told there in
           let born = holder_born f o true_it in
-          let below = sane.serials f born.0 born.1 in
+          let below = sane.serials f born in
           let same : next_serial f.owner (births log) ≡ length x.objects + 1 = ap (λ w. next_serial w (births log)) own ∙ knows.serial in
           omega (arith, below, same)
 
@@ -245,11 +244,11 @@ module _ (s : Setting) (log : List Entry) (c : Whole) (step : IsInStep s log c) 
           let q = old.pushed other in
           no_end (k.behind old.place i r.attempt.object.owner me v r.attempt q.0 o far q.1 (ap (λ ls. item_at ls i) (sym (append-nil c.network)) ∙ said))
 
-      among_end : (content : Outcome) → d.stop ≡ AtEnd content → Among (Ended r.attempt content) (commit_entries r.attempt (next_id_here start) d.births d.prints (stop_of d.stop))
-      among_end content stop = subst (λ t. Among (Ended r.attempt content) (commit_entries r.attempt (next_id_here start) d.births d.prints (stop_of t))) (sym stop)
-          (end_logged r.attempt content (next_id_here start) d.births d.prints)
+      among_end : (content : Outcome) → d.stop ≡ AtEnd content → Among (Ended r.attempt (content ∷ [])) (single_entries r.attempt (next_id_here start) d.births d.prints (stop_of d.stop))
+      among_end content stop = subst (λ t. Among (Ended r.attempt (content ∷ [])) (single_entries r.attempt (next_id_here start) d.births d.prints (stop_of t))) (sym stop)
+          (end_logged r.attempt (content ∷ []) (next_id_here start) d.births d.prints)
 
-      logged_later : (y : Entry) → Among y (commit_entries r.attempt (next_id_here start) d.births d.prints (stop_of d.stop)) → Among y later
+      logged_later : (y : Entry) → Among y (single_entries r.attempt (next_id_here start) d.births d.prints (stop_of d.stop)) → Among y later
       logged_later y i =
           let f = committed_logged start d r is y i in
           among-behind log (In e seat ∷ (release_step g).there.out.entries) y (suc f.0, f.1)
@@ -269,7 +268,7 @@ module _ (s : Setting) (log : List Entry) (c : Whole) (step : IsInStep s log c) 
 
       held : RunsAs g r is g
       held = C.commit_holds later c.network (accepted_events log) (V.known s log c step replies k seat) me old.place x.began r.attempt r.base.serial (Unit {0}) tt old.within
-          apart_from start d r is refl logged_later (λ content stop. logged_later (Ended r.attempt content) (among_end content stop)) started
+          apart_from start d r is refl logged_later (λ content stop. logged_later (Ended r.attempt (content ∷ [])) (among_end content stop)) started
 
       began_so : (release_step g).worker.began ≡ x.began
       began_so = (release_step-kept (RunsAs g r is) (H.holds_kept _ _ _ _ _ _ _ _ _ _) g held).kept_began
@@ -436,7 +435,7 @@ module _ (s : Setting) (log : List Entry) (c : Whole) (step : IsInStep s log c) 
       born_low : (v : ℕ) (d : Attempt) (f : Birth) → Among (push_by v me d f) c.network → d.object.owner ≡ me → d.object.serial < low
       born_low v d f j own =
           let says : IsPushed log d f me = all_among (Says (past log b.asked)) c.network (push_by v me d f) b.knows.told j in
-          let below = sane_before.serials d.object f says.born in
+          let below = sane_before.serials d.object (born_if_first (births log) d.object f says.born) in
           let same : next_serial d.object.owner (births log) ≡ length x.objects + 1 = ap (λ w. next_serial w (births log)) own ∙ (b.knows.workers me x at live).serial in
           omega (arith, below, same)
 

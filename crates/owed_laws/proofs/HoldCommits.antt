@@ -10,12 +10,11 @@ use Rattle.meaning.specs.Runs.{Stop}
 use Rattle.meaning.specs.Values.{Birth, Id, Outcome, Put, Task, Val, Value}
 use Rattle.values.specs.Listed.{each_once, ids_in_outcome, without}
 use Rattle.event_log.specs.Breaks.{Among}
-use Rattle.event_log.specs.Commits.{commit_entries}
 use Rattle.event_log.specs.Entries.{Attempt, Born, Deliver, Ended, Entry, Event, main_attempt}
 use Rattle.event_log.specs.Holding.{ids_of_birth}
 use Rattle.event_log.specs.Words.{same_attempt}
 use Rattle.numbered.proofs.Lists.{changed-length}
-use Rattle.protocol.specs.Commits.{bears, bears_all, commit_by, commit_step, next_id_here, stops, stops_by, with_object, with_outcomes}
+use Rattle.protocol.specs.Commits.{bears, bears_all, commit_by, commit_step, next_id_here, stops, stops_by, with_object, with_outcomes, single_entries}
 use Rattle.protocol.specs.Holders.{adds_holder, awaits_hold_by, holding, holds_id, holds_ids, passes_on, sends_hold, with_holding}
 use Rattle.protocol.specs.Jobs.{AtEnd, AtGet, Outcomes, Stopped, stop_of}
 use Rattle.protocol.specs.Messages.{Hold, Letter, Message, TheNode, TheWorker, letter}
@@ -339,8 +338,8 @@ module _ (log : List Entry) (net : List Letter) (acks : List Event) (known : (n 
       after_birth h g (holds_ids g e ids) x count refl
       (sends_all g e (inr (x.holds.who, x.room)) (inr (Put v, born)) g ids (are_once (ids_of_birth (Put v)))
       (λ o i other j w far at. let below = x.young j w e o at x.holds.who in omega (arith, below)) (starts g e q x.going))
-  bears_going h (Task name args depth retries) born x =
-      let spec : Birth = Task name args depth retries in
+  bears_going h (Task name args depth retries others) born x =
+      let spec : Birth = Task name args depth retries others in
       let e : Id = next_id_here h in
       let ids : List Id = each_once (ids_of_birth spec) in
       let object : Object = new_object (ByTask (new_task spec)) a ids in
@@ -353,17 +352,17 @@ module _ (log : List Entry) (net : List Letter) (acks : List Event) (known : (n 
       (λ o i other j w far at. let below = x.young j w e o at x.holds.who in omega (arith, below)) (starts g e q x.going)) in
       asks_going f e (new_task spec) f.worker.node _ _ (changed-length f.worker.objects e.serial _) held
 
-  bears_all_going : (bs : List Birth) (h : Here) (vs : List Value) (stop : Stop) → ((x : Entry) → Among x (commit_entries a (next_id_here h) bs vs stop) → Among x log) →
+  bears_all_going : (bs : List Birth) (h : Here) (vs : List Value) (stop : Stop) → ((x : Entry) → Among x (single_entries a (next_id_here h) bs vs stop) → Among x log) →
       Going h → Going (bears_all h a bs)
   bears_all_going [] h vs stop logged x = x
   bears_all_going (b ∷ bs) h vs stop logged x =
       bears_all_going bs (bears h a b) vs stop
-      (λ y i. let j = subst (λ n. Among y (commit_entries a n bs vs stop)) (next_birth h a b) i in logged y (suc j.0, j.1))
+      (λ y i. let j = subst (λ n. Among y (single_entries a n bs vs stop)) (next_birth h a b) i in logged y (suc j.0, j.1))
       (bears_going h b (logged (Born (next_id_here h) a b) (zero, refl)) x)
 
   -- ---- the stop
 
-  ends_holds : (h : Here) (run : Run) (c : Outcome) → h.worker.run ≡ Some run → Among (Ended a c) log → Going h → Q (stops_by h (AtEnd c) (Some run))
+  ends_holds : (h : Here) (run : Run) (c : Outcome) → h.worker.run ≡ Some run → Among (Ended a (c ∷ [])) log → Going h → Q (stops_by h (AtEnd c) (Some run))
   ends_holds h run c at ended x =
       let is : run.attempt ≡ a = (x.holds.same run at).0 in
       let o : Id = run.attempt.object in
@@ -374,18 +373,18 @@ module _ (log : List Entry) (net : List Letter) (acks : List Event) (known : (n 
       let g : Here = passes_on (with_store f (with_ended (store_here h) o run.attempt.number c)) o ids in
       let r : Q g = record { who = q.who; kept_began = q.kept_began; same = q.same; run = q.run; said = q.said } in
       let all : Sends g o (holds_ids g o ids) =
-      sends_all g o (inl (same, (c, ended))) (inl same) g ids (are_once (ids_in_outcome c))
+      sends_all g o (inl (same, (c ∷ [], ended))) (inl same) g ids (are_once (ids_in_outcome c))
       (λ z i other. subst (λ e. IsUnsaid h e z) (sym same) (x.unsaid other z))
       (starts g o r (λ y i. subst (λ (z : Run). z.is_over ≡ false) (some_run (record run { phase = HasEnded c }) y i) (x.going run at))) in
       H.frees_holds log net acks known me p began a base Present (leaves_if_free (holds_ids g o ids))
       (H.leaves_holds log net acks known me p began a base Present (holds_ids g o ids) all.holds)
 
   pub commit_holds : (h : Here) (d : Outcomes) (run : Run) → h.worker.run ≡ Some run → run.attempt ≡ a →
-      ((x : Entry) → Among x (commit_entries a (next_id_here h) d.births d.prints (stop_of d.stop)) → Among x log) →
-      ((c : Outcome) → d.stop ≡ AtEnd c → Among (Ended a c) log) → Going h → Q (commit_step h d)
+      ((x : Entry) → Among x (single_entries a (next_id_here h) d.births d.prints (stop_of d.stop)) → Among x log) →
+      ((c : Outcome) → d.stop ≡ AtEnd c → Among (Ended a (c ∷ [])) log) → Going h → Q (commit_step h d)
   commit_holds h d run at is logged ended x =
       let next : Run = with_outcomes run d in
-      let g : Here = logs_all (with_run h next) (commit_entries run.attempt (next_id_here h) d.births d.prints (stop_of d.stop)) in
+      let g : Here = logs_all (with_run h next) (single_entries run.attempt (next_id_here h) d.births d.prints (stop_of d.stop)) in
       let q : Q (with_run h next) = H.still_holds log net acks known me p began a base Present h run next at refl refl refl refl x.holds in
       let started : Going g = record {
         holds = record { who = q.who; kept_began = q.kept_began; same = q.same; run = q.run; said = q.said };

@@ -38,7 +38,7 @@ push_by u w a spec = letter (TheWorker u) (TheWorker w) (Push a spec)
 
 -- the attempt ended
 abbrev pub HasEnd : List Entry → Attempt → Type 0
-HasEnd log a = (c : Outcome) × Among (Ended a c) log
+HasEnd log a = (c : List Outcome) × Among (Ended a c) log
 
 -- a worker's attempt: where it was first pushed to it, what is true of its Holds, and that what the worker began was born before
 pub record RunKeeps (log : List Entry) (sent : List Letter) (acks : List Event) (w : ℕ) (x : Worker) (run : Run) : Type 0 where

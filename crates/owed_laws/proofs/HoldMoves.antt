@@ -64,7 +64,7 @@ ack_of w k = letter (TheWorker k.object.owner) (TheWorker w) (HoldAck k.holder k
 
 -- the attempt's own object, once it ended, or what its worker bore from that serial on
 abbrev pub IsHolder : List Entry → ℕ → Attempt → ℕ → Id → Type 0
-IsHolder log w a base e = ((e ≡ a.object) × ((c : Outcome) × Among (Ended a c) log)) ⊎ ((e.owner ≡ w) × (base ≤ e.serial))
+IsHolder log w a base e = ((e ≡ a.object) × ((c : List Outcome) × Among (Ended a c) log)) ⊎ ((e.owner ≡ w) × (base ≤ e.serial))
 
 -- a Hold that waits: it is the attempt's; it was sent behind that place; and what acknowledges it was delivered before it was sent, if ever
 pub record IsHeld (log : List Entry) (sent : List Letter) (acks : List Event) (w : ℕ) (a : Attempt) (p : ℕ) (k : Holding) : Type 0 where

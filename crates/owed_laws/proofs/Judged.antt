@@ -21,17 +21,17 @@ use Rattle.owed_laws.specs.Examples.{fetch_comes, fetch_scene, put_log}
 
 -- ---- a birth
 
-born_parts : (o : Id) (a : Attempt) (f : Name) (args : List Argument) (depth retries : ℕ) →
-    Among (Born o a (Task f args depth retries)) (Born (object_id 1 1) main_attempt one_once ∷ []) → object_id 1 1 ≡ o
-born_parts o a f args depth retries (zero, e) = cc
-born_parts o a f args depth retries (suc k, e) = absurd (cc)
+born_parts : (o : Id) (a : Attempt) (f : Name) (args : List Argument) (depth retries others : ℕ) →
+    Among (Born o a (Task f args depth retries others)) (Born (object_id 1 1) main_attempt one_once ∷ []) → object_id 1 1 ≡ o
+born_parts o a f args depth retries others (zero, e) = cc
+born_parts o a f args depth retries others (suc k, e) = absurd (cc)
 
 on_one : (n : ℕ) → ◌≡◌ {A = Option ℕ} (Some 1) (Some n) → 1 ≡ n
 on_one n e = cc
 
 birth_is_paid : (s : Setting) → BirthIsAsked (birth_comes s (letter (TheWorker 1) (TheNode 1) (Ask first_one 0) ∷ []))
-birth_is_paid s o a f args depth retries n born place =
-    let is : object_id 1 1 ≡ o = born_parts o a f args depth retries born in
+birth_is_paid s o a f args depth retries others n born place =
+    let is : object_id 1 1 ≡ o = born_parts o a f args depth retries others born in
     let after = (birth_comes s (letter (TheWorker 1) (TheNode 1) (Ask first_one 0) ∷ [])).after.log in
     let node : 1 ≡ n = on_one n (ap (λ (p : Id). node_of p.owner after) is ∙ place) in
     (zero, asked o n is node)
@@ -44,7 +44,7 @@ birth_is_paid s o a f args depth retries n born place =
         ap (λ m. Some (letter (TheWorker o.owner) (TheNode m) (Ask (attempt o 0) 0))) f
 
 asks_by : (s : Setting) (ls : List Letter) → BirthIsAsked (birth_comes s ls) → Says (birth_comes s ls) (TheWorker 1) (TheNode 1) (Ask first_one 0)
-asks_by s ls p = p (object_id 1 1) main_attempt _ _ _ _ 1 (zero, refl) refl
+asks_by s ls p = p (object_id 1 1) main_attempt _ _ _ _ _ 1 (zero, refl) refl
 
 not_there : Among (letter (TheWorker 1) (TheNode 1) (Ask first_one 0)) (letter (TheWorker 1) (TheNode 2) (Ask first_one 0) ∷ []) → ⊥
 not_there (zero, e) = numbers (ap (λ (l : Letter). l.receiver) (same e))
@@ -120,7 +120,7 @@ fetch_is_paid s = record {
   lacking = λ e. absurd (not_lacked e);
 }
 
-no_end : (c : Outcome) → Among (Ended first_one c) put_log → ⊥
+no_end : (c : List Outcome) → Among (Ended first_one c) put_log → ⊥
 no_end c (zero, e) = absurd (cc)
 no_end c (suc zero, e) = absurd (cc)
 no_end c (suc (suc zero), e) = absurd (cc)
@@ -143,7 +143,7 @@ was_put = refl
 first_is_there : (s : Setting) → HasFirstCopy (fetch_scene s put_log false) 1 (object_id 1 1) 0
 first_is_there s = record {
   first = inl (record { value = empty_list; put = was_put; first = refl; place = refl });
-  big = λ c i. absurd (no_end c i);
+  big = λ c i. absurd (no_end (c ∷ []) i);
   unlost = nothing_lost;
   kept = λ from e why came. among-nothing _ (subst (λ ls. Among (letter from (TheNode 1) (Unhold e (object_id 1 1) why)) ls) (nothing_came s) came);
 }
@@ -190,7 +190,7 @@ runs_first : (s : Setting) (letters : List Letter) → worker_of first_one (repo
 unfolding same_id
 runs_first s letters = refl
 
-only_first : (s : Setting) (letters : List Letter) (a : Attempt) (c : Outcome) → Among (Ended a c) (report_scene s letters).log → first_one ≡ a
+only_first : (s : Setting) (letters : List Letter) (a : Attempt) (c : List Outcome) → Among (Ended a c) (report_scene s letters).log → first_one ≡ a
 only_first s letters a c (zero, e) = absurd (cc)
 only_first s letters a c (suc zero, e) = absurd (cc)
 only_first s letters a c (suc (suc zero), e) = absurd (cc)
@@ -219,7 +219,7 @@ no_report n ids kept (suc k, e) = absurd (cc)
 
 untold_is_refused : (s : Setting) → EndsAreReported (report_scene s []) → ⊥
 untold_is_refused s p =
-    let r = p first_one (Val empty_list) 2 (8, refl) not_main (runs_first s []) (λ k e o h. absurd (no_hold k o.owner e o h.held.there)) in
+    let r = p first_one (Val empty_list ∷ []) 2 (8, refl) not_main (runs_first s []) (λ k e o h. absurd (no_hold k o.owner e o h.held.there)) in
     no_report r.0 r.1 r.2 r.3
 
 hold_is_its : (s : Setting) → IsHoldOf (report_scene s one_hold) first_one 2 2 (object_id 1 1) (object_id 3 1)

@@ -15,13 +15,13 @@ use Rattle.event_log.specs.Entries.{Accepted, Attempt, Claim, Commit, Deliver, E
 use Rattle.event_log.specs.Entries.{Refused, Tick, main_object}
 use Rattle.event_log.specs.Entries.{Refusal, Limit}
 use Rattle.event_log.specs.Events.{accepted_events, from_one, loses, node_of, refused_next, was_lost}
-use Rattle.event_log.specs.Legal as L
 use Rattle.event_log.specs.Legal.{opening}
 use Rattle.event_log.specs.Rules.{Setting}
 use Rattle.event_log.specs.Sane.{Sane}
 use Rattle.event_log.specs.Words.{accepted_in, attempt, ended_in, ends_of}
 use Rattle.event_log.proofs.EventLaws.{accepted-append, accepted-event}
 use Rattle.event_log.proofs.SaneLaws.{legal_logs_are_sane}
+use Rattle.event_log.proofs.SingleLaws.{legal_logs_are_of_singles}
 use Rattle.event_log.proofs.WordLaws.{same_attempt-refl}
 use Rattle.protocol.specs.Answers.{Answer, Refuses, answer, decided, given_out, logged, takes, whole_after}
 use Rattle.protocol.specs.Events.{happens}
@@ -109,7 +109,7 @@ module _ (sent more : List Letter) (still : AreStill sent more) where
 
     small_still : (a : Attempt) → EndsSmall log a → EndsSmall (log ++ es) a
     small_still a (content, ended, small) =
-        (content, subst (λ xs. Among content xs) (sym (flat_map-append (ended_in a) log es)) (among-more (ends_of a log) (flat_map (ended_in a) es) content ended), small)
+        (content, subst (λ xs. Among (content ∷ []) xs) (sym (flat_map-append (ended_in a) log es)) (among-more (ends_of a log) (flat_map (ended_in a) es) (content ∷ []) ended), small)
 
     gone_still : (n : ℕ) (o : Id) (number : ℕ) → IsGone sent log n o number → IsGone more (log ++ es) n o number
     gone_still n o number (inl (from, e, why, h)) = inl (from, e, why, came_still (letter from (TheNode n) (Unhold e o why)) h)
@@ -256,7 +256,7 @@ opening_made nodes slots n node at o number (inl p) = absurd (no_put (same_id ma
     no_put : (t : Bool) → (if t then Some main_birth else None) ≡ Some (Put p.value) → ⊥
     no_put true e = absurd (cc)
     no_put false e = absurd (cc)
-opening_made nodes slots n node at o number (inr p) = absurd (among-nothing p.content p.ended)
+opening_made nodes slots n node at o number (inr p) = absurd (among-nothing (p.content ∷ []) p.ended)
 
 made_stays : (s : Setting) → KeepsMainApart s.script → (r : Running) (gs : List Handing) → AreRight s r gs → IsInStep s r.log r.whole → KeepsMade r.log r.whole →
     KeepsMade (after_events r gs).log (after_events r gs).whole
@@ -285,7 +285,7 @@ first_copy_kept s r b k n node at y number first = ap (keeps_in y number) at ∙
   | inl stored ↦ found_first (is_copy_of y number) node.store.primaries node.store.secondaries stored
   | inr (inl (from, e, why, dropped)) ↦ absurd (first.kept from e why dropped)
   | inr (inr (inl lost)) ↦ absurd (differ (was_lost n y r.log) lost first.unlost)
-  | inr (inr (inr (content, ended, small))) ↦ absurd (differ _ small (first.big content (ended_entry r.log (attempt y number) content ended)))
+  | inr (inr (inr (content, ended, small))) ↦ absurd (differ _ small (first.big content (ended_entry r.log (attempt y number) (content ∷ []) ended)))
 ]
   where
     differ : (t : Bool) → t ≡ true → t ≡ false → ⊥
@@ -299,4 +299,5 @@ first_copy_kept s r b k n node at y number first = ap (keeps_in y number) at ∙
         let i = among_flat (accepted_in a) r.log (Accepted a) a p.accepted
         (subst (λ t. Among a (if t then a ∷ [] else [])) (sym (same_attempt-refl a)) (zero, refl)) in
         let end = sane.accepted a i.0 a i.1 in
-        inr (record { worker = p.worker; runs = p.ran; home = p.place; content = end.0; ended = end.1 })
+        let one = (legal_logs_are_of_singles (setting_of s r.whole) r.log b.legal).ends a end.1.0 end.0 end.1.1 in
+        inr (record { worker = p.worker; runs = p.ran; home = p.place; content = one.0; ended = subst (λ cs. Among cs (ends_of a r.log)) one.1 end.1 })

@@ -11,7 +11,6 @@ use Rattle.values.specs.Cells.{is_small}
 use Rattle.event_log.specs.Breaks.{Among}
 use Rattle.event_log.specs.Entries.{Accepted, Attempt, Begun, Born, Ended, Entry, Event, Faulted, Got, In, Opened, Printed, Refused, Released, Resolved}
 use Rattle.event_log.specs.Events.{node_of}
-use Rattle.event_log.specs.Legal as L
 use Rattle.event_log.specs.Rules.{Setting}
 use Rattle.event_log.specs.Sane.{Sane}
 use Rattle.event_log.specs.Words.{attempt, births, born_in, ended_in, ends_of, main_bearing, run_in, runs_of, same_attempt, worker_of}
@@ -67,7 +66,7 @@ born_entry es o b i = let r = flat_among born_in es (record { object = o; birth 
     by_entry (Resolved p f) j k = none j
     by_entry (Released p) j k = none j
 
-pub ended_entry : (es : List Entry) (a : Attempt) (c : Outcome) → Among c (flat_map (ended_in a) es) → Among (Ended a c) es
+pub ended_entry : (es : List Entry) (a : Attempt) (c : List Outcome) → Among c (flat_map (ended_in a) es) → Among (Ended a c) es
 ended_entry es a c i = let r = flat_among (ended_in a) es c i in by_entry r.0 r.2 r.1
   where
     none : {X : Type 0} → Among c [] → X
@@ -77,7 +76,7 @@ ended_entry es a c i = let r = flat_among (ended_in a) es c i in by_entry r.0 r.
     by_entry (Ended d f) j k = at_test (λ t. same_attempt d a ≡ t → Among c (if t then f ∷ [] else []) → Among (Ended a c) es) (same_attempt d a)
         (λ _ e h. subst (λ b. Among (Ended b c) es) (same_attempt-true d a e) (subst (λ g. Among (Ended d g) es) (only f h) k)) (λ _ _ h. none h) refl j
       where
-        only : (f : Outcome) → Among c (f ∷ []) → f ≡ c
+        only : (f : List Outcome) → Among c (f ∷ []) → f ≡ c
         only f (zero, e) = cc
         only f (suc m, e) = absurd (cc)
     by_entry (In e seat) j k = none j
@@ -138,10 +137,10 @@ module _ (s : Setting) (log : List Entry) (c : Whole) (b : Between s log c) (e :
   pub end_before : (o : Id) (number n : ℕ) → IsEndedAt later o number n → IsMadeAt log o number n ⊎ IsNewEnd es o number ⊎ EndsSmall later (attempt o number)
   end_before o number n p =
       let a : Attempt = attempt o number in
-      elim (among-append_cases (ends_of a log) (flat_map (ended_in a) (In e seat ∷ es)) p.content
-      (subst (λ xs. Among p.content xs) (flat_map-append (ended_in a) log (In e seat ∷ es)) p.ended)) [
+      elim (among-append_cases (ends_of a log) (flat_map (ended_in a) (In e seat ∷ es)) (p.content ∷ [])
+      (subst (λ xs. Among (p.content ∷ []) xs) (flat_map-append (ended_in a) log (In e seat ∷ es)) p.ended)) [
         | inl old ↦
-            let ran = sane.ended a old.0 p.content old.1 in
+            let ran = sane.ended a old.0 (p.content ∷ []) old.1 in
             let node = sane.opened o number ran.0 ran.1 in
             let worker : ran.0 ≡ p.worker = same_number ran.0 p.worker (sym (runs_more a ran.0 ran.1) ∙ p.runs) in
             let place : node.0 ≡ n = same_number node.0 n (sym (node_of-more log (In e seat ∷ es) ran.0 node.0 node.1) ∙ ap (λ w. node_of w later) worker ∙ p.home) in
@@ -149,7 +148,7 @@ module _ (s : Setting) (log : List Entry) (c : Whole) (b : Between s log c) (e :
         | inr new ↦ by_size new (is_small p.content) refl
       ]
     where
-      by_size : Among p.content (flat_map (ended_in (attempt o number)) (In e seat ∷ es)) → (t : Bool) → is_small p.content ≡ t →
+      by_size : Among (p.content ∷ []) (flat_map (ended_in (attempt o number)) (In e seat ∷ es)) → (t : Bool) → is_small p.content ≡ t →
           IsMadeAt log o number n ⊎ IsNewEnd es o number ⊎ EndsSmall later (attempt o number)
       by_size new true small = inr (inr (p.content, p.ended, small))
-      by_size new false big = inr (inl (p.content, behind (ended_entry (In e seat ∷ es) (attempt o number) p.content new) (λ g. absurd (cc)), big))
+      by_size new false big = inr (inl (p.content, behind (ended_entry (In e seat ∷ es) (attempt o number) (p.content ∷ []) new) (λ g. absurd (cc)), big))

@@ -20,7 +20,7 @@ IsNewPut es o n = (a : Attempt) × (v : Value) × Among (Born o a (Put v)) es ×
 
 -- they say that the attempt of that number ended with a content that isn't small
 abbrev pub IsNewEnd : List Entry → Id → ℕ → Type 0
-IsNewEnd es o n = (c : Outcome) × Among (Ended (attempt o n) c) es × (is_small c ≡ false)
+IsNewEnd es o n = (c : Outcome) × Among (Ended (attempt o n) (c ∷ [])) es × (is_small c ≡ false)
 
 abbrev pub IsNewIn : List Entry → Id → ℕ → Type 0
 IsNewIn es o n = IsNewPut es o n ⊎ IsNewEnd es o n
@@ -58,7 +58,7 @@ put_before xs es none o n (a, v, i, z) =
 
 end_before : (xs es : List Entry) → ((x : Entry) → Among x es → is_making x ≡ false) → (o : Id) (n : ℕ) → IsNewEnd (xs ++ es) o n → IsNewEnd xs o n
 end_before xs es none o n (c, i, big) =
-    elim (among-append_cases xs es (Ended (attempt o n) c) i) [ inl old ↦ (c, old, big) | inr new ↦ absurd (never (none _ new)) ]
+    elim (among-append_cases xs es (Ended (attempt o n) (c ∷ [])) i) [ inl old ↦ (c, old, big) | inr new ↦ absurd (never (none _ new)) ]
 
 opened_makes_none : (w n : ℕ) (x : Entry) → Among x (Opened w n ∷ []) → is_making x ≡ false
 opened_makes_none w n x (zero, e) = let same : Opened w n ≡ x = cc in subst (λ z. is_making z ≡ false) same refl

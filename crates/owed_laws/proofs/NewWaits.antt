@@ -357,7 +357,7 @@ module _ (s : Setting) (slots : ℕ) (some : 0 < s.nodes) (slot : 1 ≤ slots) (
     -- an own put is never waited for
     own_put : (v : Value) → birth_at (births (after_event r g).log) y ≡ Some (Put v) → ⊥
     own_put v e =
-        let born = W.born_mid s apart r.log c keeps.step.sound before new.job g.seat k.outcomes k.given k.at k.fresh k.worker k.there k.lives k.run k.runs k.out done y stop_is in
+        let born = W.born_first s apart r.log c keeps.step.sound before new.job g.seat k.outcomes k.given k.at k.fresh k.worker k.there k.lives k.run k.runs k.out done y stop_is in
         let still : birth_at (births (after_event r g).log) y ≡ Some born.0 =
         ap (λ l. birth_at (births l) y) on_from.1 ∙ ap (λ xs. birth_at (main_bearing ∷ xs) y) (flat_map-append born_in log_mid on_from.0) ∙
         birth_at-more (births log_mid) (flat_map born_in on_from.0) y born.0 born.1 in

@@ -6,23 +6,24 @@ use Rattle.std.specs.List.{find, list_any}
 use Rattle.std.specs.Option.{option_map}
 use Rattle.std.proofs.lemmas.Bool.Decides.{nat_tests}
 use Rattle.meaning.proofs.BirthLaws.{at_test}
-use Rattle.meaning.specs.Births.{birth_at}
+use Rattle.meaning.specs.Births.{IsFirstOf, birth_at}
 use Rattle.meaning.specs.Mains.{KeepsMainApart}
 use Rattle.meaning.specs.Meaning.{replay}
 use Rattle.meaning.specs.Readings.{IsBorn}
 use Rattle.meaning.specs.Runs.{Needs}
 use Rattle.meaning.specs.Values.{Id, Named, Outcome, Put, Value}
 use Rattle.event_log.specs.Breaks.{Among}
-use Rattle.event_log.specs.Commits.{commit_entries}
 use Rattle.event_log.specs.Entries.{Accepted, Attempt, Commit, Entry, In, Released}
 use Rattle.event_log.specs.Events.{accepted_events, from_one, node_of, refused_next, worker_of_job}
 use Rattle.event_log.specs.Legal as L
 use Rattle.event_log.specs.Rules.{Setting}
 use Rattle.event_log.specs.Sane.{Sane}
-use Rattle.event_log.specs.Words.{attempt, births}
+use Rattle.event_log.specs.Words.{attempt, births, ends_of}
 use Rattle.event_log.proofs.EventLaws.{accepted-event}
+use Rattle.event_log.proofs.OneResult.{part_birth}
 use Rattle.event_log.proofs.SaneLaws.{legal_logs_are_sane}
-use Rattle.protocol.specs.Commits.{asks_where, bears_all, commit_by, commit_step, rests_if_waiting, stops_by, with_outcomes}
+use Rattle.event_log.proofs.SingleLaws.{legal_logs_are_of_singles}
+use Rattle.protocol.specs.Commits.{asks_where, bears_all, commit_by, commit_step, rests_if_waiting, stops_by, with_outcomes, single_entries}
 use Rattle.protocol.specs.Events.{with_committed}
 use Rattle.protocol.specs.Jobs.{AtGet, Given, Outcomes, stop_of}
 use Rattle.protocol.specs.Nodes.{Node}
@@ -136,7 +137,7 @@ module _ (s : Setting) (apart : KeepsMainApart s.script) (log : List Entry) (c :
 
   abbrev pub logged : Here
   logged = logs_all (with_run start (with_outcomes run d))
-      (commit_entries run.attempt (object_id g.worker (length x.objects + 1)) d.births d.prints (stop_of d.stop))
+      (single_entries run.attempt (object_id g.worker (length x.objects + 1)) d.births d.prints (stop_of d.stop))
 
   abbrev pub borne : Here
   borne = bears_all logged run.attempt d.births
@@ -218,8 +219,12 @@ module _ (s : Setting) (apart : KeepsMainApart s.script) (log : List Entry) (c :
     there_mid = there_more (changed_at c.workers g.worker (λ _. mid.worker)) (repeated mid.there.opened (new_worker x.node)) g.worker mid.worker
         (changed_now c.workers g.worker x mid.worker there)
 
-    pub born_mid : IsBorn (births log_mid) y
+    born_mid : IsBorn (births log_mid) y
     born_mid = need_known s log_mid after_mid between g.worker mid.worker (record later { phase = Waits y None }) there_mid waits.worker_lives refl y refl
+
+    -- it is the first object of its birth
+    pub born_first : IsFirstOf (births log_mid) y
+    born_first = (born_mid.0.born.birth, part_birth (births log_mid) (legal_logs_are_of_singles (setting_of s after_mid) log_mid between.legal).births y born_mid.0 born_mid.1)
 
     module _ (own : y.owner ≡ g.worker) (some : 1 ≤ y.serial) (unreleased : Among (Released y) log_mid → ⊥) where
       at_owner : worker_at after_mid y.owner ≡ Some mid.worker
@@ -299,5 +304,6 @@ module _ (s : Setting) (apart : KeepsMainApart s.script) (log : List Entry) (c :
           let ended = sane.accepted a heard.0 a heard.1 in
           let ran = sane.ended a ended.1.0 ended.0 ended.1.1 in
           let node = sane.opened y number ran.0 ran.1 in
+          let one = (legal_logs_are_of_singles (setting_of s after_mid) log_mid between.legal).ends a ended.1.0 ended.0 ended.1.1 in
           own_served number node.0 (inr (record { accepted = accepted; worker = ran.0; ran = ran.1; place = node.1 }))
-          (inr (record { worker = ran.0; runs = ran.1; home = node.1; content = ended.0; ended = ended.1 }))
+          (inr (record { worker = ran.0; runs = ran.1; home = node.1; content = one.0; ended = subst (λ cs. Among cs (ends_of a log_mid)) one.1 ended.1 }))

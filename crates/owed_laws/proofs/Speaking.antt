@@ -5,11 +5,10 @@ use Rattle.std.specs.List.{filter}
 use Rattle.meaning.specs.Values.{Birth, Id, Put, Task}
 use Rattle.values.specs.Listed.{each_once, ids_in_outcome}
 use Rattle.event_log.specs.Breaks.{Among}
-use Rattle.event_log.specs.Commits.{commit_entries}
 use Rattle.event_log.specs.Entries.{Attempt, Faulted, Got, main_attempt}
 use Rattle.event_log.specs.Holding.{ids_of_birth}
 use Rattle.event_log.specs.Words.{same_attempt}
-use Rattle.protocol.specs.Commits.{bears, bears_all, commit_by, commit_step, next_id_here, stops, stops_by, with_object, with_outcomes}
+use Rattle.protocol.specs.Commits.{bears, bears_all, commit_by, commit_step, next_id_here, stops, stops_by, with_object, with_outcomes, single_entries}
 use Rattle.protocol.specs.Holders.{awaits_hold_by, holding, holds_id, holds_ids, passes_on, sends_hold}
 use Rattle.protocol.specs.Jobs.{AtEnd, AtGet, Outcomes, Stopped, stop_of}
 use Rattle.protocol.specs.Messages.{Ask, At, Back, CopyOf, Elsewhere, Failed, Fetch, Finished, FinishedAck, Give, Gone, Hold, HoldAck, Letter, Message, Missing, Party}
@@ -222,8 +221,8 @@ module _ (holds pushes : Type 0) (me : ℕ) where
 
     bears_speaks : (h : Here) (a : Attempt) (b : Birth) → Speaks h → Speaks (bears h a b)
     bears_speaks h a (Put v) p = holds_ids_speaks _ (next_id_here h) (each_once (ids_of_birth (Put v))) (quietly h _ refl refl p)
-    bears_speaks h a (Task g args depth retries) p =
-        let spec : Birth = Task g args depth retries in
+    bears_speaks h a (Task g args depth retries others) p =
+        let spec : Birth = Task g args depth retries others in
         let ids = each_once (ids_of_birth spec) in
         let x : Here = holds_ids (with_object h (new_object (ByTask (new_task spec)) a ids)) (next_id_here h) ids in
         says_to_node_speaks _ _ _ (quietly x _ refl refl
@@ -251,5 +250,5 @@ module _ (holds pushes : Type 0) (me : ℕ) where
         by_run : (r : Option Run) → Speaks (commit_by h d r)
         by_run None = p
         by_run (Some run) =
-            let g : Here = logs_all (with_run h (with_outcomes run d)) (commit_entries run.attempt (next_id_here h) d.births d.prints (stop_of d.stop)) in
+            let g : Here = logs_all (with_run h (with_outcomes run d)) (single_entries run.attempt (next_id_here h) d.births d.prints (stop_of d.stop)) in
             stops_speaks (bears_all g run.attempt d.births) d.stop (bears_all_speaks g run.attempt d.births (quietly h g refl refl p))

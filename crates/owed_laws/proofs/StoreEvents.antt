@@ -6,14 +6,13 @@ use Rattle.sequence.proofs.Places.{and_right}
 use Rattle.meaning.proofs.BirthLaws.{at_test, same_id-true}
 use Rattle.meaning.specs.Births.{same_id}
 use Rattle.meaning.specs.Values.{Id, Outcome}
-use Rattle.event_log.specs.Commits.{commit_entries}
 use Rattle.event_log.specs.Entries.{Claim, Commit, Deliver, Entry, Event, Evict, In, Join, Kill, KillNode, Lose, Notice, NoticeNode, Tick}
 use Rattle.event_log.specs.Entries.{Refusal, NoJob, Stale}
 use Rattle.event_log.specs.Events.{node_of}
 use Rattle.event_log.specs.Rules.{Setting}
 use Rattle.event_log.specs.Words.{attempt, worker_of}
 use Rattle.event_log.proofs.Extending.{node_of-more}
-use Rattle.protocol.specs.Commits.{claim_step, commit_step, next_id_here}
+use Rattle.protocol.specs.Commits.{claim_step, commit_step, next_id_here, single_entries}
 use Rattle.protocol.specs.Deliveries.{reached}
 use Rattle.protocol.specs.Events.{committed_by, dead, delivered_by, delivered_to, happens, is_live_node, is_live_worker, killed_by, with_committed}
 use Rattle.protocol.specs.Events.{with_delivered}
@@ -295,7 +294,7 @@ module _ (s : Setting) (log : List Entry) (c : Whole) (b : Between s log c) (j s
   after_commit = release_step (commit_step before_commit d)
 
   abbrev commit_made : List Entry
-  commit_made = commit_entries run.attempt (next_id_here before_commit) d.births d.prints (stop_of d.stop)
+  commit_made = single_entries run.attempt (next_id_here before_commit) d.births d.prints (stop_of d.stop)
 
   abbrev committed_so : Moved
   committed_so = after_worker base me x.node after_commit

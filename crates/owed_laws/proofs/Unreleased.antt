@@ -1,77 +1,30 @@
 -- What an attempt needs that goes on wasn't released, as long as nobody was killed: it knows the object, which is safe in it then, and nothing that is
 -- safe in an attempt that goes on is released.
-use Rattle.std.proofs.Common.{◌≡◌, ℕ, zero, suc, Bool, true, List, [], ◌∷◌, ◌++◌, Some, refl, ap, sym, subst, ◌∙◌, inl, inr}
-use Rattle.meaning.specs.Births.{Bearing, birth_at, numbered}
-use Rattle.meaning.specs.Ids.{IsObjectOf, StandsAmong, StandsIn, StandsInArguments, StandsInBirth, StandsInOutcome, StandsInOutcomes, StopIn}
+use Rattle.std.proofs.Common.{◌≡◌, ℕ, zero, suc, Bool, true, List, [], ◌∷◌, Some, refl, ap, sym, subst, ◌∙◌, inl, inr}
+use Rattle.meaning.specs.Births.{numbered}
+use Rattle.meaning.specs.Ids.{StopIn}
 use Rattle.meaning.specs.Law.{IsGiven}
 use Rattle.meaning.specs.Meaning.{replay}
 use Rattle.meaning.specs.Runs.{Needs, Piece}
-use Rattle.meaning.specs.Values.{Argument, Birth, Id, Int, Items, Known, Named, Outcome, Put, Task, Trapped, Val, Value, Values, more, none}
+use Rattle.meaning.specs.Values.{Birth, Id, Named}
 use Rattle.script_laws.proofs.Given.{law_of_ids}
-use Rattle.values.specs.Listed.{ids_among, ids_in_outcome, ids_listed}
 use Rattle.event_log.specs.Breaks as B
 use Rattle.event_log.specs.Breaks.{is_some}
 use Rattle.event_log.specs.Entries as logged
 use Rattle.event_log.specs.Entries.{Attempt, Entry}
-use Rattle.event_log.specs.Holding.{ids_of_arguments, ids_of_birth}
 use Rattle.event_log.specs.Rules.{Setting, Stops}
-use Rattle.event_log.specs.Words.{answers_of, births, own_births, worker_of}
+use Rattle.event_log.specs.Words.{answers_of, own_births, worker_of}
 use Rattle.holding.specs.Grows.{Joined}
 use Rattle.holding.specs.Past as facts
 use Rattle.holding.specs.Legal.{Allowed, Legal, MayBear, MayEnd, MayGet, Running}
 use Rattle.holding.specs.Past.{Among, Bore, Fact, Gained, Given, HasNot, InBirth, InContent, IsContent, Killed, Knows, OfPut, OfTask, Puts, Released, Safe}
 use Rattle.holding.specs.Past.{SafeBorn, SafeGained, SafeGiven}
 use Rattle.holding.specs.Tells.{Stands}
-use Rattle.holding.proofs.Bridge.{ids_given_to, ids_of_outcomes, known_to, knows_so, no_end_so, no_fault_so, objects_of}
+use Rattle.holding.proofs.Bridge.{no_end_so, no_fault_so}
+use Rattle.holding.proofs.Logged.{known_so}
 use Rattle.holding.proofs.Kept.{always_kept, known as unreleased_known, running_at_work}
 use Rattle.protocol_owed.specs.Seen.{IsCalm}
 use Rattle.owed_replies.proofs.Quiet.{worker_alive}
-
--- ---- what is given to an attempt is among what it knows
-
-in_left : (z : Id) (xs ys : List Id) → Among z xs → Among z (xs ++ ys)
-in_left z [] ys h = absurd h
-in_left z (x ∷ xs) ys (inl h) = inl h
-in_left z (x ∷ xs) ys (inr h) = inr (in_left z xs ys h)
-
-in_right : (z : Id) (xs ys : List Id) → Among z ys → Among z (xs ++ ys)
-in_right z [] ys h = h
-in_right z (x ∷ xs) ys h = inr (in_right z xs ys h)
-
-mutual
-  in_value : (z : Id) (v : Value) → StandsIn z v → Among z (ids_listed v)
-  in_value z (Int n) h = absurd h
-  in_value z (Items vs) h = in_values z vs h
-  in_value z (Named o) h = inl (sym h)
-  in_value z (Known c) h = absurd h
-
-  in_values : (z : Id) (vs : Values) → StandsAmong z vs → Among z (ids_among vs)
-  in_values z none h = absurd h
-  in_values z (more v vs) (inl h) = in_left z (ids_listed v) (ids_among vs) (in_value z v h)
-  in_values z (more v vs) (inr h) = in_right z (ids_listed v) (ids_among vs) (in_values z vs h)
-
-in_arguments : (z : Id) (args : List Argument) → StandsInArguments z args → Among z (ids_of_arguments args)
-in_arguments z [] h = absurd h
-in_arguments z (a ∷ args) (inl h) = in_left z (ids_listed a.value) (ids_of_arguments args) (in_value z a.value h)
-in_arguments z (a ∷ args) (inr h) = in_right z (ids_listed a.value) (ids_of_arguments args) (in_arguments z args h)
-
-in_birth : (z : Id) (b : Birth) → StandsInBirth z b → Among z (ids_of_birth b)
-in_birth z (Put v) h = in_value z v h
-in_birth z (Task g args depth retries) h = in_arguments z args h
-
-in_outcome : (z : Id) (c : Outcome) → StandsInOutcome z c → Among z (ids_in_outcome c)
-in_outcome z (Val v) h = in_value z v h
-in_outcome z (Trapped t) h = absurd h
-
-in_outcomes : (z : Id) (cs : List Outcome) → StandsInOutcomes z cs → Among z (ids_of_outcomes cs)
-in_outcomes z [] h = absurd h
-in_outcomes z (c ∷ cs) (inl h) = in_left z (ids_in_outcome c) (ids_of_outcomes cs) (in_outcome z c h)
-in_outcomes z (c ∷ cs) (inr h) = in_right z (ids_in_outcome c) (ids_of_outcomes cs) (in_outcomes z cs h)
-
-in_objects : (z : Id) (xs : List Bearing) → IsObjectOf z xs → Among z (objects_of xs)
-in_objects z [] h = absurd h
-in_objects z (x ∷ xs) (inl h) = inl (sym h)
-in_objects z (x ∷ xs) (inr h) = inr (in_objects z xs h)
 
 stands_there : (log : List Entry) (x : Entry) → B.Among x log → Stands x log
 stands_there [] x (k, e) = absurd (cc)
@@ -153,7 +106,7 @@ module _ (s : Setting) (log : List Entry) (past : List Fact) (joined : Joined lo
 
   -- an attempt needs only what it knows
   pub needed_known : (a : Attempt) (y : Id) → Stops s log a (Needs (Named y)) → Knows past a y
-  needed_known a y h = knows_so log past joined.tells a y (place known)
+  needed_known a y h = known_so s log past joined.tells a spec h.replays.born y known
     where
       spec : Birth
       spec = h.replays.spec
@@ -165,14 +118,6 @@ module _ (s : Setting) (log : List Entry) (past : List Fact) (joined : Joined lo
       known = subst (λ st. StopIn (IsGiven spec (own_births a log) (answers_of a log)) st) (ap (λ (p : Piece). p.stop) (sym h.replays.replayed) ∙ h.stopped)
           (subst (λ xs. StopIn (IsGiven spec xs (answers_of a log)) (replay s.script spec h.base (answers_of a log)).stop) (sym own)
           (law_of_ids s.script spec h.base (answers_of a log)).stop)
-
-      place : IsGiven spec (own_births a log) (answers_of a log) y → Among y (known_to a log)
-      place (inl k) = in_left y (ids_given_to (birth_at (births log) a.object)) (objects_of (own_births a log) ++ ids_of_outcomes (answers_of a log))
-          (subst (λ o. Among y (ids_given_to o)) (sym h.replays.born) (in_birth y spec k))
-      place (inr (inl k)) = in_right y (ids_given_to (birth_at (births log) a.object)) (objects_of (own_births a log) ++ ids_of_outcomes (answers_of a log))
-          (in_left y (objects_of (own_births a log)) (ids_of_outcomes (answers_of a log)) (in_objects y (own_births a log) k))
-      place (inr (inr k)) = in_right y (ids_given_to (birth_at (births log) a.object)) (objects_of (own_births a log) ++ ids_of_outcomes (answers_of a log))
-          (in_right y (objects_of (own_births a log)) (ids_of_outcomes (answers_of a log)) (in_outcomes y (answers_of a log) k))
 
   -- so that wasn't released
   pub needed_stays : (a : Attempt) (w : ℕ) (y : Id) → worker_of a log ≡ Some w → Stops s log a (Needs (Named y)) → B.Among (logged.Released y) log → ⊥

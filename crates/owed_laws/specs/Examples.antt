@@ -66,7 +66,7 @@ put_log = opening ++ In (Claim 1) 0 ∷ In (Commit 1) 0 ∷ Born (object_id 1 1)
 
 -- or it was a task, and that ended on node 1 with a small content
 abbrev pub ended_log : List Entry
-ended_log = given_log ++ Begun first_one 2 ∷ Ended first_one (Val empty_list) ∷ Accepted first_one ∷ []
+ended_log = given_log ++ Begun first_one 2 ∷ Ended first_one (Val empty_list ∷ []) ∷ Accepted first_one ∷ []
 
 -- worker 2 has sent a Fetch to node 1, which has a copy or not
 abbrev pub fetch_scene : Setting → List Entry → Bool → Scene
@@ -104,7 +104,7 @@ report_scene s letters =
     record {
       setting = s;
       slots = 1;
-      log = given_log ++ Begun first_one 2 ∷ Ended first_one (Val empty_list) ∷ [];
+      log = given_log ++ Begun first_one 2 ∷ Ended first_one (Val empty_list ∷ []) ∷ [];
       network = letter (TheWorker 1) (TheWorker 2) (Push first_one one_once) ∷ letters;
       holders = λ n. [];
       keeps = λ n o number. false;

@@ -3,7 +3,6 @@ use Rattle.std.proofs.Common.{◌≡◌, ℕ, zero, suc, ◌+◌, ◌<◌, ◌�
 use Rattle.std.proofs.Common.{arith}
 use Rattle.std.specs.Prelude.{true, false, if◌then◌else◌, slice_get}
 use Rattle.std.specs.List.{AllByRecursion, flat_map}
-use Rattle.std.proofs.lemmas.List.Concat.{flat_map-append}
 use Rattle.meaning.proofs.BirthLaws.{at_test, same_id-refl}
 use Rattle.meaning.specs.Births.{Bearing, birth_at, same_id}
 use Rattle.meaning.specs.Readings.{IsBorn}
@@ -12,11 +11,11 @@ use Rattle.event_log.specs.Breaks.{Among}
 use Rattle.event_log.specs.Entries.{Accepted, Attempt, Born, Claim, Commit, Deliver, Ended, Entry, Event, Evict, In, Join, Kill, KillNode, Lose, Notice, NoticeNode}
 use Rattle.event_log.specs.Entries.{Tick, main_attempt}
 use Rattle.event_log.specs.Events.{accepted_events}
-use Rattle.event_log.specs.Legal as L
 use Rattle.event_log.specs.Rules.{Setting}
 use Rattle.event_log.specs.Sane.{Sane}
-use Rattle.event_log.proofs.Extending.{birth_at-more}
-use Rattle.event_log.specs.Words.{births, main_bearing, born_in, ended_in, ends_of, faults_of, same_attempt}
+use Rattle.event_log.proofs.Extending.{parts-more}
+use Rattle.event_log.proofs.FreshLaws.{born_if_first}
+use Rattle.event_log.specs.Words.{births, born_in, ended_in, ends_of, faults_of, same_attempt}
 use Rattle.event_log.proofs.SaneLaws.{legal_logs_are_sane}
 use Rattle.event_log.proofs.WordLaws.{same_attempt-refl}
 use Rattle.protocol.specs.Messages.{Letter, letter, Message, Party, TheWorker, TheNode, Ask, Give, Elsewhere, Wait, Back, Push, Finished, FinishedAck, Failed}
@@ -75,9 +74,10 @@ pub entry_born : (log : List Entry) (o : Id) → IsBornIn log o → IsBorn (birt
 entry_born log o (a, b, i) =
     let x : Bearing = record { object = o; birth = b } in
     let j = among_flat born_in log (Born o a b) x i (zero, refl) in
-    birth_among (births log) x (suc j.0, j.1)
+    let r = birth_among (births log) x (suc j.0, j.1) in
+    born_if_first (births log) o r.0 r.1
 
-pub end_among : (log : List Entry) (a : Attempt) (b : Outcome) → Among (Ended a b) log → Among b (ends_of a log)
+pub end_among : (log : List Entry) (a : Attempt) (b : List Outcome) → Among (Ended a b) log → Among b (ends_of a log)
 end_among log a b i = among_flat (ended_in a) log (Ended a b) b i (subst (λ t. Among b (if t then b ∷ [] else [])) (sym (same_attempt-refl a)) (zero, refl))
 
 pub item_below : {X : Type 0} (xs : List X) (n : ℕ) → 1 ≤ n → n < length xs + 1 → (z : X) × (item_at xs n ≡ Some z)
@@ -95,15 +95,17 @@ pub owner_has : (s : Setting) (log : List Entry) (c : Whole) → Between s log c
     1 ≤ y.serial → (z : Object) × (item_at x.objects y.serial ≡ Some z)
 owner_has s log c b y born x at live some =
     let sane : Sane log = legal_logs_are_sane (setting_of s c) log b.legal in
-    let below = sane.serials y born.0 born.1 in
+    let below = sane.serials y born in
     let knows : KnowsWorker (setting_of s c) (past log b.asked) y.owner x = b.knows.workers y.owner x at live in
     let next = knows.serial in
     item_below x.objects y.serial some (omega (arith, below, next))
 
 -- a content that was made is of what was born
 pub made_born : (s : Setting) (log : List Entry) (c : Whole) → Between s log c → (y : Id) (number : ℕ) → IsMade log y number → IsBorn (births log) y
-made_born s log c b y number (n, inl p) = (Put p.value, p.born)
-made_born s log c b y number (n, inr p) = (legal_logs_are_sane (setting_of s c) log b.legal).born y number p.worker p.runs
+made_born s log c b y number (n, inl p) = born_if_first (births log) y (Put p.value) p.born
+made_born s log c b y number (n, inr p) =
+    let first = (legal_logs_are_sane (setting_of s c) log b.legal).born y number p.worker p.runs in
+    born_if_first (births log) y first.0 first.1
 
 -- what is asked for was born
 pub request_born : (s : Setting) (log : List Entry) (c : Whole) → Between s log c → KeepsReplies log c → (v w : ℕ) (y : Id) (m : Message) →
@@ -121,7 +123,7 @@ pub born_more : (log es : List Entry) (o : Id) → IsBornIn log o → IsBornIn (
 born_more log es o (f, x, i) = (f, x, among-more log es _ i)
 
 pub known_more : (log es : List Entry) (o : Id) → IsBorn (births log) o → IsBorn (births (log ++ es)) o
-known_more log es o (x, e) = (x, ap (λ xs. birth_at (main_bearing ∷ xs) o) (flat_map-append born_in log es) ∙ birth_at-more (births log) (flat_map born_in es) o x e)
+known_more log es o (p, e) = (p, parts-more log es o p e)
 
 -- what is right beside a log is right beside more
 pub right_more : (p es : List Entry) (from to : Party) (m : Message) → IsRightBetween p from to m → IsRightBetween (p ++ es) from to m
@@ -187,7 +189,7 @@ pub record Advances (log : List Entry) (c : Whole) (e : Event) (seat : ℕ) (m :
   pub asked : (k v : ℕ) (o : Id) (n : Message) → e ≡ Deliver k → item_at c.network k ≡ Some (letter (TheWorker v) (TheWorker o.owner) n) → IsRequest o n →
       (y : Worker) (z : Object) → worker_at m.whole o.owner ≡ Some y → y.is_live ≡ true → item_at y.objects o.serial ≡ Some z → IsAwaitedBy v z
   pub goes_on : (a : Attempt) → IsGoingOn c a → IsGoingOn m.whole a ⊎ IsPresent m.whole a
-  pub ended : (a : Attempt) (b : Outcome) → Among (Ended a b) m.out.entries → IsPresent m.whole a
+  pub ended : (a : Attempt) (b : List Outcome) → Among (Ended a b) m.out.entries → IsPresent m.whole a
   pub accepts : (a : Attempt) → Among (Accepted a) m.out.entries → IsBrought c e a
 
 module _ (s : Setting) (log : List Entry) (c : Whole) (e : Event) (seat : ℕ) (m : Moved) (before : IsInStep s log c)
@@ -210,18 +212,18 @@ module _ (s : Setting) (log : List Entry) (c : Whole) (e : Event) (seat : ℕ) (
   same_run : (x y : Run) → ◌≡◌ {A = Option Run} (Some x) (Some y) → x ≡ y
   same_run x y f = cc
 
-  no_end : (f : Attempt) (x : Outcome) → Among x (ends_of f next) → ends_of f next ≡ [] → ⊥
+  no_end : (f : Attempt) (x : List Outcome) → Among x (ends_of f next) → ends_of f next ≡ [] → ⊥
   no_end f x i g = among-nothing x (subst (λ xs. Among x xs) g i)
 
-  some_end : (f : Attempt) (x : Outcome) → Among x (ends_of f next) → 1 ≤ length (ends_of f next)
+  some_end : (f : Attempt) (x : List Outcome) → Among x (ends_of f next) → 1 ≤ length (ends_of f next)
   some_end f x i = counted (ends_of f next) i.0 i.1
     where
-      counted : (xs : List Outcome) (j : ℕ) → slice_get xs j ≡ Some x → 1 ≤ length xs
+      counted : (xs : List (List Outcome)) (j : ℕ) → slice_get xs j ≡ Some x → 1 ≤ length xs
       counted [] j g = absurd (cc)
       counted (y ∷ xs) j g = omega arith
 
   -- the present attempt of a live worker that ended is over and reported, or goes on
-  settles : (f : Attempt) (x : Outcome) → Among (Ended f x) next → same_attempt f main_attempt ≡ false → IsPresent m.whole f →
+  settles : (f : Attempt) (x : List Outcome) → Among (Ended f x) next → same_attempt f main_attempt ≡ false → IsPresent m.whole f →
       ((w : ℕ) × IsReported m.whole.network w f) ⊎ IsGoingOn m.whole f
   settles f x i other p = by_run p.worker.run refl
     where
@@ -256,7 +258,7 @@ module _ (s : Setting) (log : List Entry) (c : Whole) (e : Event) (seat : ℕ) (
           by_phase r same right here knows (Out j) h over = absurd (no_end r.attempt x here (subst (λ z. KnowsPhase (setting_of s m.whole) next p.worker r z) h knows.phase).ended)
           by_phase r same right here knows (Waits y g) h over = absurd (no_end r.attempt x here (subst (λ z. KnowsPhase (setting_of s m.whole) next p.worker r z) h knows.phase).0.ended)
 
-  ends_still : (f : Attempt) (x : Outcome) → Among (Ended f x) next → same_attempt f main_attempt ≡ false →
+  ends_still : (f : Attempt) (x : List Outcome) → Among (Ended f x) next → same_attempt f main_attempt ≡ false →
       ((w : ℕ) × IsReported m.whole.network w f) ⊎ IsGoingOn m.whole f
   ends_still f x i other = elim (among-append_cases log (In e seat ∷ m.out.entries) (Ended f x) i) [
     | inl old ↦ by_old (k.ends f x old other)

@@ -9,7 +9,6 @@ use Rattle.meaning.specs.Runs.{Needs, Over, Stop, next_id}
 use Rattle.meaning.specs.Values.{Birth, Id, Outcome, Put, Task, Value}
 use Rattle.values.specs.Listed.{each_once, ids_in_outcome}
 use Rattle.event_log.specs.Breaks.{Among}
-use Rattle.event_log.specs.Commits.{commit_entries}
 use Rattle.event_log.specs.Entries.{Accepted, Attempt, Ended, Entry, Faulted, OwnerDied, Released}
 use Rattle.event_log.specs.Holding.{ids_of_birth}
 use Rattle.event_log.specs.Words.{attempt, births, same_attempt}
@@ -26,7 +25,7 @@ use Rattle.protocol.specs.Runs.{begins_run, faults, gives_slot_back, is_free, pu
 use Rattle.protocol.specs.Asking.{asks_at, rests}
 use Rattle.protocol.specs.Places.{answers_settled, needs_own}
 use Rattle.protocol.specs.Holders.{adds_holder, awaits_hold_by, holding, holds_id, holds_ids, passes_on, same_holding, sends_hold, unhold_reached, with_holding}
-use Rattle.protocol.specs.Commits.{bears, bears_all, claim_by, claim_step, commit_by, commit_step, ends, needs}
+use Rattle.protocol.specs.Commits.{bears, bears_all, claim_by, claim_step, commit_by, commit_step, ends, needs, single_entries}
 use Rattle.protocol.specs.Commits.{next_id_here, rests_if_waiting, stops, stops_by, with_object, with_outcomes}
 use Rattle.protocol.specs.Ends.{accepts, finished_by, finished_reached, hears_of_end, if_present}
 use Rattle.protocol.specs.Releases.{drops_copies, may_release, lets_go, lets_go_of, release_pass, release_passes, release_step, releases, releases_by, entries_made}
@@ -84,7 +83,7 @@ release_step-run h = release_passes-run h.worker.run false (length h.worker.obje
 
 -- ---- what a commit logs
 
-commits_accept_none : (a b : Attempt) (o : Id) (bs : List Birth) (vs : List Value) (stop : Stop) → Among (Accepted b) (commit_entries a o bs vs stop) → ⊥
+commits_accept_none : (a b : Attempt) (o : Id) (bs : List Birth) (vs : List Value) (stop : Stop) → Among (Accepted b) (single_entries a o bs vs stop) → ⊥
 commits_accept_none a b o (x ∷ bs) vs stop (zero, e) = cc
 commits_accept_none a b o (x ∷ bs) vs stop (suc k, e) = commits_accept_none a b (next_id o) bs vs stop (k, e)
 commits_accept_none a b o [] (v ∷ vs) stop (zero, e) = cc
@@ -93,7 +92,7 @@ commits_accept_none a b o [] [] (Over c) (zero, e) = cc
 commits_accept_none a b o [] [] (Over c) (suc k, e) = cc
 commits_accept_none a b o [] [] (Needs y) (k, e) = cc
 
-commits_end_own : (a b : Attempt) (c : Outcome) (o : Id) (bs : List Birth) (vs : List Value) (stop : Stop) → Among (Ended b c) (commit_entries a o bs vs stop) → a ≡ b
+commits_end_own : (a b : Attempt) (c : List Outcome) (o : Id) (bs : List Birth) (vs : List Value) (stop : Stop) → Among (Ended b c) (single_entries a o bs vs stop) → a ≡ b
 commits_end_own a b c o (x ∷ bs) vs stop (zero, e) = absurd (cc)
 commits_end_own a b c o (x ∷ bs) vs stop (suc k, e) = commits_end_own a b c (next_id o) bs vs stop (k, e)
 commits_end_own a b c o [] (v ∷ vs) stop (zero, e) = absurd (cc)
@@ -263,8 +262,8 @@ module _ (log : List Entry) (net : List Letter) (me : ℕ) (old : List Object) (
   bears_both h a (Put v) ids q =
       holds_ids_does _ (next_id_here h) (each_once (ids_of_birth (Put v))) ids
       (with_store_both _ _ (changes_both h _ (pushed_grows h.worker.objects (put_object a (each_once (ids_of_birth (Put v))) h.worker.node)) q))
-  bears_both h a (Task g args depth retries) ids q =
-      let spec : Birth = Task g args depth retries in
+  bears_both h a (Task g args depth retries others) ids q =
+      let spec : Birth = Task g args depth retries others in
       let x : Object = new_object (ByTask (new_task spec)) a (each_once (ids_of_birth spec)) in
       asks_both (holds_ids (with_object h x) (next_id_here h) (each_once (ids_of_birth spec))) (next_id_here h) (new_task spec) 0 _
       (holds_ids_does (with_object h x) (next_id_here h) (each_once (ids_of_birth spec)) ids (changes_both h _ (pushed_grows h.worker.objects x) q))
@@ -371,9 +370,9 @@ module _ (log : List Entry) (net : List Letter) (me : ℕ) (old : List Object) (
 
   -- births, prints and the attempt's own end
   writes_commit : (h : Here) (run : Run) (d : Outcomes) (g : Here) → fin run.attempt → Q g →
-      Q (logs_all g (commit_entries run.attempt (next_id_here h) d.births d.prints (stop_of d.stop)))
+      Q (logs_all g (single_entries run.attempt (next_id_here h) d.births d.prints (stop_of d.stop)))
   writes_commit h run d g fine q =
-      let es : List Entry = commit_entries run.attempt (next_id_here h) d.births d.prints (stop_of d.stop) in
+      let es : List Entry = single_entries run.attempt (next_id_here h) d.births d.prints (stop_of d.stop) in
       record {
         who = q.who;
         objects = q.objects;
@@ -396,7 +395,7 @@ module _ (log : List Entry) (net : List Letter) (me : ℕ) (old : List Object) (
   commit_pays h d run e going fine names p =
       let r = p.does.run run e in
       let next : Run = with_outcomes run d in
-      let entries : List Entry = commit_entries run.attempt (next_id_here h) d.births d.prints (stop_of d.stop) in
+      let entries : List Entry = single_entries run.attempt (next_id_here h) d.births d.prints (stop_of d.stop) in
       let logged : Both (logs_all (with_run h next) entries) = (
         writes_commit h run d (with_run h next) fine (run_does log net me old ok fin h next (record { needs = λ z i. absurd (cc); holds = r.holds; told = λ c i. absurd (cc); main = r.main }) p.does),
         λ s f. subst (λ (x : Run). x.is_over ≡ false) (some_run next s f) going,
@@ -435,7 +434,7 @@ module _ (log : List Entry) (net : List Letter) (me : ℕ) (old : List Object) (
         in_time = settled.in_time;
       }
     where
-      no_end : (b : Attempt) (c : Outcome) → Ended b c ≡ Accepted a → ⊥
+      no_end : (b : Attempt) (c : List Outcome) → Ended b c ≡ Accepted a → ⊥
       no_end b c e = absurd (cc)
 
   pub finish_pays : (h : Here) (w : ℕ) (a : Attempt) (n : ℕ) (ids : List Id) (content : Option Outcome) → ok a → P h → P (finished_reached h w a n ids content)

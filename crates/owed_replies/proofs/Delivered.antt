@@ -5,7 +5,7 @@ use Rattle.std.proofs.lemmas.Bool.Decides.{nat_tests}
 use Rattle.meaning.proofs.BirthLaws.{at_test}
 use Rattle.meaning.specs.Births.{Bearing, same_id}
 use Rattle.meaning.specs.Readings.{IsBorn}
-use Rattle.meaning.specs.Values.{Id}
+use Rattle.meaning.specs.Values.{Id, results_of}
 use Rattle.event_log.specs.Breaks.{Among}
 use Rattle.event_log.specs.Entries.{Accepted, Attempt, Begun, Born, Deliver, Entry, Opened, main_attempt, main_object}
 use Rattle.event_log.specs.Entries.{NoMessage, Limit}
@@ -14,7 +14,10 @@ use Rattle.event_log.specs.Legal.{opening}
 use Rattle.event_log.specs.Rules.{Allowed, Setting}
 use Rattle.std.specs.List.{flat_map}
 use Rattle.event_log.specs.Words.{births, born_in, main_bearing, next_serial}
+use Rattle.event_log.specs.Singles.{AreSingle}
 use Rattle.event_log.proofs.Growing.{entries_have_their_needs}
+use Rattle.event_log.proofs.OneResult.{part_birth}
+use Rattle.event_log.proofs.SingleLaws.{legal_logs_are_of_singles}
 use Rattle.event_log.specs.Laws.{HasItsNeeds}
 use Rattle.protocol.specs.Answers.{Answer, Refuses, Step, Takes, answer, decided, takes}
 use Rattle.protocol.specs.Deliveries.{reached}
@@ -28,7 +31,7 @@ use Rattle.protocol.specs.Releases.{release_step}
 use Rattle.protocol.specs.Steps.{Here}
 use Rattle.protocol.specs.Tables.{Worker}
 use Rattle.protocol.specs.Whole.{Moved, Whole, here, moved, node_at, worker_at, worker_does, worker_does_at, worker_does_by}
-use Rattle.protocol_legal.specs.Whole.{Between}
+use Rattle.protocol_legal.specs.Whole.{Between, setting_of}
 use Rattle.protocol_owed.specs.Seen.{IsCalm}
 use Rattle.protocol_owed.proofs.Letters.{among-nothing}
 use Rattle.lease_discipline.proofs.Told.{lives_there}
@@ -103,7 +106,7 @@ allowed_at s log legal x not_first not_second i =
 others_some : (w : ℕ) (xs : List Bearing) → (w == 1) ≡ false → 1 ≤ next_serial w xs
 others_some w [] e = subst (λ b. 1 ≤ (if b then 0 else 1)) (sym e) (omega arith)
 others_some w (x ∷ xs) e = let r = others_some w xs e in
-    at_test (λ b. 1 ≤ (if b then 1 else 0) + next_serial w xs) (x.object.owner == w) (λ _. omega (arith, r)) (λ _. omega (arith, r))
+    at_test (λ b. 1 ≤ (if b then results_of x.birth else 0) + next_serial w xs) (x.object.owner == w) (λ _. omega (arith, r)) (λ _. omega (arith, r))
 
 -- serials begin with 1
 serial_some : (w : ℕ) (xs : List Bearing) → 1 ≤ next_serial w (main_bearing ∷ xs)
@@ -129,5 +132,6 @@ accepted_other s log legal a i =
 -- the owner of what was born is there
 pub owner_there : (s : Setting) (log : List Entry) (c : Whole) → Between s log c → IsCalm log → (y : Id) → IsBorn (births log) y → (x : Worker) × (worker_at c y.owner ≡ Some x) × (x.is_live ≡ true)
 owner_there s log c b calm y born =
-    let home = b.knows.calm.homes y born in
+    let single : AreSingle (births log) = (legal_logs_are_of_singles (setting_of s c) log b.legal).births in
+    let home = b.knows.calm.homes y (born.0.born.birth, part_birth (births log) single y born.0 born.1) in
     lives_there s log c b y.owner (opened_lives log calm y.owner home.0 home.1)

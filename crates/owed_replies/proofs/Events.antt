@@ -161,7 +161,7 @@ module _ (log : List Entry) (c : Whole) (e : Event) (seat : ℕ) (k : KeepsRepli
 -- its letters are a node's, and it accepts and ends nothing
 pub record IsOfNode (t : There) : Type 0 where
   pub letters : (l : Letter) → Among l t.out.letters → (n : ℕ) × (l.sender ≡ TheNode n)
-  pub endless : (a : Attempt) (b : Outcome) → Among (Ended a b) t.out.entries → ⊥
+  pub endless : (a : Attempt) (b : List Outcome) → Among (Ended a b) t.out.entries → ⊥
   pub accepts_none : (a : Attempt) → Among (Accepted a) t.out.entries → ⊥
 
 pub of_node_kept : IsKeptThere IsOfNode
@@ -180,7 +180,7 @@ of_node_kept = record {
   store = λ t s o. record { letters = o.letters; endless = o.endless; accepts_none = o.accepts_none };
 }
   where
-    no_end : (a : Attempt) (b : Outcome) (w n : ℕ) → Ended a b ≡ Opened w n → ⊥
+    no_end : (a : Attempt) (b : List Outcome) (w n : ℕ) → Ended a b ≡ Opened w n → ⊥
     no_end a b w n f = absurd (cc)
 
     none : (a : Attempt) (w n : ℕ) → Accepted a ≡ Opened w n → ⊥
@@ -200,7 +200,7 @@ pub record LeavesWorkers (c d : Whole) : Type 0 where
   pub forth : (w : ℕ) (x : Worker) → worker_at c w ≡ Some x → (y : Worker) × (worker_at d w ≡ Some y) × (y.run ≡ x.run)
 
 module _ (log : List Entry) (c : Whole) (e : Event) (seat : ℕ) (m : Moved) (k : KeepsReplies log c) (network : m.whole.network ≡ c.network ++ m.out.letters)
-    (of_nodes : (l : Letter) → Among l m.out.letters → (n : ℕ) × (l.sender ≡ TheNode n)) (endless : (a : Attempt) (b : Outcome) → Among (Ended a b) m.out.entries → ⊥)
+    (of_nodes : (l : Letter) → Among l m.out.letters → (n : ℕ) × (l.sender ≡ TheNode n)) (endless : (a : Attempt) (b : List Outcome) → Among (Ended a b) m.out.entries → ⊥)
     (accepts_none : (a : Attempt) → Among (Accepted a) m.out.entries → ⊥)
     (leaves : LeavesWorkers c m.whole)
     (unheard : (i v : ℕ) (o : Id) (n : Message) (x : Worker) → e ≡ Deliver i → item_at c.network i ≡ Some (letter (TheWorker v) (TheWorker o.owner) n) →

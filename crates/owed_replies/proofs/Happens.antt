@@ -12,7 +12,6 @@ use Rattle.meaning.specs.Runs.{Over, Stop, next_id}
 use Rattle.meaning.specs.Values.{Birth, Id, Outcome, Put, Task, Value}
 use Rattle.values.specs.Listed.{each_once, ids_in_outcome}
 use Rattle.event_log.specs.Breaks.{Among}
-use Rattle.event_log.specs.Commits.{commit_entries}
 use Rattle.event_log.specs.Entries.{Attempt, Born, Claim, Commit, Deliver, Ended, Entry, Event, Evict, In, Join, Kill, KillNode, Lose, Notice, NoticeNode, Tick}
 use Rattle.event_log.specs.Entries.{Refusal, NoWorker, NotReady, NoJob, Stale, NoMessage, NotDead}
 use Rattle.event_log.specs.Events.{accepted_events}
@@ -34,7 +33,7 @@ use Rattle.protocol.specs.Ends.{finished_reached}
 use Rattle.protocol.specs.Asking.{rests}
 use Rattle.protocol.specs.Stores.{with_ended}
 use Rattle.protocol.specs.Holders.{adds_holder, awaits_hold_by, holding, holds_id, holds_ids, passes_on, sends_hold}
-use Rattle.protocol.specs.Commits.{bears, stops_by, bears_all, claim_by, claim_step, commit_by, commit_step, next_id_here, stops, with_outcomes}
+use Rattle.protocol.specs.Commits.{bears, stops_by, bears_all, claim_by, claim_step, commit_by, commit_step, next_id_here, stops, with_outcomes, single_entries}
 use Rattle.protocol.specs.Steps.{changes, is_own, logs_all, store_here, with_phase, with_run, with_store}
 use Rattle.protocol.specs.Deliveries.{reached}
 use Rattle.protocol.specs.Notices.{notice_node_step, notice_step}
@@ -158,23 +157,23 @@ claim_steady h j = ap attempt_by (release_step-run (claim_step h j)) ∙ by_run 
 
 -- whatever a commit logs at first stays logged
 pub committed_logged : (h : Here) (d : Outcomes) (run : Run) → h.worker.run ≡ Some run → (x : Entry) →
-    Among x (commit_entries run.attempt (next_id_here h) d.births d.prints (stop_of d.stop)) → Logged x (release_step (commit_step h d))
+    Among x (single_entries run.attempt (next_id_here h) d.births d.prints (stop_of d.stop)) → Logged x (release_step (commit_step h d))
 committed_logged h d run e x i =
-    let g : Here = logs_all (with_run h (with_outcomes run d)) (commit_entries run.attempt (next_id_here h) d.births d.prints (stop_of d.stop)) in
+    let g : Here = logs_all (with_run h (with_outcomes run d)) (single_entries run.attempt (next_id_here h) d.births d.prints (stop_of d.stop)) in
     let same : commit_step h d ≡ stops (bears_all g run.attempt d.births) d.stop = ap (commit_by h d) e in
     logged_after x (commit_step h d) (subst (Logged x) (sym same)
     (M.stops-kept (Logged x) (logged_stays x) (bears_all g run.attempt d.births) d.stop
     (M.bears_all-kept (Logged x) (logged_stays x) g run.attempt d.births (among-behind h.there.out.entries _ x i))))
 
-birth_logged : (a : Attempt) (b : Birth) (o : Id) (bs : List Birth) (vs : List Value) (stop : Stop) → Among b bs → (p : Id) × Among (Born p a b) (commit_entries a o bs vs stop)
+birth_logged : (a : Attempt) (b : Birth) (o : Id) (bs : List Birth) (vs : List Value) (stop : Stop) → Among b bs → (p : Id) × Among (Born p a b) (single_entries a o bs vs stop)
 birth_logged a b o [] vs stop (k, e) = absurd (cc)
 birth_logged a b o (x ∷ bs) vs stop (zero, e) = let same : x ≡ b = cc in (o, (zero, ap (λ y. Some (Born o a y)) same))
 birth_logged a b o (x ∷ bs) vs stop (suc k, e) = let r = birth_logged a b (next_id o) bs vs stop (k, e) in (r.0, (suc r.1.0, r.1.1))
 
-pub end_logged : (a : Attempt) (c : Outcome) (o : Id) (bs : List Birth) (vs : List Value) → Among (Ended a c) (commit_entries a o bs vs (Over c))
-end_logged a c o (b ∷ bs) vs = let r = end_logged a c (next_id o) bs vs in (suc r.0, r.1)
-end_logged a c o [] (v ∷ vs) = let r = end_logged a c o [] vs in (suc r.0, r.1)
-end_logged a c o [] [] = (zero, refl)
+pub end_logged : (a : Attempt) (cs : List Outcome) (o : Id) (bs : List Birth) (vs : List Value) → Among (Ended a cs) (single_entries a o bs vs (Over cs))
+end_logged a cs o (b ∷ bs) vs = let r = end_logged a cs (next_id o) bs vs in (suc r.0, r.1)
+end_logged a cs o [] (v ∷ vs) = let r = end_logged a cs o [] vs in (suc r.0, r.1)
+end_logged a cs o [] [] = (zero, refl)
 
 holds_id-attempt : (h : Here) (e o : Id) → attempt_by (holds_id h e o).worker.run ≡ attempt_by h.worker.run
 holds_id-attempt h e o =
@@ -194,7 +193,7 @@ holds_ids-attempt h e (o ∷ os) = holds_ids-attempt (holds_id h e o) e os ∙ h
 
 bears-attempt : (h : Here) (a : Attempt) (b : Birth) → attempt_by (bears h a b).worker.run ≡ attempt_by h.worker.run
 bears-attempt h a (Put v) = holds_ids-attempt _ (next_id_here h) (each_once (ids_of_birth (Put v)))
-bears-attempt h a (Task g args depth retries) = holds_ids-attempt _ (next_id_here h) (each_once (ids_of_birth (Task g args depth retries)))
+bears-attempt h a (Task g args depth retries others) = holds_ids-attempt _ (next_id_here h) (each_once (ids_of_birth (Task g args depth retries others)))
 
 bears_all-attempt : (h : Here) (a : Attempt) (bs : List Birth) → attempt_by (bears_all h a bs).worker.run ≡ attempt_by h.worker.run
 bears_all-attempt h a [] = refl
@@ -218,7 +217,7 @@ stops-attempt h stop = by_run h.worker.run refl stop
 
 commit_steady : (h : Here) (d : Outcomes) (run : Run) → h.worker.run ≡ Some run → attempt_by (release_step (commit_step h d)).worker.run ≡ Some run.attempt
 commit_steady h d run e =
-    let g : Here = logs_all (with_run h (with_outcomes run d)) (commit_entries run.attempt (next_id_here h) d.births d.prints (stop_of d.stop)) in
+    let g : Here = logs_all (with_run h (with_outcomes run d)) (single_entries run.attempt (next_id_here h) d.births d.prints (stop_of d.stop)) in
     let same : commit_step h d ≡ stops (bears_all g run.attempt d.births) d.stop = ap (commit_by h d) e in
     ap attempt_by (release_step-run (commit_step h d)) ∙ ap (λ (x : Here). attempt_by x.worker.run) same ∙
     stops-attempt (bears_all g run.attempt d.births) d.stop ∙ bears_all-attempt g run.attempt d.births
@@ -337,7 +336,7 @@ module _ (s : Setting) (log : List Entry) (c : Whole) (before : IsInStep s log c
     abbrev whole_then : Whole
     whole_then = (moved_on log c (Commit j) seat k jobs_then born_then c.delivered me x node at live commits).whole
 
-    entries_stand : (y : Entry) → Among y (commit_entries run.attempt (next_id_here at_first) o.births o.prints (stop_of o.stop)) → Among y log_then
+    entries_stand : (y : Entry) → Among y (single_entries run.attempt (next_id_here at_first) o.births o.prints (stop_of o.stop)) → Among y log_then
     entries_stand y i = let r = committed_logged at_first o run is y i in among-behind log _ y (suc r.0, r.1)
 
     names : IsInStep s log_then whole_then → NamesBorn log_then c.network me x.objects (IsBrought c (Commit j)) (IsOf at_last.worker) at_first o
@@ -345,9 +344,9 @@ module _ (s : Setting) (log : List Entry) (c : Whole) (before : IsInStep s log c
       births = λ b i p m.
           let r = birth_logged run.attempt b (next_id_here at_first) o.births o.prints (stop_of o.stop) i in
           named_in_birth s log_then whole_then after.sound r.0 run.attempt b (entries_stand (Born r.0 run.attempt b) r.1) p m;
-      end = λ d stops_so p m. named_in_end s log_then whole_then after.sound run.attempt d (entries_stand (Ended run.attempt d)
-          (subst (λ q. Among (Ended run.attempt d) (commit_entries run.attempt (next_id_here at_first) o.births o.prints (stop_of q))) (sym stops_so)
-          (end_logged run.attempt d (next_id_here at_first) o.births o.prints))) p m;
+      end = λ d stops_so p m. named_in_end s log_then whole_then after.sound run.attempt d (entries_stand (Ended run.attempt (d ∷ []))
+          (subst (λ q. Among (Ended run.attempt (d ∷ [])) (single_entries run.attempt (next_id_here at_first) o.births o.prints (stop_of q))) (sym stops_so)
+          (end_logged run.attempt (d ∷ []) (next_id_here at_first) o.births o.prints))) p m;
       need = λ y stops_so needed _. needed_then after y (ap needed_by (release_step-run (commits at_first)) ∙ needed);
     }
       where

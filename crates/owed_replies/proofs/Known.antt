@@ -8,13 +8,12 @@ use Rattle.meaning.specs.Ids.{ObjectsIn, OutcomesIn, StopIn}
 use Rattle.meaning.specs.Meaning.{replay, run_birth}
 use Rattle.meaning.specs.Readings.{IsBorn}
 use Rattle.meaning.specs.Runs.{Piece}
-use Rattle.meaning.specs.Values.{Birth, Id, Outcome}
+use Rattle.meaning.specs.Values.{Birth, Id, Outcome, results_of}
 use Rattle.values.specs.Listed.{each_once, ids_in_outcome}
 use Rattle.event_log.specs.Breaks as B
 use Rattle.event_log.specs.Entries as logged
 use Rattle.event_log.specs.Entries.{Attempt, Entry}
 use Rattle.event_log.specs.Holding.{ids_of_birth}
-use Rattle.event_log.specs.Legal as L
 use Rattle.event_log.specs.Rules.{Setting}
 use Rattle.event_log.specs.Words.{answers_of, births, own_births}
 use Rattle.holding.specs.Legal.{Allowed, Legal, MayBear}
@@ -24,7 +23,7 @@ use Rattle.holding.proofs.Words.{BornBy, IsBorn as IsBornPast, born_known, ended
 use Rattle.holding_steps.proofs.Committing.{once_among}
 use Rattle.holding_steps.proofs.Known.{known_born}
 use Rattle.event_log.proofs.WordLaws.{deeds}
-use Rattle.meaning_laws.proofs.Good.{GoodLog, Stands as StandsSo, Told, objects_born}
+use Rattle.meaning_laws.proofs.Good.{GoodLog, Stands as StandsSo, Told, objects_born, spec_named}
 use Rattle.meaning_laws.proofs.LogLaw.{good_log}
 use Rattle.protocol.specs.Tables.{HasEnded, HasFaulted, Out, Phase, Ready, Run, Waits, Worker, object_needed}
 use Rattle.protocol.specs.Whole.{Whole, worker_at}
@@ -56,12 +55,13 @@ module _ (s : Setting) (log : List Entry) (c : Whole) (b : Between s log c) wher
 
       waits : (z : Id) → replay s.script run.spec run.base run.answers ≡ piece_of run.births run.prints z → P z
       waits z replayed =
-          let spec = births_keep P s.script run.spec (good.named run.attempt.object run.spec knows.spec) in
+          let named = spec_named s.script (births log) (λ a. own_births a log) (λ a. deeds a log) good run.attempt.object run.spec knows.spec in
+          let spec = births_keep P s.script run.spec named in
           let answers : OutcomesIn P run.answers = subst (OutcomesIn P) knows.answers (answers_known run.attempt run.spec knows.spec) in
           let own : ObjectsIn P (numbered run.base run.births) = subst (ObjectsIn P) knows.own (objects_born (births log) (own_births run.attempt log) (good.born run.attempt)) in
           let objects : ObjectsIn P (numbered run.base (replay s.script run.spec run.base run.answers).births) =
           subst (λ (p : Piece). ObjectsIn P (numbered run.base p.births)) (sym replayed) own in
-          let stop : StopIn P (replay s.script run.spec run.base run.answers).stop = (stop_by_piece P (run_birth s.script run.spec) run.base run.answers spec answers objects).0 in
+          let stop : StopIn P (replay s.script run.spec run.base run.answers).stop = (stop_by_piece P (results_of run.spec) (run_birth s.script run.spec) run.base run.answers spec answers objects).0 in
           subst (λ (p : Piece). StopIn P p.stop) replayed stop
 
       by_phase : (p : Phase) → run.phase ≡ p → object_needed p ≡ Some y → P y
@@ -169,8 +169,8 @@ module _ (s : Setting) (log : List Entry) (c : Whole) (sound : IsSound s log c) 
       (born_known sound.past sound.held.joined.legal p a (is_put birth) (ids_of_birth birth) o fact (once_among o (ids_of_birth birth) (to_among o _ j))))
 
   -- in an end
-  pub named_in_end : (a : Attempt) (d : Outcome) → B.Among (logged.Ended a d) log → (o : Id) → B.Among o (each_once (ids_in_outcome d)) → IsBornIn log o
+  pub named_in_end : (a : Attempt) (d : Outcome) → B.Among (logged.Ended a (d ∷ [])) log → (o : Id) → B.Among o (each_once (ids_in_outcome d)) → IsBornIn log o
   named_in_end a d i o j =
-      let fact : Has (Ended a (ids_in_outcome d)) sound.past = tells.said (logged.Ended a d) _ (to_stands log _ i) (inl refl) in
+      let fact : Has (Ended a (ids_in_outcome d)) sound.past = tells.said (logged.Ended a (d ∷ [])) _ (to_stands log _ i) (inl refl) in
       born_by_past o (known_born sound.past sound.held.joined.legal a o
       (ended_known sound.past sound.held.joined.legal a (ids_in_outcome d) o fact (once_among o (ids_in_outcome d) (to_among o _ j))))

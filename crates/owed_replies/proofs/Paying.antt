@@ -39,7 +39,7 @@ quiet_each (y ∷ es) x q (suc k, e) = quiet_each es x (and_right (is_mute y) (i
 quiet_none : (es : List Entry) (a : Attempt) → is_quiet es ≡ true → Among (Accepted a) es → ⊥
 quiet_none es a q i = let f : false ≡ true = quiet_each es (Accepted a) q i in cc
 
-quiet_endless : (es : List Entry) (a : Attempt) (c : Outcome) → is_quiet es ≡ true → Among (Ended a c) es → ⊥
+quiet_endless : (es : List Entry) (a : Attempt) (c : List Outcome) → is_quiet es ≡ true → Among (Ended a c) es → ⊥
 quiet_endless es a c q i = let f : false ≡ true = quiet_each es (Ended a c) q i in cc
 
 -- what is filtered was there
@@ -61,7 +61,7 @@ module _ (log : List Entry) (net : List Letter) (me : ℕ) (old : List Object) (
   pub record OutIsRight (t : There) : Type 0 where
     pub letters : (l : Letter) → Among l t.out.letters → IsRightLetter log l
     pub quiet : (a : Attempt) → Among (Accepted a) t.out.entries → ok a
-    pub ended : (a : Attempt) (c : Outcome) → Among (Ended a c) t.out.entries → fin a
+    pub ended : (a : Attempt) (c : List Outcome) → Among (Ended a c) t.out.entries → fin a
 
   -- but for the end of an attempt, which is told a little later
   pub record Does (h : Here) : Type 0 where
@@ -118,7 +118,7 @@ module _ (log : List Entry) (net : List Letter) (me : ℕ) (old : List Object) (
       not_opened : (a : Attempt) (w n : ℕ) → Accepted a ≡ Opened w n → ⊥
       not_opened a w n e = absurd (cc)
 
-      no_end : (a : Attempt) (c : Outcome) (w n : ℕ) → Ended a c ≡ Opened w n → ⊥
+      no_end : (a : Attempt) (c : List Outcome) (w n : ℕ) → Ended a c ≡ Opened w n → ⊥
       no_end a c w n e = absurd (cc)
 
   run_beside : (ls : List Letter) (t : There) (run : Run) → Beside ls t → RunIsRight log (net ++ ls) me run → RunIsRight log (sent_here t) me run

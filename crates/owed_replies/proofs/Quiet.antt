@@ -5,7 +5,7 @@ use Rattle.std.specs.List.{list_any}
 use Rattle.std.specs.Option.{unwrap_or}
 use Rattle.std.proofs.lemmas.Bool.Decides.{nat_tests}
 use Rattle.meaning.proofs.BirthLaws.{at_test, same_id-true}
-use Rattle.meaning.specs.Births.{birth_at, same_id}
+use Rattle.meaning.specs.Births.{birth_at, objects_at, same_id}
 use Rattle.meaning.specs.Values.{Birth, Id, Put, Task, Value, Outcome}
 use Rattle.event_log.specs.Breaks.{Among, BreakRising, at_worker, CauseOf, Standing, breaks, breaks_from, breaks_of}
 use Rattle.event_log.specs.Breaks.{is_some as some_of}
@@ -16,7 +16,6 @@ use Rattle.event_log.specs.Rules.{Setting}
 use Rattle.event_log.specs.Words.{accepted_in, accepts_of, attempt, births, released_in, releases_of, runs_of, worker_of, ends_of}
 use Rattle.event_log.proofs.WordLaws.{same_attempt-refl}
 use Rattle.owed_replies.proofs.Objects.{there_is}
-use Rattle.event_log.specs.Legal as L
 use Rattle.event_log.specs.Sane.{Sane}
 use Rattle.event_log.proofs.SaneLaws.{legal_logs_are_sane}
 use Rattle.protocol_legal.proofs.Placing.{lone}
@@ -84,10 +83,14 @@ loses_none n o (NoticeNode v m) h = refl
 loses_none n o (Evict m p) h = refl
 loses_none n o Join h = refl
 
+losses_none : (n : ℕ) (os : List Id) (e : Event) → is_failure e ≡ false → list_any (λ o. loses n o e) os ≡ false
+losses_none n [] e h = refl
+losses_none n (o ∷ os) e h = ap (λ b. b || list_any (λ p. loses n p e) os) (loses_none n o e h) ∙ losses_none n os e h
+
 breaks_none : (s : Standing) (ended : Bool) (e : Event) → is_failure e ≡ false → breaks s ended e ≡ false
 breaks_none s ended e h =
-    ap (λ b. (b && not s.is_accepted) || (ended && (kills_node s.node e || loses s.node s.attempt.object e))) (kills_none s.worker s.node e h) ∙
-    ap (λ b. ended && (b || loses s.node s.attempt.object e)) (node_none s.node e h) ∙ ap (λ b. ended && b) (loses_none s.node s.attempt.object e h) ∙ none ended
+    ap (λ b. (b && not s.is_accepted) || (ended && (kills_node s.node e || list_any (λ o. loses s.node o e) s.objects))) (kills_none s.worker s.node e h) ∙
+    ap (λ b. ended && (b || list_any (λ o. loses s.node o e) s.objects)) (node_none s.node e h) ∙ ap (λ b. ended && b) (losses_none s.node s.objects e h) ∙ none ended
   where
     none : (b : Bool) → (b && false) ≡ false
     none true = refl
@@ -155,11 +158,11 @@ module _ (log : List Entry) (calm : IsCalm log) where
   unfolding breaks_of
   none_broken a k i = by_worker (worker_of a log) i
     where
-      by_node : (w : ℕ) (o : Option ℕ) → Among k (at_worker o [] (λ n. breaks_from (record { attempt = a; worker = w; node = n; is_accepted = some_of (accepts_of a log) }) 0 false log)) → ⊥
+      by_node : (w : ℕ) (o : Option ℕ) → Among k (at_worker o [] (λ n. breaks_from (record { attempt = a; worker = w; node = n; is_accepted = some_of (accepts_of a log); objects = objects_at (births log) a.object }) 0 false log)) → ⊥
       by_node w None j = nothing_in [] k refl j
-      by_node w (Some n) j = nothing_in _ k (no_breaks (record { attempt = a; worker = w; node = n; is_accepted = some_of (accepts_of a log) }) 0 false log calm) j
+      by_node w (Some n) j = nothing_in _ k (no_breaks (record { attempt = a; worker = w; node = n; is_accepted = some_of (accepts_of a log); objects = objects_at (births log) a.object }) 0 false log calm) j
 
-      by_worker : (o : Option ℕ) → Among k (at_worker o [] (λ w. at_worker (node_of w log) [] (λ n. breaks_from (record { attempt = a; worker = w; node = n; is_accepted = some_of (accepts_of a log) }) 0 false log))) → ⊥
+      by_worker : (o : Option ℕ) → Among k (at_worker o [] (λ w. at_worker (node_of w log) [] (λ n. breaks_from (record { attempt = a; worker = w; node = n; is_accepted = some_of (accepts_of a log); objects = objects_at (births log) a.object }) 0 false log))) → ⊥
       by_worker None j = nothing_in [] k refl j
       by_worker (Some w) j = by_node w (node_of w log) j
 
@@ -201,9 +204,9 @@ no_cause log calm OwnerDied z c = worker_alive log calm z.owner c
 no_cause log calm PutLost z c = none_lost_put log calm c.before c.after c.node z c.parts c.lost
 no_cause log calm RetriesUsed z c = by_places c.places c.all c.broken
   where
-    by_places : (ks : List ℕ) → length ks ≡ c.retries + 1 → BreakRising log z 0 0 ks → ⊥
+    by_places : (ks : List ℕ) → length ks ≡ c.retries + 1 → BreakRising log c.part.born.object 0 0 ks → ⊥
     by_places [] e b = absurd (omega (arith, e))
-    by_places (k ∷ ks) e b = none_broken log calm (attempt z 0) k b.1
+    by_places (k ∷ ks) e b = none_broken log calm (attempt c.part.born.object 0) k b.1
 
 -- ---- what an owner's table says
 
@@ -273,11 +276,15 @@ module _ (s : Setting) (log : List Entry) (c : Whole) (b : Between s log c) (cal
           let f : releases_of y log ≡ once true y = (knows_of y x z at there).released ∙ ap (λ t. once t y) e in
           absurd (unreleased (released_among y (subst (λ xs. Among y xs) (sym f) (zero, refl))))
 
+  one_content : {c d : Outcome} → ◌≡◌ {A = List Outcome} (c ∷ []) (d ∷ []) → c ≡ d
+  one_content e = cc
+
   -- an attempt that ended with a small content carries it along
   pub carries_small : (a : Attempt) (kept : Option Outcome) → IsSmallEnd log a kept → kept ≡ None → EndsSmall log a → ⊥
   carries_small a kept end none small =
       let sane : Sane log = legal_logs_are_sane (setting_of s c) log b.legal in
-      let same : end.0 ≡ small.0 = lone (ends_of a log) (let l = sane.one_end a in omega (arith, l)) end.0 small.0 end.1 small.1 in
+      let contents : ◌≡◌ {A = List Outcome} (end.0 ∷ []) (small.0 ∷ []) = lone (ends_of a log) (let l = sane.one_end a in omega (arith, l)) (end.0 ∷ []) (small.0 ∷ []) end.1 small.1 in
+      let same : end.0 ≡ small.0 = one_content contents in
       let some : if_small end.0 ≡ Some end.0 = ap (λ t. if t then Some end.0 else None) (ap is_small same ∙ small.2) in
       let is : kept ≡ if_small end.0 = end.2 in
       absurd (cc)
@@ -327,7 +334,7 @@ module _ (s : Setting) (log : List Entry) (c : Whole) (b : Between s log c) (cal
 
   pub put_no_task : (spec : Birth) (v : Value) → IsTask spec → Some spec ≡ Some (Put v) → ⊥
   put_no_task (Put u) v t e = t
-  put_no_task (Task g args depth retries) v t e = cc
+  put_no_task (Task g args depth retries others) v t e = cc
 
   -- what was made of a content whose place is known was made there
   pub same_home : (y : Id) (x : Worker) (z : Object) (number n home : ℕ) → worker_at c y.owner ≡ Some x → item_at x.objects y.serial ≡ Some z →
@@ -371,12 +378,12 @@ module _ (s : Setting) (log : List Entry) (c : Whole) (b : Between s log c) (cal
           not_run : EndsSmall log (attempt y number) → ⊥
           not_run small =
               let sane : Sane log = legal_logs_are_sane (setting_of s c) log b.legal in
-              let r = sane.ended (attempt y number) small.1.0 small.0 small.1.1 in
+              let r = sane.ended (attempt y number) small.1.0 (small.0 ∷ []) small.1.1 in
               nothing_in [] r.0 refl (number, ap (λ xs. slice_get xs number) (sym k.unbegun) ∙ r.1)
 
       no_task : (spec : Birth) (v : Value) → IsTask spec → birth_at (births log) y ≡ Some spec → birth_at (births log) y ≡ Some (Put v) → ⊥
       no_task (Put u) v t e f = t
-      no_task (Task g args depth retries) v t e f = let h : ◌≡◌ {A = Option Birth} (Some (Task g args depth retries)) (Some (Put v)) = sym e ∙ f in cc
+      no_task (Task g args depth retries others) v t e f = let h : ◌≡◌ {A = Option Birth} (Some (Task g args depth retries others)) (Some (Put v)) = sym e ∙ f in cc
 
       rested : (task : OwnTask) → KnowsTask (past log b.asked) y z task → z.maker ≡ ByTask task → AcceptedAt log y number n → (q : Progress) → task.progress ≡ q → IsHad log y z number n
       rested task k made a (AskedAt t m) e = absurd (none_begun y task t m number a.worker x z k e a.ran)

@@ -9,7 +9,6 @@ use Rattle.meaning.specs.Values.{Birth, Id, Put, Task, Outcome}
 use Rattle.event_log.specs.Breaks.{Among}
 use Rattle.event_log.specs.Entries.{Accepted, Attempt, Begun, Born, Deliver, Ended, Entry, Event, Fault, Faulted, Got, In, Opened, Printed, Refused, Released, Resolved, main_attempt}
 use Rattle.event_log.specs.Events.{node_of}
-use Rattle.event_log.specs.Legal as L
 use Rattle.event_log.specs.Rules.{Setting}
 use Rattle.event_log.specs.Words.{accepted_in, accepts_of, attempt, births, opened_in, run_in, runs_of, same_attempt, worker_of}
 use Rattle.event_log.proofs.EventLaws.{word-more}
@@ -155,7 +154,7 @@ module _ (s : Setting) (r : Running) (k : RunReplies s r) (calm : IsCalm r.log) 
     where
       not_put : (spec : Birth) → IsTask spec → is_put spec ≡ false
       not_put (Put v) t = absurd t
-      not_put (Task g args depth retries) t = refl
+      not_put (Task g args depth retries others) t = refl
 
       clash : (t : Bool) → true ≡ t → t ≡ false → ⊥
       clash t e f = cc

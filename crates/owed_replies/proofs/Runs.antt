@@ -61,7 +61,7 @@ opening_keeps_replies nodes slots = record {
         same : ◌≡◌ {A = Option Run} (Some main_run) (Some run) → main_run ≡ run
         same e = cc
 
-    no_end : (a : Attempt) (b : Outcome) → Among (Ended a b) opening → ⊥
+    no_end : (a : Attempt) (b : List Outcome) → Among (Ended a b) opening → ⊥
     no_end a b (zero, e) = cc
     no_end a b (suc zero, e) = cc
     no_end a b (suc (suc k), e) = cc
@@ -85,7 +85,7 @@ refused_keeps log c e seat code k =
       ends = λ a b i. elim (among-append_cases log (In e seat ∷ Refused code ∷ []) (Ended a b) i) [ inl old ↦ k.ends a b old | inr new ↦ absurd (no_end a b new) ];
     }
   where
-    no_end : (a : Attempt) (b : Outcome) → Among (Ended a b) (In e seat ∷ Refused code ∷ []) → ⊥
+    no_end : (a : Attempt) (b : List Outcome) → Among (Ended a b) (In e seat ∷ Refused code ∷ []) → ⊥
     no_end a b (zero, f) = cc
     no_end a b (suc zero, f) = cc
     no_end a b (suc (suc j), f) = cc
@@ -138,7 +138,7 @@ run_replies s slots some apart gs right =
 
 -- a present attempt that ended has stopped
 ended_stops : (s : Setting) (log : List Entry) (c : Whole) → Between s log c → (w : ℕ) (x : Worker) (run : Run) → worker_at c w ≡ Some x → x.is_live ≡ true → x.run ≡ Some run →
-    (b : Outcome) → Among (Ended run.attempt b) log → has_stopped run.phase ≡ true
+    (b : List Outcome) → Among (Ended run.attempt b) log → has_stopped run.phase ≡ true
 ended_stops s log c b w x run at live is d i = by_phase run.phase refl
   where
     knows : KnowsRun (setting_of s c) log w x run
@@ -160,7 +160,7 @@ law_of_ends s slots some apart gs right calm a b i other =
     let k : RunReplies s r = run_replies s slots some apart gs right in
     elim (k.replies.ends a b i other) [ inl told ↦ inl told | inr going ↦ inr (waiting s r k calm a b i going) ]
   where
-    waiting : (s : Setting) (r : Running) → RunReplies s r → IsCalm r.log → (a : Attempt) (b : Outcome) → Among (Ended a b) r.log → IsGoingOn r.whole a → AwaitsAcks r.whole a
+    waiting : (s : Setting) (r : Running) → RunReplies s r → IsCalm r.log → (a : Attempt) (b : List Outcome) → Among (Ended a b) r.log → IsGoingOn r.whole a → AwaitsAcks r.whole a
     waiting s r k calm a b i g =
         let live = all_live s r.log r.whole k.step.sound.between calm g.number g.worker g.there in
         record {

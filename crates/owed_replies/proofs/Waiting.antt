@@ -7,7 +7,7 @@ use Rattle.meaning.specs.Births.{Bearing, numbered}
 use Rattle.meaning.specs.Meaning.{replay, run_birth}
 use Rattle.meaning.specs.Runs.{Bears, Ends, Gets, Needs, Piece, Prints, Stop, piece}
 use Rattle.meaning.specs.Runs as tree
-use Rattle.meaning.specs.Values.{Birth, Id, Named, Outcome, Trapped, Val}
+use Rattle.meaning.specs.Values.{Birth, Id, Named, Outcome, Trapped, Val, results_of}
 use Rattle.event_log.specs.Breaks.{Among}
 use Rattle.event_log.specs.Entries.{Attempt, Deliver, Event, Got}
 use Rattle.event_log.specs.Events.{node_of}
@@ -43,13 +43,13 @@ use Rattle.owed_replies.proofs.Runs.{RunReplies}
 
 -- ---- a replay without births doesn't depend on its base
 
-stop_anywhere : (t : tree.Run) (o p : Id) (answers : List Outcome) → (piece t o answers).births ≡ [] → (piece t o answers).stop ≡ (piece t p answers).stop
-stop_anywhere (Ends c) o p answers e = refl
-stop_anywhere (Prints v next) o p answers e = stop_anywhere next o p answers e
-stop_anywhere (Bears b made next) o p answers e = absurd (cc)
-stop_anywhere (Gets t r next) o p [] e = refl
-stop_anywhere (Gets t r next) o p (Val v ∷ answers) e = stop_anywhere (next v) o p answers e
-stop_anywhere (Gets t r next) o p (Trapped x ∷ answers) e = refl
+stop_anywhere : (n : ℕ) (t : tree.Run) (o p : Id) (answers : List Outcome) → (piece n t o answers).births ≡ [] → (piece n t o answers).stop ≡ (piece n t p answers).stop
+stop_anywhere n (Ends c) o p answers e = refl
+stop_anywhere n (Prints v next) o p answers e = stop_anywhere n next o p answers e
+stop_anywhere n (Bears b made next) o p answers e = absurd (cc)
+stop_anywhere n (Gets t r next) o p [] e = refl
+stop_anywhere n (Gets t r next) o p (Val v ∷ answers) e = stop_anywhere n (next v) o p answers e
+stop_anywhere n (Gets t r next) o p (Trapped x ∷ answers) e = refl
 
 -- the ids that births take tell the base
 same_base : (o p : Id) (bs cs : List Birth) → numbered o bs ≡ numbered p cs → (bs ≡ []) ⊎ (o ≡ p)
@@ -62,11 +62,11 @@ same_base o p (b ∷ bs) (d ∷ cs) e = inr (ap object_in e)
     object_in (x ∷ xs) = x.object
 
 -- two replays on the same answers, whose births are the same, stop alike
-pub stops_alike : (t : tree.Run) (o p : Id) (answers : List Outcome) → numbered o (piece t o answers).births ≡ numbered p (piece t p answers).births →
-    (piece t o answers).stop ≡ (piece t p answers).stop
-stops_alike t o p answers e = elim (same_base o p (piece t o answers).births (piece t p answers).births e) [
-  | inl none ↦ stop_anywhere t o p answers none
-  | inr same ↦ ap (λ q. (piece t q answers).stop) same
+pub stops_alike : (n : ℕ) (t : tree.Run) (o p : Id) (answers : List Outcome) → numbered o (piece n t o answers).births ≡ numbered p (piece n t p answers).births →
+    (piece n t o answers).stop ≡ (piece n t p answers).stop
+stops_alike n t o p answers e = elim (same_base o p (piece n t o answers).births (piece n t p answers).births e) [
+  | inl none ↦ stop_anywhere n t o p answers none
+  | inr same ↦ ap (λ q. (piece n t q answers).stop) same
 ]
 
 module _ (s : Setting) (r : Running) (k : RunReplies s r) (calm : IsCalm r.log) where
@@ -115,7 +115,7 @@ module _ (s : Setting) (r : Running) (k : RunReplies s r) (calm : IsCalm r.log) 
           stops.replays.replayed ∙ ap (λ q. replay s.script q stops.base (answers_of run.attempt r.log)) (sym spec) ∙ ap (λ q. replay s.script run.spec stops.base q) knows.answers in
           let own : numbered stops.base (replay s.script run.spec stops.base run.answers).births ≡ numbered run.base (replay s.script run.spec run.base run.answers).births =
           ap (λ (q : Piece). numbered stops.base q.births) (sym here_piece) ∙ sym stops.own ∙ knows.own ∙ ap (λ (q : Piece). numbered run.base q.births) (sym replayed) in
-          let alike = stops_alike (run_birth s.script run.spec) stops.base run.base run.answers own in
+          let alike = stops_alike (results_of run.spec) (run_birth s.script run.spec) stops.base run.base run.answers own in
           let names : y ≡ z = same_name y z (sym stops.stopped ∙ ap (λ (q : Piece). q.stop) here_piece ∙ alike ∙ ap (λ (q : Piece). q.stop) replayed) in
           ap object_needed e ∙ ap (λ q. Some q) (sym names)
       by_phase x run at live is same Ready e rests = absurd (cc)

@@ -90,5 +90,5 @@ pub record KeepsReplies (log : List Entry) (c : Whole) : Type 0 where
   pub askers : (v : ℕ) (y : Id) (m : Message) → Among (letter (TheWorker v) (TheWorker y.owner) m) (came_by c.network log) → IsRequest y m →
       (x : Worker) (z : Object) → worker_at c y.owner ≡ Some x → x.is_live ≡ true → item_at x.objects y.serial ≡ Some z → IsAwaitedBy v z
   -- an attempt that ended is going on, or was reported
-  pub ends : (a : Attempt) (b : Outcome) → Among (Ended a b) log → same_attempt a main_attempt ≡ false →
+  pub ends : (a : Attempt) (cs : List Outcome) → Among (Ended a cs) log → same_attempt a main_attempt ≡ false →
       ((w : ℕ) × IsReported c.network w a) ⊎ IsGoingOn c a

@@ -47,7 +47,7 @@ abbrev pub LawOfEnds : Type 0
 LawOfEnds =
     (s : Setting) (slots : ℕ) → 0 < s.nodes → KeepsMainApart s.script → (gs : List Handing) → AreRight s (opening_run s.nodes slots) gs →
     let r : Running = after_events (opening_run s.nodes slots) gs in
-    IsCalm r.log → (a : Attempt) (b : Outcome) → Among (Ended a b) r.log → same_attempt a main_attempt ≡ false →
+    IsCalm r.log → (a : Attempt) (cs : List Outcome) → Among (Ended a cs) r.log → same_attempt a main_attempt ≡ false →
     ((w : ℕ) × IsReported r.whole.network w a) ⊎ AwaitsAcks r.whole a
 
 -- ---- replies

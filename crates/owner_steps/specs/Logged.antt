@@ -13,4 +13,4 @@ born a next (b ∷ bs) = Born next a b ∷ born a (next_id next) bs
 -- the end, if there is one
 abbrev pub ended : Attempt → Stopped → List Entry
 ended a (AtGet y) = []
-ended a (AtEnd c) = Ended a c ∷ []
+ended a (AtEnd c) = Ended a (c ∷ []) ∷ []

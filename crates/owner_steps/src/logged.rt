@@ -1,15 +1,15 @@
 // What a commit logs.
 
 ghost use Rattle.std.specs.Prelude.{◌≡◌, ◌≤◌, ◌^◌, ◌++◌, ◌∷◌, [], IfOk, OnOk, map};
-ghost use Rattle.event_log.specs.Commits.{commit_entries};
 ghost use Rattle.event_log.specs.Entries as logged;
+ghost use Rattle.protocol.specs.Commits.{single_entries};
 ghost use Rattle.protocol.specs.Jobs.{stop_of};
 ghost use Rattle.protocol.specs.Steps.{logs_all};
 ghost use Rattle.owner_steps.specs.Logged.{born, ended};
 
 use held::{Origin, Printed};
 use ids::{AttemptId, ObjectId};
-use log_entries::Entry;
+use log_entries::{Entry, only_content};
 use protocol_data::{Here, Outcomes, Stopped};
 use sequence::Seq;
 use std::alloc::{AllocError, Global};
@@ -71,7 +71,8 @@ fn log_end(
         Stopped::AtGet(_) => Ok(()),
         Stopped::AtEnd(content) => {
             let content = content.copy(alloc)?;
-            log(here, Entry::Ended { attempt, content })
+            let contents = only_content(alloc, content)?;
+            log(here, Entry::Ended { attempt, contents })
         }
     }
 }
@@ -86,7 +87,7 @@ pub fn log_outcomes(
     outcomes: &Outcomes,
 ) -> Result<(), AllocError>
     requires { first.serial ≤ 2 ^ 63 }
-    ensures { OnOk result (here.new ≡ logs_all here.old (commit_entries attempt first outcomes.now.births outcomes.now.prints (stop_of outcomes.now.stop))) }
+    ensures { OnOk result (here.new ≡ logs_all here.old (single_entries attempt first outcomes.now.births outcomes.now.prints (stop_of outcomes.now.stop))) }
 {
     log_births(alloc, here, attempt, first, outcomes.births.as_slice())?;
     log_prints(alloc, here, outcomes.prints.as_slice())?;

@@ -1,3 +1,4 @@
+pub mod Entries
 mod Held
 mod Plans
 mod Stops

@@ -76,7 +76,7 @@ pub record HoldersHold : Type 0 where
 
 -- a task of that many retries that dereferences these of worker 1's objects
 abbrev pub made_from_these : List ℕ → ℕ → Birth
-made_from_these ks retries = Task (codes "f") (map (λ k. record { value = Named (object_id 1 k); marked = true }) ks) 1 retries
+made_from_these ks retries = Task (codes "f") (map (λ k. record { value = Named (object_id 1 k); marked = true }) ks) 1 retries 0
 
 -- an object of such a task, with a content at these nodes
 abbrev pub made : List ℕ → ℕ → List ℕ → Object
@@ -162,7 +162,7 @@ pub record HandedIn : Type 0 where
 
 -- `remote(0) one()`
 abbrev pub one_once : Birth
-one_once = Task (codes "one") [] 1 0
+one_once = Task (codes "one") [] 1 0 0
 
 -- main's first job asks for it and needs its content
 abbrev pub death_doings : List Doing

@@ -3,10 +3,10 @@ use Rattle.std.proofs.Common.{◌≡◌, ℕ, Bool, true, false, List, [], ◌�
 use Rattle.meaning.specs.Lists.{IsFirst}
 use Rattle.meaning.specs.Values as meant
 use Rattle.meaning.specs.Values.{Put, Task, main_birth}
-use Rattle.meaning.specs.Syntax.{Number, Parameter, Script}
+use Rattle.meaning.specs.Syntax.{Kind, Number, Parameter, Script}
 use Rattle.meaning.specs.Kinds.{IsBirthOf, MarkedOf}
 use Rattle.meaning.specs.Meaning.{replay}
-use Rattle.kind_laws.specs.Law.{HasKind}
+use Rattle.kind_laws.specs.Law.{HasKinds}
 use Rattle.script_check.specs.Scripts.{IsWellTyped}
 use Rattle.values.specs.Values.{value_of}
 use Rattle.task_spec.specs.Births.{birth_of}
@@ -37,15 +37,20 @@ use Rattle.protocol_core.specs.Steps.{IsHanded, IsOut, IsOutAs}
 
 -- ---- jobs that are given out
 
-pub main_kind : (script : Script) → IsWellTyped script → IsBirthOf script main_birth Number
+none_more : (k u : Kind) (ks : List Kind) → k ∷ ks ≡ u ∷ [] → length ks ≡ 0
+none_more k u ks e =
+    let none : ks ≡ [] = cc in
+    ap (λ us. length us) none
+
+pub main_kind : (script : Script) → IsWellTyped script → IsBirthOf script main_birth (Number ∷ [])
 main_kind script typed =
     let f = typed.main.0 in
     let P : List Parameter → Type 0 = λ ps. MarkedOf [] ps in
-    (f, typed.main.1, subst P (sym typed.main.2) tt, typed.main.3)
+    (f, typed.main.1, subst P (sym typed.main.2) tt, sym typed.main.3, none_more f.result Number f.others typed.main.3)
 
-task_of : (script : Script) (b : meant.Birth) → IsTask b → HasKind script b → IsTaskOf script b
+task_of : (script : Script) (b : meant.Birth) → IsTask b → HasKinds script b → IsTaskOf script b
 task_of script (Put v) t k = absurd t
-task_of script (Task g args depth retries) t k = let h = k.1 in (h.0, h.1, h.2, k.0, h.3)
+task_of script (Task g args depth retries others) t k = let h = k.1 in (h.0, h.1, h.2, h.4, t)
 
 -- a good job is one that may be run
 pub begun : (script : Script) (d : JobParts) → IsGood script d → IsBegun script d

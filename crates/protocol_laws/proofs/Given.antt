@@ -4,7 +4,8 @@ use Rattle.std.specs.Prelude.{◌&&◌, if◌then◌else◌, slice_get}
 use Rattle.std.proofs.lemmas.Option.{same_Some}
 use Rattle.std.proofs.lemmas.Bool.{and_parts}
 use Rattle.std.proofs.lemmas.List.Concat.{flat_map-append}
-use Rattle.meaning.specs.Values.{Birth, Id, Outcome, main_birth}
+use Rattle.meaning.specs.Values.{Birth, Put, Task, Id, Outcome, main_birth}
+use Rattle.meaning.specs.Singles.{IsSingle}
 use Rattle.meaning.specs.Syntax.{Number}
 use Rattle.meaning.specs.Births.{birth_at, same_id}
 use Rattle.meaning.specs.Kinds.{AnswersFit, IsBirthOf, ScriptChecks}
@@ -18,6 +19,7 @@ use Rattle.event_log.specs.Rules.{Setting, Allowed}
 use Rattle.event_log.specs.Legal.{opening}
 use Rattle.event_log.proofs.Extending.{births-more}
 use Rattle.event_log.proofs.SaneLaws.{always, none_at, one_at, word_last}
+use Rattle.event_log.proofs.SingleLaws.{single_at, legal_logs_are_of_singles}
 use Rattle.kind_laws.proofs.Laws.{legal_logs_keep}
 use Rattle.protocol.specs.Jobs.{Handed}
 use Rattle.protocol.specs.Tables.{Run, Worker}
@@ -46,8 +48,17 @@ use Rattle.protocol_laws.proofs.Tests.{live_worker, or_none, ready_run, unless_n
 
 -- ---- what was begun is a task
 
+-- whatever the number of its results
+abbrev IsCall : Birth → Type 0
+IsCall (Put v) = ⊥
+IsCall (Task g args depth retries others) = Unit {0}
+
+call_of_one : (b : Birth) → IsCall b → IsSingle b → IsTask b
+call_of_one (Put v) h one = absurd h
+call_of_one (Task g args depth retries others) h one = one
+
 abbrev IsOfTask : List Entry → Id → Type 0
-IsOfTask log o = (b : Birth) × (birth_at (births log) o ≡ Some b) × IsTask b
+IsOfTask log o = (b : Birth) × (birth_at (births log) o ≡ Some b) × IsCall b
 
 abbrev BegunAreTasks : List Entry → Type 0
 BegunAreTasks log = (o : Id) (k w : ℕ) → slice_get (runs_of o log) k ≡ Some w → IsOfTask log o
@@ -95,7 +106,7 @@ given_run c w handed r =
       given = ap (job_at number) l.at ∙ ap (job_by number) run.1;
     }
 
-module _ (s : Setting) (checks : ScriptChecks s.script s.script) (main : IsBirthOf s.script main_birth Number) (log : List Entry) (c : Whole) (sound : IsSound s log c) where
+module _ (s : Setting) (checks : ScriptChecks s.script s.script) (main : IsBirthOf s.script main_birth (Number ∷ [])) (log : List Entry) (c : Whole) (sound : IsSound s log c) where
   run_is_good : (number w : ℕ) (x : Worker) (run : Run) → worker_at c w ≡ Some x → x.is_live ≡ true → x.run ≡ Some run → IsGood s.script (job_of number run)
   run_is_good number w x run at live is =
       let S = setting_of s c in
@@ -103,7 +114,8 @@ module _ (s : Setting) (checks : ScriptChecks s.script s.script) (main : IsBirth
       let task = always BegunAreTasks task_step S log task_first sound.between.legal run.attempt.object run.attempt.number w k.runs in
       let pace : IsInStep s.script log run.attempt run.spec run.base run.births = attempts_keep_pace S log checks main sound.between.legal run.attempt run.spec run.base run.births k.spec k.own in
       record {
-        task = subst IsTask (same_Some task.0 run.spec (sym task.1 ∙ k.spec)) task.2;
+        task = call_of_one run.spec (subst IsCall (same_Some task.0 run.spec (sym task.1 ∙ k.spec)) task.2)
+            (single_at (births log) (legal_logs_are_of_singles S log sound.between.legal).births run.attempt.object run.spec k.spec);
         kind = (legal_logs_keep S log checks main sound.between.legal).kinds run.attempt.object run.spec k.spec;
         answers = subst (AnswersFit (run_birth s.script run.spec) run.base) k.answers pace.fit;
         births = subst (λ cs. IsFirst run.births (replay s.script run.spec run.base cs).births) k.answers pace.births;

@@ -1,12 +1,12 @@
 -- What an attempt of a legal log bore and printed begins what its task does on its answers, which are of the kinds that it asks for.
-use Rattle.std.proofs.Common.{◌≡◌, List, [], ◌∷◌, ◌++◌, ◌⊎◌, inl, inr, Some, refl, sym, ap, ◌∙◌, subst, append-nil, append_assoc}
+use Rattle.std.proofs.Common.{◌≡◌, ℕ, List, [], ◌∷◌, ◌++◌, ◌⊎◌, inl, inr, Some, refl, sym, ap, ◌∙◌, subst, append-nil, append_assoc}
 use Rattle.std.specs.Prelude.{if◌then◌else◌}
 use Rattle.std.specs.List.{flat_map}
 use Rattle.std.proofs.lemmas.Option.{same_Some}
 use Rattle.meaning.specs.Lists.{IsFirst}
-use Rattle.meaning.specs.Values.{Named, Outcome, Val, Trapped, Birth, Id, Value}
+use Rattle.meaning.specs.Values.{Named, Outcome, Val, Trapped, Birth, results_of, Id, Value}
 use Rattle.meaning.specs.Syntax.{Script}
-use Rattle.meaning.specs.Runs.{Run, Ends, Prints, Bears, Gets, Needs, Piece, next_id, piece, with_print}
+use Rattle.meaning.specs.Runs.{Run, Ends, Prints, Bears, Gets, Needs, Piece, named, behind, piece, with_print}
 use Rattle.meaning.specs.Births.{Bearing, birth_at, numbered}
 use Rattle.meaning.specs.Meaning.{run_birth, replay}
 use Rattle.meaning.specs.Kinds.{AnswersFit, ScriptChecks}
@@ -26,36 +26,36 @@ use Rattle.protocol_laws.specs.Pace.{IsInStep, KeepsPace}
 
 -- ---- replays
 
-births_grow : (run : Run) (base : Id) (answers : List Outcome) (c : Outcome) → IsFirst (piece run base answers).births (piece run base (answers ++ c ∷ [])).births
-births_grow (Ends d) base answers c = tt
-births_grow (Prints v next) base answers c = births_grow next base answers c
-births_grow (Bears b m next) base answers c = (refl, births_grow (next (Named base)) (next_id base) answers c)
-births_grow (Gets t r next) base [] c = tt
-births_grow (Gets t r next) base (Val v ∷ answers) c = births_grow (next v) base answers c
-births_grow (Gets t r next) base (Trapped e ∷ answers) c = tt
+births_grow : (n : ℕ) (run : Run) (base : Id) (answers : List Outcome) (c : Outcome) → IsFirst (piece n run base answers).births (piece n run base (answers ++ c ∷ [])).births
+births_grow n (Ends d) base answers c = tt
+births_grow n (Prints v next) base answers c = births_grow n next base answers c
+births_grow n (Bears b m next) base answers c = (refl, births_grow n (next (named base b)) (behind base b) answers c)
+births_grow n (Gets t r next) base [] c = tt
+births_grow n (Gets t r next) base (Val v ∷ answers) c = births_grow n (next v) base answers c
+births_grow n (Gets t r next) base (Trapped e ∷ answers) c = tt
 
-prints_grow : (run : Run) (base : Id) (answers : List Outcome) (c : Outcome) → IsFirst (piece run base answers).prints (piece run base (answers ++ c ∷ [])).prints
-prints_grow (Ends d) base answers c = tt
-prints_grow (Prints v next) base answers c = (refl, prints_grow next base answers c)
-prints_grow (Bears b m next) base answers c = prints_grow (next (Named base)) (next_id base) answers c
-prints_grow (Gets t r next) base [] c = tt
-prints_grow (Gets t r next) base (Val v ∷ answers) c = prints_grow (next v) base answers c
-prints_grow (Gets t r next) base (Trapped e ∷ answers) c = tt
+prints_grow : (n : ℕ) (run : Run) (base : Id) (answers : List Outcome) (c : Outcome) → IsFirst (piece n run base answers).prints (piece n run base (answers ++ c ∷ [])).prints
+prints_grow n (Ends d) base answers c = tt
+prints_grow n (Prints v next) base answers c = (refl, prints_grow n next base answers c)
+prints_grow n (Bears b m next) base answers c = prints_grow n (next (named base b)) (behind base b) answers c
+prints_grow n (Gets t r next) base [] c = tt
+prints_grow n (Gets t r next) base (Val v ∷ answers) c = prints_grow n (next v) base answers c
+prints_grow n (Gets t r next) base (Trapped e ∷ answers) c = tt
 
 pub none_fit : (run : Run) (base : Id) → AnswersFit run base []
 none_fit (Ends c) base = tt
 none_fit (Prints v next) base = none_fit next base
-none_fit (Bears b m next) base = none_fit (next (Named base)) (next_id base)
+none_fit (Bears b m next) base = none_fit (next (named base b)) (behind base b)
 none_fit (Gets t r next) base = tt
 
 -- a piece that bears nothing is the same from any id on
-same_piece : (run : Run) (base other : Id) (answers : List Outcome) → (piece run other answers).births ≡ [] → piece run base answers ≡ piece run other answers
-same_piece (Ends c) base other answers h = refl
-same_piece (Prints v next) base other answers h = ap (with_print v) (same_piece next base other answers h)
-same_piece (Bears b m next) base other answers h = absurd (cc)
-same_piece (Gets t r next) base other [] h = refl
-same_piece (Gets t r next) base other (Val v ∷ answers) h = same_piece (next v) base other answers h
-same_piece (Gets t r next) base other (Trapped e ∷ answers) h = refl
+same_piece : (n : ℕ) (run : Run) (base other : Id) (answers : List Outcome) → (piece n run other answers).births ≡ [] → piece n run base answers ≡ piece n run other answers
+same_piece n (Ends c) base other answers h = refl
+same_piece n (Prints v next) base other answers h = ap (with_print v) (same_piece n next base other answers h)
+same_piece n (Bears b m next) base other answers h = absurd (cc)
+same_piece n (Gets t r next) base other [] h = refl
+same_piece n (Gets t r next) base other (Val v ∷ answers) h = same_piece n (next v) base other answers h
+same_piece n (Gets t r next) base other (Trapped e ∷ answers) h = refl
 
 -- ---- lists
 
@@ -72,9 +72,9 @@ numbered_same base other [] [] h = (refl, inl refl)
 numbered_same base other [] (c ∷ cs) h = absurd (cc)
 numbered_same base other (b ∷ bs) [] h = absurd (cc)
 numbered_same base other (b ∷ bs) (c ∷ cs) h =
-    let k = heads (record { object = base; birth = b }) (record { object = other; birth = c }) (numbered (next_id base) bs) (numbered (next_id other) cs) h in
+    let k = heads (record { object = base; birth = b }) (record { object = other; birth = c }) (numbered (behind base b) bs) (numbered (behind other c) cs) h in
     let first : b ≡ c = ap (λ (x : Bearing). x.birth) k.0 in
-    let rest : bs ≡ cs = (numbered_same (next_id base) (next_id other) bs cs k.1).0 in
+    let rest : bs ≡ cs = (numbered_same (behind base b) (behind other c) bs cs k.1).0 in
     (ap (λ x. x ∷ bs) first ∙ ap (λ xs. c ∷ xs) rest, inr (ap (λ (x : Bearing). x.object) k.0))
 
 -- births that begin others are numbered from the same id on, if there are any
@@ -82,7 +82,7 @@ numbered_begins : (base other : Id) (bs cs : List Birth) → IsFirst (numbered b
 numbered_begins base other [] cs h = (tt, inl refl)
 numbered_begins base other (b ∷ bs) [] h = absurd h
 numbered_begins base other (b ∷ bs) (c ∷ cs) h =
-    ((ap (λ (x : Bearing). x.birth) h.0, (numbered_begins (next_id base) (next_id other) bs cs h.1).0), inr (sym (ap (λ (x : Bearing). x.object) h.0)))
+    ((ap (λ (x : Bearing). x.birth) h.0, (numbered_begins (behind base b) (behind other c) bs cs h.1).0), inr (sym (ap (λ (x : Bearing). x.object) h.0)))
 
 -- ---- what is kept from entry to entry
 
@@ -201,7 +201,7 @@ module _ (s : Setting) (before : List Entry) (paces : AllPace s.script before) w
       let k = numbered_same base other bs p.births (sym own_too ∙ own) in
       record {
         replayed = elim k.1 [
-          | inl n ↦ e ∙ sym (same_piece (run_birth s.script spec) base other (answers_of a before) (sym (ap (λ (q : Piece). q.births) e) ∙ n))
+          | inl n ↦ e ∙ sym (same_piece (results_of spec) (run_birth s.script spec) base other (answers_of a before) (sym (ap (λ (q : Piece). q.births) e) ∙ n))
           | inr i ↦ e ∙ ap (λ j. replay s.script spec j (answers_of a before)) (sym i)
         ];
         births = k.0;
@@ -264,7 +264,8 @@ module _ (s : Setting) (before : List Entry) (paces : AllPace s.script before) w
           let run = run_birth s.script r.spec in
           let answers = answers_of a before in
           let k = all_born a r.spec p h.needs.base base bs r.replayed h.needs.own e in
-          let now : piece run base answers ≡ p = sym k.replayed in
+          let n = results_of r.spec in
+          let now : piece n run base answers ≡ p = sym k.replayed in
           let stops : Stops s before a (Needs (Named y)) = record {
             base = base;
             p = p;
@@ -274,9 +275,9 @@ module _ (s : Setting) (before : List Entry) (paces : AllPace s.script before) w
             stopped = h.needs.stopped;
           } in
           record {
-            births = subst (λ cs. IsFirst bs (replay s.script r.spec base cs).births) (sym got_now) (subst (λ cs. IsFirst cs (piece run base (answers ++ c ∷ [])).births) (ap (λ (q : Piece). q.births) now ∙ sym k.births) (births_grow run base answers c));
+            births = subst (λ cs. IsFirst bs (replay s.script r.spec base cs).births) (sym got_now) (subst (λ cs. IsFirst cs (piece n run base (answers ++ c ∷ [])).births) (ap (λ (q : Piece). q.births) now ∙ sym k.births) (births_grow n run base answers c));
             prints = subst (λ cs. IsFirst (printed_by a (before ++ x ∷ [])) (replay s.script r.spec base cs).prints) (sym got_now)
-                (subst (λ vs. IsFirst vs (piece run base (answers ++ c ∷ [])).prints) (ap (λ (q : Piece). q.prints) now ∙ sym h.needs.prints ∙ sym none_printed) (prints_grow run base answers c));
+                (subst (λ vs. IsFirst vs (piece n run base (answers ++ c ∷ [])).prints) (ap (λ (q : Piece). q.prints) now ∙ sym h.needs.prints ∙ sym none_printed) (prints_grow n run base answers c));
             fit = subst (AnswersFit run base) (sym got_now) (kept_fit s before checks good typed a y c stops h.content);
           }
 

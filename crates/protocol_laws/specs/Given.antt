@@ -1,9 +1,9 @@
 -- The jobs that claims give out.
-use Rattle.std.specs.Prelude.{◌≡◌, ◌++◌, List, None, Option, Some, true, ℕ}
+use Rattle.std.specs.Prelude.{◌≡◌, ◌++◌, ◌∷◌, List, [], None, Option, Some, true, ℕ}
 use Rattle.event_log.specs.Entries.{Claim, Entry}
 use Rattle.event_log.specs.Rules.{Setting}
 use Rattle.event_log.specs.Words.{answers_of}
-use Rattle.kind_laws.specs.Law.{HasKind}
+use Rattle.kind_laws.specs.Law.{HasKinds}
 use Rattle.meaning.specs.Kinds.{AnswersFit, IsBirthOf, ScriptChecks}
 use Rattle.meaning.specs.Lists.{IsFirst}
 use Rattle.meaning.specs.Meaning.{replay, run_birth}
@@ -18,9 +18,9 @@ use Rattle.protocol_laws.specs.Sound.{IsSound}
 
 -- a job that may be run
 pub record IsGood (script : Script) (job : Job) : Type 0 where
-  -- its attempt is of a task, which makes an object of some kind
+  -- its attempt is of a task of one result, which makes an object of some kind
   pub task : IsTask job.spec
-  pub kind : HasKind script job.spec
+  pub kind : HasKinds script job.spec
   -- its answers are of the kinds that the task asks for
   pub answers : AnswersFit (run_birth script job.spec) job.base job.answers
   -- what it bore and printed so far begins what the task does on them
@@ -39,14 +39,14 @@ GivesGood script (Refuses code) = Unit {0}
 -- number
 abbrev pub ClaimsGiveGoodJobs : Type 0
 ClaimsGiveGoodJobs =
-    (s : Setting) → ScriptChecks s.script s.script → IsBirthOf s.script main_birth Number →
+    (s : Setting) → ScriptChecks s.script s.script → IsBirthOf s.script main_birth (Number ∷ []) →
     (log : List Entry) (c : Whole) → IsSound s log c → (w : ℕ) (handed : Handed) → GivesGood s.script (answer c (Claim w) handed)
 
 -- each attempt of a live worker of a sound run is one whose job may be run, whatever its number, where the script's functions are allowed, and
 -- main has no parameters and gives a number
 abbrev pub RunsAreGood : Type 0
 RunsAreGood =
-    (s : Setting) → ScriptChecks s.script s.script → IsBirthOf s.script main_birth Number →
+    (s : Setting) → ScriptChecks s.script s.script → IsBirthOf s.script main_birth (Number ∷ []) →
     (log : List Entry) (c : Whole) → IsSound s log c → (number w : ℕ) (x : Worker) (run : Run) → worker_at c w ≡ Some x → x.is_live ≡ true →
     x.run ≡ Some run → IsGood s.script (job_of number run)
 

@@ -1,5 +1,5 @@
 -- What an attempt of a legal log did so far begins what its task does on its answers.
-use Rattle.std.specs.Prelude.{◌≡◌, List, Some}
+use Rattle.std.specs.Prelude.{◌≡◌, List, [], ◌∷◌, Some}
 use Rattle.event_log.specs.Entries.{Attempt, Entry}
 use Rattle.event_log.specs.Legal.{Legal}
 use Rattle.event_log.specs.Rules.{Setting}
@@ -22,6 +22,6 @@ pub record IsInStep (script : Script) (log : List Entry) (a : Attempt) (spec : B
 -- each attempt of a legal log is in step, where the script's functions are allowed, and main has no parameters and gives a number
 abbrev pub KeepsPace : Type 0
 KeepsPace =
-    (s : Setting) (log : List Entry) → ScriptChecks s.script s.script → IsBirthOf s.script main_birth Number → Legal s log →
+    (s : Setting) (log : List Entry) → ScriptChecks s.script s.script → IsBirthOf s.script main_birth (Number ∷ []) → Legal s log →
     (a : Attempt) (spec : Birth) (base : Id) (bs : List Birth) →
     birth_at (births log) a.object ≡ Some spec → own_births a log ≡ numbered base bs → IsInStep s.script log a spec base bs

@@ -1,5 +1,5 @@
 -- Why events are refused, as the log shows it.
-use Rattle.std.specs.Prelude.{◌≡◌, List, None, Option, Some, [], ℕ, ◌∷◌}
+use Rattle.std.specs.Prelude.{◌≡◌, List, None, Option, Some, [], ◌∷◌}
 use Rattle.event_log.specs.Breaks.{Among}
 use Rattle.event_log.specs.Causes.{shown}
 use Rattle.event_log.specs.Entries.{Claim, Entry, Event, Evict, Lose}

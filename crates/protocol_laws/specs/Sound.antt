@@ -1,5 +1,5 @@
 -- What is true of a run between two events.
-use Rattle.std.specs.Prelude.{◌≡◌, ◌<◌, ℕ, ◌+◌, true, false, List, Some, length}
+use Rattle.std.specs.Prelude.{◌≡◌, ◌<◌, ℕ, ◌+◌, false, List, Some, length}
 use Rattle.event_log.specs.Entries.{Entry}
 use Rattle.event_log.specs.Rules.{Setting}
 use Rattle.holding.specs.Past.{Fact}

@@ -12,11 +12,11 @@ use Rattle.protocol_rows.specs.Writing.{a1_0_0, a1_1_0, a2_1_0, done, int, job, 
 
 -- what makes o1.1
 abbrev pub birth_1_1 : Birth
-birth_1_1 = Task (codes "a") [] 1 3
+birth_1_1 = Task (codes "a") [] 1 3 0
 
 -- what makes o2.1
 abbrev pub birth_2_1 : Birth
-birth_2_1 = Task (codes "b") [] 2 3
+birth_2_1 = Task (codes "b") [] 2 3 0
 
 -- what makes o3.1
 abbrev pub birth_3_1 : Birth
@@ -72,7 +72,7 @@ collected_run =
           ∷ In (Claim 2) 0
           ∷ In (Commit 2) 0
           ∷ Born o2_1 a1_1_0 birth_2_1
-          ∷ Ended a1_1_0 (Val (Named o2_1))
+          ∷ Ended a1_1_0 (Val (Named o2_1) ∷ [])
           ∷ In (Deliver 4) 0
           ∷ Opened 3 1
           ∷ In (Deliver 5) 0
@@ -86,7 +86,7 @@ collected_run =
           ∷ In (Claim 3) 0
           ∷ In (Commit 3) 0
           ∷ Born o3_1 a2_1_0 birth_3_1
-          ∷ Ended a2_1_0 (Val (Named o3_1))
+          ∷ Ended a2_1_0 (Val (Named o3_1) ∷ [])
           ∷ In (Deliver 10) 0
           ∷ Accepted a2_1_0
           ∷ In (Deliver 11) 0

@@ -13,7 +13,7 @@ use Rattle.protocol_rows.specs.Writing.{a1_0_0, a1_1_0, done, int, job, o1_1, o2
 
 -- what makes o1.1
 abbrev pub birth_1_1 : Birth
-birth_1_1 = Task (codes "one") [] 1 0
+birth_1_1 = Task (codes "one") [] 1 0 0
 
 -- what each job comes to
 abbrev pub dead_commit_doings : List Doing

@@ -12,7 +12,7 @@ use Rattle.protocol_rows.specs.Writing.{a1_0_0, a1_1_0, done, given, int, job, o
 
 -- what makes o1.1
 abbrev pub birth_1_1 : Birth
-birth_1_1 = Task (codes "sq") (given (int 7) ∷ []) 1 3
+birth_1_1 = Task (codes "sq") (given (int 7) ∷ []) 1 3 0
 
 -- what each job comes to
 abbrev pub each_refused_doings : List Doing

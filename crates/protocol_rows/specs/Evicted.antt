@@ -12,11 +12,11 @@ use Rattle.protocol_rows.specs.Writing.{a1_0_0, a1_1_0, a1_2_0, done, given, int
 
 -- what makes o1.1
 abbrev pub birth_1_1 : Birth
-birth_1_1 = Task (codes "big") (given (int 1) ∷ []) 1 3
+birth_1_1 = Task (codes "big") (given (int 1) ∷ []) 1 3 0
 
 -- what makes o1.2
 abbrev pub birth_1_2 : Birth
-birth_1_2 = Task (codes "big") (given (int 2) ∷ []) 1 3
+birth_1_2 = Task (codes "big") (given (int 2) ∷ []) 1 3 0
 
 -- what each job comes to
 abbrev pub evicted_doings : List Doing
@@ -74,14 +74,14 @@ evicted_run =
           ∷ In (Deliver 8) 0
           ∷ In (Claim 2) 0
           ∷ In (Commit 2) 0
-          ∷ Ended a1_1_0 (Val (nine (int 1)))
+          ∷ Ended a1_1_0 (Val (nine (int 1)) ∷ [])
           ∷ In (Deliver 9) 0
           ∷ Accepted a1_1_0
           ∷ In (Deliver 10) 0
           ∷ In (Deliver 11) 0
           ∷ In (Claim 3) 0
           ∷ In (Commit 3) 0
-          ∷ Ended a1_2_0 (Val (nine (int 2)))
+          ∷ Ended a1_2_0 (Val (nine (int 2)) ∷ [])
           ∷ In (Deliver 12) 0
           ∷ Accepted a1_2_0
           ∷ In (Deliver 13) 0
@@ -102,7 +102,7 @@ evicted_run =
           ∷ Got a1_0_0 o1_2 (Val (nine (int 2)))
           ∷ In (Claim 1) 0
           ∷ In (Commit 6) 0
-          ∷ Ended a1_0_0 (Val (int 2))
+          ∷ Ended a1_0_0 (Val (int 2) ∷ [])
           ∷ Released o1_1
           ∷ Released o1_2
           ∷ In (Deliver 19) 0

@@ -11,11 +11,11 @@ use Rattle.protocol_rows.specs.Writing.{a1_0_0, a1_1_0, a1_2_0, done, given, int
 
 -- what makes o1.1
 abbrev pub birth_1_1 : Birth
-birth_1_1 = Task (codes "one") [] 1 3
+birth_1_1 = Task (codes "one") [] 1 3 0
 
 -- what makes o1.2
 abbrev pub birth_1_2 : Birth
-birth_1_2 = Task (codes "sq") (given (int 3) ∷ []) 1 3
+birth_1_2 = Task (codes "sq") (given (int 3) ∷ []) 1 3 0
 
 -- what each job comes to
 abbrev pub kept_by_owner_doings : List Doing
@@ -71,7 +71,7 @@ kept_by_owner_run =
           ∷ In (Deliver 8) 0
           ∷ In (Claim 2) 0
           ∷ In (Commit 2) 0
-          ∷ Ended a1_1_0 (Val (int 1))
+          ∷ Ended a1_1_0 (Val (int 1) ∷ [])
           ∷ In (Deliver 9) 0
           ∷ Accepted a1_1_0
           ∷ Got a1_0_0 o1_1 (Val (int 1))
@@ -79,7 +79,7 @@ kept_by_owner_run =
           ∷ In (Deliver 11) 0
           ∷ In (Claim 3) 0
           ∷ In (Commit 3) 0
-          ∷ Ended a1_2_0 (Val (int 9))
+          ∷ Ended a1_2_0 (Val (int 9) ∷ [])
           ∷ In (Deliver 12) 0
           ∷ Accepted a1_2_0
           ∷ In (Deliver 13) 0
@@ -91,7 +91,7 @@ kept_by_owner_run =
           ∷ Got a1_0_0 o1_2 (Val (int 9))
           ∷ In (Claim 1) 0
           ∷ In (Commit 5) 0
-          ∷ Ended a1_0_0 (Val (int 10))
+          ∷ Ended a1_0_0 (Val (int 10) ∷ [])
           ∷ Released o1_1
           ∷ Released o1_2
           ∷ [];

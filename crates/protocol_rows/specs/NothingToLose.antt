@@ -12,7 +12,7 @@ use Rattle.protocol_rows.specs.Writing.{a1_0_0, a1_1_0, done, given, int, job, o
 
 -- what makes o1.1
 abbrev pub birth_1_1 : Birth
-birth_1_1 = Task (codes "sq") (given (int 7) ∷ []) 1 3
+birth_1_1 = Task (codes "sq") (given (int 7) ∷ []) 1 3 0
 
 -- what each job comes to
 abbrev pub nothing_to_lose_doings : List Doing
@@ -56,7 +56,7 @@ nothing_to_lose_run =
           ∷ In (Deliver 3) 0
           ∷ In (Claim 2) 0
           ∷ In (Commit 2) 0
-          ∷ Ended a1_1_0 (Val (int 49))
+          ∷ Ended a1_1_0 (Val (int 49) ∷ [])
           ∷ In (Deliver 4) 0
           ∷ Accepted a1_1_0
           ∷ Got a1_0_0 o1_1 (Val (int 49))
@@ -67,7 +67,7 @@ nothing_to_lose_run =
           ∷ In (Claim 1) 0
           ∷ In (Commit 3) 0
           ∷ Printed (int 49)
-          ∷ Ended a1_0_0 (Val (int 0))
+          ∷ Ended a1_0_0 (Val (int 0) ∷ [])
           ∷ Released o1_1
           ∷ [];
       letters =

@@ -11,7 +11,7 @@ use Rattle.protocol_rows.specs.Writing.{a1_0_0, a1_1_0, done, given, int, job, o
 
 -- what makes o1.1
 abbrev pub birth_1_1 : Birth
-birth_1_1 = Task (codes "div") (given (int 1) ∷ given (int 0) ∷ []) 1 3
+birth_1_1 = Task (codes "div") (given (int 1) ∷ given (int 0) ∷ []) 1 3 0
 
 -- what each job comes to
 abbrev pub trap_left_doings : List Doing
@@ -42,7 +42,7 @@ trap_left_run =
           ∷ In (Claim 1) 0
           ∷ In (Commit 1) 0
           ∷ Born o1_1 a1_0_0 birth_1_1
-          ∷ Ended a1_0_0 (Val (int 5))
+          ∷ Ended a1_0_0 (Val (int 5) ∷ [])
           ∷ In (Deliver 1) 0
           ∷ Opened 2 1
           ∷ In (Deliver 2) 0
@@ -50,7 +50,7 @@ trap_left_run =
           ∷ In (Deliver 3) 0
           ∷ In (Claim 2) 0
           ∷ In (Commit 2) 0
-          ∷ Ended a1_1_0 (Trapped DivZero)
+          ∷ Ended a1_1_0 (Trapped DivZero ∷ [])
           ∷ In (Deliver 4) 0
           ∷ Accepted a1_1_0
           ∷ Released o1_1

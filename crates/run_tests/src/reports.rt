@@ -3,7 +3,7 @@
 use held::{Origin, Printed, SharedContent};
 use history::{report_text, status_of};
 use ids::{AttemptId, NodeId, ObjectId, WorkerId};
-use log_entries::{Entry, Event, Refusal};
+use log_entries::{Entry, Event, Refusal, only_content};
 use std::alloc::{AllocError, Global};
 use std::rt::HostRuntime;
 use std::test::Fail;
@@ -67,6 +67,7 @@ fn faults(alloc: Global) -> Result<Vec<Entry>, AllocError> {
     let birth = Birth::Put(RunValue::Int(6));
     let content = SharedContent::new(alloc, values::Content::Trap(Trap::Loop))?;
     let shared = content.copy(alloc)?;
+    let contents = only_content(alloc, content)?;
     let log = vec![in alloc;
         Entry::Opened {
             worker: WorkerId(1),
@@ -86,7 +87,7 @@ fn faults(alloc: Global) -> Result<Vec<Entry>, AllocError> {
         begun(attempt(1, 4), 4),
         Entry::Ended {
             attempt: attempt(1, 4),
-            content
+            contents
         },
         Entry::Accepted(attempt(1, 4)),
         Entry::Got {

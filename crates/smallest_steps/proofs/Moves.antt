@@ -587,7 +587,7 @@ module _ {IsToldBy : ℕ → Attempt → Type 0} {IsPassedBy : Attempt → ℕ �
 
     pub bears_as-kept : (h : Here) (a : Attempt) (o : Id) (b : Birth) (ids : List Id) → o ≡ next_id_here h → P h → P (bears_as h a o b ids)
     bears_as-kept h a o (Put v) ids next p = bears_put-kept h a o v ids p
-    bears_as-kept h a o (Task g args depth retries) ids next p = bears_task-kept h a o (Task g args depth retries) ids next p
+    bears_as-kept h a o (Task g args depth retries others) ids next p = bears_task-kept h a o (Task g args depth retries others) ids next p
 
     pub bears-kept : (h : Here) (a : Attempt) (b : Birth) → P h → P (bears h a b)
     bears-kept h a b p = bears_as-kept h a (next_id_here h) b (each_once (ids_of_birth b)) refl p

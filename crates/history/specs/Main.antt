@@ -1,9 +1,10 @@
 -- What a report says of main.
-use Rattle.std.specs.Prelude.{ℕ, List, [], ◌∷◌, Option, Some, None, ◌++◌, codes}
+use Rattle.std.specs.Prelude.{ℕ, List, [], ◌∷◌, Option, Some, None, ◌++◌, codes, take, if◌then◌else◌}
+use Rattle.std.specs.List.{flat_map}
 use Rattle.std.specs.Option.{option_map}
 use Rattle.meaning.specs.Values.{Outcome, Val, Trapped}
-use Rattle.event_log.specs.Entries.{Fault, Entry, Printed, main_attempt}
-use Rattle.event_log.specs.Words.{ends_of, faults_of}
+use Rattle.event_log.specs.Entries.{Fault, Entry, Printed, Ended, main_attempt}
+use Rattle.event_log.specs.Words.{same_attempt, faults_of}
 use Rattle.report.specs.Values.{value_text}
 use Rattle.report.specs.MainLines.{end_line}
 use Rattle.history.specs.Texts.{fault_text}
@@ -17,9 +18,14 @@ abbrev pub first : {A : Type 0} → List A → Option A
 first [] = None
 first (x ∷ xs) = Some x
 
+-- the content of main's one result, where it ends
+abbrev pub main_ends_in : Entry → List Outcome
+main_ends_in (Ended a cs) = if same_attempt a main_attempt then take 1 cs else []
+main_ends_in _ = []
+
 -- the content with which main ended
 abbrev pub main_end : List Entry → Option Outcome
-main_end log = first (ends_of main_attempt log)
+main_end log = first (flat_map main_ends_in log)
 
 -- the fault that one of its gets was answered with
 abbrev pub main_fault : List Entry → Option Fault

@@ -3,8 +3,8 @@
 ghost use Rattle.std.specs.Prelude.{◌≡◌, ◌++◌, OnOk, option_copied, string_bytes};
 ghost use Rattle.std.specs.Option.{option_map};
 ghost use Rattle.event_log.specs.Entries.{main_attempt};
-ghost use Rattle.event_log.specs.Words.{same_attempt, ended_in, faulted_in};
-ghost use Rattle.history.specs.Main.{first, main_end, main_fault, main_line, unended_line, status_of};
+ghost use Rattle.event_log.specs.Words.{same_attempt, faulted_in};
+ghost use Rattle.history.specs.Main.{first, main_ends_in, main_end, main_fault, main_line, unended_line, status_of};
 
 use crate::faults::write_fault;
 use held::SharedContent;
@@ -22,15 +22,15 @@ pub fn is_main(attempt: AttemptId) -> bool
     attempt.object.owner.0 == 1 && attempt.object.serial == 0 && attempt.number == 0
 }
 
-/// The content with which main ends at an entry.
+/// The content of main's one result, where it ends at an entry.
 fn end_in(entry: &Entry) -> Option<&SharedContent>
-    ensures { option_copied result ≡ first (ended_in main_attempt entry.now) }
+    ensures { option_copied result ≡ first (main_ends_in entry.now) }
 {
-    let Entry::Ended { attempt, content } = entry else {
+    let Entry::Ended { attempt, contents } = entry else {
         return None;
     };
     if is_main(*attempt) {
-        return Some(content);
+        return contents.items.first();
     }
     None
 }

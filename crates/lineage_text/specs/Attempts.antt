@@ -2,14 +2,14 @@
 use Rattle.std.specs.Prelude.{ℕ, List, ◌++◌, codes}
 use Rattle.std.specs.List.{flat_map}
 use Rattle.std.specs.Fmt.{decimal}
-use Rattle.meaning.specs.Values.{Outcome}
+use Rattle.meaning.specs.Values.{Id, Outcome}
 use Rattle.values.specs.Listed.{ids_in_outcome, each_once}
 use Rattle.report.specs.Values.{id_text}
 use Rattle.event_log.specs.Entries.{Attempt, Fault, Entry}
 use Rattle.history.specs.Texts.{attempt_text, fault_text}
 use Rattle.history.specs.Attempts.{state_of}
 use Rattle.log_words.specs.declared.contents.Contents.{Contents}
-use Rattle.log_words.specs.Contents.{content_text}
+use Rattle.log_words.specs.Contents.{contents_text}
 use Rattle.lineage_text.specs.Edges.{named_edge}
 
 -- a1.1#0 on w2: accepted, where the state is by the whole log
@@ -32,9 +32,13 @@ fate_head a = codes "    \"" ++ (id_text a.object ++ (codes "\" -> \"" ++ (attem
 unfoldable pub fate_tail : List ℕ
 fate_tail = codes "\"];\n"
 
--- the content with which an attempt ended is the label of its edge, and what it names is joined to its object
-abbrev pub ended_text : Contents → Attempt → Outcome → List ℕ
-ended_text how a c = fate_head a ++ (content_text how c ++ (fate_tail ++ flat_map (named_edge a.object) (each_once (ids_in_outcome c))))
+-- what a content names is joined to its object
+abbrev pub named_edges : Id → Outcome → List ℕ
+named_edges o c = flat_map (named_edge o) (each_once (ids_in_outcome c))
+
+-- the contents with which an attempt ended are the label of its edge, and what they name is joined to its object
+abbrev pub ended_text : Contents → Attempt → List Outcome → List ℕ
+ended_text how a cs = fate_head a ++ (contents_text how cs ++ (fate_tail ++ flat_map (named_edges a.object) cs))
 
 -- a fault ends a red label
 unfoldable pub fault_tail : Fault → List ℕ

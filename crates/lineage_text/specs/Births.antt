@@ -15,17 +15,17 @@ node_head o = codes "    \"" ++ (id_text o ++ (codes "\" [label=\"" ++ (id_text 
 -- a call, or put V
 abbrev pub label_text : Contents → Birth → List ℕ
 label_text how (Put v) = codes "put " ++ shown_text how v
-label_text how (Task g args depth retries) = call_text how g args
+label_text how (Task g args depth retries others) = call_text how g args
 
 -- tasks are boxes, and puts are round
 unfoldable pub node_tail : Birth → List ℕ
 node_tail (Put v) = codes "\", shape=ellipse];\n"
-node_tail (Task g args depth retries) = codes "\"];\n"
+node_tail (Task g args depth retries others) = codes "\"];\n"
 
 -- a put value may name objects, and a task is computed from those in its arguments
 abbrev pub birth_edges : Id → Birth → List ℕ
 birth_edges o (Put v) = flat_map (named_edge o) (ids_of v)
-birth_edges o (Task g args depth retries) = flat_map (argument_edges o) args
+birth_edges o (Task g args depth retries others) = flat_map (argument_edges o) args
 
 unfoldable pub node_text : Contents → Id → Birth → List ℕ
 node_text how o b = node_head o ++ (label_text how b ++ node_tail b)

@@ -1,15 +1,18 @@
 // The node of an attempt, joined to its object.
 
 ghost use Rattle.std.specs.Prelude.{◌≡◌, ◌++◌, List, OnOk, string_bytes};
+ghost use Rattle.std.specs.List.{flat_map};
 ghost use Rattle.values.specs.Values.{content_of};
 ghost use Rattle.event_log.specs.Entries.{Entry};
 ghost use Rattle.history.specs.Attempts.{AreStatesOf};
-ghost use Rattle.lineage_text.specs.Attempts.{attempt_edge, attempt_node, begun_text, ended_text, fate_head, fate_tail, fault_tail, faulted_text};
+ghost use Rattle.lineage_text.specs.Attempts.{attempt_edge, attempt_node, begun_text, ended_text, fate_head, fate_tail, fault_tail, faulted_text, named_edges};
 
 use crate::edges::write_named_edges;
+use held::SharedContent;
 use history::{AttemptStates, kind_name};
 use ids::{AttemptId, ObjectId, WorkerId};
-use log_words::{Contents, write_content};
+use log_words::{Contents, write_contents};
+use sequence::Seq;
 use std::alloc::{AllocError, Global};
 use values::{Content, Fault, FaultKind, ids_in};
 
@@ -70,21 +73,47 @@ fn write_fate_tail(text: &mut String) -> Result<(), AllocError>
     text.push_str("\"];\n")
 }
 
-/// Writes the content with which an attempt ended, and the edges to what it names.
+/// Writes the edges from an object to what a content of it names.
+fn write_named(
+    alloc: Global,
+    text: &mut String,
+    object: ObjectId,
+    content: &Content,
+) -> Result<(), AllocError>
+    ensures { OnOk result (string_bytes text.new ≡ string_bytes text.old ++ named_edges object (content_of content.now)) }
+{
+    let named = ids_in(content, alloc)?;
+    write_named_edges(text, object, &named)
+}
+
+fn write_all_named(
+    alloc: Global,
+    text: &mut String,
+    object: ObjectId,
+    results: &Seq<SharedContent>,
+) -> Result<(), AllocError>
+    ensures { OnOk result (string_bytes text.new ≡ string_bytes text.old ++ flat_map (named_edges object) results.now) }
+{
+    for content in results.as_slice() {
+        write_named(alloc, text, object, &content.inner)?;
+    }
+    Ok(())
+}
+
+/// Writes the contents with which an attempt ended, and the edges to what they name.
 pub fn write_ended(
     alloc: Global,
     text: &mut String,
     contents: Contents,
     attempt: AttemptId,
-    content: &Content,
+    results: &Seq<SharedContent>,
 ) -> Result<(), AllocError>
-    ensures { OnOk result (string_bytes text.new ≡ string_bytes text.old ++ ended_text contents attempt (content_of content.now)) }
+    ensures { OnOk result (string_bytes text.new ≡ string_bytes text.old ++ ended_text contents attempt results.now) }
 {
-    let named = ids_in(content, alloc)?;
     write_fate_head(text, attempt)?;
-    write_content(text, contents, content)?;
+    write_contents(text, contents, results)?;
     write_fate_tail(text)?;
-    write_named_edges(text, attempt.object, &named)
+    write_all_named(alloc, text, attempt.object, results)
 }
 
 #[tactic(auto, unfolding(crate::specs::Attempts::fault_tail))]

@@ -55,13 +55,10 @@ pub fn write_entry(
             &birth.inner,
         ),
         Entry::Begun { attempt, worker } => write_begun(text, states, *attempt, *worker),
-        Entry::Ended { attempt, content } => write_ended(
-            alloc,
-            text,
-            contents,
-            *attempt,
-            &content.inner,
-        ),
+        Entry::Ended {
+            attempt,
+            contents: results,
+        } => write_ended(alloc, text, contents, *attempt, results),
         Entry::Faulted { attempt, fault, .. } => write_faulted(text, *attempt, *fault),
         Entry::Resolved { object, fault } => write_resolved(text, *object, *fault),
         Entry::Released(object) => write_released(text, *object),

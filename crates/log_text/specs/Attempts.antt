@@ -10,7 +10,7 @@ use Rattle.log_words.specs.Calls.{call_text}
 
 -- the function of a call; what was put, or was never born, has none
 abbrev pub name_note : Option Birth → List ℕ
-name_note (Some (Task g args depth retries)) = codes " (" ++ (g ++ codes ")")
+name_note (Some (Task g args depth retries others)) = codes " (" ++ (g ++ codes ")")
 name_note _ = []
 
 -- a1.1#0 (sq)
@@ -19,7 +19,7 @@ named_text births a = attempt_text a ++ name_note (birth_at births a.object)
 
 -- the call that an attempt runs
 abbrev pub call_note : Contents → Option Birth → List ℕ
-call_note how (Some (Task g args depth retries)) = codes ": " ++ call_text how g args
+call_note how (Some (Task g args depth retries others)) = codes ": " ++ call_text how g args
 call_note how _ = []
 
 -- behind a later attempt of a task

@@ -7,7 +7,7 @@ use Rattle.meaning.specs.Births.{Bearing}
 use Rattle.event_log.specs.Entries.{Fault, Entry, In, Refused, Opened, Begun, Born, Got, Printed, Ended, Accepted, Faulted, Resolved, Released}
 use Rattle.log_words.specs.declared.contents.Contents.{Contents}
 use Rattle.log_words.specs.Calls.{birth_text}
-use Rattle.log_words.specs.Contents.{content_text, shown_text}
+use Rattle.log_words.specs.Contents.{content_text, contents_text, shown_text}
 use Rattle.log_words.specs.Faults.{fault_words}
 use Rattle.log_text.specs.Attempts.{named_text, begun_text}
 use Rattle.log_text.specs.Events.{event_line}
@@ -36,7 +36,7 @@ abbrev pub act_text : Contents → List Bearing → Entry → List ℕ
 act_text how births (Begun a w) = begun_text how births a w
 act_text how births (Born o a b) = named_text births a ++ (codes " makes " ++ (id_text o ++ (codes ": " ++ birth_text how b)))
 act_text how births (Got a y c) = named_text births a ++ (codes " gets " ++ (id_text y ++ (codes ": " ++ content_text how c)))
-act_text how births (Ended a c) = named_text births a ++ (codes " ends with " ++ content_text how c)
+act_text how births (Ended a cs) = named_text births a ++ (codes " ends with " ++ contents_text how cs)
 act_text how births (Accepted a) = codes "w" ++ (decimal a.object.owner ++ (codes " accepts " ++ named_text births a))
 act_text how births (Faulted a y f) = named_text births a ++ lack_text y f
 act_text how births _ = []

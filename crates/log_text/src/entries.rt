@@ -13,7 +13,10 @@ use crate::events::write_event;
 use crate::refusals::write_refusal;
 use ids::ObjectId;
 use log_entries::Entry;
-use log_words::{BirthIndex, Contents, Told, write_birth, write_content, write_fault, write_value};
+use log_words::{
+    BirthIndex, Contents, Told, write_birth, write_content, write_contents, write_fault,
+    write_value,
+};
 use std::alloc::AllocError;
 use values::{Fault, RunValue};
 
@@ -86,10 +89,13 @@ fn write_act(
             write!(text, " gets {object}: ")?;
             write_content(text, contents, &content.inner)
         }
-        Entry::Ended { attempt, content } => {
+        Entry::Ended {
+            attempt,
+            contents: results,
+        } => {
             write_named(text, index, log, *attempt)?;
             text.push_str(" ends with ")?;
-            write_content(text, contents, &content.inner)
+            write_contents(text, contents, results)
         }
         Entry::Accepted(attempt) => {
             let owner = attempt.object.owner;

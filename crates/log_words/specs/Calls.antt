@@ -28,4 +28,4 @@ call_text how g args = g ++ (codes "(" ++ (arguments_text how args ++ codes ")")
 -- put [1, 2], or remote(3) sq(7)
 abbrev pub birth_text : Contents → Birth → List ℕ
 birth_text how (Put v) = codes "put " ++ shown_text how v
-birth_text how (Task g args depth retries) = codes "remote(" ++ (decimal retries ++ (codes ") " ++ call_text how g args))
+birth_text how (Task g args depth retries others) = codes "remote(" ++ (decimal retries ++ (codes ") " ++ call_text how g args))

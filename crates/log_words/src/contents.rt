@@ -1,11 +1,14 @@
 // Values and contents, written.
 
 ghost use Rattle.std.specs.Prelude.{◌≡◌, ◌++◌, OnOk, string_bytes};
+ghost use Rattle.std.specs.List.{flat_map};
 ghost use Rattle.values.specs.Values.{content_of, value_of};
-ghost use Rattle.log_words.specs.Contents.{content_text, shown_text};
+ghost use Rattle.log_words.specs.Contents.{content_text, contents_text, other_content, shown_text};
 
 use crate::cut::write_cut;
+use held::SharedContent;
 use report::trap_name;
+use sequence::Seq;
 use std::alloc::AllocError;
 use values::{Content, RunValue};
 
@@ -47,4 +50,34 @@ pub fn write_content(
             text.push_str(trap_name(*trap))
         }
     }
+}
+
+/// Writes the contents behind the first.
+fn write_other_contents(
+    text: &mut String,
+    contents: Contents,
+    others: &[SharedContent],
+) -> Result<(), AllocError>
+    ensures { OnOk result (string_bytes text.new ≡ string_bytes text.old ++ flat_map (other_content contents) others.now) }
+{
+    for content in others {
+        text.push_str(", ")?;
+        write_content(text, contents, &content.inner)?;
+    }
+    Ok(())
+}
+
+/// Writes a content for each result of an attempt, such as `5, [1, 2]`.
+pub fn write_contents(
+    text: &mut String,
+    contents: Contents,
+    results: &Seq<SharedContent>,
+) -> Result<(), AllocError>
+    ensures { OnOk result (string_bytes text.new ≡ string_bytes text.old ++ contents_text contents results.now) }
+{
+    let [first, others @ ..] = results.as_slice() else {
+        return Ok(());
+    };
+    write_content(text, contents, &first.inner)?;
+    write_other_contents(text, contents, others)
 }

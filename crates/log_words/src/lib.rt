@@ -11,7 +11,7 @@ mod told;
 
 pub use births::BirthIndex;
 pub use calls::{write_birth, write_call};
-pub use contents::{Contents, write_content, write_value};
+pub use contents::{Contents, write_content, write_contents, write_value};
 pub use faults::{kind_words, write_fault};
 pub use objects::ids_of;
 pub use told::{Told, is_refusal_at, worker_of_job};

@@ -24,7 +24,7 @@ is_answer a (Got b y c) = same_attempt b a
 is_answer a _ = false
 
 abbrev pub is_stop : Attempt → Entry → Bool
-is_stop a (Ended b c) = same_attempt b a
+is_stop a (Ended b cs) = same_attempt b a
 is_stop a (Faulted b y f) = same_attempt b a
 is_stop a _ = false
 

@@ -48,7 +48,7 @@ trap_in_outcome (Val v) = []
 trap_in_outcome (Trapped t) = t ∷ []
 
 abbrev pub trap_in : Attempt → Entry → List Trap
-trap_in a (Ended b c) = if same_attempt b a then trap_in_outcome c else []
+trap_in a (Ended b cs) = if same_attempt b a then flat_map trap_in_outcome cs else []
 trap_in a _ = []
 
 -- the trap with which the attempt ended

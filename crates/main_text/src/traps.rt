@@ -1,6 +1,7 @@
 // Where a trap comes from.
 
 ghost use Rattle.std.specs.Prelude.{◌≡◌, ◌≤◌, ◌++◌, OnOk, string_bytes};
+ghost use Rattle.std.specs.List.{flat_map};
 ghost use Rattle.std.specs.Option.{option_map};
 ghost use Rattle.values.specs.Values.{content_of, trap_of};
 ghost use Rattle.event_log.specs.Words.{births};
@@ -8,17 +9,19 @@ ghost use Rattle.history.specs.Main.{first};
 ghost use Rattle.log_words.specs.Index.{IsIndexOf};
 ghost use Rattle.why_text.specs.Again.{runner_of};
 ghost use Rattle.main_text.specs.Traps.{answer_count, behind_text, count_in, operators, own_text, run_text, runner_note};
-ghost use Rattle.main_text.specs.Traps.{trap_ended, trap_in, trap_note, trap_text, traps_text};
+ghost use Rattle.main_text.specs.Traps.{trap_ended, trap_in, trap_in_outcome, trap_note, trap_text, traps_text};
 
 use crate::attempts::write_made;
 use crate::happenings::{Happening, write_when_last};
 use crate::parties::write_worker;
+use held::SharedContent;
 use ids::{AttemptId, ObjectId, WorkerId};
 use log_entries::Entry;
 use log_text::write_named;
 use log_words::{BirthIndex, Contents};
 use protocol_data::Whole;
 use report::trap_name;
+use sequence::Seq;
 use std::alloc::AllocError;
 use trap_sources::{trap_got, trapped_of};
 use values::{Content, Trap};
@@ -109,12 +112,33 @@ fn write_behind_of(text: &mut String, log: &[Entry], attempt: AttemptId) -> Resu
     write_behind(text, count)
 }
 
+fn trap_in_content(content: &Content) -> Option<Trap>
+    ensures { option_map trap_of result ≡ first (trap_in_outcome (content_of content.now)) }
+{
+    match content {
+        Content::Value(_) => None,
+        Content::Trap(trap) => Some(*trap),
+    }
+}
+
+/// The first trap in the contents of an attempt's results.
+fn trap_among(contents: &Seq<SharedContent>) -> Option<Trap>
+    ensures { option_map trap_of result ≡ first (flat_map trap_in_outcome contents.now) }
+{
+    for content in contents.as_slice() {
+        if let Some(trap) = trap_in_content(&content.inner) {
+            return Some(trap);
+        }
+    }
+    None
+}
+
 fn trap_in(attempt: AttemptId, entry: &Entry) -> Option<Trap>
     ensures { option_map trap_of result ≡ first (trap_in attempt entry.now) }
 {
     let Entry::Ended {
         attempt: ended,
-        content,
+        contents,
     } = entry
     else {
         return None;
@@ -122,10 +146,7 @@ fn trap_in(attempt: AttemptId, entry: &Entry) -> Option<Trap>
     if !ended.is(attempt) {
         return None;
     }
-    match &*content.inner {
-        Content::Value(_) => None,
-        Content::Trap(trap) => Some(*trap),
-    }
+    trap_among(contents)
 }
 
 /// The trap with which the attempt ended.

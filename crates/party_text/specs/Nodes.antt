@@ -1,7 +1,7 @@
 -- Why a node is as it is.
 use Rattle.std.specs.Prelude.{ℕ, ◌+◌, Bool, true, false, not, ◌&&◌, ◌==◌, nat_lt, if◌then◌else◌, List, [], ◌∷◌, ◌++◌, codes, length, Option, Some, None}
 use Rattle.std.specs.List.{filter, flat_map, list_any}
-use Rattle.meaning.specs.Values.{Id, Birth, Put}
+use Rattle.meaning.specs.Values.{Id, Outcome, Birth, Put}
 use Rattle.meaning.specs.Births.{same_id}
 use Rattle.values.specs.Cells.{is_small}
 use Rattle.event_log.specs.Entries.{Attempt, Event, Evict, Join, Kill, KillNode, Lose, NoticeNode}
@@ -124,6 +124,11 @@ is_put _ = false
 abbrev pub born_there : Site → Id → Birth → Bool
 born_there s o b = is_put b && is_on s.nodes s.node o.owner
 
+-- the content of the first object is small
+abbrev pub is_first_small : List Outcome → Bool
+is_first_small [] = true
+is_first_small (c ∷ cs) = is_small c
+
 -- a large result of an attempt on it
 abbrev pub ended_there : Site → Attempt → Bool → Bool
 ended_there s a small = not small && is_one_of s.attempts a
@@ -137,7 +142,7 @@ with_if there ids o = if there then with_one ids o else ids
 -- the objects whose primary copy is there behind the entry, of those before it
 abbrev pub copies_after : Site → List Id → Entry → Bool → List Id
 copies_after s ids (Born o a b) refused = with_if (born_there s o b) ids o
-copies_after s ids (Ended a c) refused = with_if (ended_there s a (is_small c)) ids a.object
+copies_after s ids (Ended a cs) refused = with_if (ended_there s a (is_first_small cs)) ids a.object
 copies_after s ids (Released o) refused = without ids o
 copies_after s ids (In (Lose n o) seat) refused = without_if ((n == s.node) && not refused) ids o
 copies_after s ids _ refused = ids

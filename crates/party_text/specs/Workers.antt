@@ -46,7 +46,7 @@ event_sentence log s m _ = []
 abbrev pub entry_sentence : Contents → List Entry → List ℕ → List Letter → Subject → List Entry → Moment → Entry → List ℕ
 entry_sentence how log lines letters s before m (Opened w n) = if w == s.worker then opened_text log letters m w n else []
 entry_sentence how log lines letters s before m (Begun a w) = if w == s.worker then began_text (births log) lines before m a w else []
-entry_sentence how log lines letters s before m (Ended a c) = if is_one_of s.attempts a then ended_text how (births log) m a c else []
+entry_sentence how log lines letters s before m (Ended a cs) = if is_one_of s.attempts a then ended_text how (births log) m a cs else []
 entry_sentence how log lines letters s before m (Accepted a) = if is_one_of s.attempts a then accepted_text (births log) before m a else []
 entry_sentence how log lines letters s before m (Faulted a y f) = if is_one_of s.attempts a then faulted_text (births log) before m a y f else []
 entry_sentence how log lines letters s before m (Resolved o f) = if o.owner == s.worker then given_up_text m o f else []

@@ -6,15 +6,17 @@ ghost use Rattle.meaning.specs.Births.{same_id};
 ghost use Rattle.task_spec.specs.Births.{birth_of};
 ghost use Rattle.main_text.specs.Links.{node_text};
 ghost use Rattle.party_text.specs.Lists.{ids_text};
-ghost use Rattle.party_text.specs.Nodes.{born_there, copies_after, copies_from, ended_there, is_put, lost_note, lost_text};
+ghost use Rattle.party_text.specs.Nodes.{born_there, copies_after, copies_from, ended_there, is_first_small, is_put, lost_note, lost_text};
 ghost use Rattle.party_text.specs.Nodes.{seen_of, with_if, with_one, without, without_if};
 
 use crate::lists::{is_one_of, write_ids};
 use crate::sites::{Site, is_on};
+use held::SharedContent;
 use ids::{AttemptId, NodeId, ObjectId};
 use log_entries::{Entry, Event};
 use log_words::{Contents, is_refusal_at};
 use main_text::write_node;
+use sequence::Seq;
 use std::alloc::{AllocError, Global};
 use task_spec::Birth;
 
@@ -98,6 +100,16 @@ fn born_there(site: &Site, object: ObjectId, birth: &Birth) -> bool
     is_put(birth) && is_on(&site.nodes, site.node, object.owner.0)
 }
 
+/// Whether the content of the first object is small.
+fn is_first_small(contents: &Seq<SharedContent>) -> bool
+    ensures { result ≡ is_first_small contents.now }
+{
+    let [first, ..] = contents.as_slice() else {
+        return true;
+    };
+    first.is_small()
+}
+
 fn ended_there(site: &Site, attempt: AttemptId, is_small: bool) -> bool
     ensures { result ≡ ended_there (seen_of site.now) attempt is_small }
 {
@@ -119,8 +131,8 @@ fn copies_after(
             let there = born_there(site, *object, &birth.inner);
             with_if(alloc, there, objects, *object)
         }
-        Entry::Ended { attempt, content } => {
-            let there = ended_there(site, *attempt, content.is_small());
+        Entry::Ended { attempt, contents } => {
+            let there = ended_there(site, *attempt, is_first_small(contents));
             with_if(alloc, there, objects, attempt.object)
         }
         Entry::Released(object) => without(alloc, &objects, *object),

@@ -129,9 +129,12 @@ fn write_entry(
             }
             Ok(())
         }
-        Entry::Ended { attempt, content } => {
+        Entry::Ended {
+            attempt,
+            contents: results,
+        } => {
             if is_one_of(&subject.attempts, *attempt) {
-                return write_ended(text, contents, index, log, moment, *attempt, &content.inner);
+                return write_ended(text, contents, index, log, moment, *attempt, results);
             }
             Ok(())
         }

@@ -1,30 +1,37 @@
 -- What main of a checked script prints and ends with has no reference in it, and so is read as it is.
 use Rattle.std.proofs.Common.{◌≡◌, ◌∙◌, List, [], ◌∷◌, map, refl, sym, ap, subst}
 use Rattle.meaning.specs.Lists.{IsFirst}
-use Rattle.meaning.specs.Values.{Value, Int, Items, Named, Known, Values, none, more, Outcome, Val, Trapped, Id, main_name}
-use Rattle.meaning.specs.Syntax.{Number, Script}
-use Rattle.meaning.specs.Runs.{Run, Ends, Prints, Bears, Gets, next_id}
+use Rattle.meaning.specs.Values.{Value, Int, Items, Named, Known, Values, none, more, Outcome, Val, Trapped, Completion, Returned, Aborted, first_outcome, Id, main_name}
+use Rattle.meaning.specs.Syntax.{Kind, Number, Script}
+use Rattle.meaning.specs.Runs.{Run, Ends, Prints, Bears, Gets, named, behind}
 use Rattle.meaning.specs.Meaning.{serial_run}
-use Rattle.meaning.specs.Kinds.{IsPlain, ArePlain, AllPlain, EndsIn, MarkedOf, AnswersFit, IsSafeTask}
+use Rattle.meaning.specs.Kinds.{IsPlain, ArePlain, AllPlain, EndsIn, CompletesIn, MarkedOf, AnswersFit, IsSafeTask}
 use Rattle.meaning.specs.Readings.{Reading, read, read_items, read_outcome}
 use Rattle.script_laws.proofs.Safety.{are_safe}
 use Rattle.script_check.specs.Scripts.{IsWellTyped}
 
 -- no answers fit every run
 no_answers : (run : Run) (base : Id) → AnswersFit run base []
-no_answers (Ends c) base = tt
+no_answers (Ends e) base = tt
 no_answers (Prints v next) base = no_answers next base
-no_answers (Bears b made next) base = no_answers (next (Named base)) (next_id base)
+no_answers (Bears b made next) base = no_answers (next (named base b)) (behind base b)
 no_answers (Gets u r next) base = tt
 
 abbrev pub first_id : Id
 first_id = record { owner = 1; serial = 1 }
 
-pub main_is_safe : (script : Script) → IsWellTyped script → IsSafeTask (serial_run script) Number first_id []
+pub main_is_safe : (script : Script) → IsWellTyped script → IsSafeTask (serial_run script) (Number ∷ []) first_id []
 main_is_safe script w =
     let f = w.main.0 in
     let marked : MarkedOf [] f.parameters = subst (MarkedOf []) (sym w.main.2) tt in
-    are_safe script w.checks main_name f Number [] 0 first_id [] w.main.1 w.main.3 marked (no_answers (serial_run script) first_id)
+    subst (λ ts. IsSafeTask (serial_run script) ts first_id []) w.main.3
+    (are_safe script w.checks main_name f [] 0 first_id [] w.main.1 marked (no_answers (serial_run script) first_id))
+
+-- the first result of what ended in kinds is of the first
+pub first_ends : (e : Completion) (u : Kind) (us : List Kind) → CompletesIn e (u ∷ us) → EndsIn (first_outcome e) u
+first_ends (Returned []) u us h = absurd h
+first_ends (Returned (v ∷ vs)) u us h = h.0
+first_ends (Aborted t) u us h = h
 
 mutual
   plain_read : (r : Reading) (v : Value) → IsPlain (read r v) → read r v ≡ v

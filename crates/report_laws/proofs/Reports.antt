@@ -1,12 +1,14 @@
 -- The report of a log in which main begins the serial run begins as the serial run's.
-use Rattle.std.proofs.Common.{◌≡◌, ◌∙◌, ℕ, List, [], ◌∷◌, ◌++◌, inl, inr, Option, Some, None, map, refl, sym, ap, subst, append_assoc}
+use Rattle.std.proofs.Common.{◌≡◌, ◌∙◌, ℕ, List, [], ◌∷◌, ◌++◌, inl, inr, Option, Some, None, map, take, refl, sym, ap, subst, append_assoc}
 use Rattle.std.specs.Prelude.{slice_get, codes}
 use Rattle.std.specs.List.{flat_map}
 use Rattle.std.specs.Option.{option_map}
 use Rattle.meaning.specs.Lists.{IsFirst}
 use Rattle.meaning.specs.Values.{Value, Outcome}
 use Rattle.meaning.specs.Syntax.{Number, Script}
+use Rattle.meaning.specs.Runs.{serial_end}
 use Rattle.meaning.specs.Meaning.{serial_run}
+use Rattle.meaning.specs.Readings.{read_outcome}
 use Rattle.meaning.specs.Kinds.{AllPlain, EndsIn}
 use Rattle.event_log.specs.Entries.{Fault, Entry, main_attempt}
 use Rattle.event_log.specs.Words.{Lack, printed_by, ends_of, faults_of}
@@ -30,7 +32,8 @@ use Rattle.report_laws.specs.Serial.{serial_prints, serial_outcome}
 use Rattle.report_laws.specs.Begins.{BeginsWith, HasCause}
 use Rattle.report_laws.specs.Json.{SaysOfMain}
 use Rattle.report_laws.specs.Law.{AreAsSerial, ReportsBeginAsSerial, LinesBegin}
-use Rattle.report_laws.proofs.Plain.{main_is_safe, first_read, all_read, outcome_read}
+use Rattle.history.proofs.Ends.{main_ends_are}
+use Rattle.report_laws.proofs.Plain.{main_is_safe, first_ends, first_read, all_read, outcome_read}
 use Rattle.report_laws.proofs.Said.{lines_said, prints_said}
 
 module _ (script : Script) (log : List Entry) (typed : IsWellTyped script) (m : MainBegins script log) where
@@ -42,20 +45,28 @@ module _ (script : Script) (log : List Entry) (typed : IsWellTyped script) (m : 
       m.begins.prints
 
   -- where it ended, they are all of them
-  pub prints_all : (c : Outcome) → IsWhole (reading_of script log) log main_attempt (serial_run script) c → serial_prints script ≡ printed_by main_attempt log
-  prints_all c w =
+  pub prints_all : (cs : List Outcome) → IsWhole (reading_of script log) log main_attempt 1 (serial_run script) cs → serial_prints script ≡ printed_by main_attempt log
+  prints_all cs w =
       let plain = (main_is_safe script typed).serial_prints in
       w.prints ∙ all_read (reading_of script log) (printed_by main_attempt log) (subst AllPlain w.prints plain)
 
-  -- and it ended as the serial run does
-  pub end_same : (c : Outcome) → IsWhole (reading_of script log) log main_attempt (serial_run script) c → serial_outcome script ≡ c
-  end_same c w =
-      let number = (main_is_safe script typed).serial in
-      w.outcome ∙ outcome_read (reading_of script log) c (subst (λ d. EndsIn d Number) w.outcome number)
+  as_read : (c : Outcome) → serial_outcome script ≡ read_outcome (reading_of script log) c → serial_outcome script ≡ c
+  as_read c e =
+      let number = first_ends (serial_end (serial_run script)) Number [] (main_is_safe script typed).serial in
+      e ∙ outcome_read (reading_of script log) c (subst (λ d. EndsIn d Number) e number)
 
-  -- the content with which it ended is the one that makes it whole
-  pub whole_at : (c : Outcome) (cs : List Outcome) → ends_of main_attempt log ≡ c ∷ cs → IsWhole (reading_of script log) log main_attempt (serial_run script) c
-  whole_at c cs e = m.begins.ended 0 c (ap (λ xs. slice_get xs 0) e)
+  -- and it ended as the serial run does, with one content
+  pub end_same : (cs : List Outcome) → IsWhole (reading_of script log) log main_attempt 1 (serial_run script) cs → cs ≡ serial_outcome script ∷ []
+  end_same cs w = go cs w.outcome
+    where
+      go : (ds : List Outcome) → serial_outcome script ∷ [] ≡ map (read_outcome (reading_of script log)) ds → ds ≡ serial_outcome script ∷ []
+      go [] e = absurd (cc)
+      go (c ∷ []) e = let same : serial_outcome script ≡ read_outcome (reading_of script log) c = cc in ap (λ d. d ∷ []) (sym (as_read c same))
+      go (c ∷ d ∷ ds) e = absurd (cc)
+
+  -- the contents with which it ended are those that make it whole
+  pub whole_at : (cs : List Outcome) (ends : List (List Outcome)) → ends_of main_attempt log ≡ cs ∷ ends → IsWhole (reading_of script log) log main_attempt 1 (serial_run script) cs
+  whole_at cs ends e = m.begins.ended 0 cs (ap (λ xs. slice_get xs 0) e)
 
   -- its fault has its cause
   pub fault_caused : HasCause log (main_fault log)
@@ -93,23 +104,24 @@ says_so log vs ended fault e f = record {
 pub report_begins : (script : Script) (log : List Entry) → IsWellTyped script → MainBegins script log → AreAsSerial script log
 report_begins script log typed m = go (ends_of main_attempt log) refl
   where
-    go : (cs : List Outcome) → ends_of main_attempt log ≡ cs → AreAsSerial script log
+    go : (ends : List (List Outcome)) → ends_of main_attempt log ≡ ends → AreAsSerial script log
     go [] e =
         let prints = printed_by main_attempt log in
         let fault = main_fault log in
         let first = prints_first script log typed m in
         let cause = fault_caused script log typed m in
-        let ended : main_end log ≡ None = ap first_of e in
+        let ended : main_end log ≡ None = ap first_of (main_ends_are log ∙ ap (λ ends. flat_map (take 1) ends) e) in
         let begins = begins_so log prints (unended_line fault) refl (ap (λ o. main_line o fault) ended) in
         let says = says_so log prints None fault refl (ap (λ o. main_data o fault) ended) in
         record {
           text = inr (record { prints = prints; fault = fault; begins = begins; first = first; cause = cause }, ap status ended);
           json = inr (record { prints = prints; fault = fault; says = says; first = first; cause = cause }, ap status ended);
         }
-    go (c ∷ cs) e =
-        let w = whole_at script log typed m c cs e in
-        let all = sym (prints_all script log typed m c w) in
-        let ended : main_end log ≡ Some (serial_outcome script) = ap first_of e ∙ ap Some (sym (end_same script log typed m c w)) in
+    go (cs ∷ ends) e =
+        let w = whole_at script log typed m cs ends e in
+        let all = sym (prints_all script log typed m cs w) in
+        let one = e ∙ ap (λ ds. ds ∷ ends) (end_same script log typed m cs w) in
+        let ended : main_end log ≡ Some (serial_outcome script) = ap first_of (main_ends_are log ∙ ap (λ xs. flat_map (take 1) xs) one) in
         let begins = begins_so log (serial_prints script) (end_line (serial_outcome script)) all (ap (λ o. main_line o (main_fault log)) ended) in
         let says = says_so log (serial_prints script) (Some (serial_outcome script)) None all (ap (λ o. main_data o (main_fault log)) ended) in
         record { text = inl (begins, ap status ended); json = inl (says, ap status ended) }

@@ -23,7 +23,7 @@ lines_said (Got a y c ∷ log) = lines_said log
 lines_said (Printed v ∷ log) =
     ap (λ t. codes "print " ++ t) (append_assoc (value_text v) (codes "\n") (flat_map print_in log))
     ∙ ap (λ t. codes "print " ++ (value_text v ++ (codes "\n" ++ t))) (lines_said log)
-lines_said (Ended a c ∷ log) = lines_said log
+lines_said (Ended a cs ∷ log) = lines_said log
 lines_said (Accepted a ∷ log) = lines_said log
 lines_said (Faulted a y f ∷ log) = lines_said log
 lines_said (Resolved o f ∷ log) = lines_said log
@@ -40,7 +40,7 @@ prints_said (Begun a w ∷ log) = prints_said log
 prints_said (Born o a b ∷ log) = prints_said log
 prints_said (Got a y c ∷ log) = prints_said log
 prints_said (Printed v ∷ log) = ap (λ ds. value_data v ∷ ds) (prints_said log)
-prints_said (Ended a c ∷ log) = prints_said log
+prints_said (Ended a cs ∷ log) = prints_said log
 prints_said (Accepted a ∷ log) = prints_said log
 prints_said (Faulted a y f ∷ log) = prints_said log
 prints_said (Resolved o f ∷ log) = prints_said log

@@ -1,6 +1,6 @@
 -- What `raysim serial` says of a script.
 use Rattle.std.specs.Prelude.{ℕ, List, ◌++◌, Some}
-use Rattle.meaning.specs.Values.{Value, Outcome}
+use Rattle.meaning.specs.Values.{Value, Outcome, first_outcome}
 use Rattle.meaning.specs.Syntax.{Script}
 use Rattle.meaning.specs.Runs.{serial_end, serial_trace}
 use Rattle.meaning.specs.Meaning.{serial_run}
@@ -12,9 +12,9 @@ use Rattle.history.specs.Main.{status}
 abbrev pub serial_prints : Script → List Value
 serial_prints script = prints_of (serial_trace (serial_run script))
 
--- and how it ends
+-- and how it ends: main has one result
 abbrev pub serial_outcome : Script → Outcome
-serial_outcome script = serial_end (serial_run script)
+serial_outcome script = first_outcome (serial_end (serial_run script))
 
 -- a line for each print, and the line of its end
 abbrev pub serial_report : Script → List ℕ

@@ -9,7 +9,7 @@ is_event (In e seat) = true
 is_event _ = false
 
 abbrev pub makes_a_task : Birth → Bool
-makes_a_task (Task name arguments marks retries) = true
+makes_a_task (Task name arguments depth retries others) = true
 makes_a_task _ = false
 
 -- a task was born, not a put

@@ -33,7 +33,7 @@ way_note g in_argument = if in_argument then argument_note g else codes " in its
 abbrev pub holder_note : Id → Option Birth → List ℕ
 holder_note o None = codes "\n"
 holder_note o (Some (Put v)) = codes " in its value\n"
-holder_note o (Some (Task g args depth retries)) = way_note g (is_argument o args)
+holder_note o (Some (Task g args depth retries others)) = way_note g (is_argument o args)
 
 -- o1.1: held by o1.2 as an argument of f
 unfoldable pub holder_line : List Entry → Id → Id → List ℕ

@@ -18,7 +18,7 @@ use Rattle.state_text.specs.Below.{below, node_words, worker_count}
 use Rattle.state_text.specs.Holders.{askers_text, frame_line, holders_text}
 
 abbrev pub function_name : Option Birth → Name
-function_name (Some (Task g args depth retries)) = g
+function_name (Some (Task g args depth retries others)) = g
 function_name _ = []
 
 abbrev pub maker_text : List Entry → Id → Maker → List ℕ
@@ -82,7 +82,7 @@ object_head log is_live o x = object_text o ++ codes ": " ++ (maker_text log o x
 
 -- o1.2: 1 of 3 retries used
 abbrev pub used_line : Id → ℕ → Option Birth → List ℕ
-used_line o k (Some (Task g args depth retries)) =
+used_line o k (Some (Task g args depth retries others)) =
     object_text o ++ (codes ": " ++ (decimal k ++ (codes " of " ++ (decimal retries ++ codes " retries used\n"))))
 used_line o k _ = []
 

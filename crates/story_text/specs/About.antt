@@ -6,7 +6,7 @@ use Rattle.meaning.specs.Births.{same_id}
 use Rattle.event_log.specs.Entries.{Event, Notice, NoticeNode, Evict, Lose, Kill, KillNode, Entry, In, Begun, Born, Got, Ended, Accepted, Faulted}
 use Rattle.event_log.specs.Entries.{Resolved, Released}
 use Rattle.event_log.specs.Events.{refused_next}
-use Rattle.story_text.specs.Mentions.{is_in_birth, is_in_content}
+use Rattle.story_text.specs.Mentions.{is_in_birth, is_in_content, is_in_contents}
 use Rattle.story_text.specs.Runners.{Subject}
 use Rattle.story_text.specs.declared.runners.Subject.{Subject as CodeSubject}
 
@@ -18,7 +18,7 @@ unfoldable pub is_about : Id → Entry → Bool
 is_about o (Begun a w) = same_id a.object o
 is_about o (Born p a b) = same_id p o || is_in_birth o b
 is_about o (Got a y c) = same_id a.object o || (same_id y o || is_in_content o c)
-is_about o (Ended a c) = same_id a.object o || is_in_content o c
+is_about o (Ended a cs) = same_id a.object o || is_in_contents o cs
 is_about o (Accepted a) = same_id a.object o
 is_about o (Faulted a y f) = same_id a.object o || (same_id y o || same_id f.object o)
 is_about o (Resolved p f) = same_id p o || same_id f.object o

@@ -15,7 +15,11 @@ is_in_argument o a = is_among o (ids_of a.value)
 -- it stands in the put value or in an argument
 unfoldable pub is_in_birth : Id → Birth → Bool
 is_in_birth o (Put v) = is_among o (ids_of v)
-is_in_birth o (Task g args depth retries) = list_any (is_in_argument o) args
+is_in_birth o (Task g args depth retries others) = list_any (is_in_argument o) args
 
 unfoldable pub is_in_content : Id → Outcome → Bool
 is_in_content o c = is_among o (each_once (ids_in_outcome c))
+
+-- it stands in a content of the results
+unfoldable pub is_in_contents : Id → List Outcome → Bool
+is_in_contents o cs = list_any (is_in_content o) cs

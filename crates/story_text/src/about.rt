@@ -3,7 +3,7 @@
 ghost use Rattle.std.specs.Prelude.{◌≡◌, IfOk};
 ghost use Rattle.story_text.specs.About.{befalls, is_about, is_ahead, is_event_shown, is_shown, seen_of};
 
-use crate::mentions::{is_in_birth, is_in_content};
+use crate::mentions::{is_in_birth, is_in_content, is_in_contents};
 use crate::runners::{Subject, is_one};
 use ids::ObjectId;
 use log_entries::{Entry, Event};
@@ -40,11 +40,11 @@ fn is_about(alloc: Global, object: ObjectId, entry: &Entry) -> Result<bool, Allo
             }
             is_in_content(alloc, object, &content.inner)
         }
-        Entry::Ended { attempt, content } => {
+        Entry::Ended { attempt, contents } => {
             if attempt.object.is(object) {
                 return Ok(true);
             }
-            is_in_content(alloc, object, &content.inner)
+            is_in_contents(alloc, object, contents)
         }
         Entry::Faulted {
             attempt,

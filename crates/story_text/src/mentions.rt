@@ -4,10 +4,12 @@ ghost use Rattle.std.specs.Prelude.{◌≡◌, IfOk, map};
 ghost use Rattle.std.specs.List.{list_any};
 ghost use Rattle.values.specs.Values.{content_of};
 ghost use Rattle.task_spec.specs.Births.{argument_of, birth_of};
-ghost use Rattle.story_text.specs.Mentions.{is_among, is_in_argument, is_in_birth, is_in_content};
+ghost use Rattle.story_text.specs.Mentions.{is_among, is_in_argument, is_in_birth, is_in_content, is_in_contents};
 
+use held::SharedContent;
 use ids::ObjectId;
 use log_words::ids_of;
+use sequence::Seq;
 use std::alloc::{AllocError, Global};
 use task_spec::{Argument, Birth};
 use values::{Content, ids_in};
@@ -66,4 +68,21 @@ pub fn is_in_content(alloc: Global, object: ObjectId, content: &Content) -> Resu
 {
     let ids = ids_in(content, alloc)?;
     Ok(is_among(object, &ids))
+}
+
+/// Whether the object stands in a content of the results.
+#[tactic(auto, unfolding(crate::specs::Mentions::is_in_contents))]
+pub fn is_in_contents(
+    alloc: Global,
+    object: ObjectId,
+    contents: &Seq<SharedContent>,
+) -> Result<bool, AllocError>
+    ensures { IfOk result (λ b. b ≡ is_in_contents object contents.now) }
+{
+    for content in contents.as_slice() {
+        if is_in_content(alloc, object, &content.inner)? {
+            return Ok(true);
+        }
+    }
+    Ok(false)
 }

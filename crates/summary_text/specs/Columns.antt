@@ -11,7 +11,7 @@ use Rattle.summary_text.specs.declared.columns.Column.TheVariants.{AfterDeaths, 
 
 abbrev pub is_born_of : Name → Birth → Bool
 is_born_of g (Put v) = false
-is_born_of g (Task h args depth retries) = same_name h g
+is_born_of g (Task h args depth retries others) = same_name h g
 
 abbrev pub is_of : Name → Option Birth → Bool
 is_of g None = false
@@ -48,7 +48,7 @@ begins_after log g accepted (Begun a w) = is_further log g accepted a
 begins_after log g accepted _ = false
 
 abbrev pub ends : List Entry → Name → Entry → Bool
-ends log g (Ended a c) = is_made_by log g a.object
+ends log g (Ended a cs) = is_made_by log g a.object
 ends log g _ = false
 
 abbrev pub faults : List Entry → Name → Entry → Bool

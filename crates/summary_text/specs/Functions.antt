@@ -41,7 +41,7 @@ is_known before g = if same_name g (codes "main") then true else list_any (born_
 
 abbrev pub birth_line : List Entry → List Entry → Birth → List ℕ
 birth_line log before (Put v) = []
-birth_line log before (Task g args depth retries) = if is_known before g then [] else born_line log g
+birth_line log before (Task g args depth retries others) = if is_known before g then [] else born_line log g
 
 abbrev pub entry_line : List Entry → List Entry → Option Entry → List ℕ
 entry_line log before (Some (Born o a b)) = birth_line log before b

@@ -15,7 +15,7 @@ use Rattle.event_log.specs.Entries.{Attempt, Entry}
 use Rattle.event_log.specs.Entries as entries
 use Rattle.history.specs.Texts.{fault_text}
 use Rattle.log_words.specs.declared.contents.Contents.{Contents}
-use Rattle.log_words.specs.Contents.{content_text}
+use Rattle.log_words.specs.Contents.{content_text, contents_text}
 use Rattle.log_words.specs.Told.{Told, nothing_told}
 use Rattle.timeline.specs.declared.rows.Row.{Row}
 use Rattle.timeline.specs.declared.rows.Running.{Running}
@@ -90,7 +90,7 @@ event_plain how births clock _ r = refl
 row_plain : (how : Contents) (births : List Bearing) (clock : ℕ) (x : Entry) (refused : Bool) (r : Row) → ArePlain (row_data how births clock x refused r)
 row_plain how births clock (entries.Got a y c) refused r =
     chosen (runs a r) _ _ (wait_plain clock (get_name y) (content_text how c) r) refl
-row_plain how births clock (entries.Ended a c) refused r = chosen (runs a r) _ _ (attempt_plain how births clock (content_text how c) r) refl
+row_plain how births clock (entries.Ended a cs) refused r = chosen (runs a r) _ _ (attempt_plain how births clock (contents_text how cs) r) refl
 row_plain how births clock (entries.Faulted a y f) refused r =
     chosen (runs a r) _ _ (both_plain how births clock (get_name y) (fault_text f) r) refl
 row_plain how births clock (entries.In e seat) refused r = chosen refused [] (event_data how births clock e r) refl (event_plain how births clock e r)

@@ -9,7 +9,7 @@ use Rattle.log_entries.specs.declared.event.Event.TheVariants.{Kill, KillNode}
 use Rattle.event_log.specs.Entries.{Entry, In, Got, Ended, Faulted}
 use Rattle.history.specs.Texts.{fault_text}
 use Rattle.log_words.specs.declared.contents.Contents.{Contents}
-use Rattle.log_words.specs.Contents.{content_text}
+use Rattle.log_words.specs.Contents.{content_text, contents_text}
 use Rattle.timeline.specs.declared.rows.Row.{Row}
 use Rattle.timeline.specs.Rows.{runs}
 use Rattle.timeline.specs.Spans.{attempt_spans, wait_spans}
@@ -35,7 +35,7 @@ event_data how births clock _ r = []
 -- what an entry adds in a row; `how` says whether long lists are cut, and `refused` says of an event that it is refused
 abbrev pub row_data : Contents → List Bearing → ℕ → Entry → Bool → Row → List Data
 row_data how births clock (Got a y c) refused r = if runs a r then wait_spans clock (get_name y) (content_text how c) r else []
-row_data how births clock (Ended a c) refused r = if runs a r then attempt_spans how births clock (content_text how c) r else []
+row_data how births clock (Ended a cs) refused r = if runs a r then attempt_spans how births clock (contents_text how cs) r else []
 row_data how births clock (Faulted a y f) refused r =
     if runs a r then both_spans how births clock (get_name y) (fault_text f) r else []
 row_data how births clock (In e seat) refused r = if refused then [] else event_data how births clock e r

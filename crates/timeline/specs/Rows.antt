@@ -45,7 +45,7 @@ after_event told _ r = r
 abbrev pub row_after : Told → Entry → Bool → Row → Row
 row_after told (Begun a w) refused r = if w == r.worker then begins r a told.events else r
 row_after told (Got a y c) refused r = if runs a r then with_waits r None else r
-row_after told (Ended a c) refused r = if runs a r then stopped r else r
+row_after told (Ended a cs) refused r = if runs a r then stopped r else r
 row_after told (Faulted a y f) refused r = if runs a r then stopped r else r
 row_after told (In e seat) refused r = if refused then r else after_event told e r
 row_after told _ refused r = r

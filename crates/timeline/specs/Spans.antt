@@ -23,7 +23,7 @@ span_data name category args since r clock =
 
 -- the call that an attempt runs; one of an object that was never born, which no legal log has, is named by itself
 abbrev pub called : Contents → Attempt → Option Birth → List ℕ
-called how a (Some (Task g args depth retries)) = call_text how g args
+called how a (Some (Task g args depth retries others)) = call_text how g args
 called how a (Some (Put v)) = attempt_text a
 called how a None = attempt_text a
 

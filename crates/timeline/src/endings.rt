@@ -6,16 +6,18 @@ ghost use Rattle.values.specs.Values.{content_of};
 ghost use Rattle.event_log.specs.Words.{births};
 ghost use Rattle.history.specs.Texts.{fault_text};
 ghost use Rattle.log_words.specs.Index.{IsIndexOf};
-ghost use Rattle.log_words.specs.Contents.{content_text};
+ghost use Rattle.log_words.specs.Contents.{content_text, contents_text};
 ghost use Rattle.timeline.specs.Endings.{both_spans, death_data, event_data, get_name, open_data, row_data};
 
 use crate::marks::mark_json;
 use crate::rows::{Row, runs};
 use crate::spans::{add_attempt, add_wait};
+use held::SharedContent;
 use history::kind_name;
 use ids::ObjectId;
 use log_entries::{Entry, Event};
-use log_words::{BirthIndex, Contents, write_content};
+use log_words::{BirthIndex, Contents, write_content, write_contents};
+use sequence::Seq;
 use serde_json::Value;
 use std::alloc::{AllocError, Global};
 use values::{Content, Fault};
@@ -31,6 +33,18 @@ fn content_name(alloc: Global, contents: Contents, content: &Content) -> Result<
 {
     let mut text = String::new(alloc);
     write_content(&mut text, contents, content)?;
+    Ok(text)
+}
+
+fn contents_name(
+    alloc: Global,
+    contents: Contents,
+    results: &Seq<SharedContent>,
+) -> Result<String, AllocError>
+    ensures { IfOk result (λ s. string_bytes s ≡ contents_text contents results.now) }
+{
+    let mut text = String::new(alloc);
+    write_contents(&mut text, contents, results)?;
     Ok(text)
 }
 
@@ -139,11 +153,14 @@ pub fn add_row(
             let ending = content_name(alloc, contents, &content.inner)?;
             add_wait(alloc, all, clock, name.as_str(), ending.as_str(), row)
         }
-        Entry::Ended { attempt, content } => {
+        Entry::Ended {
+            attempt,
+            contents: results,
+        } => {
             if !runs(*attempt, row) {
                 return Ok(());
             }
-            let ending = content_name(alloc, contents, &content.inner)?;
+            let ending = contents_name(alloc, contents, results)?;
             add_attempt(
                 alloc,
                 all,

@@ -1,6 +1,6 @@
 -- From a trap that was got to the attempt that ended with it.
 use Rattle.std.specs.Prelude.{Bool, List, None, Option, Some, [], false, if◌then◌else◌, suc, true, zero, ℕ, ◌&&◌, ◌∷◌}
-use Rattle.std.specs.List.{flat_map}
+use Rattle.std.specs.List.{flat_map, list_any}
 use Rattle.meaning.specs.Births.{same_id}
 use Rattle.meaning.specs.Values.{Id, Outcome, Trapped, Val}
 use Rattle.event_log.specs.Entries.{Attempt, Ended, Entry, Got}
@@ -29,7 +29,7 @@ unfoldable pub trap_got : List Entry → Attempt → Option Id
 trap_got log a = trap_got_from a None log
 
 abbrev pub trapped_in : Id → Entry → List Attempt
-trapped_in o (Ended a c) = if same_id a.object o && is_trap c then a ∷ [] else []
+trapped_in o (Ended a cs) = if same_id a.object o && list_any is_trap cs then a ∷ [] else []
 trapped_in o _ = []
 
 -- the first attempt of the object's task that ended with a trap

@@ -1,12 +1,15 @@
 // From a trap that was got to the attempt that ended with it.
 
 ghost use Rattle.std.specs.Prelude.{◌≡◌};
+ghost use Rattle.std.specs.List.{list_any};
 ghost use Rattle.values.specs.Values.{content_of};
 ghost use Rattle.history.specs.Main.{first};
 ghost use Rattle.trap_sources.specs.Chains.{is_trap, trap_after, trap_got, trap_origin, trapped_in, trapped_of};
 
+use held::SharedContent;
 use ids::{AttemptId, ObjectId};
 use log_entries::Entry;
+use sequence::Seq;
 use values::Content;
 
 fn is_trap(content: &Content) -> bool
@@ -51,13 +54,24 @@ pub fn trap_got(log: &[Entry], attempt: AttemptId) -> Option<ObjectId>
     last
 }
 
+fn has_trap(contents: &Seq<SharedContent>) -> bool
+    ensures { result ≡ list_any is_trap contents.now }
+{
+    for content in contents.as_slice() {
+        if is_trap(&content.inner) {
+            return true;
+        }
+    }
+    false
+}
+
 fn trapped_in(object: ObjectId, entry: &Entry) -> Option<AttemptId>
     ensures { result ≡ first (trapped_in object entry.now) }
 {
-    let Entry::Ended { attempt, content } = entry else {
+    let Entry::Ended { attempt, contents } = entry else {
         return None;
     };
-    if attempt.object.is(object) && is_trap(&content.inner) {
+    if attempt.object.is(object) && has_trap(contents) {
         return Some(*attempt);
     }
     None

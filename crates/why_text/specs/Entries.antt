@@ -7,7 +7,7 @@ use Rattle.meaning.specs.Births.{Bearing, same_id}
 use Rattle.event_log.specs.Entries.{Attempt, Fault, Entry, In, Begun, Born, Got, Ended, Accepted, Faulted, Resolved, Released}
 use Rattle.log_words.specs.declared.contents.Contents.{Contents}
 use Rattle.log_words.specs.Calls.{birth_text}
-use Rattle.log_words.specs.Contents.{content_text}
+use Rattle.log_words.specs.Contents.{content_text, contents_text}
 use Rattle.log_words.specs.Faults.{fault_words}
 use Rattle.log_text.specs.Attempts.{named_text}
 use Rattle.story_text.specs.Mentions.{is_in_birth}
@@ -33,8 +33,8 @@ got_text how births m a y c =
     named_text births a ++ (codes " got " ++ (id_text y ++ (when_text m ++ (codes ": " ++ (content_text how c ++ codes ".\n")))))
 
 -- a1.1#0 (sq) ended in event 13 (commit 2): 49.
-abbrev pub ended_text : Contents → List Bearing → Moment → Attempt → Outcome → List ℕ
-ended_text how births m a c = named_text births a ++ (codes " ended" ++ (when_text m ++ (codes ": " ++ (content_text how c ++ codes ".\n"))))
+abbrev pub ended_text : Contents → List Bearing → Moment → Attempt → List Outcome → List ℕ
+ended_text how births m a cs = named_text births a ++ (codes " ended" ++ (when_text m ++ (codes ": " ++ (contents_text how cs ++ codes ".\n"))))
 
 unfoldable pub accepted_head : ℕ → List ℕ
 accepted_head w = codes "w" ++ (decimal w ++ codes " accepted ")
@@ -84,7 +84,7 @@ abbrev pub entry_sentence : Contents → Id → List Bearing → List ℕ → Li
 entry_sentence how o births lines before m (Born p a b) = birth_sentence how o births m p a b
 entry_sentence how o births lines before m (Begun a w) = if same_id a.object o then began_text births lines before m a w else []
 entry_sentence how o births lines before m (Got a y c) = got_sentence how o births m a y c
-entry_sentence how o births lines before m (Ended a c) = if same_id a.object o then ended_text how births m a c else []
+entry_sentence how o births lines before m (Ended a cs) = if same_id a.object o then ended_text how births m a cs else []
 entry_sentence how o births lines before m (Accepted a) = if same_id a.object o then accepted_text births before m a else []
 entry_sentence how o births lines before m (Faulted a y f) = faulted_sentence o births before m a y f
 entry_sentence how o births lines before m (Resolved p f) = if same_id p o then given_up_text m p f else []

@@ -1,6 +1,6 @@
 -- What had an object, and which of that went with its owner; `before` are the entries up to then, and `lines` are those of their events.
 use Rattle.std.specs.Prelude.{ℕ, Bool, true, false, not, ◌&&◌, ◌==◌, if◌then◌else◌, List, [], ◌∷◌, Option, Some, None}
-use Rattle.std.specs.List.{flat_map, list_any}
+use Rattle.std.specs.List.{flat_map, list_all, list_any}
 use Rattle.meaning.specs.Values.{Id}
 use Rattle.meaning.specs.Births.{same_id}
 use Rattle.values.specs.Cells.{is_small}
@@ -8,7 +8,7 @@ use Rattle.event_log.specs.Entries.{Attempt, FaultKind, OwnerDied, Fault, Kill, 
 use Rattle.event_log.specs.Words.{opened, same_attempt}
 use Rattle.event_log.specs.Events.{from_one, refused_next}
 use Rattle.history.specs.Main.{first}
-use Rattle.story_text.specs.Mentions.{is_in_birth, is_in_content}
+use Rattle.story_text.specs.Mentions.{is_in_birth, is_in_contents}
 use Rattle.why_text.specs.Moments.{Moment, first_moment, moment_after}
 use Rattle.why_text.specs.Runs.{is_node}
 
@@ -30,7 +30,7 @@ death_of lines before w = death_from lines first_moment w (from_one (opened befo
 -- the object that has the other by the entry: in its put value, in its arguments, or in a content with which an attempt of it ended
 unfoldable pub holder_in : Id → Entry → Option Id
 holder_in o (Born e a b) = if is_in_birth o b then Some e else None
-holder_in o (Ended a c) = if is_in_content o c then Some a.object else None
+holder_in o (Ended a cs) = if is_in_contents o cs then Some a.object else None
 holder_in o _ = None
 
 unfoldable pub is_release_of : Id → Entry → Bool
@@ -79,9 +79,9 @@ unfoldable pub is_from_above : List Entry → Id → Fault → Bool
 is_from_above before y f =
     if is_owner_died f.kind then (if is_released_in y before then has before f.object y else false) else false
 
--- the attempt ended with a small content: its owner keeps that once it accepts it, and no store has it
+-- the attempt ended with small contents: their owner keeps them once it accepts it, and no store has them
 unfoldable pub is_small_end : Attempt → Entry → Bool
-is_small_end a (Ended b c) = same_attempt b a && is_small c
+is_small_end a (Ended b cs) = same_attempt b a && list_all is_small cs
 is_small_end a _ = false
 
 abbrev pub is_kept : List Entry → Attempt → Bool

@@ -19,7 +19,7 @@ pub record Run : Type 0 where
 
 -- the attempt ends with the entry
 unfoldable pub is_end_of : Attempt → Entry → Bool
-is_end_of a (Ended b c) = same_attempt b a
+is_end_of a (Ended b cs) = same_attempt b a
 is_end_of a (Faulted b y f) = same_attempt b a
 is_end_of a _ = false
 

@@ -12,10 +12,12 @@ ghost use Rattle.why_text.specs.Entries.{given_up_text, got_text, made_text, rel
 use crate::again::write_again;
 use crate::moments::{Moment, write_when};
 use crate::notes::{write_fault_note, write_kept_note, write_owner_of, write_release_note};
+use held::SharedContent;
 use ids::{AttemptId, ObjectId, WorkerId};
 use log_entries::Entry;
 use log_text::write_named;
-use log_words::{BirthIndex, Contents, write_birth, write_content, write_fault};
+use log_words::{BirthIndex, Contents, write_birth, write_content, write_contents, write_fault};
+use sequence::Seq;
 use std::alloc::{AllocError, Global};
 use task_spec::Birth;
 use values::{Content, Fault};
@@ -92,16 +94,16 @@ pub fn write_ended(
     log: &[Entry],
     moment: &Moment,
     attempt: AttemptId,
-    content: &Content,
+    results: &Seq<SharedContent>,
 ) -> Result<(), AllocError>
     ensures { IsIndexOf index.now log.now → OnOk result (string_bytes text.new ≡ string_bytes text.old
-        ++ ended_text contents (births log.now) (moment_of moment.now) attempt (content_of content.now)) }
+        ++ ended_text contents (births log.now) (moment_of moment.now) attempt results.now) }
 {
     write_named(text, index, log, attempt)?;
     text.push_str(" ended")?;
     write_when(text, moment)?;
     text.push_str(": ")?;
-    write_content(text, contents, content)?;
+    write_contents(text, contents, results)?;
     text.push_str(".\n")
 }
 

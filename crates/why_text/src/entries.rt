@@ -157,9 +157,12 @@ fn write_entry_sentence(
             *object,
             &content.inner,
         ),
-        Entry::Ended { attempt, content } => {
+        Entry::Ended {
+            attempt,
+            contents: results,
+        } => {
             if attempt.object.is(subject) {
-                return write_ended(text, contents, index, log, moment, *attempt, &content.inner);
+                return write_ended(text, contents, index, log, moment, *attempt, results);
             }
             Ok(())
         }

@@ -1,7 +1,9 @@
 // What had an object, and which of that went with its owner.
 
 ghost use Rattle.std.specs.Prelude.{◌≡◌, IfOk};
+ghost use Rattle.std.specs.List.{list_all};
 ghost use Rattle.std.specs.Option.{option_map};
+ghost use Rattle.values.specs.Cells.{is_small};
 ghost use Rattle.history.specs.Main.{first};
 ghost use Rattle.why_text.specs.Moments.{first_moment, moment_of};
 ghost use Rattle.why_text.specs.Holders.{death_from, death_of, gone_holder, gone_in, has, holder_in, if_gone, is_death, is_found, is_from_above};
@@ -9,11 +11,13 @@ ghost use Rattle.why_text.specs.Holders.{is_gone, is_had_in, is_kept, is_owner_d
 
 use crate::moments::Moment;
 use crate::runs::is_node;
+use held::SharedContent;
 use ids::{AttemptId, ObjectId};
 use log_entries::{Entry, Event};
 use log_words::is_refusal_at;
+use sequence::Seq;
 use std::alloc::{AllocError, Global};
-use story_text::{is_in_birth, is_in_content, node_of, opened};
+use story_text::{is_in_birth, is_in_contents, node_of, opened};
 use values::{Fault, FaultKind};
 
 /// Whether the event kills the worker, or its node.
@@ -78,8 +82,8 @@ fn holder_in(alloc: Global, object: ObjectId, entry: &Entry) -> Result<Option<Ob
             }
             Ok(None)
         }
-        Entry::Ended { attempt, content } => {
-            if is_in_content(alloc, object, &content.inner)? {
+        Entry::Ended { attempt, contents } => {
+            if is_in_contents(alloc, object, contents)? {
                 return Ok(Some(attempt.object));
             }
             Ok(None)
@@ -246,14 +250,25 @@ pub fn is_from_above(
     has(alloc, log, fault.object, object)
 }
 
-/// Whether the attempt ended so with a small content.
+fn are_small(contents: &Seq<SharedContent>) -> bool
+    ensures { result ≡ list_all is_small contents.now }
+{
+    for content in contents.as_slice() {
+        if !content.is_small() {
+            return false;
+        }
+    }
+    true
+}
+
+/// Whether the attempt ended so with small contents.
 #[tactic(auto, unfolding(crate::specs::Holders::is_small_end))]
 fn is_small_end(attempt: AttemptId, entry: &Entry) -> bool
     ensures { result ≡ is_small_end attempt entry.now }
 {
     let Entry::Ended {
         attempt: ended,
-        content,
+        contents,
     } = entry
     else {
         return false;
@@ -261,10 +276,10 @@ fn is_small_end(attempt: AttemptId, entry: &Entry) -> bool
     if !ended.is(attempt) {
         return false;
     }
-    content.is_small()
+    are_small(contents)
 }
 
-/// Whether the attempt ended with a small content, which its owner keeps once it accepts it.
+/// Whether the attempt ended with small contents, which their owner keeps once it accepts it.
 pub fn is_kept(log: &[Entry], attempt: AttemptId) -> bool
     ensures { result ≡ is_kept log.now attempt }
 {

@@ -3,7 +3,6 @@
 use crate::orders::try_orders;
 use crate::row::{Read, Reading, Row};
 use crate::trial::{Tally, try_row};
-use std::process::ExitCode;
 use std::rt::Files;
 use std::{fs, io};
 
@@ -38,7 +37,12 @@ fn try_with_orders<R: Print + AllocGlobal>(rt: &R, row: &Row, tells: bool) -> io
     Ok(good)
 }
 
-fn try_file<R: Files + Print + AllocGlobal>(rt: &R, path: &str, tells: bool) -> io::Result<bool> {
+/// Tries the rows of the file, each of whose lists is told with its report where that is asked for, and says whether all is as it is promised.
+pub fn try_file<R: Files + Print + AllocGlobal>(
+    rt: &R,
+    path: &str,
+    tells: bool,
+) -> io::Result<bool> {
     let text = fs::read_to_string(rt, path)?;
     let mut reading = Reading::new(rt.alloc());
     let mut good = true;
@@ -60,20 +64,4 @@ fn try_file<R: Files + Print + AllocGlobal>(rt: &R, path: &str, tells: bool) -> 
         Some(row) => Ok(try_with_orders(rt, &row, tells)? && good),
         None => Ok(good),
     }
-}
-
-/// Tries the rows of each file that the words name behind the first, which is the program's own name. Behind the word `--reports` each list is told with its
-/// report, so that another implementation can be compared. Status 1 where something isn't as it is promised.
-pub fn try_files<R: Files + Print + AllocGlobal>(rt: &R, words: &[String]) -> io::Result<ExitCode> {
-    let mut good = true;
-    let mut tells = false;
-    for word in words.iter().skip(1) {
-        if word.as_str() == "--reports" {
-            tells = true;
-        } else if !try_file(rt, word.as_str(), tells)? {
-            good = false;
-        }
-    }
-    let status = if good { 0 } else { 1 };
-    Ok(ExitCode::from(status))
 }

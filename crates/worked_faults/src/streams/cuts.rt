@@ -1,7 +1,7 @@
 // Event files that are cut.
 
-use crate::row::{Row, answer};
-use crate::tally::Tally;
+use crate::streams::texts::{Texts, answer};
+use crate::streams::tries::Tries;
 use raysim_commands::CommandRefusal;
 use std::alloc::Global;
 
@@ -31,13 +31,13 @@ fn is_answered(cut: &[u8], done: &Option<Result<u8, CommandRefusal>>, written: &
 }
 
 /// The events are cut after each byte.
-pub fn cuts(alloc: Global, row: &Row) -> Tally {
-    let mut tally = Tally::new();
-    for place in 0..row.events.len() + 1 {
+pub fn cuts(alloc: Global, texts: &Texts) -> Tries {
+    let mut tries = Tries::new();
+    for place in 0..texts.events.len() + 1 {
         let mut written: Vec<u8> = Vec::new(alloc);
-        let cut = &row.events[..place];
-        let done = answer(alloc, row.script.as_slice(), cut, &mut written);
-        tally.count(is_answered(cut, &done, written.as_slice()));
+        let cut = &texts.events[..place];
+        let done = answer(alloc, texts.script.as_slice(), cut, &mut written);
+        tries.count(is_answered(cut, &done, written.as_slice()));
     }
-    tally
+    tries
 }

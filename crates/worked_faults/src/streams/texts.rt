@@ -1,6 +1,6 @@
-// A script and a list of events.
+// The texts of a script and of an event file, and what comes of them.
 
-use crate::streams::FailingReader;
+use crate::streams::failing::FailingReader;
 use raysim_commands::{Cluster, CommandRefusal, Form, Tracked, sim};
 use std::alloc::Global;
 use std::io::{Read, Write};
@@ -9,15 +9,15 @@ use std::{fs, io};
 
 /// The texts of a script and of an event file.
 #[derive(Drop)]
-pub struct Row {
+pub struct Texts {
     pub script: Vec<u8>,
     pub events: Vec<u8>,
 }
 
-impl Row {
+impl Texts {
     /// Reads both files.
-    pub fn read<R: Files + AllocGlobal>(rt: &R, script: &str, events: &str) -> io::Result<Row> {
-        Ok(Row {
+    pub fn read<R: Files + AllocGlobal>(rt: &R, script: &str, events: &str) -> io::Result<Texts> {
+        Ok(Texts {
             script: fs::read(rt, script)?,
             events: fs::read(rt, events)?,
         })

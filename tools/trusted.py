@@ -31,7 +31,6 @@ CHAPTERS = [
     ("The law", {
         "report_laws/Serial": "What `serial` says of a script: a line for each print, and the line of its end.",
         "report_laws/Begins": "The law: a text begins with the whole of that, or with the lines of first prints and then `main open` or a fault with its cause.",
-        "report_laws/Json": "The same of a report as JSON, in its members `prints` and `main`.",
         "raysim_commands/Reports": "The law is of reports as text and as JSON; of the other forms it says nothing.",
         "raysim_commands/Scripts": "A text is a script where it reads as a program that the rules allow, and that becomes the script.",
         "raysim_commands/SerialReports": "`serial` writes exactly what it says of the script.",
@@ -63,8 +62,6 @@ CHAPTERS = [
         "report/MainLines": "The lines of prints and of main's end.",
         "history/Texts": "The texts of faults.",
         "history/Main": "The lines `main open` and `main fault`, and the status of an end.",
-        "report_json/Values": "Values as JSON.",
-        "report_json/Main": "Main's end as JSON.",
     }),
     ("What a log says, where a fault has its cause", {
         "values/Listed": "The ids that stand in a value.",
@@ -83,6 +80,13 @@ CHAPTERS = [
         "event_log/Legal": "A log is legal where each event and each entry has what it needs before it.",
     }),
 ]
+
+# and those that it needs for reports as JSON alone
+OF_JSON = {
+    "report_laws/Json": "The law of a report as JSON, in its members `prints` and `main`.",
+    "report_json/Values": "Values as JSON.",
+    "report_json/Main": "Main's end as JSON.",
+}
 
 # whose public contracts a user of the program relies on, and what they are for
 ROOTS = [
@@ -416,7 +420,7 @@ definitions that are reached, comments above them included. What only proofs use
 LAW_TEXT = """\
 What `raysim run` and `raysim sim` write begins as what `raysim serial` writes of the script ([theorems.md](theorems.md) has it in words).
 Whoever believes that alone reads these files, and no other, in this order: {lines} lines in {files} files. Where a file has more than is
-needed here, the last column names what is.
+needed here, the last column names what is. What it says of reports as JSON stands in {of_json} more, {json_lines} lines, in the section behind this one.
 """
 
 
@@ -426,16 +430,18 @@ def law_section(modules, reach):
         reach.add(reach.find(crate, module, name))
     reach.follow()
     lines = rows_of(reach.reached, set())
-    known = [(*key.split("/"), sentence) for _, group in CHAPTERS for key, sentence in group.items()]
+    known = [(*key.split("/"), sentence) for group in [*(it for _, it in CHAPTERS), OF_JSON] for key, sentence in group.items()]
     wanted = {(it.crate, it.name) for it in lines}
     if wanted != {it[:2] for it in known}:
         sys.exit(f"tools/trusted.py: the chapters are not the files that the law of the bytes reaches: {wanted ^ {it[:2] for it in known}}")
     sentences = {it[:2]: it[2] for it in known}
-    out = ["## What the law of the bytes rests on alone", "", LAW_TEXT.format(lines=f"{sum(lines.values()):,}", files=len(lines))]
-    for title, group in CHAPTERS:
+    of_json = sum(count for it, count in lines.items() if f"{it.crate}/{it.name}" in OF_JSON)
+    said = {"lines": f"{sum(lines.values()) - of_json:,}", "files": len(lines) - len(OF_JSON), "of_json": len(OF_JSON), "json_lines": of_json}
+    out = ["## What the law of the bytes rests on alone", "", LAW_TEXT.format(**said)]
+    for title, group in [*((f"### {it}", group) for it, group in CHAPTERS), ("## What it rests on for reports as JSON", OF_JSON)]:
         order = in_order([modules[tuple(key.split("/"))] for key in group], lines)
         rows = [(path_of(it), lines[it], sentences[(it.crate, it.name)], part_reached(it, reach.reached)) for it in order]
-        out += [f"### {title}", "", "| File | Lines | What it says | Of it |", "|---|---|---|---|", *table(rows)]
+        out += [title, "", "| File | Lines | What it says | Of it |", "|---|---|---|---|", *table(rows)]
     return out
 
 

@@ -5,10 +5,10 @@ use Rattle.std.specs.Prelude.{◌≡◌, ℕ, ◌++◌, Bool, true, false, if◌
 use Rattle.std.specs.List.{list_any}
 use Rattle.meaning.specs.Values.{Id}
 use Rattle.event_log.specs.Causes as causes
-use Rattle.event_log.specs.Causes.{is_there, shown, worker_lives}
+use Rattle.event_log.specs.Causes.{is_there, shown}
 use Rattle.event_log.specs.Entries.{Claim, Commit, Deliver, Entry, Event, Evict, Join, Kill, KillNode, Lose, Notice, NoticeNode, Tick}
 use Rattle.event_log.specs.Entries.{Refusal, Pinned, NoCopy, NoWorker, NotReady, NoJob, Stale, NoMessage, NotDead, NoNode, Limit}
-use Rattle.event_log.specs.Events.{has_job_out, is_committed, is_killed, is_live, node_is_killed, node_lives, worker_of_job}
+use Rattle.event_log.specs.Events.{has_job_out, is_committed, is_killed, is_live, node_is_killed, node_lives, worker_of_job, worker_lives}
 use Rattle.event_log.specs.Rules.{Setting}
 use Rattle.protocol.specs.Events.{is_live_node, is_live_worker}
 use Rattle.protocol.specs.Jobs.{Given, Handed}

@@ -7,10 +7,10 @@ use Rattle.meaning.proofs.BirthLaws.{at_test, same_id-true}
 use Rattle.event_log.specs.Breaks.{Among}
 use Rattle.event_log.specs.Entries.{Event, Claim, Commit, Deliver, Tick, Notice, NoticeNode, Evict, Lose, Kill, KillNode, Join, Entry, main_object}
 use Rattle.event_log.specs.Entries.{Refusal, NoWorker, NotReady, NoJob, Stale, NoMessage, NotDead, NoNode}
-use Rattle.event_log.specs.Events.{worker_of_job, is_committed, has_job_out, is_live}
+use Rattle.event_log.specs.Events.{worker_of_job, is_committed, has_job_out, is_live, worker_lives}
 use Rattle.event_log.specs.Rules.{Setting}
 use Rattle.event_log.specs.Legal.{Happens}
-use Rattle.event_log.specs.Causes.{unless, is_there, worker_lives, shown, unseen, IsCauseOf, IsRefusal}
+use Rattle.event_log.specs.Causes.{unless, is_there, shown, unseen, IsCauseOf, IsRefusal}
 use Rattle.event_log.specs.Laws.{is_commit, LawOfCauses}
 
 none_shown : (b : Bool) (code : Refusal) (o : Option Refusal) → unless b code o ≡ None → (b ≡ true) × (o ≡ None)

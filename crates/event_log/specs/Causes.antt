@@ -2,7 +2,7 @@
 use Rattle.std.specs.Prelude.{◌≡◌, ℕ, Bool, true, false, List, [], ◌∷◌, ◌++◌, Option, Some, None, not}
 use Rattle.event_log.specs.Entries.{Event, Claim, Commit, Deliver, Tick, Notice, NoticeNode, Evict, Lose, Kill, KillNode, Join, Entry, In}
 use Rattle.event_log.specs.Entries.{Refusal, Pinned, NoCopy, NoWorker, NotReady, NoJob, Stale, NoMessage, NotDead, NoNode, Limit}
-use Rattle.event_log.specs.Events.{worker_of_job, is_committed, has_job_out, node_is_killed, node_lives, is_killed, is_live}
+use Rattle.event_log.specs.Events.{worker_of_job, is_committed, has_job_out, node_is_killed, node_lives, is_killed, is_live, worker_lives}
 use Rattle.event_log.specs.Breaks.{Among}
 use Rattle.event_log.specs.Settings.{Setting}
 
@@ -15,10 +15,6 @@ abbrev pub is_there : {X : Type 0} → Option X → Bool
 is_there None = false
 is_there (Some x) = true
 
-abbrev pub worker_lives : Option ℕ → List Entry → Bool
-worker_lives None log = false
-worker_lives (Some w) log = is_live w log
-
 -- the job was given out and isn't committed, what was done on it comes with its commit, and its worker lives
 abbrev pub shown_of_job : List Entry → Bool → ℕ → Option Refusal
 shown_of_job log handed j =
@@ -27,8 +23,7 @@ shown_of_job log handed j =
     (unless handed NoJob
     (unless (worker_lives (worker_of_job j log) log) Stale None)))
 
--- Why an event is refused, by the least number where there are several causes, as far as log, cluster and network show it;
--- `handed` says whether what was done on its job comes with a commit.
+-- the least of the causes that log, cluster and network show; `handed` says whether what was done on its job comes with a commit
 abbrev pub shown : Setting → List Entry → Bool → Event → Option Refusal
 shown s log handed (Claim w) = unless (is_live w log) NoWorker (unless (not (has_job_out w log)) NotReady None)
 shown s log handed (Commit j) = shown_of_job log handed j

@@ -121,6 +121,11 @@ is_killed w log = on_node (node_of w log) false (λ n. list_any (kills w n) (acc
 unfoldable pub is_live : ℕ → List Entry → Bool
 is_live w log = on_node (node_of w log) false (λ n. not (list_any (kills w n) (accepted_events log)))
 
+-- there is such a worker, and it lives
+abbrev pub worker_lives : Option ℕ → List Entry → Bool
+worker_lives None log = false
+worker_lives (Some w) log = is_live w log
+
 abbrev pub tells : ℕ → ℕ → Event → Bool
 tells w v (Notice x y) = (x == w) && (y == v)
 tells w v _ = false

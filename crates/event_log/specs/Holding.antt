@@ -6,7 +6,7 @@ use Rattle.meaning.specs.Births.{same_id, is_made_by, Part, part_at, objects_in,
 use Rattle.values.specs.Listed.{ids_listed, ids_in_outcome}
 use Rattle.event_log.specs.Entries.{Attempt, Entry, Begun, Born, Got, Ended, main_object}
 use Rattle.event_log.specs.Words.{attempt, births, Lineage, lines, worker_of, ends_of, faults_of, accepts_of, releases_of}
-use Rattle.event_log.specs.Events.{is_live}
+use Rattle.event_log.specs.Events.{is_live, worker_lives}
 use Rattle.event_log.specs.Breaks.{Among, is_some}
 
 unfoldable pub is_one_of : List Id → Id → Bool
@@ -20,8 +20,7 @@ anchored_from log found [] = found
 anchored_from log found (x ∷ xs) =
     anchored_from log (if is_live x.object.owner log && is_one_of found x.bearer.object then found ++ x.object ∷ [] else found) xs
 
--- the objects whose owner lives and that are main's own or of which the object of the attempt that bore them is anchored; of one
--- birth all are anchored or none, and the first stands for all
+-- main's object, and each whose owner lives and that an attempt of an anchored object bore; the first object of a birth stands for all
 unfoldable pub anchored : List Entry → List Id
 anchored log = anchored_from log (if is_live 1 log then main_object ∷ [] else []) (lines log)
 
@@ -84,24 +83,18 @@ are_released (o ∷ os) log = is_released o log && are_released os log
 abbrev pub is_open : Attempt → List Entry → Bool
 is_open a log = not (is_some (ends_of a log)) && not (is_some (faults_of a log))
 
-abbrev pub lives_on : Option ℕ → List Entry → Bool
-lives_on None log = false
-lives_on (Some w) log = is_live w log
-
 -- the attempt was accepted, or its worker lives
 abbrev pub may_count : Attempt → List Entry → Bool
-may_count a log = is_some (accepts_of a log) || lives_on (worker_of a log) log
+may_count a log = is_some (accepts_of a log) || worker_lives (worker_of a log) log
 
 pub data IsHeld (z : Id) (log : List Entry) : Type 0 where
   -- by an open attempt of an anchored object, on a live worker, in which it is safe
   ByAttempt : (a : Attempt) (w : ℕ) → Among (Begun a w) log → is_anchored a.object log ≡ true → is_live w log ≡ true → is_open a log ≡ true →
       Safe log a z → IsHeld z log
-  -- by an anchored object that has it in its arguments or put value, as long as one of its birth's objects isn't released, where it is safe in
-  -- the attempt that bore that object
+  -- by an anchored object that has it in its birth, until all of that birth's objects are released, where it is safe in what bore that object
   ByBirth : (e : Id) (b : Attempt) (birth : Birth) → Among (Born e b birth) log → is_anchored e log ≡ true →
       are_released (objects_in (record { object = e; birth = birth })) log ≡ false → Among z (ids_of_birth birth) → Safe log b z → IsHeld z log
-  -- by an anchored object, an attempt of which ended with a content that has it, as long as one of the attempt's objects isn't released, where
-  -- it is safe in that attempt, which was accepted or its worker lives
+  -- by contents of an attempt of an anchored object, until all its objects are released, where it is safe there and the attempt may count
   ByContents : (a : Attempt) (cs : List Outcome) → Among (Ended a cs) log → is_anchored a.object log ≡ true →
       are_released (objects_at (births log) a.object) log ≡ false → may_count a log ≡ true → Among z (ids_of_outcomes cs) → Safe log a z →
       IsHeld z log

@@ -19,8 +19,7 @@ outcome_in (Printed v) = main_attempt ∷ []
 outcome_in (Ended a cs) = a ∷ []
 outcome_in _ = []
 
--- the job was given out and not committed, its worker lives, its attempt runs there, and no other attempt is said to do
--- anything
+-- the job was given out and not committed, its worker lives, its attempt runs there, and no other attempt does anything
 pub record CommitsJob (before : List Entry) (j : ℕ) (a : Attempt) (es : List Entry) : Type 0 where
   pub worker : ℕ
   pub claimed : worker_of_job j before ≡ Some worker

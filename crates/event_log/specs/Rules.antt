@@ -113,8 +113,7 @@ pub record MayOpen (s : Setting) (before : List Entry) (w n : ℕ) : Type 0 wher
   pub next : w ≡ length (opened before) + 1
   pub lives : node_lives s.nodes n before ≡ true
 
--- in an own event of the owner, the next attempt of a task none of whose objects is released and not all are resolved; all
--- earlier ones are broken, and there are no more than the retries
+-- in an own event of the owner, with no object of the task released and one not resolved: all earlier attempts are broken, and retries are left
 pub record MayBegin (s : Setting) (before : List Entry) (a : Attempt) (w : ℕ) : Type 0 where
   pub own : IsOwn s before a.object.owner
   pub function : Name
@@ -156,8 +155,7 @@ pub record MayEnd (s : Setting) (before : List Entry) (a : Attempt) (cs : List O
   pub job : IsOwnCommit before a worker
   pub stops : Stops s before a (Over cs)
 
--- in an own event of the attempt's worker, which wasn't told that the object's owner is dead, the attempt needs the object,
--- and the content is the object's
+-- in an own event of the attempt's worker, which wasn't told that the owner is dead: the attempt needs the object, and that is its content
 pub record MayGet (s : Setting) (before : List Entry) (a : Attempt) (y : Id) (c : Outcome) : Type 0 where
   pub worker : ℕ
   pub runs : worker_of a before ≡ Some worker
@@ -166,8 +164,7 @@ pub record MayGet (s : Setting) (before : List Entry) (a : Attempt) (y : Id) (c 
   pub content : HasContent before y c
   pub untold : was_told worker y.owner before ≡ false
 
--- in an own event of the owner, once: the attempt, which isn't main's, ended, is the last one begun, and not all its objects are
--- resolved
+-- in an own event of the owner, once: the attempt, which isn't main's, ended and is the last one begun, and one of its objects isn't resolved
 pub record MayAccept (s : Setting) (before : List Entry) (a : Attempt) : Type 0 where
   pub own : IsOwn s before a.object.owner
   pub not_main : same_id a.object main_object ≡ false
@@ -185,8 +182,7 @@ pub record DiedAbove (before : List Entry) (y : Id) (f : Fault) : Type 0 where
   pub dead : is_killed above.owner before ≡ true
   pub had : HasId before above y
 
--- why a get of the object is answered with the fault: the object is resolved to it, the worker was told that its owner is
--- dead, or it was released and an object of a dead owner had it
+-- why a get is answered so: the object is resolved to it, its owner's death was told, or it was released and an object of a dead owner had it
 abbrev pub IsFaultOf : List Entry → ℕ → Id → Fault → Type 0
 IsFaultOf before w y f =
     Among f (resolves_of y before) ⊎ ((f ≡ record { kind = OwnerDied; object = y }) × (was_told w y.owner before ≡ true)) ⊎ DiedAbove before y f
@@ -233,7 +229,7 @@ pub record MayResolve (s : Setting) (before : List Entry) (o : Id) (f : Fault) :
   pub reason : LastFaulted before o f ⊎ IsLoss f o ⊎ LostBelow before o f
   pub cause : Cause before f
 
--- the attempt is the last one of its task, or another object of the task is resolved, so that no other will be begun
+-- the attempt is the last one of its task that was begun, or an object of the task is resolved
 abbrev pub IsFinal : List Entry → Attempt → Type 0
 IsFinal before a = IsLast before a ⊎ ((p : Id) × (f : Fault) × Among p (objects_at (births before) a.object) × Among f (resolves_of p before))
 
@@ -245,12 +241,11 @@ pub record IsAccepted (before : List Entry) (o : Id) : Type 0 where
   pub accepted : Among (attempt part.born.object number) (accepts_of (attempt part.born.object number) before)
   pub final : IsFinal before (attempt part.born.object number)
 
--- nothing more will be made of the object: it was put, is resolved, or a final attempt of its task is accepted
+-- what the object is stands: it was put, is resolved, or an attempt of its task is accepted and final
 abbrev pub IsSettled : List Entry → Id → Type 0
 IsSettled before o = ((v : Value) × (birth_at (births before) o ≡ Some (Put v))) ⊎ ((f : Fault) × Among f (resolves_of o before)) ⊎ IsAccepted before o
 
--- in an own event of the owner, once: the object is settled, the attempt that bore it has ended or has a fault, and the
--- object isn't held
+-- in an own event of the owner, once: it is settled, the attempt that bore it has ended or has a fault, and it isn't held
 pub record MayRelease (s : Setting) (before : List Entry) (o : Id) : Type 0 where
   pub own : IsOwn s before o.owner
   pub once : releases_of o before ≡ []

@@ -12,7 +12,7 @@ use Rattle.event_log.specs.Entries.{Attempt, Entry, Faulted, main_attempt}
 use Rattle.event_log.specs.Words.{Lack, Received, Content, Lacking, births, answered_of, answers_of, printed_by, ends_of, faults_of}
 use Rattle.event_log.specs.Breaks.{Cause}
 
--- the reading of a log: each id stands for the outcome of the call that made it, or for what was put
+-- the reading of a log: each id stands for the outcome of its result of the call that made it, or for what was put
 abbrev pub reading_of : Script → List Entry → Reading
 reading_of script log = den script (births log)
 

@@ -1,7 +1,7 @@
 -- What a run does, as a tree: it goes on with whatever references a birth gives, and with whatever value a get gives.
 use Rattle.std.specs.Prelude.{ℕ, zero, suc, ◌+◌, List, [], ◌∷◌, map}
 use Rattle.meaning.specs.Syntax.{Kind}
-use Rattle.meaning.specs.Values.{Trap, Value, Int, Items, Named, Known, Outcome, Val, Trapped, Birth, results_of, Completion, Aborted, outcomes, Id, Index}
+use Rattle.meaning.specs.Values.{Trap, Value, Named, Known, Outcome, Val, Trapped, Birth, results_of, Completion, Aborted, outcomes, Id, Index}
 
 pub data Run : Type 0 where
   Ends : (e : Completion) → Run
@@ -21,10 +21,8 @@ pub data Item : Type 0 where
 
 -- the outcome that a reference is; what is none, or only an id, counts as a trap, which a serial run never meets
 abbrev pub outcome_of : Value → Outcome
-outcome_of (Int n) = Trapped Index
-outcome_of (Items vs) = Trapped Index
-outcome_of (Named o) = Trapped Index
 outcome_of (Known c) = c
+outcome_of _ = Trapped Index
 
 -- goes on with a value, or ends with a trap
 abbrev pub go_on : {A : Type 0} → (Trap → A) → Outcome → (Value → A) → A

@@ -1,4 +1,4 @@
--- The language as it is checked bears tasks of one result only: a function of several is called plainly.
+-- Every script bears tasks of one result only: the syntax has no remote call of several, and a function of several is called plainly.
 use Rattle.std.specs.Prelude.{◌≡◌, List}
 use Rattle.std.specs.List.{AllByRecursion}
 use Rattle.meaning.specs.Values.{Value, Outcome, Birth, others_of, Id}

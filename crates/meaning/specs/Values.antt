@@ -73,7 +73,7 @@ without_first (Returned []) = Returned []
 without_first (Returned (v ∷ vs)) = Returned vs
 without_first (Aborted t) = Aborted t
 
--- the outcomes of so many results
+-- the outcomes of so many results; those of further values are dropped
 abbrev pub outcomes : ℕ → Completion → List Outcome
 outcomes zero e = []
 outcomes (suc n) e = first_outcome e ∷ outcomes n (without_first e)

@@ -264,8 +264,6 @@ abbrev mutual
   IndexesWithin (index e others) levels = Deeper levels (ExpressionWithin e) × IndexesWithin others levels
 
   pub PrimaryWithin : Primary → ℕ → Type 0
-  PrimaryWithin (Int n) levels = Unit {0}
-  PrimaryWithin (Named x) levels = Unit {0}
   PrimaryWithin (CallOf g args) levels = Deeper levels (ArgumentsWithin args)
   PrimaryWithin (RemoteOf r g args) levels = RetriesWithin r levels × Deeper levels (ArgumentsWithin args)
   PrimaryWithin (Listed first others) levels = Deeper levels (ExpressionWithin first) × Deeper levels (MoreWithin others)
@@ -273,6 +271,7 @@ abbrev mutual
   PrimaryWithin (Enclosed e) levels = Deeper levels (ExpressionWithin e)
   PrimaryWithin (LenOf e) levels = Deeper levels (ExpressionWithin e)
   PrimaryWithin (PushOf a b) levels = Deeper levels (ExpressionWithin a) × Deeper levels (ExpressionWithin b)
+  PrimaryWithin _ levels = Unit {0}
 
   pub ArgumentsWithin : Arguments → ℕ → Type 0
   ArgumentsWithin no_argument levels = Unit {0}

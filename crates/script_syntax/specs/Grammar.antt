@@ -226,8 +226,7 @@ abbrev pub FunctionsWithin : Functions → ℕ → Type 0
 FunctionsWithin no_function levels = Unit {0}
 FunctionsWithin (function g others) levels = FunctionWithin g levels × FunctionsWithin others levels
 
--- The tokens are a program with this tree, within the limits: at most 64 functions, and at one place at most 32
--- brackets (braces among them) and prefixes `-`, `get`, `put`, `ref` are open.
+-- The tokens are a program with this tree: at most 64 functions, and at one place at most 32 brackets, braces and prefixes (`-`, `get`, `put`, `ref`).
 pub record IsProgram (tokens : List Token) (program : Program) : Type 0 where
   pub derivation : Functions
   pub spelled : tokens ≡ functions_before derivation []

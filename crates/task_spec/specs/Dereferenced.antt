@@ -1,13 +1,11 @@
 -- Which objects a task's worker gets before the body.
 use Rattle.std.specs.Prelude.{if◌then◌else◌, List, [], ◌∷◌, ◌++◌}
-use Rattle.meaning.specs.Values.{Value, Int, Items, Named, Known, Id, Argument, Birth, Put, Task}
+use Rattle.meaning.specs.Values.{Value, Named, Id, Argument, Birth, Put, Task}
 
 -- the id that a value is
 abbrev pub id_in : Value → List Id
-id_in (Int n) = []
-id_in (Items vs) = []
 id_in (Named o) = o ∷ []
-id_in (Known c) = []
+id_in _ = []
 
 -- the id of an argument that is marked to be dereferenced
 abbrev pub id_read : Argument → List Id

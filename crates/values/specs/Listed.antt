@@ -1,15 +1,14 @@
 -- The ids that stand in a value, in order.
 use Rattle.std.specs.Prelude.{if◌then◌else◌, List, [], ◌∷◌, ◌++◌}
 use Rattle.std.specs.List.{list_any}
-use Rattle.meaning.specs.Values.{Value, Int, Items, Named, Known, Values, none, more, Outcome, Val, Trapped, Id}
+use Rattle.meaning.specs.Values.{Value, Items, Named, Values, none, more, Outcome, Val, Trapped, Id}
 use Rattle.meaning.specs.Births.{same_id}
 
 abbrev mutual
   pub ids_listed : Value → List Id
-  ids_listed (Int n) = []
   ids_listed (Items vs) = ids_among vs
   ids_listed (Named o) = o ∷ []
-  ids_listed (Known c) = []
+  ids_listed _ = []
 
   pub ids_among : Values → List Id
   ids_among none = []

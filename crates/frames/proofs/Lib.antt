@@ -2,6 +2,7 @@ pub mod Rows
 pub mod Written
 pub mod Doing
 pub mod Calling
+pub mod Shallow
 pub mod Stepping
 pub mod Single
 pub mod Going

@@ -1,6 +1,6 @@
 // An attempt of a task, in pieces.
 
-ghost use Rattle.std.specs.Prelude.{◌≡◌, ℕ, [], ◌++◌, IfOk, None, map, true};
+ghost use Rattle.std.specs.Prelude.{◌≡◌, ℕ, ◌≤◌, [], ◌++◌, IfOk, OnErr, None, map, true};
 ghost use Rattle.meaning.specs.Syntax.{Script};
 ghost use Rattle.meaning.specs.Values.{Birth, Id, Task};
 ghost use Rattle.script_check.specs.Trees.{script_of};
@@ -115,6 +115,9 @@ pub fn run_task(
         (Task function.now (map argument_of arguments.now) depth retries others) base (map outcome_of answers.items) a) }
     // It stopped where a run in pieces stops.
     ensures stops { IfOk result (λ a. is_stop a.halt ≡ true) }
+    // Want of memory is told only of a task that isn't too deep.
+    ensures shallow { OnErr result (depth ≤ 32) }
+    ensures began { IfOk result (λ a. a.halt ≡ Halt.NoMemory → depth ≤ 32) }
 {
     if depth > DEEPEST {
         return Ok(nothing_done(alloc, Halt::Trap(Trap::TooDeep)));

@@ -10,7 +10,7 @@ use Rattle.frames.specs.Courses.{no_past}
 use Rattle.frame_laws.specs.Steps.{HasSteps}
 use Rattle.frames.specs.Frames.{KeepsFrame, CountsSteps}
 use Rattle.frames.specs.Tasks.{matched, mismatch_stop, stopped_by}
-use Rattle.frames.proofs.Doing.{if_ok}
+use Rattle.frames.proofs.Doing.{if_ok, always_if_ok, always_on_err}
 use Rattle.frames.proofs.Finding.{has_one, has_none}
 use Rattle.frames.proofs.Mismatching.{mismatch_piece}
 use Rattle.frames.proofs.Stopping.{nothing_at, deep_counts, mismatch_counts}
@@ -112,3 +112,9 @@ returns-clause-counts c =
     let stops = c.run-halt.ensures.stops script task base no_past c.code-code.ensures stands in
     subst (λ os. CountsSteps script task base os a) answers (counts script task base no_past stops))
     c.stop.ensures.counts
+
+pub returns-clause-shallow : goal.returns-clause-shallow
+returns-clause-shallow c = always_on_err _ c.stop.result (omega (arith, c.if-depth-gt-DEEPEST.false))
+
+pub returns-clause-began : goal.returns-clause-began
+returns-clause-began c = always_if_ok _ c.stop.result (λ a e. omega (arith, c.if-depth-gt-DEEPEST.false))

@@ -1,12 +1,12 @@
 -- Lines that are read one after the other, and kept.
-use Rattle.std.proofs.Common.{◌≡◌, ◌∙◌, ◌+◌, ℕ, Bool, true, false, List, [], ◌∷◌, ◌++◌, length, Option, None, Some, refl, sym, ap, subst, append_assoc, arith}
+use Rattle.std.proofs.Common.{◌≡◌, ◌∙◌, ◌+◌, ◌≤◌, ℕ, Bool, true, false, List, [], ◌∷◌, ◌++◌, length, Option, None, Some, refl, sym, ap, subst, append_assoc, arith}
 use Rattle.std.specs.Prelude.{◌==◌, if◌then◌else◌, IfSome, drop}
-use Rattle.std.proofs.lemmas.List.{append-nil}
+use Rattle.std.proofs.lemmas.List.{append-nil, length-append}
 use Rattle.event_files.specs.Files.{IsBadAt, IsFile, is_passed, rows_text}
 use Rattle.event_files.specs.Numbering.{line_numbers, numbers_from}
 use Rattle.event_files.specs.Lines.{IsLine, line_text}
 use Rattle.event_files.specs.Plans.{IsPlanLine, plan_line_in, plan_line_text}
-use Rattle.event_files.specs.Reading.{behind, has}
+use Rattle.event_files.specs.Reading.{behind, has, line_in}
 use Rattle.event_files.specs.Recorded.{IsRecorded, IsRecordedRefusal, IsRefusalBehind, header, recorded_in, recorded_text}
 use Rattle.event_files.specs.declared.error.EventError.TheVariants as errors
 use Rattle.event_files.specs.declared.event_file.EventFile.TheVariants as files
@@ -15,17 +15,17 @@ use Rattle.event_files.specs.declared.plan.PlanLine.{PlanLine}
 use Rattle.event_files.specs.declared.recorded.RecordedEvent.{RecordedEvent}
 use Rattle.event_files.proofs.Marks.{behind-append}
 use Rattle.event_files.proofs.Rows.{IsReadTo, Reads, begins, ends, goes_past, goes_with}
-use Rattle.event_files.proofs.Readers.{reads_plans}
+use Rattle.event_files.proofs.Readers.{reads_lines, reads_plans}
 use Rattle.raysim_streams.specs.declared.CommandRefusal.{CommandRefusal}
 use Rattle.raysim_streams.specs.declared.CommandRefusal.TheVariants.{At, NoMemory, Stopped, BadLine, WrongJob, Failed}
-use Rattle.raysim_streams.specs.Settled.{Counts}
+use Rattle.raysim_streams.specs.Settled.{Counts, one_more}
 use Rattle.raysim_streams.specs.declared.Failure.TheVariants.{Read, Write, Closed}
 use Rattle.event_reading.specs.declared.kept.Kept.{Kept}
 use Rattle.event_reading.specs.declared.next_line.Next.TheVariants as nexts
 use Rattle.event_reading.specs.Known.{IfKnown, IsHeaderTaken, left_of}
 use Rattle.event_reading.specs.Kept.{IsKeptOf}
-use Rattle.event_reading.specs.Rows.{IsBadHere, IsNextLine}
-use Rattle.event_reading.specs.Files.{AreEventsKept, AreKept, AreLinesKept, ExplainsBehind, ExplainsFile, ExplainsRows}
+use Rattle.event_reading.specs.Rows.{IsBadHere, IsLineRefusal, IsLongSettle, IsNextLine, settle_size}
+use Rattle.event_reading.specs.Files.{AreEventsKept, AreKept, AreLinesKept, AreSettlesLong, BeginsWith, ExplainsBehind, ExplainsFile, ExplainsRows, IsPlanLong, settled}
 use Rattle.event_reading.proofs.Bytes.{of_known, same, through}
 
 -- ---- the numbers of lines
@@ -212,6 +212,88 @@ plan_is_bad number lines before between after h next =
     (λ b r. IsBadAt IsPlanLine plan_line_text b number) h next
     (λ b m r p q. subst (IsBadAt IsPlanLine plan_line_text b) (sym p.is_number) (bad_so IsPlanLine plan_line_text b m lines p.n p.read q))) (λ b r x. x)
 
+begins_with : {A : Type 0} (is : A → Type 0) (text : A → List ℕ) (b r : List ℕ) (says : List A) (n : ℕ) → IsReadTo is text b r says n →
+    BeginsWith is text b says r
+begins_with is text b r says n p = record {
+  front = rows_text text p.rows;
+  is_file = record { rows = p.rows; are_rows = p.are_rows; written = refl; said = p.said };
+  written = p.written;
+}
+
+pub plan_is_long : (number : ℕ) (lines : List PlanLine) (a : PlanLine) (before between after : Option (List ℕ)) → 262144 ≤ length lines →
+    IfKnown before between (IsPlanRead lines number) → IfKnown between after (IsNextLine IsPlanLine plan_line_text plan_line_in (nexts.Said a)) →
+    IfSome before IsPlanLong
+plan_is_long number lines a before between after many h next =
+    of_known before after (IsPlanRead (lines ++ a ∷ []) (number + 1)) IsPlanLong (plan_says number lines (lines ++ a ∷ []) a before between after refl h next)
+    (λ b r p. record {
+      says = lines ++ a ∷ [];
+      rest = r;
+      begins = begins_with IsPlanLine plan_line_text b r (lines ++ a ∷ []) p.n p.read;
+      are_many = (let l = length-append lines (a ∷ []) in omega (arith, l, many));
+    })
+
+-- ---- the room for settle lines
+
+-- what the settle lines so far have left of it
+pub record HasRoom (room : ℕ) (b r : List ℕ) : Type 0 where
+  pub n : ℕ
+  pub all : List Line
+  pub read : IsReadTo IsLine line_text b r all n
+  pub is_room : room + settled all ≡ 1048576
+
+pub room_begins : (known : Option (List ℕ)) → IfKnown known known (HasRoom 1048576)
+room_begins known = same known (HasRoom 1048576) (λ b. record { n = 0; all = []; read = begins IsLine line_text b; is_room = refl })
+
+pub room_passes : (room left : ℕ) (before between after : Option (List ℕ)) → room ≡ left → IfKnown before between (HasRoom room) →
+    IfKnown between after (IsNextLine IsLine line_text line_in nexts.Passed) → IfKnown before after (HasRoom left)
+room_passes room left before between after e h next =
+    through before between after (HasRoom room) (IsNextLine IsLine line_text line_in nexts.Passed) (HasRoom left) h next
+    (λ b m r p q. record {
+      n = p.n + 1;
+      all = p.all;
+      read = goes_past IsLine line_text b m q.0 r p.all p.n p.read (record { none_before = q.1.in_a_line; are = q.1.are }) q.2;
+      is_room = ap (λ x. x + settled p.all) (sym e) ∙ p.is_room;
+    })
+
+settled_more : (all : List Line) (l : Line) → settled (all ++ l ∷ []) ≡ settled all + settle_size l
+settled_more [] l = omega arith
+settled_more (x ∷ all) l = let e = settled_more all l in omega (arith, e)
+
+pub room_says : (room left : ℕ) (l : Line) (before between after : Option (List ℕ)) → room ≡ left + settle_size l → IfKnown before between (HasRoom room) →
+    IfKnown between after (IsNextLine IsLine line_text line_in (nexts.Said l)) → IfKnown before after (HasRoom left)
+room_says room left l before between after e h next =
+    through before between after (HasRoom room) (IsNextLine IsLine line_text line_in (nexts.Said l)) (HasRoom left) h next
+    (λ b m r p q. record {
+      n = p.n + 1;
+      all = p.all ++ l ∷ [];
+      read = goes_with IsLine line_text line_in reads_lines b m q.0 r p.all p.n l p.read (record { none_before = q.1.in_a_line; are = q.1.are }) q.3;
+      is_room = (let s = settled_more p.all l in let i = p.is_room in omega (arith, e, s, i));
+    })
+
+settles_long : (room : ℕ) (before between : Option (List ℕ)) → IfKnown before between (HasRoom room) → IfSome between (IsLongSettle room) →
+    IfSome before AreSettlesLong
+settles_long room None between h k = tt
+settles_long room (Some b) None h k = absurd h
+settles_long room (Some b) (Some r) h k = record {
+  says = h.all;
+  rest = r;
+  begins = begins_with IsLine line_text b r h.all h.n h.read;
+  room = room;
+  is_room = h.is_room;
+  next = k;
+}
+
+pub lines_stop : (room : ℕ) (before between : Option (List ℕ)) (old mid new : ℕ) (r : CommandRefusal) → mid ≡ old → IfKnown before between (HasRoom room) →
+    IsLineRefusal (IsLongSettle room) between (mid, new) r → ExplainsRows IsLine line_text AreSettlesLong before (old, new) r
+lines_stop room before between old mid new NoMemory e h k = tt
+lines_stop room before between old mid new (Stopped code) e h k = (k.0, settles_long room before between h k.1)
+lines_stop room before between old mid new (Failed Read) e h k = k ∙ ap (λ n. one_more n) e
+lines_stop room before between old mid new (Failed Write) e h k = k
+lines_stop room before between old mid new (Failed Closed) e h k = k
+lines_stop room before between old mid new (At code span) e h k = k
+lines_stop room before between old mid new (BadLine n) e h k = absurd k
+lines_stop room before between old mid new (WrongJob n) e h k = k
+
 -- ---- both formats
 
 pub at_first : (known after : Option (List ℕ)) (ahead : List ℕ) (taken t : Bool) → ahead ≡ [] → taken ≡ t →
@@ -230,11 +312,11 @@ behind_refused known after reads (Failed Read) h k = k
 behind_refused known after reads (Failed Write) h k = k
 behind_refused known after reads (Failed Closed) h k = k
 behind_refused known after reads (At code span) h k = k
-behind_refused known after reads (Stopped code) h k = k
+behind_refused known after reads (Stopped code) h k = absurd k
 behind_refused known after reads (WrongJob n) h k = k
 
 pub lines_refused : (known after : Option (List ℕ)) (reads : Counts) (r : CommandRefusal) → IfKnown (left_of [] known) after (IsHeaderTaken false) →
-    ExplainsRows IsLine line_text after reads r → ExplainsFile known reads r
+    ExplainsRows IsLine line_text AreSettlesLong after reads r → ExplainsFile known reads r
 lines_refused None after reads (BadLine n) h k = tt
 lines_refused (Some b) None reads (BadLine n) h k = absurd h
 lines_refused (Some b) (Some x) reads (BadLine n) h k =
@@ -244,7 +326,9 @@ lines_refused known after reads (Failed Read) h k = k
 lines_refused known after reads (Failed Write) h k = k
 lines_refused known after reads (Failed Closed) h k = k
 lines_refused known after reads (At code span) h k = k
-lines_refused known after reads (Stopped code) h k = k
+lines_refused None after reads (Stopped code) h k = (k.0, tt)
+lines_refused (Some b) None reads (Stopped code) h k = absurd h
+lines_refused (Some b) (Some x) reads (Stopped code) h k = (k.0, subst AreSettlesLong h.0 k.1)
 lines_refused known after reads (WrongJob n) h k = k
 
 pub history_kept : (known after : Option (List ℕ)) (k : Kept RecordedEvent) → IfKnown (left_of [] known) after (IsHeaderTaken true) →

@@ -1,6 +1,6 @@
 -- What the next line says.
 use Rattle.std.proofs.Common.{◌≡◌, ◌≢◌, ◌∙◌, ◌<◌, ◌≤◌, ◌^◌, ℕ, Bool, true, false, List, [], ◌∷◌, ◌++◌, length, Option, None, Some, refl, sym, ap, subst, append_assoc, arith}
-use Rattle.std.specs.Prelude.{codes, ◌==◌, if◌then◌else◌}
+use Rattle.std.specs.Prelude.{codes, ◌==◌, if◌then◌else◌, IfSome}
 use Rattle.std.specs.Fmt.{decimal}
 use Rattle.std.proofs.lemmas.Fmt.{length-decimal-le}
 use Rattle.std.proofs.lemmas.List.{append-nil, length-append}
@@ -10,7 +10,7 @@ use Rattle.log_entries.specs.Texts.{event_text}
 use Rattle.log_entries.specs.declared.event.Event.{Event}
 use Rattle.log_entries.specs.declared.event.Event.TheVariants as events
 use Rattle.event_files.specs.Files.{IsRow as IsRowOf, Passed, Said, Row as RowOf, is_passed, row_text}
-use Rattle.event_files.specs.Lines.{IsEvent, IsLine, line_text, workers_text}
+use Rattle.event_files.specs.Lines.{IsEvent, IsLine, line_text, settle_text, workers_text}
 use Rattle.event_files.specs.Plans.{IsPlanLine, plan_line_text}
 use Rattle.event_files.specs.Reading.{behind, has, line_in, parted}
 use Rattle.event_files.specs.Recorded.{IsGiven, IsRecorded, given_text, recorded_text}
@@ -18,16 +18,20 @@ use Rattle.event_files.specs.declared.line.Line.{Line}
 use Rattle.event_files.specs.declared.line.Line.TheVariants as lines
 use Rattle.event_files.specs.declared.plan.PlanLine.{PlanLine}
 use Rattle.event_files.specs.declared.recorded.RecordedEvent.{RecordedEvent}
-use Rattle.event_files.proofs.Marks.{behind-append, has-append, none-parted}
+use Rattle.event_files.proofs.Marks.{behind-append, behind-is, has-append, none-parted}
 use Rattle.event_files.proofs.Rows.{Reads, cut, no_row}
 use Rattle.event_files.proofs.Readers.{reads_lines}
 use Rattle.event_reading.specs.declared.next_line.Next.{Next}
 use Rattle.event_reading.specs.declared.next_line.Next.TheVariants as nexts
 use Rattle.event_reading.specs.declared.row.LineEnd.{LineEnd}
 use Rattle.event_reading.specs.declared.row.LineEnd.TheVariants as ends
-use Rattle.event_reading.specs.Known.{IfKnown}
-use Rattle.event_reading.specs.Rows.{IsBadHere, IsCut, IsLineRead, IsNextLine, IsRow, IsSaidBy}
-use Rattle.event_reading.proofs.Bytes.{mapped, same, through}
+use Rattle.raysim_streams.specs.declared.CommandRefusal.{CommandRefusal}
+use Rattle.raysim_streams.specs.declared.CommandRefusal.TheVariants.{At, NoMemory, Stopped, BadLine, WrongJob, Failed}
+use Rattle.raysim_streams.specs.declared.Failure.TheVariants.{Read, Write, Closed}
+use Rattle.raysim_streams.specs.Settled.{Counts, one_more}
+use Rattle.event_reading.specs.Known.{IfKnown, IsReadRefusal}
+use Rattle.event_reading.specs.Rows.{GoesOnLong, IsBadHere, IsCut, IsLineRead, IsLineRefusal, IsLongSettle, IsNextLine, IsRow, IsSaidBy, IsSettleOver, IsSettleRefusal}
+use Rattle.event_reading.proofs.Bytes.{mapped, of_known, same, through}
 
 -- ---- how long lines are
 
@@ -230,3 +234,99 @@ pub settle_next : (before between after : Option (List ℕ)) (begun : List ℕ) 
 settle_next before between after begun next h k =
     through before between after (IsCut 70 begun) (λ b r. (whole : List ℕ) → IsCut 70 begun whole b → IsNextLine IsLine line_text line_in next whole r)
     (IsNextLine IsLine line_text line_in next) h k (λ b m r p f. f b p)
+
+-- ---- settles that there is no room for
+
+pub settle_length : (line ws : List ℕ) → line_in line ≡ Some (lines.Settle ws) → length line ≡ length (settle_text ws)
+settle_length line ws e = ap length (reads_lines.only line (lines.Settle ws) e).1
+
+begins_so : (ws : List ℕ) → behind (codes "settle") (settle_text ws) ≢ None
+begins_so [] = λ e. absurd (cc)
+begins_so (w ∷ ws) = λ e. absurd (cc)
+
+over_long : (room : ℕ) (line rest b : List ℕ) → IsSettleOver room line → has 10 line ≡ false → b ≡ line ++ rest → IsLongSettle room b
+over_long room line rest b o h e = record {
+  line = line;
+  rest = rest;
+  written = e;
+  in_a_line = h;
+  is_settle = subst (λ z. behind (codes "settle") z ≢ None) (sym (reads_lines.only line (lines.Settle o.0) o.1).1) (begins_so o.0);
+  is_long = o.2;
+}
+
+-- the refusal of a read is one of the line
+pub unread : (over : List ℕ → Type 0) (known : Option (List ℕ)) (old mid new : ℕ) (r : CommandRefusal) → mid ≡ old → IsReadRefusal (mid, new) r →
+    IsLineRefusal over known (old, new) r
+unread over known old mid new NoMemory e k = tt
+unread over known old mid new (Failed Read) e k = k ∙ ap (λ n. one_more n) e
+unread over known old mid new (Failed Write) e k = k
+unread over known old mid new (Failed Closed) e k = k
+unread over known old mid new (At code span) e k = k
+unread over known old mid new (Stopped code) e k = absurd k
+unread over known old mid new (BadLine n) e k = k
+unread over known old mid new (WrongJob n) e k = k
+
+-- and so is that of what a line says
+of_said : (over : List ℕ → Type 0) (room : ℕ) (known : Option (List ℕ)) (line : List ℕ) (reads : Counts) (r : CommandRefusal) →
+    (IsSettleOver room line → IfSome known over) → IsSettleRefusal room line r → IsLineRefusal over known reads r
+of_said over room known line reads NoMemory f k = tt
+of_said over room known line reads (Stopped code) f k = (k.0, f k.1)
+of_said over room known line reads (Failed failure) f k = absurd k
+of_said over room known line reads (At code span) f k = k
+of_said over room known line reads (BadLine n) f k = k
+of_said over room known line reads (WrongJob n) f k = k
+
+pub said_over : (room : ℕ) (before after : Option (List ℕ)) (line shown : List ℕ) (reads : Counts) (r : CommandRefusal) → shown ≡ line →
+    IfKnown before after (λ b r. IsRow line b r × (is_passed line ≡ false)) → IsSettleRefusal room shown r →
+    IsLineRefusal (IsLongSettle room) before reads r
+said_over room before after line shown reads r same_line h k =
+    of_said (IsLongSettle room) room before line reads r
+    (λ o. of_known before after (λ b r. IsRow line b r × (is_passed line ≡ false)) (IsLongSettle room) h
+    (λ b r p. over_long room line (10 ∷ r) b o p.0.in_a_line p.0.are))
+    (subst (λ z. IsSettleRefusal room z r) same_line k)
+
+-- a settle that goes on and ends with its line feed
+pub feed_over : (room : ℕ) (before after : Option (List ℕ)) (begun line shown : List ℕ) (end : LineEnd) (reads : Counts) (r : CommandRefusal) →
+    end ≡ ends.Feed → shown ≡ line → IfKnown before after (IsLineRead room begun line end) → IsSettleRefusal room shown r →
+    IsLineRefusal (GoesOnLong room begun) before reads r
+feed_over room before after begun line shown end reads r is_feed same_line h k =
+    of_said (GoesOnLong room begun) room before line reads r
+    (λ o. of_known before after (IsLineRead room begun line ends.Feed) (GoesOnLong room begun)
+    (subst (λ x. IfKnown before after (IsLineRead room begun line x)) is_feed h)
+    (λ b r p whole q. over_long room line (10 ∷ r) whole o
+    (ap (has 10) p.line ∙ has-append 10 begun p.taken q.in_a_line p.rest.in_a_line)
+    (q.are ∙ ap (λ z. begun ++ z) p.rest.are ∙ sym (append_assoc begun p.taken (10 ∷ r)) ∙ ap (λ z. z ++ 10 ∷ r) (sym p.line))))
+    (subst (λ z. IsSettleRefusal room z r) same_line k)
+
+begun_so : (begun x more : List ℕ) → behind (codes "settle but ") begun ≡ Some x → behind (codes "settle") (begun ++ more) ≢ None
+begun_so begun x more e =
+    subst (λ z. behind (codes "settle") (z ++ more) ≢ None) (sym (behind-is (codes "settle but ") begun x e)) (λ f. absurd (cc))
+
+-- and one that goes on for longer than there is room
+pub cut_over : (room : ℕ) (before after : Option (List ℕ)) (begun line x : List ℕ) (end : LineEnd) → end ≡ ends.Cut →
+    behind (codes "settle but ") begun ≡ Some x → IfKnown before after (IsLineRead room begun line end) → IfSome before (GoesOnLong room begun)
+cut_over room before after begun line x end is_cut some h =
+    of_known before after (IsLineRead room begun line ends.Cut) (GoesOnLong room begun)
+    (subst (λ x. IfKnown before after (IsLineRead room begun line x)) is_cut h)
+    (λ b r p whole q. record {
+      line = line;
+      rest = r;
+      written = q.are ∙ ap (λ z. begun ++ z) p.rest.are ∙ sym (append_assoc begun p.taken r) ∙ ap (λ z. z ++ r) (sym p.line);
+      in_a_line = ap (has 10) p.line ∙ has-append 10 begun p.taken q.in_a_line p.rest.in_a_line;
+      is_settle = subst (λ z. behind (codes "settle") z ≢ None) (sym p.line) (begun_so begun x p.taken some);
+      is_long = p.is_long;
+    })
+
+pub long_over : (room : ℕ) (before between : Option (List ℕ)) (begun : List ℕ) (old mid new : ℕ) (r : CommandRefusal) → mid ≡ old →
+    IfKnown before between (IsCut 70 begun) → IsLineRefusal (GoesOnLong room begun) between (mid, new) r →
+    IsLineRefusal (IsLongSettle room) before (old, new) r
+long_over room before between begun old mid new NoMemory e h k = tt
+long_over room None between begun old mid new (Stopped code) e h k = (k.0, tt)
+long_over room (Some b) None begun old mid new (Stopped code) e h k = absurd h
+long_over room (Some b) (Some m) begun old mid new (Stopped code) e h k = (k.0, k.1 b h)
+long_over room before between begun old mid new (Failed Read) e h k = k ∙ ap (λ n. one_more n) e
+long_over room before between begun old mid new (Failed Write) e h k = k
+long_over room before between begun old mid new (Failed Closed) e h k = k
+long_over room before between begun old mid new (At code span) e h k = k
+long_over room before between begun old mid new (BadLine n) e h k = k
+long_over room before between begun old mid new (WrongJob n) e h k = k

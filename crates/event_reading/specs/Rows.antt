@@ -1,7 +1,14 @@
 -- Lines that are read one after the other.
-use Rattle.std.specs.Prelude.{◌≡◌, ◌≢◌, ◌<◌, ℕ, true, false, List, [], ◌∷◌, ◌++◌, length, Option, Some, None}
+use Rattle.std.specs.Prelude.{◌≡◌, ◌≢◌, ◌<◌, ℕ, true, false, List, [], ◌∷◌, ◌++◌, length, codes, Option, Some, None, IfSome}
 use Rattle.event_files.specs.Files.{IsNoRow, is_passed}
-use Rattle.event_files.specs.Reading.{has}
+use Rattle.event_files.specs.Lines.{settle_text}
+use Rattle.event_files.specs.Reading.{behind, has, line_in}
+use Rattle.event_files.specs.declared.line.Line.{Line}
+use Rattle.event_files.specs.declared.line.Line.TheVariants as lines
+use Rattle.raysim_streams.specs.declared.CommandRefusal.{CommandRefusal}
+use Rattle.raysim_streams.specs.declared.CommandRefusal.TheVariants.{At, NoMemory, Stopped, BadLine, WrongJob, Failed}
+use Rattle.raysim_streams.specs.declared.Failure.TheVariants.{Read, Write, Closed}
+use Rattle.raysim_streams.specs.Settled.{Counts, FailedIn}
 use Rattle.event_reading.specs.declared.row.LineEnd.{LineEnd}
 use Rattle.event_reading.specs.declared.row.LineEnd.TheVariants as ends
 use Rattle.event_reading.specs.declared.row.Row.{Row}
@@ -63,3 +70,54 @@ IsSaidBy read nexts.End line = ⊥
 IsSaidBy read nexts.Passed line = ⊥
 IsSaidBy read (nexts.Said a) line = read line ≡ Some a
 IsSaidBy read nexts.Bad line = read line ≡ None
+
+-- ---- settle lines, which may have so many bytes in all
+
+-- the bytes of a settle line, its line feed not counted
+abbrev pub settle_size : Line → ℕ
+settle_size (lines.Event e) = 0
+settle_size (lines.Settle ws) = length (settle_text ws)
+
+-- those that a line takes of the room for settle lines
+abbrev pub settled_by : Next Line → ℕ
+settled_by nexts.End = 0
+settled_by nexts.Passed = 0
+settled_by (nexts.Said l) = settle_size l
+settled_by nexts.Bad = 0
+
+-- the line is a settle with more bytes than there is room for
+abbrev pub IsSettleOver : ℕ → List ℕ → Type 0
+IsSettleOver room line = (ws : List ℕ) × (line_in line ≡ Some (lines.Settle ws)) × (room < length line)
+
+-- a line begins there as a settle does, and has more bytes than there is room for
+pub record IsLongSettle (room : ℕ) (b : List ℕ) : Type 0 where
+  pub line : List ℕ
+  pub rest : List ℕ
+  pub written : b ≡ line ++ rest
+  pub in_a_line : has 10 line ≡ false
+  pub is_settle : behind (codes "settle") line ≢ None
+  pub is_long : room < length line
+
+-- why what a line says is not kept
+abbrev pub IsSettleRefusal : ℕ → List ℕ → CommandRefusal → Type 0
+IsSettleRefusal room line NoMemory = Unit {0}
+IsSettleRefusal room line (Stopped code) = (code ≡ 41) × IsSettleOver room line
+IsSettleRefusal room line (Failed failure) = ⊥
+IsSettleRefusal room line (At code span) = ⊥
+IsSettleRefusal room line (BadLine n) = ⊥
+IsSettleRefusal room line (WrongJob n) = ⊥
+
+-- why there is no next line; `over` tells of what is left that there is no room for it
+abbrev pub IsLineRefusal : (List ℕ → Type 0) → Option (List ℕ) → Counts → CommandRefusal → Type 0
+IsLineRefusal over bytes reads NoMemory = Unit {0}
+IsLineRefusal over bytes reads (Stopped code) = (code ≡ 41) × IfSome bytes over
+IsLineRefusal over bytes reads (Failed Read) = FailedIn reads
+IsLineRefusal over bytes reads (Failed Write) = ⊥
+IsLineRefusal over bytes reads (Failed Closed) = ⊥
+IsLineRefusal over bytes reads (At code span) = ⊥
+IsLineRefusal over bytes reads (BadLine n) = ⊥
+IsLineRefusal over bytes reads (WrongJob n) = ⊥
+
+-- behind its first bytes goes on a line that begins as a settle does, and the whole has more bytes than there is room for
+abbrev pub GoesOnLong : ℕ → List ℕ → List ℕ → Type 0
+GoesOnLong room begun b = (whole : List ℕ) → IsCut 70 begun whole b → IsLongSettle room whole

@@ -7,7 +7,7 @@ use event_files::MOST_EVENTS;
 use sequence::Seq;
 use std::alloc::{AllocError, Global};
 
-/// How many bytes the settle lines of a file may have in all, their line feeds not counted; a file with more is refused for want of memory.
+/// How many bytes the settle lines of a file may have in all, their line feeds not counted; a file with more is refused 41.
 pub const MOST_SETTLED: usize = 1_048_576;
 
 /// The lines of an event file that say something, as far as a replay may go: behind the first 100,001 events none is kept.

@@ -3,7 +3,7 @@
 ghost use Rattle.std.specs.Prelude.{◌≡◌, IfOk, OnOk, IfErr, IfSome};
 ghost use Rattle.event_files.specs.Lines.{IsLine, line_text};
 ghost use Rattle.event_reading.specs.Known.{IfKnown, left_of};
-ghost use Rattle.event_reading.specs.Files.{AreLinesKept, ExplainsRows};
+ghost use Rattle.event_reading.specs.Files.{AreLinesKept, AreSettlesLong, ExplainsRows};
 
 use crate::kept::{Kept, MOST_SETTLED};
 use crate::next_line::{Next, next_line};
@@ -22,7 +22,7 @@ pub fn lines_left<R: Source>(
     ahead: &mut Vec<u8>,
 ) -> Result<Kept<Line>, CommandRefusal>
     ensures read { IfOk result (λ kept. IfSome (left_of ahead.old.items (R.left reader.old)) (λ bytes. AreLinesKept bytes kept)) }
-    ensures refused { IfErr result (ExplainsRows IsLine line_text (left_of ahead.old.items (R.left reader.old))
+    ensures refused { IfErr result (ExplainsRows IsLine line_text AreSettlesLong (left_of ahead.old.items (R.left reader.old))
         (R.failures reader.old, R.failures reader.new)) }
     ensures unfailed { OnOk result (R.failures reader.new ≡ R.failures reader.old) }
 {
@@ -44,11 +44,11 @@ pub fn lines_left<R: Source>(
 
 /// Reads a file of format 1. Behind 100,001 events nothing is kept, and nothing of the lines that are passed over.
 ///
-/// Else the refusal says why: `BadLine` with the number of the first line that is none of format 1, behind which nothing is read; `NoMemory`,
-/// which is also answered where settle lines have more than `MOST_SETTLED` bytes; or `Failed` where a read failed.
+/// Else the refusal says why: `BadLine` with the number of the first line that is none of format 1, behind which nothing is read; `Stopped` with
+/// 41 where settle lines have more than `MOST_SETTLED` bytes, behind which nothing is read either; `NoMemory`; or `Failed` where a read failed.
 pub fn read_lines<R: Source>(alloc: Global, reader: &mut R) -> Result<Kept<Line>, CommandRefusal>
     ensures read { IfOk result (λ kept. IfSome (R.left reader.old) (λ bytes. AreLinesKept bytes kept)) }
-    ensures refused { IfErr result (ExplainsRows IsLine line_text (R.left reader.old) (R.failures reader.old, R.failures reader.new)) }
+    ensures refused { IfErr result (ExplainsRows IsLine line_text AreSettlesLong (R.left reader.old) (R.failures reader.old, R.failures reader.new)) }
     ensures unfailed { OnOk result (R.failures reader.new ≡ R.failures reader.old) }
 {
     let mut ahead = Vec::new(alloc);

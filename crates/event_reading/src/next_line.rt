@@ -1,20 +1,19 @@
 // What the next line of each format says.
 
-ghost use Rattle.std.specs.Prelude.{◌≡◌, ℕ, List, IfOk, OnOk, IfErr};
+ghost use Rattle.std.specs.Prelude.{◌≡◌, ◌+◌, ℕ, List, IfOk, OnOk, IfErr};
 ghost use Rattle.event_files.specs.Lines.{IsLine, line_text};
 ghost use Rattle.event_files.specs.Plans.{IsPlanLine, plan_line_in, plan_line_text};
 ghost use Rattle.event_files.specs.Reading.{line_in};
 ghost use Rattle.event_files.specs.Recorded.{IsRecorded, recorded_in, recorded_text};
 ghost use Rattle.event_reading.specs.Known.{IfKnown, IsReadRefusal, left_of};
-ghost use Rattle.event_reading.specs.Rows.{IsCut, IsNextLine, IsSaidBy};
+ghost use Rattle.event_reading.specs.Rows.{GoesOnLong, IsCut, IsLineRefusal, IsLongSettle, IsNextLine, IsSaidBy, IsSettleRefusal, settled_by};
 
 use crate::row::{LineEnd, Row, next_row, read_on};
 use event_files::{
     Line, PlanLine, RecordedEvent, behind, read_line, read_plan_line, read_recorded,
 };
 use raysim_streams::{CommandRefusal, Source};
-use sequence::refused_growth;
-use std::alloc::{AllocError, Global};
+use std::alloc::Global;
 
 /// How many bytes a line may have, without its line feed, that says something and is no settle: those of a plan's longest line.
 pub const LONGEST: usize = 70;
@@ -31,14 +30,16 @@ pub enum Next<T> {
     Bad,
 }
 
-/// What a line of format 1 says. Of a settle as many bytes are taken from `room`, and an error is answered where there are not so many.
-fn said_line(alloc: Global, line: &[u8], room: &mut usize) -> Result<Next<Line>, AllocError>
-    ensures { IfOk result (λ next. IsSaidBy line_in next line.now) }
+/// What a line of format 1 says. Of a settle as many bytes are taken from `room`, and 41 is answered where there are not so many.
+fn said_line(alloc: Global, line: &[u8], room: &mut usize) -> Result<Next<Line>, CommandRefusal>
+    ensures said { IfOk result (λ next. IsSaidBy line_in next line.now) }
+    ensures taken { IfOk result (λ next. room.old ≡ room.new + settled_by next) }
+    ensures refused { IfErr result (IsSettleRefusal room.old line.now) }
 {
     match read_line(alloc, line)? {
         Some(Line::Settle(workers)) => {
             if line.len() > *room {
-                return Err(refused_growth(alloc));
+                return Err(CommandRefusal::Stopped { code: 41 });
             }
             *room -= line.len();
             Ok(Next::Said(Line::Settle(workers)))
@@ -116,7 +117,9 @@ fn long_line<R: Source>(
 ) -> Result<Next<Line>, CommandRefusal>
     ensures next { IfOk result (λ next. IfKnown (left_of ahead.old.items (R.left reader.old)) (left_of ahead.new.items (R.left reader.new))
         (λ b r. (whole : List ℕ) → IsCut 70 begun.items whole b → IsNextLine IsLine line_text line_in next whole r)) }
-    ensures refused { IfErr result (IsReadRefusal (R.failures reader.old, R.failures reader.new)) }
+    ensures taken { IfOk result (λ next. room.old ≡ room.new + settled_by next) }
+    ensures refused { IfErr result (IsLineRefusal (GoesOnLong room.old begun.items) (left_of ahead.old.items (R.left reader.old))
+        (R.failures reader.old, R.failures reader.new)) }
     ensures unfailed { OnOk result (R.failures reader.new ≡ R.failures reader.old) }
 {
     let Some(_workers) = behind(b"settle but ", begun.as_slice()) else {
@@ -129,11 +132,11 @@ fn long_line<R: Source>(
             Ok(next)
         }
         LineEnd::Nothing => Ok(Next::Bad),
-        LineEnd::Cut => Err(CommandRefusal::NoMemory),
+        LineEnd::Cut => Err(CommandRefusal::Stopped { code: 41 }),
     }
 }
 
-/// The next line of a file of format 1. Settles take their bytes from `room`, and `NoMemory` is answered where there are not so many.
+/// The next line of a file of format 1. Settles take their bytes from `room`, and 41 is answered where there are not so many.
 pub fn next_line<R: Source>(
     alloc: Global,
     reader: &mut R,
@@ -142,7 +145,9 @@ pub fn next_line<R: Source>(
 ) -> Result<Next<Line>, CommandRefusal>
     ensures next { IfOk result (λ next. IfKnown (left_of ahead.old.items (R.left reader.old)) (left_of ahead.new.items (R.left reader.new))
         (IsNextLine IsLine line_text line_in next)) }
-    ensures refused { IfErr result (IsReadRefusal (R.failures reader.old, R.failures reader.new)) }
+    ensures taken { IfOk result (λ next. room.old ≡ room.new + settled_by next) }
+    ensures refused { IfErr result (IsLineRefusal (IsLongSettle room.old) (left_of ahead.old.items (R.left reader.old))
+        (R.failures reader.old, R.failures reader.new)) }
     ensures unfailed { OnOk result (R.failures reader.new ≡ R.failures reader.old) }
 {
     match next_row(alloc, reader, ahead, LONGEST)? {

@@ -1,8 +1,8 @@
-use Rattle.std.proofs.Common.{subst, rules, ◌∙◌}
+use Rattle.std.proofs.Common.{subst, refl, rules, ◌∙◌}
 use Rattle.event_files.specs.Plans.{IsPlanLine, plan_line_in, plan_line_text}
 use Rattle.event_reading.specs.Known.{IfKnown, left_of}
 use Rattle.event_reading.specs.Rows.{IsNextLine}
-use Rattle.event_reading.proofs.Reading.{plan_ends, plan_is_bad, plan_passes, plan_says}
+use Rattle.event_reading.proofs.Reading.{plan_ends, plan_is_bad, plan_is_long, plan_passes, plan_says}
 use Rattle.event_reading.proofs.plan.plan_left.Goals as goal
 
 pub returns-in-End-clause-read : goal.returns-in-End-clause-read
@@ -32,3 +32,10 @@ loop-number-preserved g c =
     (left_of c.next_plan_line.new.ahead.items (g.R.Source.left c.next_plan_line.new.reader)) (IsNextLine IsPlanLine plan_line_text plan_line_in w))
     c.in-Said.is c.in_ok-next_plan_line.ensures.next in
     (c.in_ok-next_plan_line.ensures.unfailed ∙ c.loop-number.invariant.0, plan_says c.loop-number.number c.loop-number.lines c.push.new.self c.in-Said.line _ _ _ (search rules) c.loop-number.invariant.1 next)
+
+pub returns-then-len-ge-MOST_PLANNED-clause-refused : goal.returns-then-len-ge-MOST_PLANNED-clause-refused
+returns-then-len-ge-MOST_PLANNED-clause-refused g c =
+    let next = subst (λ w. IfKnown (left_of c.loop-number.ahead.items (g.R.Source.left c.loop-number.reader))
+    (left_of c.next_plan_line.new.ahead.items (g.R.Source.left c.next_plan_line.new.reader)) (IsNextLine IsPlanLine plan_line_text plan_line_in w))
+    c.in-Said.is c.in_ok-next_plan_line.ensures.next in
+    (refl, plan_is_long c.loop-number.number c.loop-number.lines c.in-Said.line _ _ _ (search rules) c.loop-number.invariant.1 next)

@@ -4,6 +4,7 @@ use Rattle.std.specs.List.{flat_map}
 use Rattle.meaning.specs.Values.{Id}
 use Rattle.event_log.specs.Entries.{Event, Notice, Evict, Lose, Kill, KillNode, Join, Entry, In, Opened, Born}
 use Rattle.event_log.specs.Events.{refused_next}
+use Rattle.log_words.specs.Tasks.{objects_made}
 use Rattle.event_files.specs.declared.line.Line.{Line}
 use Rattle.event_files.specs.declared.line.Line.TheVariants as lines
 use Rattle.fault_lists.specs.declared.choice.FaultChoice.{FaultChoice}
@@ -97,10 +98,10 @@ with_join e seen = seen
 abbrev pub with_event : Event → Bool → Seen → Seen
 with_event e refused seen = if refused then seen else with_join e seen
 
--- a worker is opened, or an object is born
+-- a worker is opened, or the objects of a birth are born
 abbrev pub with_entry : Entry → Seen → Seen
 with_entry (Opened w n) seen = record seen { workers = seen.workers ++ w ∷ [] }
-with_entry (Born o a birth) seen = record seen { objects = seen.objects ++ o ∷ [] }
+with_entry (Born o a birth) seen = record seen { objects = seen.objects ++ objects_made o birth }
 with_entry x seen = seen
 
 -- behind so many events, where that was seen: before each event those at its place, and those after the last

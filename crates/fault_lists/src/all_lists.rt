@@ -219,8 +219,9 @@ fn add_faults(
 
 /// All lists of the log's events with one fault more, of the kinds that are chosen, where the run began on so many nodes: at each place, before the
 /// first event, between any two, and after the last, for each worker that was opened so far its death, alone and then with a notice to main's worker;
-/// the death of each node; for each object that was born so far the loss of its copies at each node, and of its secondary copies at each. Places
-/// come one after the other, the first at first, and at a place workers, nodes and objects in the order in which they came.
+/// the death of each node; for each object that was born so far, as each result of a call is, the loss of its copies at each node, and of its
+/// secondary copies at each. Places come one after the other, the first at first, and at a place workers, nodes and objects in the order in which they
+/// came.
 pub fn fault_lists(
     alloc: Global,
     log: &[Entry],

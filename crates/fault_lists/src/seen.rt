@@ -5,6 +5,7 @@ ghost use Rattle.fault_lists.specs.Lists.{first_seen, one_more, with_entry, with
 
 use ids::{ObjectId, WorkerId};
 use log_entries::{Entry, Event};
+use log_words::add_objects;
 use sequence::Seq;
 use std::alloc::{AllocError, Global};
 
@@ -56,7 +57,9 @@ impl Seen {
     {
         match entry {
             Entry::Opened { worker, .. } => self.workers.push(*worker),
-            Entry::Born { object, .. } => self.objects.push(*object),
+            Entry::Born { object, birth, .. } => {
+                add_objects(&mut self.objects.items, *object, &birth.inner)
+            }
             _ => Ok(()),
         }
     }

@@ -22,8 +22,8 @@ released_text o = codes "    \"" ++ (id_text o ++ codes "\" [fontcolor=gray];\n"
 abbrev pub lineage_in : Contents → List Entry → Entry → List ℕ
 lineage_in how log (Born o a b) = born_text how o b
 lineage_in how log (Begun a w) = begun_text log a w
-lineage_in how log (Ended a cs) = ended_text how a cs
-lineage_in how log (Faulted a y f) = faulted_text a f
+lineage_in how log (Ended a cs) = ended_text how log a cs
+lineage_in how log (Faulted a y f) = faulted_text log a f
 lineage_in how log (Resolved o f) = resolved_text o f
 lineage_in how log (Released o) = released_text o
 lineage_in how log _ = []

@@ -1,19 +1,26 @@
-// The node of an attempt, joined to its object.
+// The node of an attempt, joined to the objects of its task.
 
-ghost use Rattle.std.specs.Prelude.{◌≡◌, ◌++◌, List, OnOk, string_bytes};
+ghost use Rattle.std.specs.Prelude.{◌≡◌, ◌++◌, IfOk, List, OnOk, Some, option_copied, string_bytes};
 ghost use Rattle.std.specs.List.{flat_map};
+ghost use Rattle.std.specs.Option.{option_map};
+ghost use Rattle.meaning.specs.Births.{objects_with};
+ghost use Rattle.task_spec.specs.Births.{birth_of};
 ghost use Rattle.values.specs.Values.{content_of};
-ghost use Rattle.event_log.specs.Entries.{Entry};
+ghost use Rattle.event_log.specs.Entries.{Entry as Logged};
 ghost use Rattle.history.specs.Attempts.{AreStatesOf};
-ghost use Rattle.lineage_text.specs.Attempts.{attempt_edge, attempt_node, begun_text, ended_text, fate_head, fate_tail, fault_tail, faulted_text, named_edges};
+ghost use Rattle.log_words.specs.Index.{IsIndexOf};
+ghost use Rattle.lineage_text.specs.Attempts.{attempt_edge, attempt_node, begun_text, content_edges, ended_text, fate_head, fate_tail, fault_edge, fault_tail, faulted_text};
+ghost use Rattle.lineage_text.specs.Attempts.{named_edges, result_edges, task_objects};
 
 use crate::edges::write_named_edges;
 use held::SharedContent;
 use history::{AttemptStates, kind_name};
 use ids::{AttemptId, ObjectId, WorkerId};
-use log_words::{Contents, write_contents};
+use log_entries::Entry;
+use log_words::{BirthIndex, Contents, add_objects, write_content};
 use sequence::Seq;
 use std::alloc::{AllocError, Global};
+use task_spec::Birth;
 use values::{Content, Fault, FaultKind, ids_in};
 
 #[tactic(auto, unfolding(crate::specs::Attempts::attempt_node))]
@@ -23,7 +30,7 @@ fn write_attempt_node(
     attempt: AttemptId,
     worker: WorkerId,
 ) -> Result<(), AllocError>
-    ensures { (log : List Entry) → AreStatesOf states.now log → OnOk result
+    ensures { (log : List Logged) → AreStatesOf states.now log → OnOk result
         (string_bytes text.new ≡ string_bytes text.old ++ attempt_node log attempt worker) }
 {
     let state = states.name(attempt);
@@ -33,36 +40,87 @@ fn write_attempt_node(
     )
 }
 
-#[tactic(auto, unfolding(crate::specs::Attempts::attempt_edge))]
-fn write_attempt_edge(text: &mut String, attempt: AttemptId) -> Result<(), AllocError>
-    ensures { OnOk result (string_bytes text.new ≡ string_bytes text.old ++ attempt_edge attempt) }
+#[tactic(auto, unfolding(log_words::specs::Tasks::objects_made))]
+fn objects_with(
+    alloc: Global,
+    first: ObjectId,
+    birth: Option<&Birth>,
+) -> Result<Vec<ObjectId>, AllocError>
+    ensures { IfOk result (λ objects. objects.items ≡ objects_with first (option_map birth_of (option_copied birth.entry))) }
 {
-    let object = attempt.object;
+    let mut objects = Vec::new(alloc);
+    let Some(birth) = birth else {
+        return Ok(objects);
+    };
+    add_objects(&mut objects, first, birth)?;
+    Ok(objects)
+}
+
+/// The objects of the attempt's task, by the log of which that is the index.
+fn task_objects(
+    alloc: Global,
+    index: &BirthIndex,
+    log: &[Entry],
+    attempt: AttemptId,
+) -> Result<Vec<ObjectId>, AllocError>
+    ensures { IsIndexOf index.now log.now → IfOk result (λ objects. objects.items ≡ task_objects log.now attempt) }
+{
+    objects_with(alloc, attempt.object, index.birth(log, attempt.object))
+}
+
+#[tactic(auto, unfolding(crate::specs::Attempts::attempt_edge))]
+fn write_attempt_edge(
+    text: &mut String,
+    attempt: AttemptId,
+    object: ObjectId,
+) -> Result<(), AllocError>
+    ensures { OnOk result (string_bytes text.new ≡ string_bytes text.old ++ attempt_edge attempt object) }
+{
     writeln!(
         text,
         "    \"{object}\" -> \"{attempt}\" [style=dotted, arrowhead=none];"
     )
 }
 
-/// Writes the node of an attempt, with its worker and its state, and the edge from its object.
+fn write_attempt_edges(
+    text: &mut String,
+    attempt: AttemptId,
+    objects: &[ObjectId],
+) -> Result<(), AllocError>
+    ensures { OnOk result (string_bytes text.new ≡ string_bytes text.old ++ flat_map (attempt_edge attempt) objects.now) }
+{
+    for object in objects {
+        write_attempt_edge(text, attempt, *object)?;
+    }
+    Ok(())
+}
+
+/// Writes the node of an attempt, with its worker and its state, and the edges from the objects of its task.
 pub fn write_begun(
+    alloc: Global,
     text: &mut String,
     states: &AttemptStates,
+    index: &BirthIndex,
+    log: &[Entry],
     attempt: AttemptId,
     worker: WorkerId,
 ) -> Result<(), AllocError>
-    ensures { (log : List Entry) → AreStatesOf states.now log → OnOk result
-        (string_bytes text.new ≡ string_bytes text.old ++ begun_text log attempt worker) }
+    ensures { AreStatesOf states.now log.now → IsIndexOf index.now log.now → OnOk result
+        (string_bytes text.new ≡ string_bytes text.old ++ begun_text log.now attempt worker) }
 {
+    let objects = task_objects(alloc, index, log, attempt)?;
     write_attempt_node(text, states, attempt, worker)?;
-    write_attempt_edge(text, attempt)
+    write_attempt_edges(text, attempt, &objects)
 }
 
 #[tactic(auto, unfolding(crate::specs::Attempts::fate_head))]
-fn write_fate_head(text: &mut String, attempt: AttemptId) -> Result<(), AllocError>
-    ensures { OnOk result (string_bytes text.new ≡ string_bytes text.old ++ fate_head attempt) }
+fn write_fate_head(
+    text: &mut String,
+    attempt: AttemptId,
+    object: ObjectId,
+) -> Result<(), AllocError>
+    ensures { OnOk result (string_bytes text.new ≡ string_bytes text.old ++ fate_head attempt object) }
 {
-    let object = attempt.object;
     write!(text, "    \"{object}\" -> \"{attempt}\" [label=\"")
 }
 
@@ -86,34 +144,74 @@ fn write_named(
     write_named_edges(text, object, &named)
 }
 
-fn write_all_named(
+/// Writes the edge from an object to an attempt with its content, and the edges to what that names.
+fn write_content_edges(
     alloc: Global,
     text: &mut String,
+    contents: Contents,
+    attempt: AttemptId,
     object: ObjectId,
-    results: &Seq<SharedContent>,
+    content: &Content,
 ) -> Result<(), AllocError>
-    ensures { OnOk result (string_bytes text.new ≡ string_bytes text.old ++ flat_map (named_edges object) results.now) }
+    ensures { OnOk result (string_bytes text.new ≡ string_bytes text.old
+        ++ content_edges contents attempt object (Some (content_of content.now))) }
 {
-    for content in results.as_slice() {
-        write_named(alloc, text, object, &content.inner)?;
-    }
-    Ok(())
+    write_fate_head(text, attempt, object)?;
+    write_content(text, contents, content)?;
+    write_fate_tail(text)?;
+    write_named(alloc, text, object, content)
 }
 
-/// Writes the contents with which an attempt ended, and the edges to what they name.
-pub fn write_ended(
+/// Writes the content in the object's place.
+#[tactic(auto, unfolding(crate::specs::Attempts::result_edges))]
+fn write_result(
     alloc: Global,
     text: &mut String,
     contents: Contents,
     attempt: AttemptId,
     results: &Seq<SharedContent>,
+    object: ObjectId,
 ) -> Result<(), AllocError>
-    ensures { OnOk result (string_bytes text.new ≡ string_bytes text.old ++ ended_text contents attempt results.now) }
+    ensures { OnOk result (string_bytes text.new ≡ string_bytes text.old ++ result_edges contents attempt results.now object) }
 {
-    write_fate_head(text, attempt)?;
-    write_contents(text, contents, results)?;
-    write_fate_tail(text)?;
-    write_all_named(alloc, text, attempt.object, results)
+    let place = object.serial.saturating_sub(attempt.object.serial) as usize;
+    let Some(content) = results.as_slice().get(place) else {
+        return Ok(());
+    };
+    write_content_edges(alloc, text, contents, attempt, object, &content.inner)
+}
+
+fn write_results(
+    alloc: Global,
+    text: &mut String,
+    contents: Contents,
+    attempt: AttemptId,
+    results: &Seq<SharedContent>,
+    objects: &[ObjectId],
+) -> Result<(), AllocError>
+    ensures { OnOk result (string_bytes text.new ≡ string_bytes text.old ++ flat_map (result_edges contents attempt results.now) objects.now) }
+{
+    for object in objects {
+        write_result(alloc, text, contents, attempt, results, *object)?;
+    }
+    Ok(())
+}
+
+/// Writes the contents with which an attempt ended, each at its object, and the edges to what they name.
+pub fn write_ended(
+    alloc: Global,
+    text: &mut String,
+    contents: Contents,
+    index: &BirthIndex,
+    log: &[Entry],
+    attempt: AttemptId,
+    results: &Seq<SharedContent>,
+) -> Result<(), AllocError>
+    ensures { IsIndexOf index.now log.now → OnOk result
+        (string_bytes text.new ≡ string_bytes text.old ++ ended_text contents log.now attempt results.now) }
+{
+    let objects = task_objects(alloc, index, log, attempt)?;
+    write_results(alloc, text, contents, attempt, results, &objects)
 }
 
 #[tactic(auto, unfolding(crate::specs::Attempts::fault_tail))]
@@ -131,10 +229,44 @@ pub fn write_fault_tail(text: &mut String, fault: Fault) -> Result<(), AllocErro
     write_tail_of(text, fault.kind, fault.object)
 }
 
-/// Writes the fault with which an attempt ended.
-pub fn write_faulted(text: &mut String, attempt: AttemptId, fault: Fault) -> Result<(), AllocError>
-    ensures { OnOk result (string_bytes text.new ≡ string_bytes text.old ++ faulted_text attempt fault) }
+fn write_fault_edge(
+    text: &mut String,
+    attempt: AttemptId,
+    fault: Fault,
+    object: ObjectId,
+) -> Result<(), AllocError>
+    ensures { OnOk result (string_bytes text.new ≡ string_bytes text.old ++ fault_edge attempt fault object) }
 {
-    write_fate_head(text, attempt)?;
+    write_fate_head(text, attempt, object)?;
     write_fault_tail(text, fault)
+}
+
+fn write_fault_edges(
+    text: &mut String,
+    attempt: AttemptId,
+    fault: Fault,
+    objects: &[ObjectId],
+) -> Result<(), AllocError>
+    ensures { OnOk result (string_bytes text.new ≡ string_bytes text.old ++ flat_map (fault_edge attempt fault) objects.now) }
+{
+    for object in objects {
+        write_fault_edge(text, attempt, fault, *object)?;
+    }
+    Ok(())
+}
+
+/// Writes the fault with which an attempt ended, at each object of its task.
+pub fn write_faulted(
+    alloc: Global,
+    text: &mut String,
+    index: &BirthIndex,
+    log: &[Entry],
+    attempt: AttemptId,
+    fault: Fault,
+) -> Result<(), AllocError>
+    ensures { IsIndexOf index.now log.now → OnOk result
+        (string_bytes text.new ≡ string_bytes text.old ++ faulted_text log.now attempt fault) }
+{
+    let objects = task_objects(alloc, index, log, attempt)?;
+    write_fault_edges(text, attempt, fault, &objects)
 }

@@ -1,8 +1,8 @@
 // What each entry adds to the graph.
 
-ghost use Rattle.std.specs.Prelude.{◌≡◌, ◌++◌, List, OnOk, string_bytes};
-ghost use Rattle.event_log.specs.Entries.{Entry};
+ghost use Rattle.std.specs.Prelude.{◌≡◌, ◌++◌, OnOk, string_bytes};
 ghost use Rattle.history.specs.Attempts.{AreStatesOf};
+ghost use Rattle.log_words.specs.Index.{IsIndexOf};
 ghost use Rattle.lineage_text.specs.Entries.{lineage_in, released_text, resolved_head, resolved_text};
 
 use crate::attempts::{write_begun, write_ended, write_fault_tail, write_faulted};
@@ -10,7 +10,7 @@ use crate::births::write_born;
 use history::AttemptStates;
 use ids::ObjectId;
 use log_entries::Entry;
-use log_words::Contents;
+use log_words::{BirthIndex, Contents};
 use std::alloc::{AllocError, Global};
 use values::Fault;
 
@@ -35,16 +35,18 @@ fn write_released(text: &mut String, object: ObjectId) -> Result<(), AllocError>
     writeln!(text, "    \"{object}\" [fontcolor=gray];")
 }
 
-/// Writes what an entry adds to the graph.
+/// Writes what an entry of the log adds to the graph.
 pub fn write_entry(
     alloc: Global,
     text: &mut String,
     contents: Contents,
     states: &AttemptStates,
+    index: &BirthIndex,
+    log: &[Entry],
     entry: &Entry,
 ) -> Result<(), AllocError>
-    ensures { (log : List Entry) → AreStatesOf states.now log → OnOk result
-        (string_bytes text.new ≡ string_bytes text.old ++ lineage_in contents log entry.now) }
+    ensures { AreStatesOf states.now log.now → IsIndexOf index.now log.now → OnOk result
+        (string_bytes text.new ≡ string_bytes text.old ++ lineage_in contents log.now entry.now) }
 {
     match entry {
         Entry::Born { object, birth, .. } => write_born(
@@ -54,12 +56,16 @@ pub fn write_entry(
             *object,
             &birth.inner,
         ),
-        Entry::Begun { attempt, worker } => write_begun(text, states, *attempt, *worker),
+        Entry::Begun { attempt, worker } => write_begun(
+            alloc, text, states, index, log, *attempt, *worker,
+        ),
         Entry::Ended {
             attempt,
             contents: results,
-        } => write_ended(alloc, text, contents, *attempt, results),
-        Entry::Faulted { attempt, fault, .. } => write_faulted(text, *attempt, *fault),
+        } => write_ended(alloc, text, contents, index, log, *attempt, results),
+        Entry::Faulted { attempt, fault, .. } => {
+            write_faulted(alloc, text, index, log, *attempt, *fault)
+        }
         Entry::Resolved { object, fault } => write_resolved(text, *object, *fault),
         Entry::Released(object) => write_released(text, *object),
         _ => Ok(()),

@@ -8,7 +8,7 @@ ghost use Rattle.lineage_text.specs.Text.{graph_head, lineage_text};
 use crate::entries::write_entry;
 use history::AttemptStates;
 use log_entries::Entry;
-use log_words::Contents;
+use log_words::{BirthIndex, Contents};
 use std::alloc::{AllocError, Global};
 
 #[tactic(auto, unfolding(crate::specs::Text::graph_head))]
@@ -29,17 +29,18 @@ fn write_entries(
     ensures { OnOk result (string_bytes text.new ≡ string_bytes text.old ++ flat_map (lineage_in contents log.now) log.now) }
 {
     let states = AttemptStates::of(alloc, log)?;
+    let index = BirthIndex::of(alloc, log)?;
     for entry in log {
-        write_entry(alloc, text, contents, &states, entry)?;
+        write_entry(alloc, text, contents, &states, &index, log, entry)?;
     }
     Ok(())
 }
 
 /// What the objects of a log are made of, as a graph in Graphviz's language DOT, main's own object with them: a box for each
-/// task, labelled by its call, and an ellipse for each put; an edge to a task from each object in its arguments, and a
-/// dashed edge from an object to each that its value names. An attempt stands beside its object, with its worker and its
-/// state as in a report, and the dotted line between them has the content or the fault with which it ended. An object that
-/// will have no content is red, with its fault beside it, and the text of one that was released is gray.
+/// result of a task, labelled by its call, and an ellipse for each put; an edge to a result from each object in the task's arguments, and
+/// a dashed edge from an object to each that its value names. An attempt stands beside the objects of its task, with its worker and its
+/// state as in a report, and the dotted line between an object and it has the object's content or the fault with which it ended. An object
+/// that will have no content is red, with its fault beside it, and the text of one that was released is gray.
 ///
 /// It is made of any log, a legal one or not. Names of functions are written as they are: those of a script that was
 /// checked need no escapes. Goes over the log a fixed number of times.

@@ -12,6 +12,7 @@ use Rattle.log_words.specs.Faults.{fault_words}
 use Rattle.log_text.specs.Attempts.{named_text, begun_text}
 use Rattle.log_text.specs.Events.{event_line}
 use Rattle.log_text.specs.Refusals.{refusal_text}
+use Rattle.log_words.specs.Tasks.{objects_text}
 use Rattle.log_words.specs.Told.{Told}
 
 abbrev pub lack_head : Id → List ℕ
@@ -34,7 +35,7 @@ print_text how v = codes "main prints " ++ shown_text how v
 -- what an entry says of an attempt; `how` says whether long lists are cut, and `births` are those of the whole log
 abbrev pub act_text : Contents → List Bearing → Entry → List ℕ
 act_text how births (Begun a w) = begun_text how births a w
-act_text how births (Born o a b) = named_text births a ++ (codes " makes " ++ (id_text o ++ (codes ": " ++ birth_text how b)))
+act_text how births (Born o a b) = named_text births a ++ (codes " makes " ++ (objects_text o b ++ (codes ": " ++ birth_text how b)))
 act_text how births (Got a y c) = named_text births a ++ (codes " gets " ++ (id_text y ++ (codes ": " ++ content_text how c)))
 act_text how births (Ended a cs) = named_text births a ++ (codes " ends with " ++ contents_text how cs)
 act_text how births (Accepted a) = codes "w" ++ (decimal a.object.owner ++ (codes " accepts " ++ named_text births a))

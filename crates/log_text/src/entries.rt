@@ -15,7 +15,7 @@ use ids::ObjectId;
 use log_entries::Entry;
 use log_words::{
     BirthIndex, Contents, Told, write_birth, write_content, write_contents, write_fault,
-    write_value,
+    write_objects, write_value,
 };
 use std::alloc::AllocError;
 use values::{Fault, RunValue};
@@ -77,7 +77,9 @@ fn write_act(
             birth,
         } => {
             write_named(text, index, log, *attempt)?;
-            write!(text, " makes {object}: ")?;
+            text.push_str(" makes ")?;
+            write_objects(text, *object, &birth.inner)?;
+            text.push_str(": ")?;
             write_birth(text, contents, &birth.inner)
         }
         Entry::Got {

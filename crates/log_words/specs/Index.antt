@@ -1,4 +1,4 @@
--- The births of a log by their objects.
+-- The births of a log by their first objects.
 use Rattle.std.specs.Prelude.{◌≡◌, ℕ, Bool, false, List, Option, Some, None, drop, slice_get}
 use Rattle.std.specs.List.{flat_map}
 use Rattle.std.specs.Map.{lookup}

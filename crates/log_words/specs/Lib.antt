@@ -5,3 +5,4 @@ pub mod Faults
 pub mod Index
 pub mod Told
 pub mod Ids
+pub mod Tasks

@@ -16,7 +16,7 @@ use log_entries::Entry;
 use std::alloc::{AllocError, Global};
 use task_spec::Birth;
 
-/// The births of a log by their objects, main's with them.
+/// The births of a log by their first objects, main's with them.
 #[derive(Drop)]
 pub struct BirthIndex {
     main: Birth,
@@ -95,7 +95,7 @@ fn main_birth(alloc: Global) -> Result<Birth, AllocError>
 
 /// Whether the object is main's own.
 #[tactic(auto, unfolding(meaning::specs::Births::same_id))]
-fn is_main(object: ObjectId) -> bool
+pub fn is_main(object: ObjectId) -> bool
     ensures { result ≡ same_id main_object object }
 {
     object.owner.0 == 1 && object.serial == 0
@@ -111,7 +111,7 @@ impl BirthIndex {
         Ok(BirthIndex { main, places })
     }
 
-    /// What the object was born as, by the log of which this is the index. Takes no memory.
+    /// What was born with this first object, by the log of which this is the index. Takes no memory.
     pub fn birth<'a>(&'a self, log: &'a [Entry], object: ObjectId) -> Option<&'a Birth>
         ensures { IsIndexOf self.now log.now →
             option_map birth_of (option_copied result) ≡ birth_at (births log.now) object }

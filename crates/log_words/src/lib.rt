@@ -1,4 +1,4 @@
-//! The words in which a log is told: what each object was born as, calls, contents and faults.
+//! The words in which a log is told: what each object was born as, the task of which it is a result, calls, contents and faults.
 #![tactic(auto)]
 
 mod births;
@@ -7,6 +7,7 @@ mod contents;
 mod cut;
 mod faults;
 mod objects;
+mod tasks;
 mod told;
 
 pub use births::BirthIndex;
@@ -14,4 +15,5 @@ pub use calls::{write_birth, write_call};
 pub use contents::{Contents, write_content, write_contents, write_value};
 pub use faults::{kind_words, write_fault};
 pub use objects::ids_of;
+pub use tasks::{add_objects, task_of, write_objects};
 pub use told::{Told, is_refusal_at, worker_of_job};

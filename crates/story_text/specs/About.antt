@@ -1,7 +1,6 @@
 -- What is said of an object.
 use Rattle.std.specs.Prelude.{ℕ, Bool, false, not, ◌&&◌, ◌||◌, ◌==◌, List, [], ◌∷◌}
 use Rattle.std.specs.List.{list_any}
-use Rattle.meaning.specs.Values.{Id}
 use Rattle.meaning.specs.Births.{same_id}
 use Rattle.event_log.specs.Entries.{Event, Notice, NoticeNode, Evict, Lose, Kill, KillNode, Entry, In, Begun, Born, Got, Ended, Accepted, Faulted}
 use Rattle.event_log.specs.Entries.{Resolved, Released}
@@ -11,19 +10,19 @@ use Rattle.story_text.specs.Runners.{Subject}
 use Rattle.story_text.specs.declared.runners.Subject.{Subject as CodeSubject}
 
 abbrev pub seen_of : CodeSubject → Subject
-seen_of s = record { object = s.object; workers = s.workers.items; nodes = s.nodes.items }
+seen_of s = record { object = s.object; task = s.task; workers = s.workers.items; nodes = s.nodes.items }
 
--- the entry names the object, or an attempt of its task
-unfoldable pub is_about : Id → Entry → Bool
-is_about o (Begun a w) = same_id a.object o
-is_about o (Born p a b) = same_id p o || is_in_birth o b
-is_about o (Got a y c) = same_id a.object o || (same_id y o || is_in_content o c)
-is_about o (Ended a cs) = same_id a.object o || is_in_contents o cs
-is_about o (Accepted a) = same_id a.object o
-is_about o (Faulted a y f) = same_id a.object o || (same_id y o || same_id f.object o)
-is_about o (Resolved p f) = same_id p o || same_id f.object o
-is_about o (Released p) = same_id p o
-is_about o _ = false
+-- the entry names the object, or an attempt of its task; a birth is named by its first object, as the attempts are
+unfoldable pub is_about : Subject → Entry → Bool
+is_about s (Begun a w) = same_id a.object s.task
+is_about s (Born p a b) = same_id p s.task || is_in_birth s.object b
+is_about s (Got a y c) = same_id a.object s.task || (same_id y s.object || is_in_content s.object c)
+is_about s (Ended a cs) = same_id a.object s.task || is_in_contents s.object cs
+is_about s (Accepted a) = same_id a.object s.task
+is_about s (Faulted a y f) = same_id a.object s.task || (same_id y s.object || same_id f.object s.object)
+is_about s (Resolved p f) = same_id p s.object || same_id f.object s.object
+is_about s (Released p) = same_id p s.object
+is_about s _ = false
 
 abbrev pub is_one : List ℕ → ℕ → Bool
 is_one ns n = list_any (λ m. m == n) ns
@@ -39,16 +38,16 @@ befalls s (Lose n o) = same_id o s.object
 befalls s _ = false
 
 -- something about the object came of the event to which these entries belong
-abbrev pub is_ahead : Id → List Entry → Bool
-is_ahead o [] = false
-is_ahead o (In e seat ∷ rest) = false
-is_ahead o (x ∷ rest) = is_about o x || is_ahead o rest
+abbrev pub is_ahead : Subject → List Entry → Bool
+is_ahead s [] = false
+is_ahead s (In e seat ∷ rest) = false
+is_ahead s (x ∷ rest) = is_about s x || is_ahead s rest
 
 -- a refused event does nothing
 abbrev pub is_event_shown : Subject → Event → List Entry → Bool
-is_event_shown s e rest = (not (refused_next rest) && befalls s e) || is_ahead s.object rest
+is_event_shown s e rest = (not (refused_next rest) && befalls s e) || is_ahead s rest
 
 -- the entry belongs to the object's story
 abbrev pub is_shown : Subject → Entry → List Entry → Bool
 is_shown s (In e seat) rest = is_event_shown s e rest
-is_shown s x rest = is_about s.object x
+is_shown s x rest = is_about s x

@@ -5,70 +5,71 @@ ghost use Rattle.story_text.specs.About.{befalls, is_about, is_ahead, is_event_s
 
 use crate::mentions::{is_in_birth, is_in_content, is_in_contents};
 use crate::runners::{Subject, is_one};
-use ids::ObjectId;
 use log_entries::{Entry, Event};
 use log_words::is_refusal_at;
 use std::alloc::{AllocError, Global};
 
 /// Whether the entry names the object, or an attempt of its task.
 #[tactic(auto, unfolding(crate::specs::About::is_about))]
-fn is_about(alloc: Global, object: ObjectId, entry: &Entry) -> Result<bool, AllocError>
-    ensures { IfOk result (λ b. b ≡ is_about object entry.now) }
+fn is_about(alloc: Global, subject: &Subject, entry: &Entry) -> Result<bool, AllocError>
+    ensures { IfOk result (λ b. b ≡ is_about (seen_of subject.now) entry.now) }
 {
     match entry {
-        Entry::Begun { attempt, .. } | Entry::Accepted(attempt) => { Ok(attempt.object.is(object)) }
+        Entry::Begun { attempt, .. } | Entry::Accepted(attempt) => {
+            Ok(attempt.object.is(subject.task))
+        }
         Entry::Born {
             object: born,
             birth,
             ..
         } => {
-            if born.is(object) {
+            if born.is(subject.task) {
                 return Ok(true);
             }
-            is_in_birth(alloc, object, &birth.inner)
+            is_in_birth(alloc, subject.object, &birth.inner)
         }
         Entry::Got {
             attempt,
             object: got,
             content,
         } => {
-            if attempt.object.is(object) {
+            if attempt.object.is(subject.task) {
                 return Ok(true);
             }
-            if got.is(object) {
+            if got.is(subject.object) {
                 return Ok(true);
             }
-            is_in_content(alloc, object, &content.inner)
+            is_in_content(alloc, subject.object, &content.inner)
         }
         Entry::Ended { attempt, contents } => {
-            if attempt.object.is(object) {
+            if attempt.object.is(subject.task) {
                 return Ok(true);
             }
-            is_in_contents(alloc, object, contents)
+            is_in_contents(alloc, subject.object, contents)
         }
         Entry::Faulted {
             attempt,
             object: got,
             fault,
         } => {
-            if attempt.object.is(object) {
+            if attempt.object.is(subject.task) {
                 return Ok(true);
             }
-            if got.is(object) {
+            if got.is(subject.object) {
                 return Ok(true);
             }
-            Ok(fault.object.is(object))
+            Ok(fault.object.is(subject.object))
         }
         Entry::Resolved {
             object: resolved,
             fault,
         } => {
-            if resolved.is(object) {
+            if resolved.is(subject.object) {
                 return Ok(true);
             }
-            Ok(fault.object.is(object))
+            Ok(fault.object.is(subject.object))
         }
-        Entry::Released(released) => Ok(released.is(object)),
+        Entry::Released(released) => Ok(released.is(subject.object)),
         _ => Ok(false),
     }
 }
@@ -89,14 +90,14 @@ fn befalls(subject: &Subject, event: &Event) -> bool
 }
 
 /// Whether something about the object came of the event to which these entries belong.
-fn is_ahead(alloc: Global, object: ObjectId, rest: &[Entry]) -> Result<bool, AllocError>
-    ensures { IfOk result (λ b. b ≡ is_ahead object rest.now) }
+fn is_ahead(alloc: Global, subject: &Subject, rest: &[Entry]) -> Result<bool, AllocError>
+    ensures { IfOk result (λ b. b ≡ is_ahead (seen_of subject.now) rest.now) }
 {
     for entry in rest {
         if let Entry::In { .. } = entry {
             return Ok(false);
         }
-        if is_about(alloc, object, entry)? {
+        if is_about(alloc, subject, entry)? {
             return Ok(true);
         }
     }
@@ -112,12 +113,12 @@ fn is_event_shown(
     ensures { IfOk result (λ b. b ≡ is_event_shown (seen_of subject.now) event.now rest.now) }
 {
     if is_refusal_at(rest, 0) {
-        return is_ahead(alloc, subject.object, rest);
+        return is_ahead(alloc, subject, rest);
     }
     if befalls(subject, event) {
         return Ok(true);
     }
-    is_ahead(alloc, subject.object, rest)
+    is_ahead(alloc, subject, rest)
 }
 
 /// Whether the entry belongs to the object's story; `rest` are the entries behind it.
@@ -131,6 +132,6 @@ pub fn is_shown(
 {
     match entry {
         Entry::In { event, .. } => is_event_shown(alloc, subject, event, rest),
-        _ => is_about(alloc, subject.object, entry),
+        _ => is_about(alloc, subject, entry),
     }
 }

@@ -9,12 +9,14 @@ ghost use Rattle.story_text.specs.About.{seen_of};
 
 use ids::ObjectId;
 use log_entries::Entry;
+use log_words::task_of;
 use std::alloc::{AllocError, Global};
 
-/// An object, and the numbers of the workers and nodes on which attempts of its task ran.
+/// An object, the one by which the attempts of its task are named, and the numbers of the workers and nodes on which these ran.
 #[derive(Drop)]
 pub struct Subject {
     pub object: ObjectId,
+    pub task: ObjectId,
     pub workers: Vec<u32>,
     pub nodes: Vec<u32>,
 }
@@ -95,15 +97,17 @@ fn nodes_in(alloc: Global, nodes: &[u32], workers: &[u32]) -> Result<Vec<u32>, A
 }
 
 impl Subject {
-    /// The object with what the log says of its attempts.
+    /// The object with what the log says of the attempts of its task.
     pub fn of(alloc: Global, object: ObjectId, log: &[Entry]) -> Result<Subject, AllocError>
         ensures { IfOk result (λ subject. seen_of subject ≡ subject_of object log.now) }
     {
-        let workers = workers_of(alloc, object, log)?;
+        let task = task_of(log, object);
+        let workers = workers_of(alloc, task, log)?;
         let opened = opened(alloc, log)?;
         let nodes = nodes_in(alloc, &opened, &workers)?;
         Ok(Subject {
             object,
+            task,
             workers,
             nodes,
         })

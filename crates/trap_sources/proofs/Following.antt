@@ -1,5 +1,5 @@
 -- From the trap of an object to the attempt whose own code trapped.
-use Rattle.std.proofs.Common.{◌≡◌, ◌∙◌, ℕ, zero, suc, List, Option, Some, None, refl, ap, sym}
+use Rattle.std.proofs.Common.{◌≡◌, ◌∙◌, ℕ, suc, List, Option, Some, None, refl, ap, sym}
 use Rattle.meaning.specs.Values.{Id}
 use Rattle.event_log.specs.Entries.{Attempt, Entry}
 use Rattle.trap_sources.specs.Chains.{origin_from, origin_step, trap_got, trap_origin, trapped_of}

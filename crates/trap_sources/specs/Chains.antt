@@ -4,8 +4,9 @@ use Rattle.std.specs.List.{flat_map, list_any}
 use Rattle.meaning.specs.Births.{same_id}
 use Rattle.meaning.specs.Values.{Id, Outcome, Trapped, Val}
 use Rattle.event_log.specs.Entries.{Attempt, Ended, Entry, Got}
-use Rattle.event_log.specs.Words.{same_attempt}
+use Rattle.event_log.specs.Words.{births, same_attempt}
 use Rattle.history.specs.Main.{first}
+use Rattle.log_words.specs.Tasks.{task_of}
 
 abbrev pub is_trap : Outcome → Bool
 is_trap (Val v) = false
@@ -28,13 +29,18 @@ trap_got_from a last (x ∷ rest) = trap_got_from a (trap_after a last x) rest
 unfoldable pub trap_got : List Entry → Attempt → Option Id
 trap_got log a = trap_got_from a None log
 
+-- a trap is the outcome of each result
 abbrev pub trapped_in : Id → Entry → List Attempt
-trapped_in o (Ended a cs) = if same_id a.object o && list_any is_trap cs then a ∷ [] else []
-trapped_in o _ = []
+trapped_in task (Ended a cs) = if same_id a.object task && list_any is_trap cs then a ∷ [] else []
+trapped_in task _ = []
+
+-- the first attempt that ended with a trap, of those that are named by the object
+abbrev pub trapped_by : List Entry → Id → Option Attempt
+trapped_by log task = first (flat_map (trapped_in task) log)
 
 -- the first attempt of the object's task that ended with a trap
 abbrev pub trapped_of : List Entry → Id → Option Attempt
-trapped_of log o = first (flat_map (trapped_in o) log)
+trapped_of log o = trapped_by log (task_of (births log) o)
 
 -- the attempt itself, where it got no trap; else what comes of the object whose trap it got
 abbrev pub origin_step : (Id → Option Attempt) → Attempt → Option Id → Option Attempt

@@ -4,11 +4,12 @@ ghost use Rattle.std.specs.Prelude.{◌≡◌};
 ghost use Rattle.std.specs.List.{list_any};
 ghost use Rattle.values.specs.Values.{content_of};
 ghost use Rattle.history.specs.Main.{first};
-ghost use Rattle.trap_sources.specs.Chains.{is_trap, trap_after, trap_got, trap_origin, trapped_in, trapped_of};
+ghost use Rattle.trap_sources.specs.Chains.{is_trap, trap_after, trap_got, trap_origin, trapped_by, trapped_in, trapped_of};
 
 use held::SharedContent;
 use ids::{AttemptId, ObjectId};
 use log_entries::Entry;
+use log_words::task_of;
 use sequence::Seq;
 use values::Content;
 
@@ -65,28 +66,34 @@ fn has_trap(contents: &Seq<SharedContent>) -> bool
     false
 }
 
-fn trapped_in(object: ObjectId, entry: &Entry) -> Option<AttemptId>
-    ensures { result ≡ first (trapped_in object entry.now) }
+fn trapped_in(task: ObjectId, entry: &Entry) -> Option<AttemptId>
+    ensures { result ≡ first (trapped_in task entry.now) }
 {
     let Entry::Ended { attempt, contents } = entry else {
         return None;
     };
-    if attempt.object.is(object) && has_trap(contents) {
+    if attempt.object.is(task) && has_trap(contents) {
         return Some(*attempt);
     }
     None
 }
 
-/// The first attempt of the object's task that ended with a trap, if one did. Takes no memory.
-pub fn trapped_of(log: &[Entry], object: ObjectId) -> Option<AttemptId>
-    ensures { result ≡ trapped_of log.now object }
+fn trapped_by(log: &[Entry], task: ObjectId) -> Option<AttemptId>
+    ensures { result ≡ trapped_by log.now task }
 {
     for entry in log {
-        if let Some(attempt) = trapped_in(object, entry) {
+        if let Some(attempt) = trapped_in(task, entry) {
             return Some(attempt);
         }
     }
     None
+}
+
+/// The first attempt of the object's task that ended with a trap, if one did: of several results the trap is each one's. Takes no memory.
+pub fn trapped_of(log: &[Entry], object: ObjectId) -> Option<AttemptId>
+    ensures { result ≡ trapped_of log.now object }
+{
+    trapped_by(log, task_of(log, object))
 }
 
 /// The attempt whose own code trapped, from the object's attempt that ended with a trap to that of the object whose trap it got, and so on, so many

@@ -63,7 +63,7 @@ drops_log [] h e = refl
 drops_log (n ∷ ns) h e = drops_log ns (says_to_node h n (Unhold e e WasReleased)) e
 
 releases_log : (h : Here) (e : Id) (x : Object) → (releases h e x).there.out.entries ≡ h.there.out.entries ++ Released e ∷ []
-releases_log h e x = let g : Here = logs (changes h e released) (Released e) in drops_log x.places (lets_go g e x.ids) e ∙ lets_go_log x.ids g e
+releases_log h e x = let g : Here = logs (changes h e released) (Released e) in drops_log x.ever (lets_go g e x.ids) e ∙ lets_go_log x.ids g e
 
 -- ---- the release step
 

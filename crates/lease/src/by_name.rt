@@ -10,8 +10,9 @@ use ids::{AttemptId, WorkerId};
 use protocol_data::{AskKey, There};
 use std::alloc::{AllocError, Global};
 
-/// What gives workers and slots to attempts at a node, in an event. On an error, which is want of memory or of numbers, nothing is changed.
-pub trait Scheduler {
+/// What gives workers and slots to attempts at a node, in an event. On an error nothing is changed: it is want of memory, or a new worker would have
+/// a number past 2^32 - 1, where no run comes.
+pub trait Scheduling {
     /// An ask for a worker. With a free slot it gets the idle worker of least number, or a new one; without one it is sent on to the next node,
     /// and after as many asks as there are nodes it waits. A repeated ask gets the answer that stands.
     fn ask(&mut self, alloc: Global, key: &AskKey) -> Result<(), AllocError>;
@@ -29,7 +30,7 @@ pub trait Scheduler {
     fn killed(&mut self, alloc: Global, worker: WorkerId) -> Result<(), AllocError>;
 }
 
-impl Scheduler for There {
+impl Scheduling for There {
     fn ask(&mut self, alloc: Global, key: &AskKey) -> Result<(), AllocError>
         ensures step { OnOk result (self.new ≡ asked self.old key.now) }
         ensures err { OnErr result (self.new ≡ self.old) }

@@ -45,7 +45,7 @@ drops_none (n ∷ ns) h e = let g : Here = says_to_node h n (Unhold e e WasRelea
 releases_none : (h : Here) (e : Id) (x : Object) → OpensNone h (releases h e x)
 releases_none h e x =
     let g : Here = logs (changes h e released) (Released e) in
-    none_then {g = g} (record { same = refl }) (none_then (lets_go_none x.ids g e) (drops_none x.places (lets_go g e x.ids) e))
+    none_then {g = g} (record { same = refl }) (none_then (lets_go_none x.ids g e) (drops_none x.ever (lets_go g e x.ids) e))
 
 releases_by_none : (h : Here) (k : ℕ) (x : Option Object) → OpensNone h (releases_by h k x)
 releases_by_none h k None = opens_none

@@ -227,7 +227,7 @@ module _ (y : Id) where
   releases_by-waits h k (Some x) w =
       let e : Id = own_id h k in
       let g : Here = logs (changes h e released) (Released e) in
-      either (may_release h.worker x) (releases h e x) h (drops_copies-waits (lets_go g e x.ids) e x.places (lets_go-waits g e x.ids w)) w
+      either (may_release h.worker x) (releases h e x) h (drops_copies-waits (lets_go g e x.ids) e x.ever (lets_go-waits g e x.ids w)) w
 
   passes-waits : (h : Here) (k n : ℕ) → WaitsOnly h → WaitsOnly (each_from (λ g i. releases_by g i (own_object g i)) h k n)
   passes-waits h k zero w = w

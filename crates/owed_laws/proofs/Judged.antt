@@ -1,23 +1,23 @@
 -- The worked examples of what is owed.
-use Rattle.std.proofs.Common.{◌≡◌, ◌<◌, ℕ, zero, suc, Bool, true, false, List, [], ◌∷◌, Some, None, Option, refl, ap, sym, subst, ◌∙◌, inl, arith}
+use Rattle.std.proofs.Common.{◌≡◌, ◌<◌, ℕ, zero, suc, Bool, true, false, List, [], ◌∷◌, Some, None, Option, refl, ap, sym, subst, ◌∙◌, inl, inr, arith}
 use Rattle.meaning.specs.Births.{birth_at, same_id}
-use Rattle.meaning.specs.Values.{Argument, Id, Name, Outcome, Put, Task, Val}
+use Rattle.meaning.specs.Values.{Argument, Birth, Id, Name, Outcome, Put, Task, Val, Value}
 use Rattle.values.specs.Cells.{is_small}
 use Rattle.event_log.specs.Breaks.{Among}
-use Rattle.event_log.specs.Entries.{Accepted, Attempt, Born, Deliver, Ended, main_attempt}
+use Rattle.event_log.specs.Entries.{Accepted, Attempt, Born, Deliver, Ended, Entry, main_attempt}
 use Rattle.event_log.specs.Events.{accepted_events, node_of, was_lost}
 use Rattle.event_log.specs.Rules.{Setting}
 use Rattle.event_log.specs.Words.{attempt, births, worker_of}
-use Rattle.protocol.specs.Messages.{Ask, CopyOf, Finished, FinishedAck, Hold, HoldAck, Letter, Missing, Push, TheNode, TheWorker, Unhold, letter}
+use Rattle.protocol.specs.Messages.{Ask, CopyOf, Fetch, Finished, FinishedAck, Hold, HoldAck, Letter, Missing, Party, Push, Reason, TheNode, TheWorker, Unhold, letter}
 use Rattle.protocol.specs.Numbered.{item_at}
 use Rattle.protocol.specs.Sets.{object_id}
 use Rattle.protocol_owed.specs.Ends.{EndsAreReported, HoldsAreAcknowledged, IsHoldOf}
 use Rattle.protocol_owed.specs.Replies.{BirthIsAsked, FetchIsAnswered, FinishIsAcknowledged, HasFirstCopy, Says}
-use Rattle.protocol_owed.specs.Seen.{deliveries}
+use Rattle.protocol_owed.specs.Seen.{IsContentOf, deliveries}
 use Rattle.protocol_owed.proofs.Letters.{among-nothing}
 use Rattle.lease_discipline.specs.Examples.{first_one, given_log, one_once}
 use Rattle.owed_laws.specs.Examples.{BirthsAreJudged, EndsAreJudged, FetchesAreJudged, ReportsAreJudged, report_scene, acknowledged, birth_comes, empty_list, end_comes, ended_network}
-use Rattle.owed_laws.specs.Examples.{fetch_comes, fetch_scene, put_log}
+use Rattle.owed_laws.specs.Examples.{fetch_comes, fetch_scene, long_list, put_log, unaccepted_log}
 
 -- ---- a birth
 
@@ -113,10 +113,14 @@ ends_are_judged = record {
 not_lacked : true ≡ false → ⊥
 not_lacked e = cc
 
+was_put : birth_at (births put_log) (object_id 1 1) ≡ Some (Put empty_list)
+unfolding same_id
+was_put = refl
+
 fetch_is_paid : (s : Setting) → FetchIsAnswered (fetch_comes s true (CopyOf (object_id 1 1) 0 (Val empty_list))) 1 2 (object_id 1 1) 0
 fetch_is_paid s = record {
-  there = λ _. (Val empty_list, (zero, refl));
-  first_copy = λ _. (Val empty_list, (zero, refl));
+  there = λ _. (Val empty_list, inl (empty_list, was_put, refl, refl), (zero, refl));
+  first_copy = λ _. (Val empty_list, inl (empty_list, was_put, refl, refl), (zero, refl));
   lacking = λ e. absurd (not_lacked e);
 }
 
@@ -136,16 +140,88 @@ nothing_lost : was_lost 1 (object_id 1 1) put_log ≡ false
 unfolding was_lost accepted_events
 nothing_lost = refl
 
-was_put : birth_at (births put_log) (object_id 1 1) ≡ Some (Put empty_list)
-unfolding same_id
-was_put = refl
-
 first_is_there : (s : Setting) → HasFirstCopy (fetch_scene s put_log false) 1 (object_id 1 1) 0
 first_is_there s = record {
   first = inl (record { value = empty_list; put = was_put; first = refl; place = refl });
   big = λ c i. absurd (no_end (c ∷ []) i);
   unlost = nothing_lost;
   kept = λ from e why came. among-nothing _ (subst (λ ls. Among (letter from (TheNode 1) (Unhold e (object_id 1 1) why)) ls) (nothing_came s) came);
+}
+
+put_alone : (c : Outcome) → IsContentOf put_log (object_id 1 1) 0 c → c ≡ Val empty_list
+put_alone c (inl (v, born, first, is)) = is ∙ same v (sym born ∙ was_put)
+  where
+    same : (v : Value) → ◌≡◌ {A = Option Birth} (Some (Put v)) (Some (Put empty_list)) → Val v ≡ Val empty_list
+    same v e = cc
+put_alone c (inr i) = absurd (no_end (c ∷ []) i)
+
+not_that : (c : Outcome) → c ≡ Val empty_list →
+    Among (letter (TheNode 1) (TheWorker 2) (CopyOf (object_id 1 1) 0 c)) (letter (TheNode 1) (TheWorker 2) (CopyOf (object_id 1 1) 0 (Val long_list)) ∷ []) → ⊥
+not_that c is (zero, e) = differ (content c (ap (λ (l : Letter). l.message) (same c e)) ∙ is)
+  where
+    same : (c : Outcome) → ◌≡◌ {A = Option Letter} (Some (letter (TheNode 1) (TheWorker 2) (CopyOf (object_id 1 1) 0 (Val long_list))))
+        (Some (letter (TheNode 1) (TheWorker 2) (CopyOf (object_id 1 1) 0 c))) →
+        letter (TheNode 1) (TheWorker 2) (CopyOf (object_id 1 1) 0 (Val long_list)) ≡ letter (TheNode 1) (TheWorker 2) (CopyOf (object_id 1 1) 0 c)
+    same c f = cc
+
+    content : (c : Outcome) → CopyOf (object_id 1 1) 0 (Val long_list) ≡ CopyOf (object_id 1 1) 0 c → Val long_list ≡ c
+    content c f = cc
+
+    differ : Val long_list ≡ Val empty_list → ⊥
+    differ f = absurd (cc)
+not_that c is (suc k, e) = absurd (cc)
+
+-- ---- what ended there
+
+is_long : is_small (Val long_list) ≡ false
+unfolding is_small
+is_long = refl
+
+long_end : (c : Outcome) → Among (Ended first_one (c ∷ [])) unaccepted_log → is_small c ≡ false
+long_end c (zero, e) = absurd (cc)
+long_end c (suc zero, e) = absurd (cc)
+long_end c (suc (suc zero), e) = absurd (cc)
+long_end c (suc (suc (suc zero)), e) = absurd (cc)
+long_end c (suc (suc (suc (suc zero))), e) = absurd (cc)
+long_end c (suc (suc (suc (suc (suc zero)))), e) = absurd (cc)
+long_end c (suc (suc (suc (suc (suc (suc zero))))), e) = absurd (cc)
+long_end c (suc (suc (suc (suc (suc (suc (suc zero)))))), e) = absurd (cc)
+long_end c (suc (suc (suc (suc (suc (suc (suc (suc zero))))))), e) = subst (λ d. is_small d ≡ false) (same c e) is_long
+  where
+    same : (c : Outcome) → ◌≡◌ {A = Option Entry} (Some (Ended first_one (Val long_list ∷ []))) (Some (Ended first_one (c ∷ []))) → Val long_list ≡ c
+    same c f = cc
+long_end c (suc (suc (suc (suc (suc (suc (suc (suc (suc k)))))))), e) = absurd (cc)
+
+ran_there : worker_of first_one unaccepted_log ≡ Some 2
+unfolding same_id
+ran_there = refl
+
+never_lost : was_lost 1 (object_id 1 1) unaccepted_log ≡ false
+unfolding was_lost accepted_events
+never_lost = refl
+
+only_fetched : (s : Setting) → deliveries (fetch_scene s unaccepted_log false) ≡ letter (TheWorker 2) (TheNode 1) (Fetch (object_id 1 1) 0) ∷ []
+unfolding accepted_events
+only_fetched s = refl
+
+no_word : (from : Party) (e : Id) (why : Reason) →
+    Among (letter from (TheNode 1) (Unhold e (object_id 1 1) why)) (letter (TheWorker 2) (TheNode 1) (Fetch (object_id 1 1) 0) ∷ []) → ⊥
+no_word from e why (zero, f) = other (ap (λ (l : Letter). l.message) (same f))
+  where
+    same : ◌≡◌ {A = Option Letter} (Some (letter (TheWorker 2) (TheNode 1) (Fetch (object_id 1 1) 0))) (Some (letter from (TheNode 1) (Unhold e (object_id 1 1) why))) →
+        letter (TheWorker 2) (TheNode 1) (Fetch (object_id 1 1) 0) ≡ letter from (TheNode 1) (Unhold e (object_id 1 1) why)
+    same g = cc
+
+    other : Fetch (object_id 1 1) 0 ≡ Unhold e (object_id 1 1) why → ⊥
+    other g = absurd (cc)
+no_word from e why (suc k, f) = absurd (cc)
+
+ended_is_there : (s : Setting) → HasFirstCopy (fetch_scene s unaccepted_log false) 1 (object_id 1 1) 0
+ended_is_there s = record {
+  first = inr (record { content = Val long_list; ended = (8, refl); worker = 2; ran = ran_there; place = refl });
+  big = long_end;
+  unlost = never_lost;
+  kept = λ from e why came. no_word from e why (subst (λ ls. Among (letter from (TheNode 1) (Unhold e (object_id 1 1) why)) ls) (only_fetched s) came);
 }
 
 no_copy : (c : Outcome) →
@@ -171,7 +247,9 @@ not_both b e f = cc
 pub fetches_are_judged : FetchesAreJudged
 fetches_are_judged = record {
   paid = fetch_is_paid;
-  withheld = λ s p. let r = p.first_copy (first_is_there s) in no_copy r.0 r.1;
+  other = λ s p. let r = p.there refl in not_that r.0 (put_alone r.0 r.1) r.2;
+  withheld = λ s p. let r = p.first_copy (first_is_there s) in no_copy r.0 r.2;
+  unaccepted = ended_is_there;
   small = λ s p. not_both (is_small (Val empty_list)) is_little (p.big (Val empty_list) (8, refl));
 }
 

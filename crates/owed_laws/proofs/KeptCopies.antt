@@ -9,19 +9,16 @@ use Rattle.std.proofs.lemmas.List.Folds.{list_any-append}
 use Rattle.meaning.proofs.BirthLaws.{at_test, same_id-refl}
 use Rattle.meaning.specs.Births.{same_id}
 use Rattle.meaning.specs.Mains.{KeepsMainApart}
-use Rattle.meaning.specs.Values.{Id, Put, main_birth}
+use Rattle.meaning.specs.Values.{Id, Outcome, Put, main_birth}
 use Rattle.event_log.specs.Breaks.{Among}
-use Rattle.event_log.specs.Entries.{Accepted, Attempt, Claim, Commit, Deliver, Entry, Event, Evict, In, Join, Kill, KillNode, Lose, Notice, NoticeNode}
+use Rattle.event_log.specs.Entries.{Attempt, Claim, Commit, Deliver, Ended, Entry, Event, Evict, In, Join, Kill, KillNode, Lose, Notice, NoticeNode}
 use Rattle.event_log.specs.Entries.{Refused, Tick, main_object}
 use Rattle.event_log.specs.Entries.{Refusal, Limit}
 use Rattle.event_log.specs.Events.{accepted_events, from_one, loses, node_of, refused_next, was_lost}
 use Rattle.event_log.specs.Legal.{opening}
 use Rattle.event_log.specs.Rules.{Setting}
-use Rattle.event_log.specs.Sane.{Sane}
-use Rattle.event_log.specs.Words.{accepted_in, attempt, ended_in, ends_of}
+use Rattle.event_log.specs.Words.{attempt, ended_in, ends_of}
 use Rattle.event_log.proofs.EventLaws.{accepted-append, accepted-event}
-use Rattle.event_log.proofs.SaneLaws.{legal_logs_are_sane}
-use Rattle.event_log.proofs.SingleLaws.{legal_logs_are_of_singles}
 use Rattle.event_log.proofs.WordLaws.{same_attempt-refl}
 use Rattle.protocol.specs.Answers.{Answer, Refuses, answer, decided, given_out, logged, takes, whole_after}
 use Rattle.protocol.specs.Events.{happens}
@@ -34,10 +31,10 @@ use Rattle.protocol.specs.Stores.{Copy, is_copy_of}
 use Rattle.protocol.specs.Tables.{Worker}
 use Rattle.protocol.specs.Whole.{Moved, Whole, first_whole, node_at, worker_at}
 use Rattle.protocol_legal.specs.Made.{EndsSmall, IsMadeAt}
-use Rattle.protocol_legal.specs.Whole.{Between, setting_of}
+use Rattle.protocol_legal.specs.Whole.{Between}
 use Rattle.protocol_owed.specs.Replies.{HasFirstCopy}
 use Rattle.protocol_owed.specs.Runs.{Handing, Running, after_event, after_events, is_copy, keeps_in, opening_run, seen}
-use Rattle.protocol_owed.specs.Seen.{AcceptedAt, PutAt, delivered_in, letters_by}
+use Rattle.protocol_owed.specs.Seen.{EndedAt, PutAt, delivered_in, letters_by}
 use Rattle.protocol_owed.proofs.Counting.{happens-counted, no_event, not_refused}
 use Rattle.protocol_owed.proofs.Letters.{among-behind, among-more, among-nothing}
 use Rattle.protocol_owed.proofs.Nodes.{there_more}
@@ -278,10 +275,14 @@ found_first p (x ∷ xs) ys e =
     at_test (λ t. (t || list_any p xs) ≡ true → is_copy (option_map (λ (y : Copy). y.content) (if t then Some x else find p (xs ++ ys))) ≡ true) (p x)
     (λ _ f. refl) (λ _ f. found_first p xs ys f) e
 
+entry_ended : (log : List Entry) (a : Attempt) (c : List Outcome) → Among (Ended a c) log → Among c (ends_of a log)
+entry_ended log a c i =
+    among_flat (ended_in a) log (Ended a c) c i (subst (λ t. Among c (if t then c ∷ [] else [])) (sym (same_attempt-refl a)) (zero, refl))
+
 -- a first copy is in the store
-pub first_copy_kept : (s : Setting) (r : Running) → Between s r.log r.whole → KeepsMade r.log r.whole → (n : ℕ) (node : Node) → node_at r.whole n ≡ Some node →
+pub first_copy_kept : (s : Setting) (r : Running) → KeepsMade r.log r.whole → (n : ℕ) (node : Node) → node_at r.whole n ≡ Some node →
     (y : Id) (number : ℕ) → HasFirstCopy (seen s r) n y number → (seen s r).keeps n y number ≡ true
-first_copy_kept s r b k n node at y number first = ap (keeps_in y number) at ∙ elim (k n node at y number (made first.first)) [
+first_copy_kept s r k n node at y number first = ap (keeps_in y number) at ∙ elim (k n node at y number (made first.first)) [
   | inl stored ↦ found_first (is_copy_of y number) node.store.primaries node.store.secondaries stored
   | inr (inl (from, e, why, dropped)) ↦ absurd (first.kept from e why dropped)
   | inr (inr (inl lost)) ↦ absurd (differ (was_lost n y r.log) lost first.unlost)
@@ -291,13 +292,7 @@ first_copy_kept s r b k n node at y number first = ap (keeps_in y number) at ∙
     differ : (t : Bool) → t ≡ true → t ≡ false → ⊥
     differ t e f = cc
 
-    made : PutAt r.log y number n ⊎ AcceptedAt r.log y number n → IsMadeAt r.log y number n
+    made : PutAt r.log y number n ⊎ EndedAt r.log y number n → IsMadeAt r.log y number n
     made (inl p) = inl (record { value = p.value; born = p.put; first = p.first; home = p.place })
     made (inr p) =
-        let a : Attempt = attempt y number in
-        let sane : Sane r.log = legal_logs_are_sane (setting_of s r.whole) r.log b.legal in
-        let i = among_flat (accepted_in a) r.log (Accepted a) a p.accepted
-        (subst (λ t. Among a (if t then a ∷ [] else [])) (sym (same_attempt-refl a)) (zero, refl)) in
-        let end = sane.accepted a i.0 a i.1 in
-        let one = (legal_logs_are_of_singles (setting_of s r.whole) r.log b.legal).ends a end.1.0 end.0 end.1.1 in
-        inr (record { worker = p.worker; runs = p.ran; home = p.place; content = one.0; ended = subst (λ cs. Among cs (ends_of a r.log)) one.1 end.1 })
+        inr (record { worker = p.worker; runs = p.ran; home = p.place; content = p.content; ended = entry_ended r.log (attempt y number) (p.content ∷ []) p.ended })

@@ -18,8 +18,9 @@ use Rattle.event_log.proofs.Extending.{birth_at-more, node_of-more}
 use Rattle.event_log.proofs.SaneLaws.{legal_logs_are_sane}
 use Rattle.event_log.proofs.WordLaws.{same_attempt-true}
 use Rattle.protocol.specs.Whole.{Whole}
-use Rattle.protocol_legal.specs.Made.{EndsSmall, IsEndedAt, IsMadeAt, IsPutAt}
+use Rattle.protocol_legal.specs.Made.{EndsSmall, IsCopy, IsEndedAt, IsMadeAt, IsPutAt}
 use Rattle.protocol_legal.specs.Whole.{Between, setting_of}
+use Rattle.protocol_owed.specs.Seen.{IsContentOf}
 use Rattle.protocol_owed.proofs.Letters.{among-append_cases, among-nothing}
 use Rattle.owed_replies.proofs.Advancing.{flat_among}
 use Rattle.owed_laws.proofs.MadeCopies.{IsNewEnd, IsNewPut}
@@ -90,6 +91,11 @@ ended_entry es a c i = let r = flat_among (ended_in a) es c i in by_entry r.0 r.
     by_entry (Faulted b y f) j k = none j
     by_entry (Resolved o f) j k = none j
     by_entry (Released o) j k = none j
+
+-- what is true of a copy is so by the entries
+pub copy_known : (log : List Entry) (y : Id) (number : ℕ) (c : Outcome) → IsCopy log y number c → IsContentOf log y number c
+copy_known log y number c (inl put) = inl put
+copy_known log y number c (inr ended) = inr (ended_entry log (attempt y number) (c ∷ []) ended)
 
 module _ (s : Setting) (log : List Entry) (c : Whole) (b : Between s log c) (e : Event) (seat : ℕ) (es : List Entry) where
   abbrev later : List Entry

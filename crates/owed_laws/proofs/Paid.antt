@@ -1,15 +1,20 @@
 -- Every accepted event of every run pays what it owes, as far as that is proved.
-use Rattle.std.proofs.Common.{◌≡◌, ℕ, ◌<◌, ◌≤◌, List, [], ◌∷◌, ◌++◌, refl, ap, sym, subst, ◌∙◌}
+use Rattle.std.proofs.Common.{◌≡◌, ℕ, ◌<◌, ◌≤◌, Bool, true, false, List, [], ◌∷◌, ◌++◌, Option, Some, None, refl, ap, sym, subst, ◌∙◌}
 use Rattle.meaning.specs.Mains.{KeepsMainApart}
+use Rattle.meaning.specs.Values.{Id, Outcome}
 use Rattle.event_log.specs.Entries.{Deliver, Entry, Event, In}
 use Rattle.event_log.specs.Rules.{Setting}
 use Rattle.protocol.specs.Answers.{Step, Takes, answer}
 use Rattle.protocol.specs.Messages.{Letter, Missing, TheNode, TheWorker, letter}
-use Rattle.protocol.specs.Whole.{Whole}
+use Rattle.protocol.specs.Nodes.{Node}
+use Rattle.protocol.specs.Stores.{copy_in}
+use Rattle.protocol.specs.Whole.{Whole, node_at}
+use Rattle.protocol_legal.specs.Past.{past}
+use Rattle.protocol_legal.proofs.Placing.{copy_is_true}
 use Rattle.protocol_laws.specs.Coming.{IsRight}
 use Rattle.protocol_owed.specs.Ends.{EndsAreReported}
-use Rattle.protocol_owed.specs.Runs.{AcknowledgementsAreMade, Handing, Running, after_event, after_events, answer_to, opening_run, seen}
-use Rattle.protocol_owed.specs.Seen.{IsCalm}
+use Rattle.protocol_owed.specs.Runs.{AcknowledgementsAreMade, FetchIsMet, Handing, Running, after_event, after_events, answer_to, is_copy, keeps_in, opening_run, seen}
+use Rattle.protocol_owed.specs.Seen.{IsCalm, IsContentOf}
 use Rattle.protocol_owed.specs.Turns.{AllSlotsAreRight, AsksAreAnswered, ClaimIsAnswered}
 use Rattle.protocol_owed.proofs.Calm.{law_of_acknowledgements}
 use Rattle.protocol_owed.proofs.Counting.{law_of_asks}
@@ -25,13 +30,14 @@ use Rattle.owed_asks.proofs.Needs.{copies_are_got}
 use Rattle.owed_asks.proofs.RightSlots.{run_uses, slots_are_all_right, there}
 use Rattle.owed_asks.proofs.UserEvents.{KeepsUses}
 use Rattle.owed_laws.proofs.KeptCopies.{KeepsMade, first_copy_kept, runs_keep_made}
+use Rattle.owed_laws.proofs.Made.{copy_known}
 use Rattle.owed_laws.proofs.Reports.{ends_are_reported}
 use Rattle.owed_laws.proofs.Senders.{senders_are_there}
 use Rattle.owed_laws.proofs.NewWaits.{new_waits_are_tended}
 use Rattle.owed_laws.specs.Law.{AllIsPaid, AnswerPays, EventIsPaid, EventsArePaid, FetchesAreMet, FetchesReachNodes, ReachedGoesOn, ReachedPays}
 use Rattle.owed_laws.specs.Law.{RepliesArePaid}
 use Rattle.protocol_owed.specs.Owed.{RepliesAreMade}
-use Rattle.protocol_owed.specs.Replies.{Happening}
+use Rattle.protocol_owed.specs.Replies.{FetchIsAnswered, Happening}
 use Rattle.owed_replies.specs.Law as R
 use Rattle.owed_replies.proofs.Laws.{law_of_replies}
 
@@ -62,15 +68,36 @@ module _ (s : Setting) (slots : ℕ) (some : 0 < s.nodes) (slot : 1 ≤ slots) (
         let node = there s r keeps uses n lives in
         law_of_asks s slots slot gs g.seat g.handed k n w a t node.0 step sent node.1 node.2 (named (Deliver k) same)
 
+    module _ (n w number : ℕ) (y : Id) (node : Node) (at : node_at r.whole n ≡ Some node) (live : node.is_live ≡ true) (met : FetchIsMet node step.letters n w y number) where
+      -- what the store has, by the log
+      content : (c : Outcome) → copy_in node.store y number ≡ Some c → IsContentOf r.log y number c
+      content c has =
+          let b = keeps.step.sound.between in
+          copy_known r.log y number c (copy_is_true (past r.log b.asked) n node.store (b.knows.at_nodes n node at live).store y number c has)
+
+      kept : (c : Option Outcome) → copy_in node.store y number ≡ c → (seen s r).keeps n y number ≡ is_copy c
+      kept c has = ap (keeps_in y number) at ∙ ap is_copy has
+
+      differ : (t : Bool) → t ≡ true → t ≡ false → ⊥
+      differ t e f = cc
+
+      by_copy : (c : Option Outcome) → copy_in node.store y number ≡ c → FetchIsAnswered (happening s r g step) n w y number
+      by_copy None has = record {
+        there = λ e. absurd (differ _ e (kept None has));
+        first_copy = λ first. absurd (differ _ (first_copy_kept s r copies n node at y number first) (kept None has));
+        lacking = λ _. met.lacking has;
+      }
+      by_copy (Some c) has = record {
+        there = λ _. (c, content c has, met.there c has);
+        first_copy = λ _. (c, content c has, met.there c has);
+        lacking = λ e. absurd (differ _ (kept (Some c) has) e);
+      }
+
     fetches : FetchesAreMet (happening s r g step)
     fetches n w number y brings lives =
         let node = there s r keeps uses n lives in
         let met = law_of_fetches s slots gs g.seat g.handed brings.0 n w y number node.0 step brings.2 node.1 node.2 (named (Deliver brings.0) brings.1) in
-        record {
-          there = met.there;
-          first_copy = λ first. met.there (first_copy_kept s r keeps.step.sound.between copies n node.0 node.1 y number first);
-          lacking = met.lacking;
-        }
+        by_copy n w number y node.0 node.1 node.2 met (copy_in node.0.store y number) refl
 
     slots_after : AllSlotsAreRight (seen s (after_event r g))
     slots_after =

@@ -1,6 +1,6 @@
 -- Worked examples of what is owed: a birth and an end that pay, and altered ones in which the ask, or the acceptance, is missing.
 use Rattle.std.specs.Prelude.{Bool, List, None, [], false, true, ◌++◌, ◌∷◌}
-use Rattle.meaning.specs.Values.{Items, Put, Val, Value, none}
+use Rattle.meaning.specs.Values.{Items, Put, Val, Value, more, none}
 use Rattle.event_log.specs.Entries.{Accepted, Begun, Born, Claim, Commit, Deliver, Ended, Entry, In, main_attempt}
 use Rattle.event_log.specs.Rules.{Setting}
 use Rattle.event_log.specs.Legal.{opening}
@@ -68,6 +68,15 @@ put_log = opening ++ In (Claim 1) 0 ∷ In (Commit 1) 0 ∷ Born (object_id 1 1)
 abbrev pub ended_log : List Entry
 ended_log = given_log ++ Begun first_one 2 ∷ Ended first_one (Val empty_list ∷ []) ∷ Accepted first_one ∷ []
 
+-- a list of nine cells
+abbrev pub long_list : Value
+long_list =
+    Items (more empty_list (more empty_list (more empty_list (more empty_list (more empty_list (more empty_list (more empty_list (more empty_list none))))))))
+
+-- or it ended there with that, and wasn't accepted yet
+abbrev pub unaccepted_log : List Entry
+unaccepted_log = given_log ++ Begun first_one 2 ∷ Ended first_one (Val long_list ∷ []) ∷ []
+
 -- worker 2 has sent a Fetch to node 1, which has a copy or not
 abbrev pub fetch_scene : Setting → List Entry → Bool → Scene
 fetch_scene s log has =
@@ -90,10 +99,13 @@ fetch_comes s has answer =
       after = fetch_scene s put_log has;
     }
 
--- the first copy answers it; and altered, by a node that lost it on its own and says so. What ended small is in no store.
+-- the first copy answers it; and altered, by another content, or by a node that lost it on its own and says so. What an attempt ended with is a first
+-- copy before it is accepted, but what ended small is in no store.
 pub record FetchesAreJudged : Type 0 where
   pub paid : (s : Setting) → FetchIsAnswered (fetch_comes s true (CopyOf (object_id 1 1) 0 (Val empty_list))) 1 2 (object_id 1 1) 0
+  pub other : (s : Setting) → FetchIsAnswered (fetch_comes s true (CopyOf (object_id 1 1) 0 (Val long_list))) 1 2 (object_id 1 1) 0 → ⊥
   pub withheld : (s : Setting) → FetchIsAnswered (fetch_comes s false (Missing (object_id 1 1) 0 1)) 1 2 (object_id 1 1) 0 → ⊥
+  pub unaccepted : (s : Setting) → HasFirstCopy (fetch_scene s unaccepted_log false) 1 (object_id 1 1) 0
   pub small : (s : Setting) → HasFirstCopy (fetch_scene s ended_log false) 1 (object_id 1 1) 0 → ⊥
 
 -- ---- a report

@@ -58,7 +58,7 @@ drops_copies-run r h e [] p = p
 drops_copies-run r h e (n ∷ ns) p = drops_copies-run r (says_to_node h n (Unhold e e WasReleased)) e ns p
 
 releases-run : (r : Option Run) (h : Here) (e : Id) (x : Object) → IsAs r h → IsAs r (releases h e x)
-releases-run r h e x p = drops_copies-run r (lets_go (logs (changes h e released) (Released e)) e x.ids) e x.places
+releases-run r h e x p = drops_copies-run r (lets_go (logs (changes h e released) (Released e)) e x.ids) e x.ever
     (lets_go-run r (logs (changes h e released) (Released e)) e x.ids p)
 
 releases_by-run : (r : Option Run) (h : Here) (k : ℕ) (x : Option Object) → IsAs r h → IsAs r (releases_by h k x)

@@ -1,6 +1,6 @@
 // Attempts that begin, break, or are asked for elsewhere.
 
-ghost use Rattle.std.specs.Prelude.{◌≡◌, ◌++◌, ◌∷◌, [], OnOk, IfOk, Some, None};
+ghost use Rattle.std.specs.Prelude.{◌≡◌, ◌+◌, ◌≤◌, ◌^◌, ◌++◌, ◌∷◌, [], OnErr, OnOk, IfOk, Some, None};
 ghost use Rattle.protocol.specs.Numbered.{changed_at, item_at};
 ghost use Rattle.protocol.specs.Tables.{task_of, with_task};
 ghost use Rattle.protocol.specs.Steps.{object_at};
@@ -197,6 +197,18 @@ pub fn first_live(worker: &Worker, count: u64, node: NodeId) -> NodeId
     next
 }
 
+/// The number of the ask after ask `t`. There is none past 2^32 - 1, where no attempt comes: it is asked for at most once at each of 64 nodes in turn,
+/// and again where one of them dies.
+fn next_ask(alloc: Global, t: u32) -> Result<u32, AllocError>
+    ensures next { IfOk result (λ u. u ≡ t + 1) }
+    ensures refused { OnErr result (2 ^ 32 ≤ t + 1) }
+{
+    match t.checked_add(1) {
+        Some(next) => Ok(next),
+        None => Err(refused_growth(alloc)),
+    }
+}
+
 /// Ask `t + 1` of the attempt of that number goes to the node, or to the first after it in the circle of numbers that isn't known dead.
 pub fn ask_next(
     here: &mut Here,
@@ -208,11 +220,9 @@ pub fn ask_next(
     ensures { (task : OwnTask) → task_of (item_at here.old.worker.objects object.serial) ≡ Some task
         → OnOk result (here.new ≡ asks_next here.old object (record task { number = number }) t node) }
 {
-    if t == u32::MAX {
-        return Err(refused_growth(*here.there.out.entries.items.allocator()));
-    }
+    let t = next_ask(*here.there.out.entries.items.allocator(), t)?;
     let next = first_live(&here.worker, here.there.nodes, node);
-    ask_at(here, object, number, t + 1, next)
+    ask_at(here, object, number, t, next)
 }
 
 /// The present attempt is asked for on from the node.

@@ -52,11 +52,13 @@ fn put_object(
 {
     let mut places = Seq::new(alloc);
     places.push(node)?;
+    let ever = places.copy(alloc)?;
     Ok(Object {
         maker: Maker::WasPut,
         bearer,
         settled: Some(0),
         places,
+        ever,
         kept: None,
         ids,
         added: Seq::new(alloc),
@@ -89,6 +91,7 @@ fn task_object(
         bearer,
         settled: None,
         places: Seq::new(alloc),
+        ever: Seq::new(alloc),
         kept: None,
         ids,
         added: Seq::new(alloc),

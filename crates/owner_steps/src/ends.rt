@@ -2,7 +2,7 @@
 
 ghost use Rattle.std.specs.Prelude.{◌≡◌, ◌&&◌, ◌==◌, IfOk, OnOk, [], ◌∷◌, ◌++◌, Some, None};
 ghost use Rattle.protocol.specs.Numbered.{changed_at, item_at};
-ghost use Rattle.protocol.specs.Tables.{is_pending_task, places_for, task_of, with_content};
+ghost use Rattle.protocol.specs.Tables.{ever_for, is_pending_task, places_for, task_of, with_content};
 ghost use Rattle.protocol.specs.Steps.{changes, with_task_of};
 ghost use Rattle.protocol.specs.Asking.{rests};
 ghost use Rattle.protocol.specs.Ends.{accepts, failed_reached, finished_reached, hears_of_end, if_present};
@@ -13,7 +13,7 @@ use crate::faulted::answer_faulted;
 use held::SharedContent;
 use ids::{AttemptId, NodeId, ObjectId, WorkerId};
 use log_entries::Entry;
-use number_lists::{add_objects, object_at_number, row_of};
+use number_lists::{add_node, add_objects, object_at_number, row_of};
 use protocol_data::{Here, Maker, Message, Object, Objects, OwnTask, Progress, copy_of};
 use sequence::Seq;
 use std::alloc::{AllocError, Global};
@@ -67,6 +67,20 @@ fn places_for(
     Ok(places)
 }
 
+/// A copy was ever known at the node too where a content was made there, unless the owner keeps it.
+fn note_made(
+    ever: &mut Seq<NodeId>,
+    node: NodeId,
+    kept: &Option<SharedContent>,
+) -> Result<(), AllocError>
+    ensures { OnOk result (ever.new ≡ ever_for node kept.now ever.old) }
+{
+    if kept.is_some() {
+        return Ok(());
+    }
+    add_node(ever, node)
+}
+
 /// The object of that serial has the content of the accepted attempt.
 fn set_content_at(
     alloc: Global,
@@ -83,11 +97,12 @@ fn set_content_at(
         return Ok(());
     };
     let places = places_for(alloc, node, kept)?;
-    let kept = copy_of(kept, alloc)?;
+    let own = copy_of(kept, alloc)?;
     let object = objects.row_mut(place);
     object.settled = Some(number);
     object.places = places;
-    object.kept = kept;
+    note_made(&mut object.ever, node, kept)?;
+    object.kept = own;
     add_objects(&mut object.ids, ids)?;
     Ok(())
 }

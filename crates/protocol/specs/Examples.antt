@@ -1,4 +1,4 @@
--- Worked examples of the definitions, which compute: stores, holders, plans, asks and slots, what is handed in, and a run with a death.
+-- Worked examples of the definitions, which compute: stores, holders, plans, releases, asks and slots, what is handed in, and a run with a death.
 use Rattle.std.specs.Prelude.{List, None, Some, [], codes, false, map, pos, true, ℕ, ◌≡◌, ◌∷◌}
 use Rattle.meaning.specs.Values.{Birth, Int, Named, Outcome, Task, Val, main_birth}
 use Rattle.event_log.specs.Entries.{Begun, Born, Claim, Commit, Deliver, Faulted, In, Kill, Notice, Opened, PutLost, Released, Resolved}
@@ -6,14 +6,16 @@ use Rattle.event_log.specs.Entries.{RetriesUsed, main_attempt}
 use Rattle.event_log.specs.Entries.{Pinned, NoCopy, NoJob}
 use Rattle.event_log.specs.Words.{attempt}
 use Rattle.protocol.specs.Sets.{fault, object_id}
-use Rattle.protocol.specs.Messages.{Ask, Elsewhere, Give, Push, TheNode, TheWorker, Wait, letter}
+use Rattle.protocol.specs.Messages.{Ask, Elsewhere, Give, Letter, Push, TheNode, TheWorker, Unhold, Wait, WasReleased, letter}
 use Rattle.protocol.specs.Jobs.{AtGet, Nothing, OfAnother}
 use Rattle.protocol.specs.Stores.{Store, copy_in, empty_store, evict_refusal, evicted, looked_up, lose_refusal, with_primary, with_secondary, without_copies}
 use Rattle.protocol.specs.Nodes.{There, new_node, no_out}
 use Rattle.protocol.specs.Slots.{ask_key, asked, asks_slot, frees, is_back}
-use Rattle.protocol.specs.Tables.{ByTask, Object, is_held, new_object, new_task, new_worker, put_object, with_holder, without_holder, without_places}
+use Rattle.protocol.specs.Tables.{ByTask, Object, is_held, new_object, new_task, new_worker, put_object, with_content, with_holder, with_place}
+use Rattle.protocol.specs.Tables.{without_holder, without_place, without_places}
 use Rattle.protocol.specs.Steps.{Here}
 use Rattle.protocol.specs.Recovery.{counted_from, first_stop, members}
+use Rattle.protocol.specs.Releases.{releases}
 use Rattle.protocol.specs.Answers.{Refuses, answer}
 use Rattle.protocol.specs.Plays.{Does, Doing, IsRun, Line, Seen, Settles, first_played, doing, plays}
 
@@ -80,7 +82,7 @@ made_from_these ks retries = Task (codes "f") (map (λ k. record { value = Named
 
 -- an object of such a task, with a content at these nodes
 abbrev pub made : List ℕ → ℕ → List ℕ → Object
-made ks retries nodes = record (new_object (ByTask (new_task (made_from_these ks retries))) main_attempt []) { settled = Some 0; places = nodes }
+made ks retries nodes = record (new_object (ByTask (new_task (made_from_these ks retries))) main_attempt []) { settled = Some 0; places = nodes; ever = nodes }
 
 -- what was put, and is lost
 abbrev pub lost_put : Object
@@ -123,6 +125,36 @@ pub record PlansAre : Type 0 where
   pub put_lost : first_stop put_is_lost (members put_is_lost 2) ≡ Some (fault PutLost (object_id 1 1))
   pub first_in_birth_order : first_stop none_can_be_made (members none_can_be_made 2) ≡ Some (fault PutLost (object_id 1 1))
   pub retries_used : first_stop no_retry_left (members no_retry_left 2) ≡ Some (fault RetriesUsed (object_id 1 1))
+
+-- ---- releases
+
+-- what was put on node 1 got a copy at node 2, then that of node 1 was missed: nobody knows whether it is gone, or came late
+abbrev pub missed_put : Object
+missed_put = without_place 1 (with_place 2 first_put)
+
+-- made on node 2, lost, and made again on node 1
+abbrev pub made_twice : Object
+made_twice = with_content 1 1 [] None (without_places (with_content 0 2 [] None (new_object (ByTask (new_task (made_from_these [] 3))) main_attempt [])))
+
+-- then made a third time, on node 3, where it is small and the owner keeps it
+abbrev pub kept_at_last : Object
+kept_at_last = with_content 2 3 [] (Some one) (without_places made_twice)
+
+-- what is sent where worker 1's first object is that, and is released
+abbrev pub told_at_release : Object → List Letter
+told_at_release x = (releases (owner_of_these (x ∷ [])) (object_id 1 1) x).there.out.letters
+
+-- node n hears that its copies of o1.1 go
+abbrev pub copies_go : ℕ → Letter
+copies_go n = letter (TheWorker 1) (TheNode n) (Unhold (object_id 1 1) (object_id 1 1) WasReleased)
+
+-- each node at which a copy was ever known is told once, in the order in which they came
+pub record ReleasesTell : Type 0 where
+  pub one_place : told_at_release first_put ≡ copies_go 1 ∷ []
+  pub a_place_that_was_missed : told_at_release missed_put ≡ copies_go 1 ∷ copies_go 2 ∷ []
+  pub a_place_of_an_earlier_content : told_at_release made_twice ≡ copies_go 2 ∷ copies_go 1 ∷ []
+  pub none_for_what_is_kept : told_at_release kept_at_last ≡ copies_go 2 ∷ copies_go 1 ∷ []
+  pub back_again : told_at_release (with_place 1 missed_put) ≡ copies_go 1 ∷ copies_go 2 ∷ []
 
 -- ---- asks and slots
 

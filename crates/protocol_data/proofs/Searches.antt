@@ -1,5 +1,5 @@
 -- The index over an owner's objects: what is looked at, passed over or changed leaves it right.
-use Rattle.std.proofs.Common.{◌≡◌, ℕ, ◌+◌, ◌<◌, ◌≤◌, ◌⊎◌, inl, inr, Bool, true, false, List, Option, Some, None, refl, sym, ap, ◌∙◌, arith, nat_lt, zero, suc}
+use Rattle.std.proofs.Common.{◌≡◌, ℕ, ◌+◌, ◌-◌, ◌<◌, ◌≤◌, ◌⊎◌, inl, inr, Bool, true, false, List, Option, Some, None, refl, sym, ap, ◌∙◌, arith, nat_lt, zero, suc}
 use Rattle.std.proofs.lemmas.Bool.Decides.{nat_tests}
 use Rattle.std.specs.Prelude.{not, ◌&&◌, ◌||◌, ◌++◌, ◌∷◌, [], length, slice_get, slice_set}
 use Rattle.sequence.proofs.Places.{slice_get-push_cases, slice_get-set_cases}
@@ -7,7 +7,8 @@ use Rattle.event_log.specs.Entries.{Attempt}
 use Rattle.event_log.proofs.WordLaws.{same_attempt-true}
 use Rattle.protocol_data.specs.declared.tables.Object.{Object}
 use Rattle.protocol_data.specs.Bearers.{is_same_bearer}
-use Rattle.protocol_data.specs.Unneeded.{AllStay, AreKept, IsSearched, is_borne_by, is_kept, is_unneeded, stays}
+use Rattle.protocol_data.specs.Searches.{IsLookedOver}
+use Rattle.protocol_data.specs.Unneeded.{AllStay, AreKept, Goes, IsNotKept, IsSearched, is_borne_by, is_kept, is_unneeded, stays}
 
 some_is : {X : Type 0} (x y : X) → Some x ≡ Some y → x ≡ y
 some_is x y e = cc
@@ -144,3 +145,74 @@ settled xs seen from to seen' from' to' own own' b p q f r o i x less out e = mo
     moved b (inl s) k = ap (λ n. is_kept b n i x) s ∙ k
     moved None (inr s) k = kept_for_none own own' i x k
     moved (Some a) (inr s) k = absurd cc
+
+-- ---- a search goes on
+
+between : (i k : ℕ) → (i < k) ⊎ (k ≤ i)
+between i zero = inr (omega arith)
+between zero (suc k) = inl (omega arith)
+between (suc i) (suc k) = elim (between i k) [ inl m ↦ inl (omega (arith, m)) | inr m ↦ inr (omega (arith, m)) ]
+
+pub both_stay : (xs : List Object) (from place next : ℕ) (going_on : Option Attempt) → AllStay xs from place going_on → AllStay xs place next going_on →
+    AllStay xs from next going_on
+both_stay xs from place next going_on p q i x low less e = elim (between i place) [ inl k ↦ p i x low k e | inr k ↦ q i x k less e ]
+
+pub one_more_stays : (xs : List Object) (from place next : ℕ) (going_on : Option Attempt) (y : Object) → AllStay xs from place going_on →
+    AllStay xs place next going_on → slice_get xs next ≡ Some y → stays going_on y ≡ true → AllStay xs from (next + 1) going_on
+one_more_stays xs from place next going_on y p q g k i x low less e =
+    elim (here i next less) [
+      | inl l ↦ both_stay xs from place next going_on p q i x low l e
+      | inr s ↦ let same : y ≡ x = some_is y x (sym g ∙ ap (slice_get xs) (sym s) ∙ e) in ap (stays going_on) (sym same) ∙ k
+    ]
+  where
+    here : (i place : ℕ) → i < place + 1 → (i < place) ⊎ (i ≡ place)
+    here zero zero l = inr refl
+    here zero (suc q) l = inl (omega (arith, l))
+    here (suc j) zero l = absurd (omega (arith, l))
+    here (suc j) (suc q) l = elim (here j q (omega (arith, l))) [ inl m ↦ inl (omega (arith, m)) | inr s ↦ inr (ap suc s) ]
+
+there : (xs : List Object) (i : ℕ) (x : Object) → slice_get xs i ≡ Some x → i < length xs
+there [] i x e = absurd cc
+there (y ∷ ys) zero x e = omega arith
+there (y ∷ ys) (suc i) x e = omega (arith, there ys i x e)
+
+-- behind the last one there is none that goes
+pub none_behind : (xs : List Object) (i : ℕ) (going_on : Option Attempt) → length xs ≤ i → Goes xs i going_on
+none_behind xs i going_on past x e = absurd (omega (arith, past, there xs i x e))
+
+pub none_kept_behind : (xs : List Object) (i own : ℕ) (b : Option Attempt) → length xs ≤ i → IsNotKept xs i b own
+none_kept_behind xs i own b past x e = absurd (omega (arith, past, there xs i x e))
+
+pub goes_there : (xs : List Object) (i : ℕ) (going_on : Option Attempt) (y : Object) → slice_get xs i ≡ Some y → stays going_on y ≡ false → Goes xs i going_on
+goes_there xs i going_on y g k x e = let same : y ≡ x = some_is y x (sym g ∙ e) in ap (stays going_on) (sym same) ∙ k
+
+pub not_kept_there : (xs : List Object) (i own : ℕ) (b : Option Attempt) (y : Object) → slice_get xs i ≡ Some y → is_kept b own i y ≡ false → IsNotKept xs i b own
+not_kept_there xs i own b y g k x e = let same : y ≡ x = some_is y x (sym g ∙ e) in ap (is_kept b own i) (sym same) ∙ k
+
+-- ---- what is looked at from its ends
+
+not_kept_for_none : (own own' i : ℕ) (x : Object) → is_kept None own i x ≡ false → is_kept None own' i x ≡ false
+not_kept_for_none own own' i x k = by_cases (is_unneeded x) (nat_lt i own) (nat_lt i own') k
+  where
+    by_cases : (u l m : Bool) → (not u || (not l && false)) ≡ false → (not u || (not m && false)) ≡ false
+    by_cases false l m h = absurd cc
+    by_cases true l true h = refl
+    by_cases true l false h = refl
+
+not_kept_moved : (xs : List Object) (i own own' : ℕ) (b : Option Attempt) → (own' ≡ own) ⊎ (b ≡ None) → IsNotKept xs i b own → IsNotKept xs i b own'
+not_kept_moved xs i own own' b (inl s) k x e = ap (λ n. is_kept b n i x) s ∙ k x e
+not_kept_moved xs i own own' None (inr s) k x e = not_kept_for_none own own' i x (k x e)
+not_kept_moved xs i own own' (Some a) (inr s) k x e = absurd cc
+
+pub looked_over : (xs : List Object) (to seen from' to' own own' len : ℕ) (b : Option Attempt) → len ≡ length xs → (own' ≡ own) ⊎ (b ≡ None) →
+    (to ≤ from') ⊎ IsNotKept xs from' b own → (to' ≤ from') ⊎ ((to' ≤ to) × IsNotKept xs (to' - 1) b own) → (len ≤ seen) ⊎ IsNotKept xs seen b own →
+    IsLookedOver xs (record { seen = seen; changed_from = from'; changed_to = to'; bearer = b; own_from = own' })
+looked_over xs to seen from' to' own own' len b end moved first last rest = record {
+  seen = elim rest [ inl l ↦ inl (omega (arith, l, end)) | inr k ↦ inr (not_kept_moved xs seen own own' b moved k) ];
+  first = elim first [ inl l ↦ inl (empty l last) | inr k ↦ inr (not_kept_moved xs from' own own' b moved k) ];
+  last = elim last [ inl l ↦ inl l | inr k ↦ inr (not_kept_moved xs (to' - 1) own own' b moved k.1) ];
+}
+  where
+    empty : to ≤ from' → (to' ≤ from') ⊎ ((to' ≤ to) × IsNotKept xs (to' - 1) b own) → to' ≤ from'
+    empty l (inl m) = m
+    empty l (inr k) = omega (arith, l, k.0)

@@ -53,3 +53,11 @@ AreKept xs from to bearer own = (i : ℕ) (x : Object) → from ≤ i → i < to
 -- no object from the one place to before the other is released while that attempt goes on
 abbrev pub AllStay : List Object → ℕ → ℕ → Option Attempt → Type 0
 AllStay xs from to going_on = (i : ℕ) (x : Object) → from ≤ i → i < to → slice_get xs i ≡ Some x → stays going_on x ≡ true
+
+-- the object at the place, if one stands there, isn't kept
+abbrev pub IsNotKept : List Object → ℕ → Option Attempt → ℕ → Type 0
+IsNotKept xs i bearer own = (x : Object) → slice_get xs i ≡ Some x → is_kept bearer own i x ≡ false
+
+-- the object at the place, if one stands there, may be released while that attempt goes on
+abbrev pub Goes : List Object → ℕ → Option Attempt → Type 0
+Goes xs i going_on = (x : Object) → slice_get xs i ≡ Some x → stays going_on x ≡ false

@@ -7,11 +7,11 @@ use Rattle.std.proofs.lemmas.Bool.{and_parts, not-true}
 use Rattle.meaning.specs.Values.{Id}
 use Rattle.meaning.proofs.BirthLaws.{at_test}
 use Rattle.event_log.specs.Breaks.{Among}
-use Rattle.event_log.specs.Causes.{IsRefusal, is_there, shown, unseen, worker_lives}
+use Rattle.event_log.specs.Causes.{IsRefusal, is_there, shown, unseen}
 use Rattle.event_log.specs.Causes as causes
 use Rattle.event_log.specs.Entries.{Event, Claim, Commit, Deliver, Tick, Notice, NoticeNode, Evict, Lose, Kill, KillNode, Join, Entry}
 use Rattle.event_log.specs.Entries.{Refusal, Pinned, NoCopy, NoWorker, NotReady, NoJob, Stale, NoMessage, NotDead, NoNode, Limit}
-use Rattle.event_log.specs.Events.{accepted_events, from_one, has_job_out, is_committed, is_killed, is_live, joins, kills, node_is_killed, node_lives, node_of, on_node, worker_of_job}
+use Rattle.event_log.specs.Events.{accepted_events, from_one, has_job_out, is_committed, is_killed, is_live, joins, kills, node_is_killed, node_lives, node_of, on_node, worker_of_job, worker_lives}
 use Rattle.event_log.specs.Rules.{Setting}
 use Rattle.event_log.proofs.CauseLaws.{as_shown, as_unseen, no_job, no_worker, not_ready}
 use Rattle.protocol.specs.Jobs.{Given, Handed}

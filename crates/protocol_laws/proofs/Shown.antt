@@ -6,11 +6,11 @@ use Rattle.std.proofs.lemmas.Bool.{and_parts, eq-eqb, true≢false}
 use Rattle.std.proofs.lemmas.Option.{same_Some}
 use Rattle.meaning.specs.Values.{Id}
 use Rattle.event_log.specs.Breaks.{Among}
-use Rattle.event_log.specs.Causes.{is_there, shown, worker_lives}
+use Rattle.event_log.specs.Causes.{is_there, shown}
 use Rattle.event_log.specs.Causes as causes
 use Rattle.event_log.specs.Entries.{Event, Claim, Commit, Deliver, Tick, Notice, NoticeNode, Evict, Lose, Kill, KillNode, Join, Entry}
 use Rattle.event_log.specs.Entries.{Refusal, Pinned, NoCopy, NoWorker, NotReady, NoJob, Stale, NoMessage, NotDead, NoNode, Limit}
-use Rattle.event_log.specs.Events.{from_one, has_job_out, is_committed, is_killed, is_live, node_is_killed, node_lives, worker_of_job}
+use Rattle.event_log.specs.Events.{from_one, has_job_out, is_committed, is_killed, is_live, node_is_killed, node_lives, worker_of_job, worker_lives}
 use Rattle.event_log.specs.Rules.{Setting}
 use Rattle.protocol.specs.Answers.{Refuses, answer, decided, given_out, takes}
 use Rattle.protocol.specs.Events.{happens, is_live_node, is_live_worker}

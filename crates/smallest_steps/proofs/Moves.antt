@@ -540,7 +540,7 @@ module _ {IsToldBy : ℕ → Attempt → Type 0} {IsPassedBy : Attempt → ℕ �
   drops_copies-kept h e (n ∷ ns) p = drops_copies-kept (says_to_node h n (Unhold e e WasReleased)) e ns (kept.copy_dropped h n e p)
 
   pub releases-kept : (h : Here) (e : Id) (x : Object) → P h → P (releases h e x)
-  releases-kept h e x p = drops_copies-kept _ e x.places (lets_go-kept _ e x.ids (kept.freed h e p))
+  releases-kept h e x p = drops_copies-kept _ e x.ever (lets_go-kept _ e x.ids (kept.freed h e p))
 
   pub releases_by-kept : (h : Here) (k : ℕ) (x : Option Object) → P h → P (releases_by h k x)
   releases_by-kept h k None p = p

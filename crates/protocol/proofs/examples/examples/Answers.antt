@@ -37,6 +37,17 @@ returns-clause-plans c =
       retries_used = refl;
     }
 
+pub returns-clause-releases : goal.returns-clause-releases
+unfolding same_id same_attempt
+returns-clause-releases c =
+    record {
+      one_place = refl;
+      a_place_that_was_missed = refl;
+      a_place_of_an_earlier_content = refl;
+      none_for_what_is_kept = refl;
+      back_again = refl;
+    }
+
 pub returns-clause-asks : goal.returns-clause-asks
 unfolding same_id same_attempt
 returns-clause-asks c =

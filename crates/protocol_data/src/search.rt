@@ -1,0 +1,319 @@
+// Which of an owner's objects a search for what can be released has to look at.
+
+ghost use Rattle.std.specs.Prelude.{◌≡◌, ◌+◌, ◌-◌, ◌<◌, ◌≤◌, ◌⊎◌, ℕ, List, None, length, slice_get, true};
+ghost use Rattle.meaning.specs.Births.{same_id};
+ghost use Rattle.std.specs.List.{list_any};
+ghost use Rattle.protocol_data.specs.Unneeded.{AllStay, AreKept, Goes, IsNotKept, has_holder, is_awaited, is_borne_by, is_kept, is_unneeded, stays};
+ghost use Rattle.protocol_data.specs.Bearers.{is_same_bearer};
+ghost use Rattle.protocol_data.specs.Searches.{IsLookedOver, IsSearchedBy, IsUnsure, PassesOver};
+ghost use Rattle.protocol_data.specs.declared.tables.Object.{Object};
+ghost use Rattle.indexmap.specs.IndexMap.{index_map_len, values};
+
+use crate::tables::{Maker, Object, Progress};
+use ids::{AttemptId, ObjectId};
+use indexmap::IndexMap;
+use sequence::Seq;
+
+/// Which of an owner's objects may have come to be releasable: those from `seen` on, which were never looked at, and those from `changed_from` to
+/// before `changed_to`, which were changed since. Any other one isn't released while the bearer goes on, which bore none before `own_from`.
+#[derive(Drop)]
+pub struct Search {
+    pub seen: usize,
+    pub changed_from: usize,
+    pub changed_to: usize,
+    pub bearer: Option<AttemptId>,
+    pub own_from: usize,
+}
+
+/// Whether the id is one of these.
+fn has_id(ids: &Seq<ObjectId>, id: ObjectId) -> bool
+    ensures { result ≡ list_any (λ p. same_id p id) ids.now }
+{
+    ids.items.iter().any(|o| o.is(id))
+}
+
+/// Whether anyone holds the object: one of the holders that were added was not removed.
+fn has_holder(object: &Object) -> bool
+    ensures { result ≡ has_holder object.now }
+{
+    object
+        .added
+        .items
+        .iter()
+        .any(|e| !has_id(&object.removed, *e))
+}
+
+/// Whether an attempt of the task that makes the object is asked for or under way.
+fn is_awaited(maker: &Maker) -> bool
+    ensures { result ≡ is_awaited maker.now }
+{
+    match maker {
+        Maker::WasPut => false,
+        Maker::ByTask(task) => match &task.progress {
+            Progress::AtRest => false,
+            Progress::AskedAt(..) => true,
+            Progress::RunsOn(..) => true,
+        },
+    }
+}
+
+/// Whether nothing needs the object any more, but perhaps the attempt that bore it.
+fn is_unneeded(object: &Object) -> bool
+    ensures { result ≡ is_unneeded object.now }
+{
+    !object.is_released
+        && (object.settled.is_some() || object.fault.is_some())
+        && !is_awaited(&object.maker)
+        && !has_holder(object)
+}
+
+fn is_borne_by(bearer: &Option<AttemptId>, object: &Object) -> bool
+    ensures { result ≡ is_borne_by bearer.now object.now }
+{
+    match bearer {
+        None => false,
+        Some(attempt) => attempt.is(object.bearer),
+    }
+}
+
+/// Whether it isn't released while that attempt goes on.
+fn stays(going_on: &Option<AttemptId>, object: &Object) -> bool
+    ensures { result ≡ stays going_on.now object.now }
+{
+    !is_unneeded(object) || is_borne_by(going_on, object)
+}
+
+/// Whether it isn't released while the bearer goes on.
+fn is_kept(bearer: &Option<AttemptId>, own: usize, place: usize, object: &Object) -> bool
+    ensures { result ≡ is_kept bearer.now own place object.now }
+{
+    !is_unneeded(object) || (!(place < own) && is_borne_by(bearer, object))
+}
+
+/// The first place from the one on, and before the other, of an object that may be released; else the other.
+#[tactic(auto, using(crate::proofs::Searches::one_kept, crate::proofs::Searches::not_kept_there, crate::proofs::Searches::none_kept_behind))]
+fn kept_until(
+    rows: &IndexMap<u64, Object>,
+    from: usize,
+    to: usize,
+    bearer: &Option<AttemptId>,
+    own: usize,
+) -> usize
+    ensures kept { AreKept (values rows.now) from result bearer.now own }
+    ensures end { (to ≤ result) ⊎ IsNotKept (values rows.now) result bearer.now own }
+{
+    for place in from..to {
+        if place >= rows.len() {
+            return place;
+        }
+        if !is_kept(bearer, own, place, &rows[place]) {
+            return place;
+        }
+    }
+    to
+}
+
+/// The place behind the last one, from the one on and before the other, of an object that may be released; else the one.
+#[tactic(auto, using(crate::proofs::Searches::one_more_kept))]
+fn kept_behind(
+    rows: &IndexMap<u64, Object>,
+    from: usize,
+    to: usize,
+    bearer: &Option<AttemptId>,
+    own: usize,
+) -> usize
+    ensures kept { AreKept (values rows.now) result to bearer.now own }
+    ensures end { (result ≤ from) ⊎ ((result ≤ to) × IsNotKept (values rows.now) (result - 1) bearer.now own) }
+{
+    for step in from..to {
+        let place = to - 1 - (step - from);
+        if place >= rows.len() {
+            return place + 1;
+        }
+        if !is_kept(bearer, own, place, &rows[place]) {
+            return place + 1;
+        }
+    }
+    from
+}
+
+fn is_same_bearer(bearer: &Option<AttemptId>, other: &Option<AttemptId>) -> bool
+    ensures { result ≡ is_same_bearer bearer.now other.now }
+{
+    match bearer {
+        None => other.is_none(),
+        Some(attempt) => match other {
+            None => false,
+            Some(another) => attempt.is(*another),
+        },
+    }
+}
+
+/// A span of places that has those from `from` to before `to`, and that place if it is before `seen`; it begins and ends there or where it did.
+pub fn widened(from: usize, to: usize, place: usize, seen: usize) -> (usize, usize)
+    ensures wider { (i : ℕ) → (i < result.0) ⊎ (result.1 ≤ i) → (i < from) ⊎ (to ≤ i) }
+    ensures has { place < seen → (result.0 ≤ place) × (place < result.1) }
+    ensures begins { (result.0 ≡ from) ⊎ (result.0 ≡ place) }
+    ensures ends { (result.1 ≡ to) ⊎ (result.1 ≡ place + 1) }
+{
+    if place >= seen {
+        return (from, to);
+    }
+    if from >= to {
+        return (place, place + 1);
+    }
+    if place < from {
+        return (place, to);
+    }
+    if place < to {
+        return (from, to);
+    }
+    (from, place + 1)
+}
+
+pub fn least(one: usize, other: usize) -> usize
+    ensures one { result ≤ one }
+    ensures other { result ≤ other }
+    ensures either { (result ≡ one) ⊎ (result ≡ other) }
+{
+    if one < other {
+        return one;
+    }
+    other
+}
+
+/// The first place from that one on that is in the span or isn't before `seen`.
+fn first_unsure(from: usize, seen: usize, changed_from: usize, changed_to: usize) -> usize
+    ensures on { from ≤ result }
+    ensures sure { (result ≤ from) ⊎ ((result ≤ seen) × ((result ≤ changed_from) ⊎ ((changed_to ≤ from) ⊎ (changed_to ≤ changed_from)))) }
+    ensures unsure { (seen ≤ result) ⊎ ((changed_from ≤ result) × (result < changed_to)) }
+{
+    if from >= seen {
+        return from;
+    }
+    if from >= changed_to || changed_from >= changed_to {
+        return seen;
+    }
+    if from >= changed_from {
+        return from;
+    }
+    if changed_from < seen {
+        return changed_from;
+    }
+    seen
+}
+
+/// Where nothing bears, all that was seen was borne before.
+fn own_behind(bearer: &Option<AttemptId>, own: usize, seen: usize) -> usize
+    ensures { (result ≡ own) ⊎ (bearer.now ≡ None) }
+{
+    match bearer {
+        None => seen,
+        Some(_) => own,
+    }
+}
+
+/// No object was looked at.
+pub fn nothing_seen() -> Search
+    ensures { (xs : List Object) → IsSearchedBy xs result }
+{
+    Search {
+        seen: 0,
+        changed_from: 0,
+        changed_to: 0,
+        bearer: None,
+        own_from: 0,
+    }
+}
+
+/// From now on the objects of that attempt are kept, and of no other: what was borne since the last one began is to be looked at, if it is another.
+pub fn attend(search: &mut Search, going_on: Option<AttemptId>)
+    ensures kept { (xs : List Object) → IsSearchedBy xs search.old → IsSearchedBy xs search.new }
+    ensures bearer { (search.new ≡ search.old) ⊎ (search.new.bearer ≡ going_on) }
+    ensures seen { (search.new.seen ≡ search.old.seen) ⊎ (search.new.seen ≡ search.old.own_from) }
+    ensures begins { search.new.changed_from ≡ search.old.changed_from }
+    ensures ends { search.new.changed_to ≡ search.old.changed_to }
+{
+    if is_same_bearer(&search.bearer, &going_on) {
+        return;
+    }
+    let seen = least(search.own_from, search.seen);
+    search.seen = seen;
+    search.own_from = seen;
+    search.bearer = going_on;
+}
+
+/// The next place from that one on that has to be looked at, where the attempt goes on.
+fn next_unsure(search: &Search, from: usize, going_on: &Option<AttemptId>) -> usize
+    ensures on { from ≤ result }
+    ensures stay { (xs : List Object) → IsSearchedBy xs search.now → AllStay xs from result going_on.now }
+    ensures passes { PassesOver search.now going_on.now result }
+{
+    if is_same_bearer(&search.bearer, going_on) {
+        return first_unsure(from, search.seen, search.changed_from, search.changed_to);
+    }
+    from
+}
+
+/// The first place from that one on of an object that may be released, where the attempt goes on; or one behind the last.
+pub fn first_to_go(
+    rows: &IndexMap<u64, Object>,
+    search: &Search,
+    from: usize,
+    going_on: &Option<AttemptId>,
+) -> usize
+    requires { IsSearchedBy (values rows.now) search.now }
+    ensures on { from ≤ result }
+    ensures stay { AllStay (values rows.now) from result going_on.now }
+    ensures goes { Goes (values rows.now) result going_on.now }
+{
+    let count = rows.len();
+    let mut place = from;
+    for turn in from..count {
+        let _ = turn;
+        let next = next_unsure(search, place, going_on);
+        if next >= count {
+            return next;
+        }
+        if !stays(going_on, &rows[next]) {
+            return next;
+        }
+        place = next + 1;
+    }
+    place
+}
+
+/// What was changed and what was never looked at is looked at from its ends, so that no search need look at it again: each end then is an object
+/// that may be released, or nothing is left.
+pub fn settle(rows: &IndexMap<u64, Object>, search: &mut Search)
+    ensures kept { IsSearchedBy (values rows.now) search.old → IsSearchedBy (values rows.now) search.new }
+    ensures bearer { search.new.bearer ≡ search.old.bearer }
+    ensures looked { IsLookedOver (values rows.now) search.new }
+{
+    let from = kept_until(
+        rows,
+        search.changed_from,
+        search.changed_to,
+        &search.bearer,
+        search.own_from,
+    );
+    let to = kept_behind(
+        rows,
+        from,
+        search.changed_to,
+        &search.bearer,
+        search.own_from,
+    );
+    let seen = kept_until(
+        rows,
+        search.seen,
+        rows.len(),
+        &search.bearer,
+        search.own_from,
+    );
+    let own_from = own_behind(&search.bearer, search.own_from, seen);
+    search.changed_from = from;
+    search.changed_to = to;
+    search.seen = seen;
+    search.own_from = own_from;
+}

@@ -2,13 +2,17 @@
 use Rattle.std.proofs.Common.{◌≡◌, ◌<◌, ◌≤◌, inl, inr, ℕ, zero, suc, List, [], ◌∷◌, ◌++◌, Option, Some, None, refl, sym, ap, ◌∙◌, subst, arith, append_assoc, append-nil}
 use Rattle.std.specs.Prelude.{Bool, true, false, if◌then◌else◌, ◌+◌}
 use Rattle.std.proofs.lemmas.List.{append_cancel_left}
+use Rattle.std.proofs.lemmas.List.Concat.{flat_map-append}
+use Rattle.std.proofs.lemmas.List.Elements.{filter-append}
 use Rattle.meaning.specs.Syntax.{Script}
 use Rattle.script_check.specs.Scripts.{IsWellTyped}
 use Rattle.event_log.specs.Entries.{Claim, Entry, Event, In, Join, Refused, Tick}
 use Rattle.event_log.specs.Entries.{Refusal, Limit}
 use Rattle.event_log.specs.Events.{refused_next}
 use Rattle.event_log.specs.Legal.{opening}
+use Rattle.event_log.specs.Books.{Totals}
 use Rattle.event_log.specs.Rules.{Setting}
+use Rattle.event_log.specs.Words.{came_in, events}
 use Rattle.protocol.specs.Answers.{Answer, Refuses, Step, Takes, answer, decided, given_out, logged, takes}
 use Rattle.protocol.specs.Events.{happens}
 use Rattle.protocol.specs.Jobs.{Handed}
@@ -23,8 +27,10 @@ use Rattle.count_laws.specs.Counts.{borne, counted}
 use Rattle.count_laws.specs.Law.{IsFull}
 use Rattle.count_laws.proofs.Laws.{events_are_limited}
 use Rattle.protocol_board.specs.Cores.{Size}
-use Rattle.protocol_board.specs.Cores.{IsReachedRun, beside}
-use Rattle.run_examples.specs.Examples.{LimitsAreTrue, OpeningIsNotOver, SeatsAreTrue, early_limit}
+use Rattle.protocol_board.specs.Cores.{IsReachedRun, RunState, beside}
+use Rattle.seats.specs.Ends.{IsAtLimit, first_events}
+use Rattle.seats.specs.Outside.{is_outside, outside}
+use Rattle.run_examples.specs.Examples.{BooksAreTrue, LimitsAreTrue, OpeningIsNotOver, SeatsAreTrue, early_limit}
 
 -- ---- what events add
 
@@ -160,6 +166,28 @@ not_so script typed nodes slots some few (g ∷ h ∷ gs) e =
     let m : In g.event g.seat ∷ (i.0 ++ In h.event h.seat ∷ k.0) ≡ refused_tick = ap (λ es. es ++ In h.event h.seat ∷ k.0) (sym i.1) ∙ l in
     no_second i.0 k.0 h.event h.seat (cc)
 
+-- ---- a join beside no plan
+
+no_lines : (n : ℕ) → first_events n [] ≡ []
+no_lines zero = refl
+no_lines (suc n) = refl
+
+not_empty : (es fs : List Event) (e : Event) → es ++ e ∷ fs ≡ [] → ⊥
+not_empty [] fs e i = cc
+not_empty (x ∷ es) fs e i = cc
+
+joins_stand : (before after : List Entry) (seat : ℕ) →
+    outside (events (before ++ In Join seat ∷ after)) ≡ outside (events before) ++ Join ∷ outside (events after)
+joins_stand before after seat =
+    ap outside (flat_map-append came_in before (In Join seat ∷ after)) ∙ filter-append is_outside (events before) (Join ∷ events after)
+
+none_joins : (script : Script) (size : Size) (r : RunState) → IsAtLimit script false [] size r → (before after : List Entry) (seat : ℕ) →
+    r.log ≡ before ++ In Join seat ∷ after → ⊥
+none_joins script size r limit before after seat e =
+    let none : outside (events r.log) ≡ [] = limit.planned.1 refl ∙ ap outside (no_lines limit.taken) in
+    not_empty (outside (events before)) (outside (events after)) Join
+    (sym (joins_stand before after seat) ∙ ap (λ l. outside (events l)) (sym e) ∙ none)
+
 pub limits_are_true : LimitsAreTrue
 limits_are_true = record {
   says_so = (3, refl);
@@ -167,6 +195,7 @@ limits_are_true = record {
       let k : IsReachedRun script r = sound.reached in
       let at : IsReached (beside script r.first_nodes []) k.slots k.run = k.reached in
       not_so script typed r.first_nodes k.slots some few at.handings (ap (λ (x : Running). x.log) at.leads ∙ k.log ∙ e);
+  unplanned = none_joins;
 }
 
 -- ---- a third seat
@@ -175,3 +204,10 @@ pub seats_are_true : SeatsAreTrue
 seats_are_true h =
     let k = h 2 (Tick 1) 3 refl in
     omega (arith, k.1)
+
+-- ---- books of which nothing is known
+
+pub books_are_true : BooksAreTrue
+books_are_true h =
+    let k : ◌≡◌ {A = ℕ} 1 0 = ap (λ (t : Totals). t.events) h.0 in
+    omega (arith, k)

@@ -1,15 +1,16 @@
 -- Logs that no run on threads ends with.
-use Rattle.std.specs.Prelude.{◌≡◌, ◌<◌, ◌≤◌, Bool, List, [], ◌∷◌, ◌++◌}
+use Rattle.std.specs.Prelude.{◌≡◌, ◌<◌, ◌≤◌, ℕ, Bool, false, List, [], ◌∷◌, ◌++◌}
 use Rattle.meaning.specs.Syntax.{Script}
 use Rattle.event_files.specs.declared.plan.PlanLine.{PlanLine}
 use Rattle.script_check.specs.Scripts.{IsWellTyped}
-use Rattle.event_log.specs.Entries.{Entry, In, Refused, Tick}
+use Rattle.event_log.specs.Entries.{Entry, In, Join, Refused, Tick}
 use Rattle.event_log.specs.Entries.{Limit}
 use Rattle.event_log.specs.Legal.{opening}
 use Rattle.protocol_board.specs.Cores.{IsCluster, Size}
 use Rattle.protocol_board.specs.Cores.{RunState}
 use Rattle.protocol_board.specs.Cores.{IsSoundLog}
-use Rattle.seats.specs.Ends.{IsOverBeside, WasLimited}
+use Rattle.seat_books.specs.Seats.{new_seats}
+use Rattle.seats.specs.Ends.{AddUp, IsAtLimit, IsOverBeside, WasLimited}
 use Rattle.seats.specs.Seated.{AreFrom}
 
 -- where the log is still the opening, the run isn't over, whatever the plan: main has its first job to do
@@ -28,6 +29,9 @@ pub record LimitsAreTrue : Type 0 where
   -- and it is the log of no run: there are one worker and one object
   pub is_of_none : (script : Script) → IsWellTyped script → (r : RunState) → 0 < r.first_nodes → r.first_nodes ≤ 64 →
       IsSoundLog script r → r.log ≡ early_limit → ⊥
+  -- beside a plan with no lines nothing joins on the way to a limit, however many joins there would be to it
+  pub unplanned : (script : Script) (size : Size) (r : RunState) → IsAtLimit script false [] size r →
+      (before after : List Entry) (seat : ℕ) → r.log ≡ before ++ In Join seat ∷ after → ⊥
 
 -- a tick from a third seat
 abbrev pub from_third : List Entry
@@ -36,3 +40,7 @@ from_third = opening ++ In (Tick 1) 3 ∷ Refused Limit ∷ []
 -- it stands in the log of no run on two threads
 abbrev pub SeatsAreTrue : Type 0
 SeatsAreTrue = AreFrom 2 from_third → ⊥
+
+-- the empty books of two seats don't add up to a log with an event
+abbrev pub BooksAreTrue : Type 0
+BooksAreTrue = AddUp 1 (new_seats 1 2) (opening ++ In (Tick 1) 1 ∷ []) → ⊥

@@ -5,6 +5,7 @@ mod Came
 mod Crosses
 pub mod Few
 pub mod Jobs
+mod Limited
 mod Outside
 mod Planned
 mod Seated

@@ -59,20 +59,24 @@ abbrev IsMore : Bool → List Event → List Event → Event → Type 0
 IsMore is_open es es_now e = is_open ≡ false → outside es_now ≡ outside es ++ outside (e ∷ [])
 
 heeded : (is_open : Bool) (es : List Event) (log : List Entry) (told : Reply) → HasNoOther is_open es log → KeepsToThem is_open es log (given_up_by told None)
-heeded is_open es log (Refuses refusals.Limit) h = tt
+heeded is_open es log (Refuses refusals.Limit) h = h
 heeded is_open es log (Refuses refusals.Halted) h = tt
 heeded is_open es log (Refuses refusals.NoMemory) h = tt
 heeded is_open es log told h = h
 
-given_up : (is_open : Bool) (es : List Event) (log : List Entry) (told : Reply) (x : Refusal) → KeepsToThem is_open es log (given_up_by told (Some x))
-given_up is_open es log (Refuses refusals.Limit) x = tt
-given_up is_open es log (Refuses refusals.Halted) x = tt
-given_up is_open es log (Refuses refusals.NoMemory) x = tt
-given_up is_open es log told x = tt
+pub first_refused : (is_open : Bool) (es : List Event) (log : List Entry) (g : Option Refusal) → KeepsToThem is_open es log g →
+    KeepsToThem is_open es log (or_first g refusals.NoMemory)
+first_refused is_open es log None h = tt
+first_refused is_open es log (Some x) h = h
 
-pub first_refused : (is_open : Bool) (es : List Event) (log : List Entry) (g : Option Refusal) (x : Refusal) → KeepsToThem is_open es log (or_first g x)
-first_refused is_open es log None x = tt
-first_refused is_open es log (Some y) x = tt
+-- where it is logged
+has_more : (is_open : Bool) (es es_now : List Event) (before : RunState) (log : List Entry) (e : Event) (seat : ℕ) (handed : Handed) →
+    IsMore is_open es es_now e → log ≡ before.log ++ logged e seat (answer before.whole e handed) → HasNoOther is_open es before.log →
+    HasNoOther is_open es_now log
+has_more is_open es es_now before log e seat handed more is h =
+    let same : events log ≡ events before.log ++ e ∷ [] =
+    ap (λ l. events l) is ∙ decided_more before.log before.whole e seat handed (refusal before.whole e handed) in
+    λ closed. ap outside same ∙ (outside_more (events before.log) e ∙ (ap (λ xs. xs ++ outside (e ∷ [])) (h closed) ∙ sym (more closed)))
 
 goes_on : (is_open : Bool) (es es_now : List Event) (before after : RunState) (e : Event) (seat : ℕ) (done : Option Done) (told : Reply) →
     IsMore is_open es es_now e → Answers before e seat done after told → HasNoOther is_open es before.log →
@@ -82,21 +86,11 @@ goes_on is_open es es_now before after e seat done told more answers h = by_halt
     follows : Follows before e seat done after told → KeepsToThem is_open es_now after.log (given_up_by told None)
     follows (inl out) = subst (λ t. KeepsToThem is_open es_now after.log (given_up_by t None)) (sym out.told_so) tt
     follows (inr (handed, is_handed, is)) =
-        let same : events after.log ≡ events before.log ++ e ∷ [] =
-        ap (λ l. events l) is.log ∙ decided_more before.log before.whole e seat handed (refusal before.whole e handed) in
-        heeded is_open es_now after.log told (λ closed.
-        ap outside same ∙ (outside_more (events before.log) e ∙ (ap (λ xs. xs ++ outside (e ∷ [])) (h closed) ∙ sym (more closed))))
+        heeded is_open es_now after.log told (has_more is_open es es_now before after.log e seat handed more is.log h)
 
     by_halt : (b : Bool) → before.is_halted ≡ b → KeepsToThem is_open es_now after.log (given_up_by told None)
     by_halt true f = subst (λ t. KeepsToThem is_open es_now after.log (given_up_by t None)) (sym (answers.halted f).1) tt
     by_halt false f = follows (answers.follows f)
-
-keeps_behind : (is_open : Bool) (es es_now : List Event) (before after : RunState) (e : Event) (seat : ℕ) (done : Option Done) (told : Reply)
-    (g : Option Refusal) →
-    IsMore is_open es es_now e → Answers before e seat done after told → KeepsToThem is_open es before.log g →
-    KeepsToThem is_open es_now after.log (given_up_by told g)
-keeps_behind is_open es es_now before after e seat ran told None more answers h = goes_on is_open es es_now before after e seat ran told more answers h
-keeps_behind is_open es es_now before after e seat ran told (Some x) more answers h = given_up is_open es_now after.log told x
 
 -- ---- by the lines that are taken
 
@@ -117,13 +111,57 @@ passes_more is_open t e taken (inr (same, chosen, free)) = λ closed.
     ap (λ n. outside (first_events n t.plan)) same
     ∙ (ap outside (past_events t.plan t.taken e (plans_line t e chosen)) ∙ outside_more (first_events t.taken t.plan) e)
 
+-- ---- behind an event of a run that was given up: it is the run's own
+
+own_has : (is_open : Bool) (es : List Event) (before after : RunState) (e : Event) (seat : ℕ) (done : Option Done) (told : Reply) → MayApply is_open e →
+    Answers before e seat done after told → HasNoOther is_open es before.log → HasNoOther is_open es after.log
+own_has is_open es before after e seat done told may answers h = by_halt before.is_halted refl
+  where
+    unlogged : after.log ≡ before.log → HasNoOther is_open es after.log
+    unlogged same = subst (λ l. HasNoOther is_open es l) (sym same) h
+
+    follows : Follows before e seat done after told → HasNoOther is_open es after.log
+    follows (inl out) = unlogged out.same
+    follows (inr (handed, is_handed, is)) = has_more is_open es es before after.log e seat handed (own_more is_open es e may) is.log h
+
+    by_halt : (b : Bool) → before.is_halted ≡ b → HasNoOther is_open es after.log
+    by_halt true f = unlogged (ap (λ (r : RunState). r.log) (answers.halted f).0)
+    by_halt false f = follows (answers.follows f)
+
+own_keeps : (is_open : Bool) (es : List Event) (before after : RunState) (e : Event) (seat : ℕ) (done : Option Done) (told : Reply) (x : Refusal) →
+    MayApply is_open e → Answers before e seat done after told → KeepsToThem is_open es before.log (Some x) → KeepsToThem is_open es after.log (Some x)
+own_keeps is_open es before after e seat ran told refusals.Limit may answers h = own_has is_open es before after e seat ran told may answers h
+own_keeps is_open es before after e seat ran told x may answers h = tt
+
+stays_so : (told : Reply) (x : Refusal) → given_up_by told (Some x) ≡ Some x
+stays_so (Refuses refusals.Limit) x = refl
+stays_so (Refuses refusals.Halted) x = refl
+stays_so (Refuses refusals.NoMemory) x = refl
+stays_so told x = refl
+
+given_up : (is_open : Bool) (t : TurnState) (after : RunState) (e : Event) (seat : ℕ) (done : Option Done) (told : Reply) (taken : ℕ) (x : Refusal) →
+    t.given_up ≡ Some x → Passes is_open t e taken → Answers t.run e seat done after told →
+    KeepsToThem is_open (first_events t.taken t.plan) t.run.log (Some x) → KeepsToThem is_open (first_events taken t.plan) after.log (Some x)
+given_up is_open t after e seat ran told taken x g (inl (same, may)) answers h =
+    subst (λ n. KeepsToThem is_open (first_events n t.plan) after.log (Some x)) (sym same)
+    (own_keeps is_open (first_events t.taken t.plan) t.run after e seat ran told x may answers h)
+given_up is_open t after e seat ran told taken x g (inr (same, chosen, free)) answers h =
+    let bad : ◌≡◌ {A = Option Refusal} None (Some x) = sym free ∙ g in
+    absurd (cc)
+
 -- behind an event with its answer
 pub keeps_past : (is_open : Bool) (t : TurnState) (after : RunState) (e : Event) (seat : ℕ) (done : Option Done) (told : Reply) (taken : ℕ) →
     Passes is_open t e taken → Answers t.run e seat done after told → KeepsToThem is_open (first_events t.taken t.plan) t.run.log t.given_up →
     KeepsToThem is_open (first_events taken t.plan) after.log (given_up_by told t.given_up)
-keeps_past is_open t after e seat done told taken passes answers h =
-    keeps_behind is_open (first_events t.taken t.plan) (first_events taken t.plan) t.run after e seat done told t.given_up
-    (passes_more is_open t e taken passes) answers h
+keeps_past is_open t after e seat done told taken passes answers h = by_given t.given_up refl h
+  where
+    by_given : (g : Option Refusal) → t.given_up ≡ g → KeepsToThem is_open (first_events t.taken t.plan) t.run.log g →
+        KeepsToThem is_open (first_events taken t.plan) after.log (given_up_by told g)
+    by_given None f k =
+        goes_on is_open (first_events t.taken t.plan) (first_events taken t.plan) t.run after e seat done told (passes_more is_open t e taken passes) answers k
+    by_given (Some x) f k =
+        subst (KeepsToThem is_open (first_events taken t.plan) after.log) (sym (stays_so told x))
+        (given_up is_open t after e seat done told taken x f passes answers k)
 
 -- and where there is no memory to keep that a job is out
 pub keeps_kept : (is_open : Bool) (es : List Event) (log : List Entry) (e : Event) (told : Reply) (out : List JobOut) (g : Option Refusal)
@@ -131,7 +169,7 @@ pub keeps_kept : (is_open : Bool) (es : List Event) (log : List Entry) (e : Even
     KeepsToThem is_open es log (given_up_by told g) → KeepsOut e told out g out_now g_now → KeepsToThem is_open es log g_now
 keeps_kept is_open es log e told out g out_now g_now h (inl kept) = subst (KeepsToThem is_open es log) (sym kept.1) h
 keeps_kept is_open es log e told out g out_now g_now h (inr kept) =
-    subst (KeepsToThem is_open es log) (sym kept.1) (first_refused is_open es log (given_up_by told g) refusals.NoMemory)
+    subst (KeepsToThem is_open es log) (sym kept.1) (first_refused is_open es log (given_up_by told g) h)
 
 -- a run that begins
 pub none_yet : (is_open : Bool) (log : List Entry) → log ≡ opening → HasNoOther is_open [] log

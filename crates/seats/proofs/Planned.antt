@@ -105,7 +105,7 @@ past_events plan k e (line, found, same) =
 
 refused_in : (es : List Event) (log : List Entry) (e : Event) (seat : ℕ) (refusal : Refusal) → AreIn es log →
     Stands (es ++ e ∷ []) (log ++ In e seat ∷ Refused refusal ∷ []) (given_up_by (Refuses refusal) None)
-refused_in es log e seat refusals.Limit h = limited_now log e seat
+refused_in es log e seat refusals.Limit h = (in_last es log e seat (Refused refusals.Limit ∷ []) h, limited_now log e seat)
 refused_in es log e seat refusals.Halted h = tt
 refused_in es log e seat refusals.NoMemory h = tt
 refused_in es log e seat refusal h = in_last es log e seat (Refused refusal ∷ []) h

@@ -50,7 +50,7 @@ limited_now (x ∷ log) e seat = let h = limited_now log e seat in (suc h.0, h.1
 
 stands_more : (es : List Event) (log more : List Entry) (g : Option Refusal) → Stands es log g → Stands es (log ++ more) g
 stands_more es log more None h = in_more es log more h
-stands_more es log more (Some refusals.Limit) h = limited_more log more h
+stands_more es log more (Some refusals.Limit) h = (in_more es log more h.0, limited_more log more h.1)
 stands_more es log more (Some refusals.Halted) h = tt
 stands_more es log more (Some refusals.NoMemory) h = tt
 stands_more es log more (Some refusal) h = h
@@ -64,7 +64,7 @@ halted es log None h = tt
 halted es log (Some refusal) h = h
 
 at_limit : (es : List Event) (log : List Entry) (g : Option Refusal) → WasLimited log → Stands es log g → Stands es log (or_first g refusals.Limit)
-at_limit es log None limited h = limited
+at_limit es log None limited h = (h, limited)
 at_limit es log (Some refusal) limited h = h
 
 refused_stands : (es : List Event) (log : List Entry) (e : Event) (seat : ℕ) (refusal : Refusal) (g : Option Refusal) → Stands es log g →

@@ -35,6 +35,10 @@ AreIn (e ∷ es) log = (before : List Entry) × (seat : ℕ) × (after : List En
 abbrev pub events_of : List PlanLine → List Event
 events_of lines = map (λ l. l.event) lines
 
+-- and of the first lines
+abbrev pub first_events : ℕ → List PlanLine → List Event
+first_events n plan = events_of (take n plan)
+
 -- the cluster on which a run began
 abbrev pub size_of : RunState → Size
 size_of r = record { nodes = r.first_nodes; slots = r.whole.slots }
@@ -58,15 +62,20 @@ pub record IsOverBeside (script : Script) (is_open : Bool) (plan : List PlanLine
 abbrev pub IsOver : Script → List PlanLine → Size → RunState → Type 0
 IsOver script plan size r = IsOverBeside script false plan size r
 
--- a run on so many nodes at first is at a limit: an event was refused for that
-pub record IsAtLimit (nodes : ℕ) (r : RunState) : Type 0 where
+-- a run of the script beside the plan on such a cluster is at a limit: an event was refused for that, and of the events from outside those of the plan's
+-- first lines, as far as they were taken, and, unless the run is open, no others, stand in the log
+pub record IsAtLimit (script : Script) (is_open : Bool) (plan : List PlanLine) (size : Size) (r : RunState) : Type 0 where
   pub limited : WasLimited r.log
-  pub on_nodes : r.first_nodes ≡ nodes
+  pub taken : ℕ
+  pub planned : ArePlanned is_open (first_events taken plan) r.log
+  pub on_nodes : r.first_nodes ≡ size.nodes
+  -- and it came of events, one after the other, each with what was handed in, true of its job
+  pub came : Comes script (first_state size.nodes size.slots) r
 
 -- how a run of the script beside the plan on such a cluster ends
 abbrev pub HasEnded : {X : Type 0} → Script → Bool → List PlanLine → Size → Ended X → Type 0
 HasEnded script is_open plan size (ends.Over board) = IsOverBeside script is_open plan size board
-HasEnded script is_open plan size (ends.AtLimit board) = IsAtLimit size.nodes board
+HasEnded script is_open plan size (ends.AtLimit board) = IsAtLimit script is_open plan size board
 HasEnded script is_open plan size ends.NoMemory = Unit {0}
 
 -- the log of a run that ended, unless there was no memory
@@ -88,11 +97,11 @@ IsEndAt script is_open seats plan size end = HasEnded script is_open plan size e
 abbrev pub IsEnd : {X : Type 0} → Script → ℕ → List PlanLine → Size → Ended X → Type 0
 IsEnd script seats plan size end = IsEndAt script false seats plan size end
 
--- what a log has of a plan's events that were taken, and of why the run is given up, if it is: an event of it was refused at a limit, or there was no
--- memory
+-- what a log has of a plan's events that were taken, unless there was no memory, and of why the run is given up, if it is: an event of it was refused at a
+-- limit
 abbrev pub Stands : List Event → List Entry → Option Refusal → Type 0
 Stands es log None = AreIn es log
-Stands es log (Some refusals.Limit) = WasLimited log
+Stands es log (Some refusals.Limit) = AreIn es log × WasLimited log
 Stands es log (Some refusals.Halted) = Unit {0}
 Stands es log (Some refusals.NoMemory) = Unit {0}
 Stands es log (Some refusal) = ⊥
@@ -101,7 +110,3 @@ Stands es log (Some refusal) = ⊥
 abbrev pub GoesOn : ℕ → RunState → Option Refusal → Type 0
 GoesOn slots r None = (r.whole.slots ≡ slots) × (r.is_halted ≡ false)
 GoesOn slots r (Some refusal) = Unit {0}
-
--- the events of the first lines
-abbrev pub first_events : ℕ → List PlanLine → List Event
-first_events n plan = events_of (take n plan)

@@ -4,6 +4,7 @@ use Rattle.std.specs.List.{filter}
 use Rattle.event_log.specs.Entries.{Entry, Event, Claim, Commit, Deliver}
 use Rattle.event_log.specs.Words.{events}
 use Rattle.log_entries.specs.declared.refusal.Refusal.{Refusal}
+use Rattle.log_entries.specs.declared.refusal.Refusal.TheVariants as refusals
 use Rattle.seats.specs.Turns.{Plans, TurnState, choice, past_line}
 
 -- claims, commits and deliveries are the run's own
@@ -21,9 +22,10 @@ outside es = filter is_outside es
 abbrev pub HasNoOther : Bool → List Event → List Entry → Type 0
 HasNoOther is_open es log = is_open ≡ false → outside (events log) ≡ outside es
 
--- nor of one that is given up
+-- nor of one that is given up for want of memory
 abbrev pub KeepsToThem : Bool → List Event → List Entry → Option Refusal → Type 0
 KeepsToThem is_open es log None = HasNoOther is_open es log
+KeepsToThem is_open es log (Some refusals.Limit) = HasNoOther is_open es log
 KeepsToThem is_open es log (Some refusal) = Unit {0}
 
 -- a call may apply the event: it is the run's own, or the run is open

@@ -117,9 +117,8 @@ fn run_shared<
 }
 
 /// Runs a script on `n` threads, 1 to 8, beside a plan: each has a seat, takes its turns and runs the jobs that it is given side by side with
-/// the others. Once all are back, the seats' books add up, number by number, to the totals of the log; and seat 1, which is watched, has in its book
-/// exactly what came from it. Where a thread can't be made, another
-/// takes its seat after its own. On want of memory for the seats or the threads the run is dropped.
+/// the others. What the books come to is said by whoever has the seats: see `Shared::close`. Where a thread can't be made, another takes its seat after
+/// its own. On want of memory for the seats or the threads the run is dropped.
 pub fn run_on_threads<
     S: ScriptName + Send + Sync,
     K: Gate + Sync,

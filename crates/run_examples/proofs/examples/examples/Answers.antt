@@ -1,4 +1,4 @@
-use Rattle.run_examples.proofs.Ruled.{limits_are_true, opening_is_not_over, seats_are_true}
+use Rattle.run_examples.proofs.Ruled.{books_are_true, limits_are_true, opening_is_not_over, seats_are_true}
 use Rattle.run_examples.proofs.examples.examples.Goals as goal
 
 pub returns-clause-over : goal.returns-clause-over
@@ -9,3 +9,6 @@ returns-clause-limits c = limits_are_true
 
 pub returns-clause-seats : goal.returns-clause-seats
 returns-clause-seats c = seats_are_true
+
+pub returns-clause-books : goal.returns-clause-books
+returns-clause-books c = books_are_true

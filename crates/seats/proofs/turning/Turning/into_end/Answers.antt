@@ -1,0 +1,17 @@
+use Rattle.std.proofs.Common.{◌≡◌, ◌∙◌, Some, ap, rules, subst, sym}
+use Rattle.log_entries.specs.declared.refusal.Refusal.TheVariants as refusals
+use Rattle.protocol_board.specs.Cores.{RunState}
+use Rattle.seats.specs.Ends.{IsAtLimit}
+use Rattle.seats.specs.Turns.{TurnState}
+use Rattle.seats.proofs.Limited.{is_at_limit}
+use Rattle.seats.proofs.turning.Turning.into_end.Goals as goal
+
+pub returns-in-Some-Limit-clause-ended : goal.returns-in-Some-Limit-clause-ended
+returns-in-Some-Limit-clause-ended g c =
+    let t = c.self.inside in
+    let kept = c.self.invariant in
+    let same : t.board ≡ c.into_board-board.result = ap (λ (x : TurnState). x.run) c.self.view_is ∙ sym c.into_board-board.ensures in
+    let limited : t.given_up ≡ Some refusals.Limit = search rules in
+    subst (λ (r : RunState). IsAtLimit g.S.ScriptName.script g.P.RunName.is_open g.P.RunName.plan g.P.RunName.size r) same
+    (is_at_limit g.S.ScriptName.script g.P.RunName.is_open g.P.RunName.plan t.plan g.P.RunName.size t.board t.taken t.given_up limited
+    kept.2 kept.5 kept.6 kept.3 kept.7)

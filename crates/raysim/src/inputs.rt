@@ -6,6 +6,7 @@ use crate::told::Stop;
 use event_reading::{read_event_file, read_lines, read_plan_file};
 use raysim_commands::{CommandRefusal, Tracked, check, read_at_most, read_script};
 use raysim_files::Noted;
+use refusal_reasons::ListKind;
 use std::alloc::AllocError;
 use std::fs;
 use std::rt::Files;
@@ -51,7 +52,10 @@ pub fn read_events<'a, R: Files + AllocGlobal>(
             let events = in_memory(events_text(rt.alloc(), &kept))?;
             Ok(ReadEvents { events, front })
         }
-        Err(refusal) => Err(behind(rt, script, Stop::of_reader(refusal, path, file.error()))),
+        Err(refusal) => {
+            let stop = Stop::of_list(refusal, ListKind::Events, path, file.error());
+            Err(behind(rt, script, stop))
+        }
     }
 }
 
@@ -65,7 +69,10 @@ pub fn read_plain_events<'a, R: Files + AllocGlobal>(
     let read = read_lines(rt.alloc(), &mut Tracked::reader(&mut file));
     match read {
         Ok(kept) => in_memory(lines_text(rt.alloc(), &kept.says, &kept.numbers)),
-        Err(refusal) => Err(behind(rt, script, Stop::of_reader(refusal, path, file.error()))),
+        Err(refusal) => {
+            let stop = Stop::of_list(refusal, ListKind::FirstFormat, path, file.error());
+            Err(behind(rt, script, stop))
+        }
     }
 }
 
@@ -79,7 +86,10 @@ pub fn read_plan<'a, R: Files + AllocGlobal>(
     let read = read_plan_file(rt.alloc(), &mut Tracked::reader(&mut file));
     match read {
         Ok(plan) => in_memory(plan_text(rt.alloc(), &plan)),
-        Err(refusal) => Err(behind(rt, script, Stop::of_reader(refusal, path, file.error()))),
+        Err(refusal) => {
+            let stop = Stop::of_list(refusal, ListKind::Plan, path, file.error());
+            Err(behind(rt, script, stop))
+        }
     }
 }
 

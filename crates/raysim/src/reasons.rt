@@ -2,7 +2,7 @@
 
 use crate::limits::tell_limit;
 use raysim_commands::{Cluster, CommandRefusal};
-use raysim_explain::{RefusalCause, Shown};
+use raysim_explain::{Excerpt, RefusalCause};
 use refusal_reasons::{Letters, ListKind, Refused, refused_line, script_reason};
 
 /// How the events of a run come.
@@ -57,14 +57,14 @@ pub fn tell_reason<R: Eprint + AllocGlobal>(
     match refusal {
         CommandRefusal::Stopped { code } => tell_limit(rt, code, known),
         CommandRefusal::At { code, span } if known.explain => {
-            let shown = Shown {
+            let excerpt = Excerpt {
                 file: known.script,
                 code,
                 text: known.text,
                 start: span.start,
                 end: span.end,
             };
-            let _ = eprintln!(rt; "{shown}");
+            let _ = eprintln!(rt; "{excerpt}");
             tell_words(rt, code);
             tell_of_script(rt, code, span.start, span.end, known.text);
         }

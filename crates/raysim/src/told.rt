@@ -3,7 +3,7 @@
 use crate::reasons::{Known, tell_reason};
 use raysim_commands::{CommandRefusal, Failure, exit_status};
 use raysim_explain::RefusalCause;
-use refusal_reasons::{Ending, NearNames, refusal_named};
+use refusal_reasons::{Ending, ListKind, NearNames, refusal_named};
 use std::io;
 use std::io::ErrorKind;
 use std::process::ExitCode;
@@ -20,6 +20,8 @@ pub enum Stop<'a> {
     Unread(&'a str, io::Error),
     /// This file can't be written.
     Unwritten(&'a str, io::Error),
+    /// A file of that kind is longer than is kept of it.
+    TooLong(ListKind),
 }
 
 impl<'a> Stop<'a> {
@@ -45,6 +47,19 @@ impl<'a> Stop<'a> {
         match (refusal, error) {
             (CommandRefusal::Failed(Failure::Read), Some(error)) => Stop::reading(file, error),
             _ => Stop::Refused(refusal),
+        }
+    }
+
+    /// What refused to read a list of that kind from `file`, with the error of the reader.
+    pub fn of_list(
+        refusal: CommandRefusal,
+        kind: ListKind,
+        file: &'a str,
+        error: Option<io::Error>,
+    ) -> Stop<'a> {
+        match refusal {
+            CommandRefusal::Stopped { .. } => Stop::TooLong(kind),
+            _ => Stop::of_reader(refusal, file, error),
         }
     }
 
@@ -126,7 +141,24 @@ pub fn tell<R: Eprint + AllocGlobal>(rt: &R, stop: Stop<'_>, known: &Known<'_, '
             let refusal = CommandRefusal::Failed(Failure::Write);
             let _ = eprintln!(rt; "{refusal}\nwriting {file} failed: {error}");
         }
+        Stop::TooLong(kind) => tell_overlong(rt, kind),
     }
+}
+
+/// Tells how long a file of that kind may be.
+fn tell_overlong<R: Eprint>(rt: &R, kind: ListKind) {
+    let refusal = CommandRefusal::Stopped { code: 41 };
+    let (limit, remedy) = match kind {
+        ListKind::Plan => (
+            "262,144 lines of a plan that say something",
+            "leave out lines of which nothing comes",
+        ),
+        _ => (
+            "1,048,576 bytes of settle lines in all, their line feeds not counted",
+            "leave out settle lines that stand for nothing, and name each worker once",
+        ),
+    };
+    let _ = eprintln!(rt; "{refusal}\nlimit: {limit}\nwhat to do: {remedy}");
 }
 
 /// Tells why a command stops of which nothing is known beside, and gives its status.

@@ -22,12 +22,14 @@ use Rattle.protocol_board.specs.Cores.{Size}
 use Rattle.protocol_board.specs.Cores.{IsSoundLog}
 use Rattle.protocol_board.specs.Replays.{LineStops, Play, PlayStops, Plays}
 use Rattle.protocol_board.specs.declared.stopped.ReplayStop.TheVariants as stops
+use Rattle.raysim_streams.specs.Settled.{IsOfWriting}
+use Rattle.raysim_streams.specs.declared.Failure.{Failure}
 use Rattle.raysim_streams.specs.declared.Failure.TheVariants.{Read, Write, Closed}
 use Rattle.raysim_streams.specs.declared.CommandRefusal.{CommandRefusal}
 use Rattle.raysim_streams.specs.declared.CommandRefusal.TheVariants.{At, NoMemory, Stopped, BadLine, WrongJob, Failed}
 use Rattle.raysim_commands.specs.Migrations.{ExplainsLines, ExplainsMigration, IsHistoryOf, IsLinesFile, IsLinesStop, IsMigrated, IsMigrationBegun}
-use Rattle.raysim_commands.specs.Scripts.{Counts, Explains, IsAllowed, IsScript}
-use Rattle.raysim_commands.specs.SimReports.{IfBoth, first_play}
+use Rattle.script_commands.specs.Scripts.{Counts, Explains, FailedIn, IsAllowed, IsScript}
+use Rattle.run_commands.specs.SimReports.{IfBoth, first_play}
 
 -- ---- no line of format 1 says which job a claim gives
 
@@ -123,33 +125,33 @@ too_long_so script named size lines begun first after own same begins stop =
     subst (λ s. PlayStops s lines (first_play size) after stops.TooLong) (sym own) (subst (λ p. PlayStops named lines p after stops.TooLong) (same ∙ begins) stop)
 
 -- all of it was written, where what was read is known
-pub migrated_so : (size : Size) (known events : Option (List ℕ)) (text : List ℕ) (script : Script) (lines : List Line) (history bytes : List ℕ)
-    (before after : Option (List ℕ)) → IfSome known (λ b. text ≡ b) → IsScript text script → IfSome events (λ e. IsLinesFile e lines) →
+pub migrated_so : (size : Size) (known events : Option (List ℕ)) (script : Script) (lines : List Line) (history bytes : List ℕ)
+    (before after : Option (List ℕ)) → IfSome known (λ t. IsScript t script) → IfSome events (λ e. IsLinesFile e lines) →
     IsHistoryOf script size lines history → bytes ≡ history → Appends before after bytes → IfBoth known events (λ t e. IsMigrated size t e before after)
-migrated_so size None events text script lines history bytes before after same is ls h written a = tt
-migrated_so size (Some t) None text script lines history bytes before after same is ls h written a = tt
-migrated_so size (Some t) (Some e) text script lines history bytes before after same is ls h written a = record {
+migrated_so size None events script lines history bytes before after is ls h written a = tt
+migrated_so size (Some t) None script lines history bytes before after is ls h written a = tt
+migrated_so size (Some t) (Some e) script lines history bytes before after is ls h written a = record {
   script = script;
   lines = lines;
   history = history;
-  is_script = subst (λ b. IsScript b script) same is;
+  is_script = is;
   are_lines = ls;
   migrated = h;
   written = subst (λ l. Appends before after l) written a;
 }
 
 -- a beginning of it was
-pub migration_begun_so : (size : Size) (known events : Option (List ℕ)) (text : List ℕ) (script : Script) (lines : List Line) (history bytes : List ℕ)
-    (before after : Option (List ℕ)) → IfSome known (λ b. text ≡ b) → IsScript text script → IfSome events (λ e. IsLinesFile e lines) →
+pub migration_begun_so : (size : Size) (known events : Option (List ℕ)) (script : Script) (lines : List Line) (history bytes : List ℕ)
+    (before after : Option (List ℕ)) → IfSome known (λ t. IsScript t script) → IfSome events (λ e. IsLinesFile e lines) →
     IsHistoryOf script size lines history → bytes ≡ history → (k : ℕ) × Appends before after (take k bytes) →
     IfBoth known events (λ t e. (after ≡ before) ⊎ IsMigrationBegun size t e before after)
-migration_begun_so size None events text script lines history bytes before after same is ls h written a = tt
-migration_begun_so size (Some t) None text script lines history bytes before after same is ls h written a = tt
-migration_begun_so size (Some t) (Some e) text script lines history bytes before after same is ls h written (k, a) = inr (record {
+migration_begun_so size None events script lines history bytes before after is ls h written a = tt
+migration_begun_so size (Some t) None script lines history bytes before after is ls h written a = tt
+migration_begun_so size (Some t) (Some e) script lines history bytes before after is ls h written (k, a) = inr (record {
   script = script;
   lines = lines;
   history = history;
-  is_script = subst (λ b. IsScript b script) same is;
+  is_script = is;
   are_lines = ls;
   migrated = h;
   count = k;
@@ -171,9 +173,9 @@ explains_no_script size known events a b w (Failed Write) h = h
 explains_no_script size known events a b w (Failed Closed) h = h
 
 -- what was read is a script that the rules allow, where it is known
-allowed : (known : Option (List ℕ)) (text : List ℕ) (script : Script) → IfSome known (λ b. text ≡ b) → IsScript text script → IfSome known IsAllowed
-allowed None text script same is = tt
-allowed (Some t) text script same is = (script, subst (λ b. IsScript b script) same is)
+allowed : (known : Option (List ℕ)) (script : Script) → IfSome known (λ t. IsScript t script) → IfSome known IsAllowed
+allowed None script is = tt
+allowed (Some t) script is = (script, is)
 
 bad_line : OneIsBad → (size : Size) (known events : Option (List ℕ)) (a b w : Counts) (n : ℕ) → IfSome known IsAllowed → ExplainsLines events b (BadLine n) →
     ExplainsMigration size known events a b w (BadLine n)
@@ -182,32 +184,38 @@ bad_line one size (Some t) None a b w n is h = tt
 bad_line one size (Some t) (Some e) a b w n is h = record { allowed = is; bad = h; of_recorded = first_is_bad one e n h }
 
 -- the lines aren't read
-pub explains_no_lines : OneIsBad → (size : Size) (known events : Option (List ℕ)) (text : List ℕ) (script : Script) (a b w : Counts) (r : CommandRefusal) →
-    IfSome known (λ t. text ≡ t) → IsScript text script → ExplainsLines events b r → ExplainsMigration size known events a b w r
-explains_no_lines one size known events text script a b w (BadLine n) same is h = bad_line one size known events a b w n (allowed known text script same is) h
-explains_no_lines one size known events text script a b w NoMemory same is h = tt
-explains_no_lines one size known events text script a b w (Failed Read) same is h = inr (h, allowed known text script same is)
-explains_no_lines one size known events text script a b w (Failed Write) same is h = absurd h
-explains_no_lines one size known events text script a b w (Failed Closed) same is h = absurd h
-explains_no_lines one size known events text script a b w (At code span) same is h = absurd h
-explains_no_lines one size known events text script a b w (Stopped code) same is h = absurd h
-explains_no_lines one size known events text script a b w (WrongJob n) same is h = absurd h
+pub explains_no_lines : OneIsBad → (size : Size) (known events : Option (List ℕ)) (script : Script) (a b w : Counts) (r : CommandRefusal) →
+    IfSome known (λ t. IsScript t script) → ExplainsLines events b r → ExplainsMigration size known events a b w r
+explains_no_lines one size known events script a b w (BadLine n) is h = bad_line one size known events a b w n (allowed known script is) h
+explains_no_lines one size known events script a b w NoMemory is h = tt
+explains_no_lines one size known events script a b w (Failed Read) is h = inr (h, allowed known script is)
+explains_no_lines one size known events script a b w (Failed Write) is h = absurd h
+explains_no_lines one size known events script a b w (Failed Closed) is h = absurd h
+explains_no_lines one size known events script a b w (At code span) is h = absurd h
+explains_no_lines one size known events script a b w (Stopped code) is h = absurd h
+explains_no_lines one size known events script a b w (WrongJob n) is h = absurd h
 
-too_long : (size : Size) (known events : Option (List ℕ)) (text : List ℕ) (script : Script) (lines : List Line) (a b w : Counts) (code : ℕ) →
-    IfSome known (λ t. text ≡ t) → IsScript text script → IfSome events (λ e. IsLinesFile e lines) → IsLinesStop script size lines (Stopped code) →
+too_long : (size : Size) (known events : Option (List ℕ)) (script : Script) (lines : List Line) (a b w : Counts) (code : ℕ) →
+    IfSome known (λ t. IsScript t script) → IfSome events (λ e. IsLinesFile e lines) → IsLinesStop script size lines (Stopped code) →
     ExplainsMigration size known events a b w (Stopped code)
-too_long size None events text script lines a b w code same is ls h = tt
-too_long size (Some t) None text script lines a b w code same is ls h = tt
-too_long size (Some t) (Some e) text script lines a b w code same is ls h =
-    (h.0, script, files.Lines lines, line_numbers e, subst (λ x. IsScript x script) same is, (ls, refl), h.1)
+too_long size None events script lines a b w code is ls h = tt
+too_long size (Some t) None script lines a b w code is ls h = tt
+too_long size (Some t) (Some e) script lines a b w code is ls h = (h.0, script, files.Lines lines, line_numbers e, is, (ls, refl), h.1)
 
 -- the lines' replay stops
-pub explains_stop : (size : Size) (known events : Option (List ℕ)) (text : List ℕ) (script : Script) (lines : List Line) (a b w : Counts) (r : CommandRefusal) →
-    IfSome known (λ t. text ≡ t) → IsScript text script → IfSome events (λ e. IsLinesFile e lines) → IsLinesStop script size lines r →
+pub explains_stop : (size : Size) (known events : Option (List ℕ)) (script : Script) (lines : List Line) (a b w : Counts) (r : CommandRefusal) →
+    IfSome known (λ t. IsScript t script) → IfSome events (λ e. IsLinesFile e lines) → IsLinesStop script size lines r →
     ExplainsMigration size known events a b w r
-explains_stop size known events text script lines a b w (Stopped code) same is ls h = too_long size known events text script lines a b w code same is ls h
-explains_stop size known events text script lines a b w NoMemory same is ls h = tt
-explains_stop size known events text script lines a b w (At code span) same is ls h = absurd h
-explains_stop size known events text script lines a b w (BadLine n) same is ls h = absurd h
-explains_stop size known events text script lines a b w (WrongJob n) same is ls h = absurd h
-explains_stop size known events text script lines a b w (Failed failure) same is ls h = absurd h
+explains_stop size known events script lines a b w (Stopped code) is ls h = too_long size known events script lines a b w code is ls h
+explains_stop size known events script lines a b w NoMemory is ls h = tt
+explains_stop size known events script lines a b w (At code span) is ls h = absurd h
+explains_stop size known events script lines a b w (BadLine n) is ls h = absurd h
+explains_stop size known events script lines a b w (WrongJob n) is ls h = absurd h
+explains_stop size known events script lines a b w (Failed failure) is ls h = absurd h
+
+-- a write failed
+pub explains_no_write : (size : Size) (known events : Option (List ℕ)) (a b w : Counts) (f : Failure) → IsOfWriting f → FailedIn w →
+    ExplainsMigration size known events a b w (Failed f)
+explains_no_write size known events a b w Read kind h = absurd kind
+explains_no_write size known events a b w Write kind h = h
+explains_no_write size known events a b w Closed kind h = h

@@ -1,17 +1,17 @@
--- The history of a run on threads replays to it.
-use Rattle.std.proofs.Common.{◌≡◌, ◌≤◌, ℕ, List, refl, subst}
+-- The history of a run on threads replays to it, where it is over.
+use Rattle.std.proofs.Common.{◌≡◌, ◌≤◌, ℕ, false, List, refl, subst}
 use Rattle.meaning.specs.Syntax.{Script}
 use Rattle.script_check.specs.Scripts.{IsWellTyped}
 use Rattle.event_files.specs.declared.plan.PlanLine.{PlanLine}
 use Rattle.histories.specs.Recorded.{recorded_in}
 use Rattle.protocol_board.specs.Cores.{RunState, Size}
 use Rattle.replay_laws.specs.Replaying.{CameSo, IsFirst, RunsReplay, RunsReplayToThemselves}
-use Rattle.seats.specs.Ends.{IsEnd, IsOver}
+use Rattle.seats.specs.Ends.{IsAtLimit, IsEnd, IsOver}
 use Rattle.seats.specs.declared.end.Ended.{Ended}
 use Rattle.seats.specs.declared.end.Ended.TheVariants as ends
 use Rattle.seats.specs.Seated.{AreFrom}
-use Rattle.raysim_commands.specs.declared.form.Form.{Form}
-use Rattle.raysim_commands.specs.SimReports.{first_play}
+use Rattle.run_commands.specs.declared.form.Form.{Form}
+use Rattle.run_commands.specs.SimReports.{first_play}
 use Rattle.raysim_commands.specs.ThreadReports.{AreOutputs, IsRunOn, MayBeReplayed, ReplaysTo}
 
 replays_so : RunsReplay → RunsReplayToThemselves → (script : Script) → IsWellTyped script → (plan : List PlanLine) (size : Size) → 1 ≤ size.nodes → (run : RunState) →
@@ -43,3 +43,10 @@ pub over_so : {X : Type 0} (script : Script) (n : ℕ) (plan : List PlanLine) (f
 over_so script n plan first size end board same is h =
     let k = subst (λ e. IsEnd script n plan first e) is h in
     (subst (λ z. IsOver script plan z board) same k.0, k.1)
+
+-- and one that is at a limit
+pub at_limit_so : {X : Type 0} (script : Script) (n : ℕ) (plan : List PlanLine) (first size : Size) (end : Ended X) (board : RunState) → first ≡ size →
+    end ≡ ends.AtLimit board → IsEnd script n plan first end → IsAtLimit script false plan size board × AreFrom n board.log
+at_limit_so script n plan first size end board same is h =
+    let k = subst (λ e. IsEnd script n plan first e) is h in
+    (subst (λ z. IsAtLimit script false plan z board) same k.0, k.1)

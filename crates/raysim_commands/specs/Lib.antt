@@ -1,13 +1,2 @@
 pub mod Migrations
-pub mod Reports
-pub mod RunReports
-pub mod Scripts
-pub mod SerialReports
-pub mod SimReports
-pub mod SoFar
 pub mod ThreadReports
-pub mod Faults
-pub mod Exports
-pub mod States
-pub mod Pages
-pub mod TrapReports

@@ -14,8 +14,8 @@ use Rattle.protocol_board.specs.Replays.{Play, PlaysFile}
 use Rattle.raysim_streams.specs.declared.Failure.TheVariants.{Read, Write, Closed}
 use Rattle.raysim_streams.specs.declared.CommandRefusal.{CommandRefusal}
 use Rattle.raysim_streams.specs.declared.CommandRefusal.TheVariants.{At, NoMemory, Stopped as Stops, BadLine, WrongJob, Failed}
-use Rattle.raysim_commands.specs.Scripts.{Counts, FailedIn, IsAllowed, IsScript}
-use Rattle.raysim_commands.specs.SimReports.{ExplainsSim, IfBoth, IsReplayed, IsTooLong, first_play}
+use Rattle.script_commands.specs.Scripts.{Counts, FailedIn, IsAllowed, IsScript}
+use Rattle.run_commands.specs.SimReports.{ExplainsSim, IfBoth, IsReplayed, IsTooLong, first_play}
 
 -- the bytes are an event file of format 1 with these lines
 abbrev pub IsLinesFile : List ℕ → List Line → Type 0

@@ -1,5 +1,5 @@
 -- What a run on threads writes, and its status.
-use Rattle.std.specs.Prelude.{◌≡◌, ◌≤◌, ◌⊎◌, ℕ, List, [], Option, length, take, IfSome}
+use Rattle.std.specs.Prelude.{◌≡◌, ◌≤◌, ◌⊎◌, ℕ, false, List, [], Option, length, take, IfSome}
 use Rattle.std.specs.Io.KnownBytes.{Appends}
 use Rattle.meaning.specs.Syntax.{Script}
 use Rattle.event_log.specs.Entries.{Entry}
@@ -19,10 +19,10 @@ use Rattle.seats.specs.Seated.{AreFrom}
 use Rattle.raysim_streams.specs.declared.Failure.TheVariants.{Read, Write, Closed}
 use Rattle.raysim_streams.specs.declared.CommandRefusal.{CommandRefusal}
 use Rattle.raysim_streams.specs.declared.CommandRefusal.TheVariants.{At, NoMemory, Stopped as Stops, BadLine, WrongJob, Failed}
-use Rattle.raysim_commands.specs.declared.form.Form.{Form}
-use Rattle.raysim_commands.specs.Reports.{IsAsSerialIn, IsReportIn, account_of}
-use Rattle.raysim_commands.specs.Scripts.{Counts, FailedIn, IsAllowed, IsNoScriptFor, IsScript}
-use Rattle.raysim_commands.specs.SimReports.{IfBoth, first_play}
+use Rattle.run_commands.specs.declared.form.Form.{Form}
+use Rattle.run_commands.specs.Reports.{IsAsSerialIn, IsReportIn, account_of}
+use Rattle.script_commands.specs.Scripts.{Counts, FailedIn, IsAllowed, IsNoScriptFor, IsScript}
+use Rattle.run_commands.specs.SimReports.{IfBoth, first_play}
 use Rattle.histories.specs.Recorded.{recorded_in}
 
 -- the bytes are a plan with these lines
@@ -56,18 +56,26 @@ pub record IsRunOn (script : Script) (plan : List PlanLine) (size : Size) (threa
   pub replays : MayBeReplayed run.log (recorded_in run.log) → ReplaysTo script size run
   pub outputs : AreOutputs script run form report history status
 
--- why a run of the script on so many nodes at first gives neither: there was no memory, or it is at a limit
-abbrev pub IsStop : Script → ℕ → CommandRefusal → Type 0
-IsStop script nodes NoMemory = Unit {0}
-IsStop script nodes (Stops code) = (code ≡ 37) × (run : RunState) × IsSoundLog script run × IsAtLimit nodes run
-IsStop script nodes (At code span) = ⊥
-IsStop script nodes (BadLine n) = ⊥
-IsStop script nodes (WrongJob n) = ⊥
-IsStop script nodes (Failed failure) = ⊥
+-- a run of the script beside the plan on such a cluster, each event of which came from one of so many threads, is at a limit; and what its log means
+pub record IsStoppedOn (script : Script) (plan : List PlanLine) (size : Size) (threads : ℕ) : Type 0 where
+  pub run : RunState
+  pub meant : IsSoundLog script run
+  pub at_limit : IsAtLimit script false plan size run
+  pub seated : AreFrom threads run.log
 
--- the text is a script, a run of which stops so
-abbrev pub IsStoppedRun : Size → ℕ → List ℕ → Type 0
-IsStoppedRun size code text = (script : Script) × IsScript text script × IsStop script size.nodes (Stops code)
+-- why a run of the script beside the plan on such a cluster and so many threads gives neither: there was no memory, or it is at a limit
+abbrev pub IsStop : Script → List PlanLine → Size → ℕ → CommandRefusal → Type 0
+IsStop script plan size threads NoMemory = Unit {0}
+IsStop script plan size threads (Stops code) = (code ≡ 37) × IsStoppedOn script plan size threads
+IsStop script plan size threads (At code span) = ⊥
+IsStop script plan size threads (BadLine n) = ⊥
+IsStop script plan size threads (WrongJob n) = ⊥
+IsStop script plan size threads (Failed failure) = ⊥
+
+-- the texts are a script and a plan, a run of which stops so
+abbrev pub IsStoppedRun : Size → ℕ → ℕ → List ℕ → List ℕ → Type 0
+IsStoppedRun size threads code text plan =
+    (script : Script) × (lines : List PlanLine) × IsScript text script × IsPlan plan lines × IsStop script lines size threads (Stops code)
 
 -- the texts are a script and a plan, and the history and the report of a run were written, which begins as what `serial` writes of that script
 pub record AreWritten (size : Size) (threads : ℕ) (form : Form) (text plan : List ℕ) (status : ℕ)
@@ -114,16 +122,17 @@ abbrev pub IsBadPlan : ℕ → List ℕ → List ℕ → Type 0
 IsBadPlan n text plan = IsAllowed text × IsBadAt IsPlanLine plan_line_text plan n
 
 -- why `run` refuses; the failures of reading the script, of reading the plan, of writing the history and of writing the report, before the call and after it
-abbrev pub ExplainsThreads : Size → Option (List ℕ) → Option (List ℕ) → Counts → Counts → Counts → Counts → CommandRefusal → Type 0
-ExplainsThreads size text plan script_reads plan_reads history_writes report_writes (At code span) = IfSome text (λ t. IsNoScriptFor t (At code span))
-ExplainsThreads size text plan script_reads plan_reads history_writes report_writes NoMemory = Unit {0}
-ExplainsThreads size text plan script_reads plan_reads history_writes report_writes (Stops code) = IfSome text (IsStoppedRun size code)
-ExplainsThreads size text plan script_reads plan_reads history_writes report_writes (BadLine n) = IfBoth text plan (IsBadPlan n)
-ExplainsThreads size text plan script_reads plan_reads history_writes report_writes (WrongJob n) = ⊥
-ExplainsThreads size text plan script_reads plan_reads history_writes report_writes (Failed Read) =
+abbrev pub ExplainsThreads : Size → ℕ → Option (List ℕ) → Option (List ℕ) → Counts → Counts → Counts → Counts → CommandRefusal → Type 0
+ExplainsThreads size threads text plan script_reads plan_reads history_writes report_writes (At code span) = IfSome text (λ t. IsNoScriptFor t (At code span))
+ExplainsThreads size threads text plan script_reads plan_reads history_writes report_writes NoMemory = Unit {0}
+ExplainsThreads size threads text plan script_reads plan_reads history_writes report_writes (Stops code) =
+    IfBoth text plan (IsStoppedRun size threads code)
+ExplainsThreads size threads text plan script_reads plan_reads history_writes report_writes (BadLine n) = IfBoth text plan (IsBadPlan n)
+ExplainsThreads size threads text plan script_reads plan_reads history_writes report_writes (WrongJob n) = ⊥
+ExplainsThreads size threads text plan script_reads plan_reads history_writes report_writes (Failed Read) =
     FailedIn script_reads ⊎ (FailedIn plan_reads × IfSome text IsAllowed)
-ExplainsThreads size text plan script_reads plan_reads history_writes report_writes (Failed Write) = FailedIn report_writes ⊎ FailedIn history_writes
-ExplainsThreads size text plan script_reads plan_reads history_writes report_writes (Failed Closed) = FailedIn report_writes ⊎ FailedIn history_writes
+ExplainsThreads size threads text plan script_reads plan_reads history_writes report_writes (Failed Write) = FailedIn report_writes ⊎ FailedIn history_writes
+ExplainsThreads size threads text plan script_reads plan_reads history_writes report_writes (Failed Closed) = FailedIn report_writes ⊎ FailedIn history_writes
 
 -- ---- on the way
 

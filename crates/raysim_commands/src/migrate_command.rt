@@ -4,16 +4,17 @@ ghost use Rattle.std.specs.Prelude.{◌≡◌, ◌⊎◌, IfOk, IfErr, IfSome, s
 ghost use Rattle.script_check.specs.Trees.{script_of};
 ghost use Rattle.event_files.specs.Files.{IsFile};
 ghost use Rattle.event_files.specs.Lines.{IsLine, line_text};
-ghost use Rattle.raysim_commands.specs.Scripts.{IsUnwritten};
-ghost use Rattle.raysim_commands.specs.SimReports.{IfBoth};
+ghost use Rattle.protocol_board.specs.Cores.{Size};
+ghost use Rattle.script_commands.specs.Scripts.{Counts, IsScript, IsUnwritten};
+ghost use Rattle.run_commands.specs.SimReports.{IfBoth};
 ghost use Rattle.raysim_commands.specs.Migrations.{ExplainsLines, ExplainsMigration, IsHistoryOf, IsLinesStop, IsMigrated, IsMigrationBegun};
 
-use crate::script::{compiled_script, read_script};
 use event_files::laws::one_bad_line;
 use event_files::{EventError, Line, parse_events};
 use histories::history;
 use protocol_board::{Cluster, Core, Replay, ReplayStop};
 use raysim_streams::{CommandRefusal, Sink, Source, put_all, read_at_most};
+use script_commands::read_compiled;
 use segment::{Compiled, ScriptName};
 use sequence::Seq;
 use std::alloc::Global;
@@ -24,11 +25,43 @@ fn read_lines<E: Source>(alloc: Global, reader: &mut E) -> Result<Seq<Line>, Com
     ensures read { IfOk result (λ lines. IfSome (E.left reader.old) (λ bytes. IsFile IsLine line_text bytes lines)) }
     ensures refused { IfErr result (λ refusal. ExplainsLines (E.left reader.old) (E.failures reader.old, E.failures reader.new) refusal) }
 {
-    let text = read_at_most(alloc, reader, usize::MAX)?;
+    let text = match read_at_most(alloc, reader, usize::MAX) {
+        Ok(text) => text,
+        Err(refusal) => return Err(refusal),
+    };
     match parse_events(alloc, text.as_slice()) {
         Ok(lines) => Ok(lines),
         Err(EventError::BadLine(line)) => Err(CommandRefusal::BadLine { line }),
         Err(EventError::NoMemory) => Err(CommandRefusal::NoMemory),
+    }
+}
+
+/// A checked script with its code, and the lines of an event file of format 1.
+#[derive(Drop)]
+struct MigrationInputs {
+    script: Compiled,
+    lines: Seq<Line>,
+}
+
+/// Reads the script, which is checked before the lines are read. It refuses as `migrate` does, whatever the cluster is and wherever it writes.
+fn read_inputs<R: Source, E: Source>(
+    alloc: Global,
+    reader: &mut R,
+    events: &mut E,
+) -> Result<MigrationInputs, CommandRefusal>
+    ensures script { IfOk result (λ inputs. IfSome (R.left reader.old) (λ text. IsScript text (script_of inputs.script))) }
+    ensures lines { IfOk result (λ inputs. IfSome (E.left events.old) (λ bytes. IsFile IsLine line_text bytes inputs.lines)) }
+    ensures refused { (size : Size) (writes : Counts) → IfErr result (λ refusal. ExplainsMigration size (R.left reader.old) (E.left events.old)
+        (R.failures reader.old, R.failures reader.new) (E.failures events.old, E.failures events.new) writes refusal) }
+{
+    one_bad_line();
+    let script = match read_compiled(alloc, reader) {
+        Ok(script) => script,
+        Err(refusal) => return Err(refusal),
+    };
+    match read_lines(alloc, events) {
+        Ok(lines) => Ok(MigrationInputs { script, lines }),
+        Err(refusal) => Err(refusal),
     }
 }
 
@@ -77,20 +110,16 @@ pub fn migrate<R: Source, E: Source, W: Sink>(
     ensures beginning { IfErr result (λ refusal. IfBoth (R.left reader.old) (E.left events.old) (λ text file.
         (W.held writer.new ≡ W.held writer.old) ⊎ IsMigrationBegun cluster text file (W.held writer.old) (W.held writer.new))) }
 {
-    one_bad_line();
-    let text = read_script(alloc, reader)?;
-    let script = match compiled_script(alloc, text.as_slice()) {
-        Ok(script) => script,
+    let inputs = match read_inputs(alloc, reader, events) {
+        Ok(inputs) => inputs,
         Err(refusal) => return Err(refusal),
     };
-    let lines = match read_lines(alloc, events) {
-        Ok(lines) => lines,
-        Err(refusal) => return Err(refusal),
-    };
-    let history = match migrate_script::<Brand>(alloc, &script, &lines, cluster) {
+    let history = match migrate_script::<Brand>(alloc, &inputs.script, &inputs.lines, cluster) {
         Ok(history) => history,
         Err(refusal) => return Err(refusal),
     };
-    put_all(writer, history.as_bytes())?;
-    Ok(0)
+    match put_all(writer, history.as_bytes()) {
+        Ok(()) => Ok(0),
+        Err(failure) => Err(CommandRefusal::Failed(failure)),
+    }
 }

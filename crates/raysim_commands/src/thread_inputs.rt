@@ -2,12 +2,12 @@
 
 ghost use Rattle.std.specs.Prelude.{◌≡◌, IfOk, IfErr, IfSome};
 ghost use Rattle.script_check.specs.Trees.{script_of};
-ghost use Rattle.raysim_commands.specs.Scripts.{IsScript, IsUnwritten};
+ghost use Rattle.script_commands.specs.Scripts.{IsScript, IsUnwritten};
 ghost use Rattle.raysim_commands.specs.ThreadReports.{ExplainsInputs, ExplainsPlan, IsPlan};
 
-use crate::script::{compiled_script, read_script};
 use event_files::{EventError, RunPlan, parse_plan};
 use raysim_streams::{CommandRefusal, Source, read_at_most};
+use script_commands::read_compiled;
 use segment::Compiled;
 use std::alloc::Global;
 
@@ -23,7 +23,10 @@ fn read_plan<P: Source>(alloc: Global, reader: &mut P) -> Result<RunPlan, Comman
     ensures read { IfOk result (λ plan. IfSome (P.left reader.old) (λ bytes. IsPlan bytes plan.lines)) }
     ensures refused { IfErr result (λ refusal. ExplainsPlan (P.left reader.old) (P.failures reader.old, P.failures reader.new) refusal) }
 {
-    let text = read_at_most(alloc, reader, usize::MAX)?;
+    let text = match read_at_most(alloc, reader, usize::MAX) {
+        Ok(text) => text,
+        Err(refusal) => return Err(refusal),
+    };
     match parse_plan(alloc, text.as_slice()) {
         Ok(plan) => Ok(plan),
         Err(EventError::BadLine(line)) => Err(CommandRefusal::BadLine { line }),
@@ -42,8 +45,7 @@ pub fn read_inputs<A: Source, P: Source>(
     ensures refused { IfErr result (λ refusal. ExplainsInputs (A.left reader.old) (P.left plan.old)
         (A.failures reader.old, A.failures reader.new) (P.failures plan.old, P.failures plan.new) refusal) }
 {
-    let text = read_script(alloc, reader)?;
-    let script = match compiled_script(alloc, text.as_slice()) {
+    let script = match read_compiled(alloc, reader) {
         Ok(script) => script,
         Err(refusal) => return Err(refusal),
     };

@@ -2,7 +2,7 @@
 
 ghost use Rattle.std.specs.Prelude.{◌≡◌, ◌⊎◌, OnOk, OnErr, IfErr, string_bytes};
 ghost use Rattle.std.specs.Io.KnownBytes.{Appends};
-ghost use Rattle.raysim_commands.specs.Scripts.{FailedIn};
+ghost use Rattle.script_commands.specs.Scripts.{FailedIn};
 ghost use Rattle.raysim_commands.specs.ThreadReports.{AreBegun, IsOfWriting};
 
 use crate::thread_run::Outputs;

@@ -1,17 +1,20 @@
 // A script's run on threads.
 
-ghost use Rattle.std.specs.Prelude.{◌≡◌, ◌≤◌, IfOk, IfErr, string_bytes};
+ghost use Rattle.std.specs.Prelude.{◌≡◌, ◌≤◌, ℕ, List, false, IfOk, IfErr, string_bytes};
 ghost use Rattle.script_check.specs.Trees.{script_of};
-ghost use Rattle.seats.specs.Ends.{WasLimited};
+ghost use Rattle.event_files.specs.declared.plan.PlanLine.{PlanLine};
+ghost use Rattle.protocol_board.specs.Cores.{Size};
+ghost use Rattle.seats.specs.Ends.{IsAtLimit};
+ghost use Rattle.seats.specs.Seated.{AreFrom};
 ghost use Rattle.raysim_commands.specs.ThreadReports.{AreOutputs, IsRunOn, IsStop};
 
-use crate::form::{Form, report};
 use event_files::RunPlan;
 use histories::history;
 use log_entries::Refusal as EventRefusal;
 use protocol_board::{Board, Cluster, Core};
 use raysim_streams::CommandRefusal;
 use replay_laws::law::runs_replay;
+use run_commands::{Form, report};
 use seats::{Ended, Gate, run_on_threads};
 use segment::{Compiled, ScriptName};
 use sequence::Seq;
@@ -49,8 +52,8 @@ fn outputs_of<S: ScriptName>(
 
 /// The refusal of a run that is at a limit.
 fn at_limit<S: ScriptName>(board: &Board<S>) -> CommandRefusal
-    requires { WasLimited board.now.log }
-    ensures { IsStop S.script board.now.first_nodes result }
+    ensures { (plan : List PlanLine) (size : Size) (threads : ℕ) → IsAtLimit S.script false plan size board.now → AreFrom threads board.now.log →
+        IsStop S.script plan size threads result }
 {
     let _ = board.log();
     CommandRefusal::Stopped {
@@ -73,7 +76,7 @@ pub fn run_script<S: ScriptName + Send + Sync, K: Gate + Sync, R: Threads + Wait
     requires script { script_of script.now ≡ S.script }
     ensures run { IfOk result (λ out.
         IsRunOn S.script plan.lines cluster threads form (string_bytes out.report) (string_bytes out.history) out.status) }
-    ensures stopped { IfErr result (IsStop S.script cluster.nodes) }
+    ensures stopped { IfErr result (IsStop S.script plan.lines cluster threads) }
 {
     runs_replay();
     let _ = script.script().functions();

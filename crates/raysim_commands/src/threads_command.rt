@@ -1,16 +1,16 @@
 // The command `run` on threads.
 
 ghost use Rattle.std.specs.Prelude.{◌≡◌, ◌≤◌, IfOk, IfErr};
-ghost use Rattle.raysim_commands.specs.Scripts.{IsUnwritten};
-ghost use Rattle.raysim_commands.specs.SimReports.{IfBoth};
+ghost use Rattle.script_commands.specs.Scripts.{IsUnwritten};
+ghost use Rattle.run_commands.specs.SimReports.{IfBoth};
 ghost use Rattle.raysim_commands.specs.ThreadReports.{AreWritten, AreUnwritten, ExplainsThreads, IsBegun};
 
-use crate::form::Form;
 use crate::thread_inputs::{Inputs, read_inputs};
 use crate::thread_outputs::write_outputs;
 use crate::thread_run::run_script;
 use protocol_board::Cluster;
 use raysim_streams::{CommandRefusal, Sink, Source};
+use run_commands::Form;
 use seats::Gate;
 use std::alloc::Global;
 use std::marker::Brand;
@@ -20,8 +20,8 @@ use std::thread::Threads;
 
 /// Reads a script's text and then a plan, runs the script on this cluster on 1 to 8 threads beside the plan (docs/protocol.md, "Turns"), and
 /// writes the history of the run, as an event file of format 2, and then its report (docs/runs.md, "The report"), or the same as one line of JSON. The gate
-/// is told of each job before it is run. Replayed by `sim` on the same cluster, the history gives the same report. The status is 0 where main
-/// ends with a value, 1 where it ends with a trap, and 2 where it is open or has a fault.
+/// is told of each job before it is run. Replayed by `sim` on the same cluster, the history gives the same report, if it has at most 100,000 events and by its
+/// log each job was handed in once. The status is 0 where main ends with a value, 1 where it ends with a trap, and 2 where it is open or has a fault.
 ///
 /// Else the refusal says why: `At` where the text is no script that the rules allow, `BadLine` where a line is none of a plan, `Stopped` with
 /// 37 where the run was given up at a limit, `NoMemory`, or `Failed` where a read or a write failed within the call. The script is read and
@@ -49,7 +49,7 @@ pub fn run_threaded<
     requires some { (1 ≤ threads) × (threads ≤ 8) }
     ensures reported { IfOk result (λ status. IfBoth (A.left reader.old) (P.left plan.old) (λ text bytes. AreWritten cluster threads form text bytes status
         (H.held history.old) (H.held history.new) (W.held writer.old) (W.held writer.new))) }
-    ensures refused { IfErr result (λ refusal. ExplainsThreads cluster (A.left reader.old) (P.left plan.old)
+    ensures refused { IfErr result (λ refusal. ExplainsThreads cluster threads (A.left reader.old) (P.left plan.old)
         (A.failures reader.old, A.failures reader.new) (P.failures plan.old, P.failures plan.new)
         (H.failures history.old, H.failures history.new) (W.failures writer.old, W.failures writer.new) refusal) }
     ensures unwritten { IfErr result (λ refusal. IsUnwritten refusal →

@@ -1,12 +1,12 @@
 //! What a refusal means, and where in a script it stands.
 #![tactic(auto)]
 
+mod excerpt;
 mod hint;
 mod place;
 mod reason;
-mod shown;
 
+pub use excerpt::Excerpt;
 pub use hint::Hint;
 pub use place::{Place, line_at, place_of};
 pub use reason::RefusalCause;
-pub use shown::Shown;

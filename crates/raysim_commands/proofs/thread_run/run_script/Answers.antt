@@ -3,7 +3,7 @@ use Rattle.std.specs.Prelude.{string_bytes}
 use Rattle.script_check.specs.Scripts.{IsWellTyped}
 use Rattle.script_check.specs.Trees.{script_of}
 use Rattle.seats.specs.Ends.{size_of}
-use Rattle.raysim_commands.proofs.Replayed.{over_so, run_on_so}
+use Rattle.raysim_commands.proofs.Replayed.{at_limit_so, over_so, run_on_so}
 use Rattle.raysim_commands.proofs.thread_run.run_script.Goals as goal
 
 pub returns-in_ok-outputs_of-in-Over-clause-run : goal.returns-in_ok-outputs_of-in-Over-clause-run
@@ -17,3 +17,10 @@ returns-in_ok-outputs_of-in-Over-clause-run g c =
     (subst (λ s. IsWellTyped (script_of s)) c.script.ensures c.functions.ensures.well_typed) c.args.plan.lines c.args.cluster c.args.threads c.args.form
     c.in-Over.board (string_bytes out.report) (string_bytes out.history) out.status c.nodes.ensures.cluster.a_node over.0 over.1
     (search rules)
+
+pub returns-in-AtLimit-clause-stopped : goal.returns-in-AtLimit-clause-stopped
+returns-in-AtLimit-clause-stopped g c =
+    let sized : size_of c.new-board.result ≡ c.args.cluster = search rules in
+    let k = at_limit_so g.S.ScriptName.script c.args.threads c.args.plan.lines (size_of c.new-board.result) c.args.cluster c.in_ok-board.field-0
+    c.in-AtLimit.board sized c.in-AtLimit.is c.in_ok-board.ensures in
+    c.at_limit.ensures c.args.plan.lines c.args.cluster c.args.threads k.0 k.1

@@ -1,5 +1,0 @@
-use Rattle.script_check.specs.Trees.{script_of}
-use Rattle.raysim_commands.proofs.so_far_command.run_so_far.Given as goal
-
-abbrev pub ghosts-run_script : goal.ghosts-run_script
-ghosts-run_script a = record { script = script_of a.script.now }

@@ -1,5 +1,0 @@
-use Rattle.script_check.specs.Trees.{script_of}
-use Rattle.raysim_commands.proofs.trap_command.run_trap.Given as goal
-
-abbrev pub ghosts-run_script : goal.ghosts-run_script
-ghosts-run_script a = record { script = script_of a.script.now }

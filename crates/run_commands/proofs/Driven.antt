@@ -1,0 +1,39 @@
+-- A run of a script that is driven from its beginning.
+use Rattle.std.proofs.Common.{◌≡◌, ◌∙◌, ℕ, List, [], sym, ap, subst}
+use Rattle.meaning.specs.Syntax.{Script}
+use Rattle.protocol_board.specs.Cores.{IsSoundLog, RunState, Size, first_state}
+use Rattle.protocol_board.specs.declared.unfinished.Unfinished.{Unfinished}
+use Rattle.protocol_board.specs.Stops.{unfinished_code}
+use Rattle.protocol_board.specs.Drives.{Course, EndsSo, StopsSo}
+use Rattle.raysim_streams.specs.declared.CommandRefusal.{CommandRefusal}
+use Rattle.raysim_streams.specs.declared.CommandRefusal.TheVariants.{NoMemory, Stopped}
+use Rattle.run_commands.specs.declared.form.Form.{Form}
+use Rattle.run_commands.specs.RunReports.{IsReportOf, IsRunStop, first_run}
+use Rattle.run_commands.specs.SoFar.{IsToldOf}
+
+-- it begins, and no event came
+pub begins_so : (run : RunState) (sent : List ℕ) (size : Size) → run ≡ first_state size.nodes size.slots → sent ≡ [] →
+    ◌≡◌ {A = Course} (record { run = run; sent = sent }) (first_run size)
+begins_so run sent size e f =
+    ap {B = Course} (λ r. record { run = r; sent = sent }) e ∙ ap {B = Course} (λ s. record { run = first_state size.nodes size.slots; sent = s }) f
+
+-- it ends, and its report is told
+pub run_ends : (script named : Script) (size : Size) (form : Form) (before after : Course) (nowhere report : List ℕ) (status : ℕ) →
+    script ≡ named → before ≡ first_run size → EndsSo named before after → IsSoundLog named after.run → nowhere ≡ [] →
+    IsToldOf form after.run after.sent nowhere report status → IsReportOf script size form report status
+run_ends script named size form before after nowhere report status own first ends meant none told =
+    let driven = subst (λ s. EndsSo s (first_run size) after) (sym own) (subst (λ b. EndsSo named b after) first ends) in
+    let sound = subst (λ s. IsSoundLog s after.run) (sym own) meant in
+    let here = subst (λ l. IsToldOf form after.run after.sent l report status) none told in
+    (after, record { ends = driven; meant = sound }, here.0, here.1)
+
+-- it stops before its end
+pub run_stops : (script named : Script) (size : Size) (before after : Course) (unfinished : Unfinished) (code : ℕ) →
+    script ≡ named → before ≡ first_run size → StopsSo named before after unfinished → code ≡ unfinished_code unfinished → IsRunStop script size (Stopped code)
+run_stops script named size before after unfinished code own first stops same =
+    let driven = subst (λ s. StopsSo s (first_run size) after unfinished) (sym own) (subst (λ b. StopsSo named b after unfinished) first stops) in
+    (after, unfinished, driven, same)
+
+-- there is no memory
+pub run_without_memory : (script : Script) (size : Size) (r : CommandRefusal) → r ≡ NoMemory → IsRunStop script size r
+run_without_memory script size r same = subst (λ x. IsRunStop script size x) (sym same) tt

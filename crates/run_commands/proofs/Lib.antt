@@ -1,0 +1,10 @@
+pub mod Accounts
+pub mod AsSerial
+pub mod Driven
+pub mod Paging
+pub mod Running
+pub mod Simulated
+pub mod Stating
+pub mod Trapping
+pub mod Trying
+pub mod UpToThere

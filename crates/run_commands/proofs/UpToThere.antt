@@ -1,0 +1,78 @@
+-- A run up to where it stops.
+use Rattle.std.proofs.Common.{◌≡◌, ◌∙◌, ℕ, List, [], sym, subst}
+use Rattle.meaning.specs.Syntax.{Script}
+use Rattle.event_files.specs.declared.event_file.EventFile.{EventFile}
+use Rattle.protocol_board.specs.Cores.{IsSoundLog, Size}
+use Rattle.protocol_board.specs.Drives.{Course}
+use Rattle.protocol_board.specs.Replays.{Play}
+use Rattle.raysim_streams.specs.declared.CommandRefusal.{CommandRefusal}
+use Rattle.raysim_streams.specs.declared.CommandRefusal.TheVariants.{At, NoMemory, Stopped, BadLine, WrongJob, Failed}
+use Rattle.script_commands.specs.Scripts.{ExplainsText, IsAllowed, IsRefusalOf}
+use Rattle.script_commands.proofs.Refused.{explains_text}
+use Rattle.run_commands.specs.declared.form.Form.{Form}
+use Rattle.run_commands.specs.RunReports.{first_run}
+use Rattle.run_commands.specs.SimReports.{ExplainsList, first_play}
+use Rattle.run_commands.specs.SoFar.{ExplainsTexts, IsDriven, IsPlayed, IsReplaySoFar, IsReplayedSoFar, IsRunSoFar, IsToldOf, IsToldOfReplay}
+
+-- what is written of a run that was driven from its beginning
+pub run_told_so : (script named : Script) (size : Size) (form : Form) (before after : Course) (nowhere report : List ℕ) (status : ℕ) →
+    script ≡ named → before ≡ first_run size → IsDriven named before after → IsSoundLog named after.run → nowhere ≡ [] →
+    IsToldOf form after.run after.sent nowhere report status → IsRunSoFar script size form report status
+run_told_so script named size form before after nowhere report status own first driven meant none told =
+    let here = subst (λ l. IsToldOf form after.run after.sent l report status) none told in
+    record {
+      course = after;
+      driven = subst (λ s. IsDriven s (first_run size) after) (sym own) (subst (λ b. IsDriven named b after) first driven);
+      meant = subst (λ s. IsSoundLog s after.run) (sym own) meant;
+      told = here.0;
+      status_is = here.1;
+    }
+
+-- a replay of what the file says, which began so
+pub played_so : (script named : Script) (size : Size) (says : EventFile) (begun first after : Play) → script ≡ named → begun ≡ first →
+    first ≡ first_play size → IsPlayed named says begun after → IsSoundLog named after.run → IsReplayedSoFar script size says after
+played_so script named size says begun first after own same begins played meant = record {
+  played = subst (λ s. IsPlayed s says (first_play size) after) (sym own) (subst (λ p. IsPlayed named says p after) (same ∙ begins) played);
+  meant = subst (λ s. IsSoundLog s after.run) (sym own) meant;
+}
+
+-- and what is written of it
+pub replay_told_so : (script : Script) (size : Size) (form : Form) (says : EventFile) (numbers : List ℕ) (play : Play) (report : List ℕ) (status : ℕ) →
+    IsReplayedSoFar script size says play → IsToldOfReplay form numbers play report status → IsReplaySoFar script size form says numbers report status
+replay_told_so script size form says numbers play report status so told = record {
+  play = play;
+  played = so.played;
+  meant = so.meant;
+  told = told.0;
+  status_is = told.1;
+}
+
+-- ---- why nothing is
+
+-- there is no memory
+pub text_without_memory : (text : List ℕ) (r : CommandRefusal) → r ≡ NoMemory → ExplainsText text r
+text_without_memory text r same = subst (λ x. ExplainsText text x) (sym same) tt
+
+pub texts_without_memory : (text events : List ℕ) (r : CommandRefusal) → r ≡ NoMemory → ExplainsTexts text events r
+texts_without_memory text events r same = subst (λ x. ExplainsTexts text events x) (sym same) tt
+
+texts_so : (text events : List ℕ) (r : CommandRefusal) → ExplainsText text r → ExplainsTexts text events r
+texts_so text events (At code span) h = h
+texts_so text events NoMemory h = tt
+texts_so text events (Stopped code) h = absurd h
+texts_so text events (BadLine n) h = absurd h
+texts_so text events (WrongJob n) h = absurd h
+texts_so text events (Failed failure) h = absurd h
+
+-- the text is no script
+pub texts_without_script : (text events : List ℕ) (r : CommandRefusal) → IsRefusalOf text r → ExplainsTexts text events r
+texts_without_script text events r h = texts_so text events r (explains_text text r h)
+
+-- it is one, and the other is no event file
+pub texts_without_events : (text events : List ℕ) (r : CommandRefusal) → IsAllowed text → ExplainsList events r → ExplainsTexts text events r
+texts_without_events text events (BadLine n) is h = (is, h)
+texts_without_events text events NoMemory is h = tt
+texts_without_events text events (At code span) is h = absurd h
+texts_without_events text events (Stopped code) is h = absurd h
+texts_without_events text events (WrongJob n) is h = absurd h
+texts_without_events text events (Failed failure) is h = absurd h

@@ -1,0 +1,5 @@
+use Rattle.script_check.specs.Trees.{script_of}
+use Rattle.run_commands.proofs.so_far_command.run_so_far.Given as goal
+
+abbrev pub ghosts-run_script : goal.ghosts-run_script
+ghosts-run_script a = record { script = script_of a.script.now }

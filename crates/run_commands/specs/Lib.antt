@@ -1,0 +1,8 @@
+pub mod Faults
+pub mod Pages
+pub mod Reports
+pub mod RunReports
+pub mod SimReports
+pub mod SoFar
+pub mod States
+pub mod TrapReports

@@ -1,0 +1,76 @@
+-- What is written of a run up to where it stops.
+use Rattle.std.specs.Prelude.{◌≡◌, ◌⊎◌, ℕ, List, []}
+use Rattle.meaning.specs.Syntax.{Script}
+use Rattle.event_files.specs.declared.event_file.EventFile.{EventFile}
+use Rattle.history.specs.Main.{status_of}
+use Rattle.protocol_board.specs.Cores.{IsSoundLog, RunState, Size}
+use Rattle.protocol_board.specs.declared.stopped.ReplayStop.{ReplayStop}
+use Rattle.protocol_board.specs.declared.unfinished.Unfinished.{Unfinished}
+use Rattle.protocol_board.specs.Drives.{Course, EndsSo, StopsSo}
+use Rattle.protocol_board.specs.Replays.{FileStops, Play, PlaysFile}
+use Rattle.raysim_streams.specs.declared.CommandRefusal.{CommandRefusal}
+use Rattle.raysim_streams.specs.declared.CommandRefusal.TheVariants.{At, NoMemory, Stopped as Stops, BadLine, WrongJob, Failed}
+use Rattle.run_commands.specs.declared.form.Form.{Form}
+use Rattle.run_commands.specs.Reports.{IsReportIn, account_of}
+use Rattle.run_commands.specs.RunReports.{first_run}
+use Rattle.script_commands.specs.Scripts.{IsNoScriptFor, IsScript}
+use Rattle.run_commands.specs.SimReports.{AreEvents, IsBadLine, first_play, lines_in_file}
+
+-- it was driven until nothing was left to do, or to where it stops
+abbrev pub IsDriven : Script → Course → Course → Type 0
+IsDriven script before after = EndsSo script before after ⊎ ((unfinished : Unfinished) × StopsSo script before after unfinished)
+
+-- all that the file says was played, or up to where the replay stops
+abbrev pub IsPlayed : Script → EventFile → Play → Play → Type 0
+IsPlayed script says before after = PlaysFile script says before after ⊎ ((stopped : ReplayStop) × FileStops script says before after stopped)
+
+-- what is written of a run of the script up to there, the status of main's end there, and what its log means
+pub record IsRunSoFar (script : Script) (size : Size) (form : Form) (report : List ℕ) (status : ℕ) : Type 0 where
+  pub course : Course
+  pub driven : IsDriven script (first_run size) course
+  pub meant : IsSoundLog script course.run
+  pub told : IsReportIn form (account_of course.run course.sent []) report
+  pub status_is : status ≡ status_of course.run.log
+
+-- the same of a replay of what the file says in lines of these numbers
+pub record IsReplaySoFar (script : Script) (size : Size) (form : Form) (says : EventFile) (numbers report : List ℕ) (status : ℕ) : Type 0 where
+  pub play : Play
+  pub played : IsPlayed script says (first_play size) play
+  pub meant : IsSoundLog script play.run
+  pub told : IsReportIn form (account_of play.run play.sent (lines_in_file numbers play.lines)) report
+  pub status_is : status ≡ status_of play.run.log
+
+-- of what the text is a script of
+abbrev pub IsRunToldOf : Size → Form → List ℕ → List ℕ → ℕ → Type 0
+IsRunToldOf size form text report status = (script : Script) × IsScript text script × IsRunSoFar script size form report status
+
+-- and the events an event file
+abbrev pub IsReplayToldOf : Size → Form → List ℕ → List ℕ → List ℕ → ℕ → Type 0
+IsReplayToldOf size form text events report status =
+    (script : Script) × (says : EventFile) × (numbers : List ℕ) × IsScript text script × AreEvents events says numbers
+    × IsReplaySoFar script size form says numbers report status
+
+-- why nothing is told of a replay of these events on a run of what the text is a script of: the text is none, and the refusal tells the error that says
+-- so; it is one, and that line is the first of the events that is none of an event file; or there was no memory
+abbrev pub ExplainsTexts : List ℕ → List ℕ → CommandRefusal → Type 0
+ExplainsTexts text events (At code span) = IsNoScriptFor text (At code span)
+ExplainsTexts text events NoMemory = Unit {0}
+ExplainsTexts text events (BadLine n) = IsBadLine n text events
+ExplainsTexts text events (Stops code) = ⊥
+ExplainsTexts text events (WrongJob n) = ⊥
+ExplainsTexts text events (Failed failure) = ⊥
+
+-- ---- on the way
+
+-- this is written of a run as it is, and the status of main's end
+abbrev pub IsToldOf : Form → RunState → List ℕ → List ℕ → List ℕ → ℕ → Type 0
+IsToldOf form run sent lines report status = IsReportIn form (account_of run sent lines) report × (status ≡ status_of run.log)
+
+-- the same of a replay whose lines have these numbers in their file
+abbrev pub IsToldOfReplay : Form → List ℕ → Play → List ℕ → ℕ → Type 0
+IsToldOfReplay form numbers play report status = IsToldOf form play.run play.sent (lines_in_file numbers play.lines) report status
+
+-- what the file says makes this of a run of the script that begins on the cluster, up to there, and what its log then means
+pub record IsReplayedSoFar (script : Script) (size : Size) (says : EventFile) (play : Play) : Type 0 where
+  pub played : IsPlayed script says (first_play size) play
+  pub meant : IsSoundLog script play.run

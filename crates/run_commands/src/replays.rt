@@ -1,0 +1,89 @@
+// Replays of what an event file says.
+
+ghost use Rattle.std.specs.Prelude.{◌≡◌, IfOk, IfErr};
+ghost use Rattle.script_check.specs.Trees.{script_of};
+ghost use Rattle.protocol_board.specs.Replays.{from_first};
+ghost use Rattle.run_commands.specs.SimReports.{IsReplayed, IsStopOf, stop_refusal};
+ghost use Rattle.run_commands.specs.SoFar.{IsPlayed, IsReplayedSoFar};
+
+use crate::event_lines::{EventLines, number_of};
+use event_files::EventFile;
+use protocol_board::{Cluster, Core, Replay, ReplayStop};
+use raysim_streams::CommandRefusal;
+use segment::{Compiled, ScriptName};
+use std::alloc::Global;
+
+/// Why a replay that stopped in that line gives nothing.
+fn stop_refusal(stopped: ReplayStop, line: usize) -> CommandRefusal
+    ensures { result ≡ stop_refusal stopped line }
+{
+    match stopped {
+        ReplayStop::NoMemory => CommandRefusal::NoMemory,
+        ReplayStop::TooLong => CommandRefusal::Stopped { code: 41 },
+        ReplayStop::WrongJob => CommandRefusal::WrongJob { line: line as u64 },
+    }
+}
+
+/// The run of a script by these lines, all of which were played.
+pub fn replayed<S: ScriptName>(
+    alloc: Global,
+    script: &Compiled,
+    events: &EventLines,
+    cluster: Cluster,
+) -> Result<Replay<S>, CommandRefusal>
+    requires { script_of script.now ≡ S.script }
+    ensures replayed { IfOk result (IsReplayed (script_of script.now) cluster events.now.says) }
+    ensures stopped { IfErr result (IsStopOf (script_of script.now) cluster events.now.says events.now.numbers) }
+{
+    let core = match Core::<S>::new(alloc, script.script(), cluster) {
+        Ok(core) => core,
+        Err(_) => return Err(CommandRefusal::NoMemory),
+    };
+    let mut replay = Replay::new(alloc, core);
+    match replay.play_file(alloc, script, &events.says) {
+        Ok(()) => {
+            // This says what the log means.
+            let _ = replay.board().log();
+            Ok(replay)
+        }
+        Err(stopped) => Err(stop_refusal(stopped, number_of(&events.numbers, replay.begun()))),
+    }
+}
+
+/// Plays what the file says, or up to where the replay stops.
+fn play_so_far<S: ScriptName>(
+    alloc: Global,
+    replay: &mut Replay<S>,
+    script: &Compiled,
+    says: &EventFile,
+)
+    requires { script_of script.now ≡ S.script }
+    ensures { IsPlayed S.script says.now (from_first replay.old) replay.new }
+{
+    match replay.play_file(alloc, script, says) {
+        Ok(()) => {}
+        Err(_) => {}
+    }
+}
+
+/// The run of a script by what the file says, up to its end or to where the replay stops.
+pub fn replayed_so_far<S: ScriptName>(
+    alloc: Global,
+    script: &Compiled,
+    says: &EventFile,
+    cluster: Cluster,
+) -> Result<Replay<S>, CommandRefusal>
+    requires { script_of script.now ≡ S.script }
+    ensures replayed { IfOk result (IsReplayedSoFar (script_of script.now) cluster says.now) }
+    ensures only { IfErr result (λ refusal. refusal ≡ CommandRefusal.NoMemory) }
+{
+    let core = match Core::<S>::new(alloc, script.script(), cluster) {
+        Ok(core) => core,
+        Err(_) => return Err(CommandRefusal::NoMemory),
+    };
+    let mut replay = Replay::new(alloc, core);
+    play_so_far(alloc, &mut replay, script, says);
+    // This says what the log means.
+    let _ = replay.board().log();
+    Ok(replay)
+}

@@ -1,0 +1,123 @@
+// A run up to where it stops.
+
+ghost use Rattle.std.specs.Prelude.{◌≡◌, IfOk, IfErr, string_bytes};
+ghost use Rattle.script_check.specs.Trees.{script_of};
+ghost use Rattle.protocol_board.specs.Views.{course_of};
+ghost use Rattle.script_commands.specs.Scripts.{ExplainsText};
+ghost use Rattle.run_commands.specs.SoFar.{ExplainsTexts, IsDriven, IsReplaySoFar, IsReplayToldOf, IsRunSoFar, IsRunToldOf};
+
+use crate::event_lines::{EventLines, event_lines};
+use crate::form::Form;
+use crate::replays::replayed_so_far;
+use crate::telling::{SoFar, told, told_replay};
+use protocol_board::{Board, Cluster, Core, drive};
+use raysim_streams::CommandRefusal;
+use run_watch::Unwatched;
+use script_commands::compiled_script;
+use segment::{Compiled, ScriptName};
+use sequence::Seq;
+use std::alloc::Global;
+use std::marker::Brand;
+
+/// Drives the run until nothing is left to do, or to where it stops.
+pub fn drive_so_far<S: ScriptName>(
+    alloc: Global,
+    board: &mut Board<S>,
+    sent: &mut Seq<usize>,
+    script: &Compiled,
+)
+    requires { script_of script.now ≡ S.script }
+    ensures { IsDriven S.script (course_of board.old sent.old) (course_of board.new sent.new) }
+{
+    match drive(alloc, board, sent, script, &mut Unwatched) {
+        Ok(()) => {}
+        Err(_) => {}
+    }
+}
+
+/// What is written of a script's run, which is driven so far.
+fn run_script<S: ScriptName>(
+    alloc: Global,
+    script: &Compiled,
+    cluster: Cluster,
+    form: Form,
+) -> Result<SoFar, CommandRefusal>
+    requires { script_of script.now ≡ S.script }
+    ensures told { IfOk result (λ so_far. IsRunSoFar (script_of script.now) cluster form (string_bytes so_far.text) so_far.status) }
+    ensures only { IfErr result (λ refusal. refusal ≡ CommandRefusal.NoMemory) }
+{
+    let core = match Core::<S>::new(alloc, script.script(), cluster) {
+        Ok(core) => core,
+        Err(_) => return Err(CommandRefusal::NoMemory),
+    };
+    let mut board = Board::new(core);
+    let mut sent = Seq::new(alloc);
+    drive_so_far(alloc, &mut board, &mut sent, script);
+    let nowhere = Seq::new(alloc);
+    told(alloc, &board, &sent, &nowhere, form)
+}
+
+/// What is written of the run of a script as `run` drives it, up to its end, or to the event that is refused (at a limit, 37), or to the last of
+/// 100,000 turns. The last event that is told of is the one that was refused.
+///
+/// Else the refusal says why: `At` where the text is no script that the rules allow, or `NoMemory`.
+pub fn run_so_far(
+    alloc: Global,
+    text: &[u8],
+    cluster: Cluster,
+    form: Form,
+) -> Result<SoFar, CommandRefusal>
+    ensures told { IfOk result (λ so_far. IsRunToldOf cluster form text.now (string_bytes so_far.text) so_far.status) }
+    ensures refused { IfErr result (ExplainsText text.now) }
+{
+    let script = match compiled_script(alloc, text) {
+        Ok(script) => script,
+        Err(refusal) => return Err(refusal),
+    };
+    run_script::<Brand>(alloc, &script, cluster, form)
+}
+
+/// What is written of the run of a script by these lines, so far.
+fn sim_script<S: ScriptName>(
+    alloc: Global,
+    script: &Compiled,
+    events: &EventLines,
+    cluster: Cluster,
+    form: Form,
+) -> Result<SoFar, CommandRefusal>
+    requires { script_of script.now ≡ S.script }
+    ensures told { IfOk result (λ so_far. IsReplaySoFar (script_of script.now) cluster form events.now.says events.now.numbers
+        (string_bytes so_far.text) so_far.status) }
+    ensures only { IfErr result (λ refusal. refusal ≡ CommandRefusal.NoMemory) }
+{
+    let replay = match replayed_so_far::<S>(alloc, script, &events.says, cluster) {
+        Ok(replay) => replay,
+        Err(refusal) => return Err(refusal),
+    };
+    told_replay(alloc, &replay, &events.numbers, form)
+}
+
+/// What is written of the replay of a list of events as `sim` does it, up to its end, or to where it stops (41, or 42).
+///
+/// Else the refusal says why: `At` where the text is no script that the rules allow, `BadLine` where a line of the list is none of an event file, or
+/// `NoMemory`. The script is checked before the list is read.
+pub fn sim_so_far(
+    alloc: Global,
+    text: &[u8],
+    events: &[u8],
+    cluster: Cluster,
+    form: Form,
+) -> Result<SoFar, CommandRefusal>
+    ensures told { IfOk result (λ so_far. IsReplayToldOf cluster form text.now events.now (string_bytes so_far.text) so_far.status) }
+    ensures refused { IfErr result (ExplainsTexts text.now events.now) }
+{
+    let script = match compiled_script(alloc, text) {
+        Ok(script) => script,
+        Err(refusal) => return Err(refusal),
+    };
+    let found = match event_lines(alloc, events) {
+        Ok(found) => found,
+        Err(refusal) => return Err(refusal),
+    };
+    sim_script::<Brand>(alloc, &script, &found, cluster, form)
+}

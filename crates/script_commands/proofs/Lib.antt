@@ -1,0 +1,4 @@
+pub mod Exporting
+pub mod Reading
+pub mod Refused
+pub mod Serially

@@ -1,6 +1,6 @@
 // What a refusal's number means, and its place.
 
-use raysim_explain::{RefusalCause, Shown};
+use raysim_explain::{Excerpt, RefusalCause};
 use refusal_reasons::{Ending, ListKind, NearNames, refusal_named, refused_line, script_reason};
 use std::alloc::Global;
 use std::test::Fail;
@@ -9,14 +9,14 @@ use std::test::Fail;
 fn a_place_is_shown(rt: HostRuntime) -> Result<(), Fail> {
     let alloc = rt.alloc();
     let text = b"fn main() -> int {\n\treturn y;\n}\n".as_slice();
-    let shown = Shown {
+    let excerpt = Excerpt {
         file: "a.ray",
         code: 10,
         text,
         start: 27,
         end: 28,
     };
-    let text = format!(in alloc; "{shown}")?;
+    let text = format!(in alloc; "{excerpt}")?;
     assert_eq!(rt;
         text.as_str(),
         "a.ray:2:9\n     return y;\n            ^\n    name: y"

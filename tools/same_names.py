@@ -1,9 +1,10 @@
 #!/usr/bin/env python3
-"""Lists the public types of the code that share a name in two crates. It prints nothing where each has a name of its own.
+"""Lists the public types of the code that share a name in two crates, and fails where there are any.
 
 Usage: tools/same_names.py"""
 import os
 import re
+import sys
 
 HEAD = re.compile(r"^pub (?:struct|enum|trait|type) (\w+)", re.M)
 USE = re.compile(r"^pub use (\w+)::(?:\{([^}]*)\}|(\w+));", re.M)
@@ -35,9 +36,10 @@ def public_types(root):
 
 def main():
     root = os.path.dirname(os.path.dirname(os.path.abspath(__file__)))
-    for name, crates in sorted(public_types(root).items()):
-        if len(crates) > 1:
-            print(f"{name}: {', '.join(sorted(crates))}")
+    shared = {name: crates for name, crates in public_types(root).items() if len(crates) > 1}
+    for name, crates in sorted(shared.items()):
+        print(f"{name}: {', '.join(sorted(crates))}")
+    sys.exit(1 if shared else 0)
 
 
 if __name__ == "__main__":

@@ -20,9 +20,9 @@ KINDS = ("abbrev", "unfoldable", "pub", "record", "data")
 
 # the law of the bytes: what its contracts name
 LAW = [
-    ("raysim_commands", "Reports", "IsAsSerialIn"),
-    ("raysim_commands", "SerialReports", "IsReported"),
-    ("raysim_commands", "Scripts", "IsScript"),
+    ("run_commands", "Reports", "IsAsSerialIn"),
+    ("script_commands", "SerialReports", "IsReported"),
+    ("script_commands", "Scripts", "IsScript"),
     ("event_log", "Legal", "Legal"),
 ]
 
@@ -31,9 +31,9 @@ CHAPTERS = [
     ("The law", {
         "report_laws/Serial": "What `serial` says of a script: a line for each print, and the line of its end.",
         "report_laws/Begins": "The law: a text begins with the whole of that, or with the lines of first prints and then `main open` or a fault with its cause.",
-        "raysim_commands/Reports": "The law is of reports as text and as JSON; of the other forms it says nothing.",
-        "raysim_commands/Scripts": "A text is a script where it reads as a program that the rules allow, and that becomes the script.",
-        "raysim_commands/SerialReports": "`serial` writes exactly what it says of the script.",
+        "run_commands/Reports": "The law is of reports as text and as JSON; of the other forms it says nothing.",
+        "script_commands/Scripts": "A text is a script where it reads as a program that the rules allow, and that becomes the script.",
+        "script_commands/SerialReports": "`serial` writes exactly what it says of the script.",
     }),
     ("Which script a text is", {
         "script_tokens/Tokens": "A token is a number, a name or a mark.",
@@ -79,18 +79,16 @@ CHAPTERS = [
         "event_log/Rules": "What each entry needs of those before it.",
         "event_log/Legal": "A log is legal where each event and each entry has what it needs before it.",
     }),
+    ("What it says of reports as JSON", {
+        "report_laws/Json": "The law of a report as JSON, in its members `prints` and `main`.",
+        "report_json/Values": "Values as JSON.",
+        "report_json/Main": "Main's end as JSON.",
+    }),
 ]
-
-# and those that it needs for reports as JSON alone
-OF_JSON = {
-    "report_laws/Json": "The law of a report as JSON, in its members `prints` and `main`.",
-    "report_json/Values": "Values as JSON.",
-    "report_json/Main": "Main's end as JSON.",
-}
 
 # whose public contracts a user of the program relies on, and what they are for
 ROOTS = [
-    ("What the commands promise in addition", ["raysim_commands", "raysim_streams", "raysim_options", "raysim_files"]),
+    ("What the commands promise in addition", ["script_commands", "run_commands", "raysim_commands", "raysim_streams", "raysim_options", "raysim_files"]),
     ("What a run and its parts promise in addition",
      ["protocol_board", "protocol_core", "seats", "history", "segment", "serial", "script_check", "script_syntax", "script_tokens",
       "event_files", "report_json", "log_text", "message_text", "story_text", "why_text", "waits", "main_text", "lineage_text", "timeline", "page_text", "engine_text", "lineage",
@@ -419,8 +417,11 @@ definitions that are reached, comments above them included. What only proofs use
 
 LAW_TEXT = """\
 What `raysim run` and `raysim sim` write begins as what `raysim serial` writes of the script ([theorems.md](theorems.md) has it in words).
-Whoever believes that alone reads these files, and no other, in this order: {lines} lines in {files} files. Where a file has more than is
-needed here, the last column names what is. What it says of reports as JSON stands in {of_json} more, {json_lines} lines, in the section behind this one.
+Whoever believes that alone reads these files, in this order: {lines} lines in {files} files. Where a file has more than is needed here,
+the last column names what is. `run`, `sim` and `run_threaded` carry the law in the fields `is_script`, `as_serial` and `written` (`report_out`)
+of `IsRunReported`, `IsSimReported` and `AreWritten`, whose other fields say more. Types that the definitions share with the code are read there,
+and aren't counted: `log_entries/src/{{entry,event,refusal}}.rt`, `values/src/fault.rt`, `script_tokens/src/token.rt`, `script_syntax/src/tree.rt`,
+`run_commands/src/form.rt`.
 """
 
 
@@ -430,18 +431,17 @@ def law_section(modules, reach):
         reach.add(reach.find(crate, module, name))
     reach.follow()
     lines = rows_of(reach.reached, set())
-    known = [(*key.split("/"), sentence) for group in [*(it for _, it in CHAPTERS), OF_JSON] for key, sentence in group.items()]
+    known = [(*key.split("/"), sentence) for _, group in CHAPTERS for key, sentence in group.items()]
     wanted = {(it.crate, it.name) for it in lines}
     if wanted != {it[:2] for it in known}:
         sys.exit(f"tools/trusted.py: the chapters are not the files that the law of the bytes reaches: {wanted ^ {it[:2] for it in known}}")
     sentences = {it[:2]: it[2] for it in known}
-    of_json = sum(count for it, count in lines.items() if f"{it.crate}/{it.name}" in OF_JSON)
-    said = {"lines": f"{sum(lines.values()) - of_json:,}", "files": len(lines) - len(OF_JSON), "of_json": len(OF_JSON), "json_lines": of_json}
+    said = {"lines": f"{sum(lines.values()):,}", "files": len(lines)}
     out = ["## What the law of the bytes rests on alone", "", LAW_TEXT.format(**said)]
-    for title, group in [*((f"### {it}", group) for it, group in CHAPTERS), ("## What it rests on for reports as JSON", OF_JSON)]:
+    for title, group in CHAPTERS:
         order = in_order([modules[tuple(key.split("/"))] for key in group], lines)
         rows = [(path_of(it), lines[it], sentences[(it.crate, it.name)], part_reached(it, reach.reached)) for it in order]
-        out += [title, "", "| File | Lines | What it says | Of it |", "|---|---|---|---|", *table(rows)]
+        out += [f"### {title}", "", "| File | Lines | What it says | Of it |", "|---|---|---|---|", *table(rows)]
     return out
 
 

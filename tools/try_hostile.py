@@ -32,7 +32,11 @@ PLAN = b"0 tick 1\n1 notice 1 2\n# none\n\n2 lose 1 o1.1\n2 kill 2\n3 kill-node 
 LIMIT = b"refused 41\nlimit: 100,000 events, those of settle lines counted\n"
 REMEDY = b"what to do: give each task more to do, so that there are fewer: each takes some ten events\n"
 TOO_LONG = LIMIT + REMEDY
-REFUSED = {b"refused 39\n", TOO_LONG, b"refused 50\n"}
+# and where the file itself is longer than is kept
+SETTLES_TOO_LONG = (b"refused 41\nlimit: 1,048,576 bytes of settle lines in all, their line feeds not counted\n"
+                    b"what to do: leave out settle lines that stand for nothing, and name each worker once\n")
+PLAN_TOO_LONG = b"refused 41\nlimit: 262,144 lines of a plan that say something\nwhat to do: leave out lines of which nothing comes\n"
+REFUSED = {b"refused 39\n", TOO_LONG, SETTLES_TOO_LONG, PLAN_TOO_LONG, b"refused 50\n"}
 STOPPED = re.compile(re.escape(LIMIT) + rb"the last step was in event 100000 \(.*\)\n" + re.escape(REMEDY))
 
 
@@ -67,10 +71,10 @@ for words in ("sim sq.ray F", "log sq.ray F", "why sq.ray F", "why sq.ray F o1.1
         (words, b"", None, b"refused 40 line 1\n"),
         (words, b"", b"a", b"refused 40 line 1\n"),
         (words, b"tick 1\n# none\n", b"tick 1", b"refused 40 line 3\n"),
-        (words, b"settle but 1", b" x", b"refused 39\n"),
-        (words, b"settle but 1", b" 7", b"refused 39\n"),
-        (words, b"", b"settle\n", b"refused 39\n"),
-        (words, b"", SETTLES + b"\n", b"refused 39\n"),
+        (words, b"settle but 1", b" x", SETTLES_TOO_LONG),
+        (words, b"settle but 1", b" 7", SETTLES_TOO_LONG),
+        (words, b"", b"settle\n", SETTLES_TOO_LONG),
+        (words, b"", SETTLES + b"\n", SETTLES_TOO_LONG),
         (words, b"", b"tick 1\n", None),
         (words, b"", b"\n", None),
         (words, b"", b"# none\n", None),
@@ -86,12 +90,15 @@ for words in ("sim sq.ray F", "log sq.ray F", "why sq.ray F", "state sq.ray F", 
 ENDLESS += [
     ("run sq.ray --plan F", b"", None, b"refused 40 line 1\n"),
     ("run sq.ray --plan F", b"1 tick 1\n", b"1", b"refused 40 line 2\n"),
-    ("run sq.ray --plan F", b"", b"1 tick 1\n", b"refused 39\n"),
+    ("run sq.ray --plan F", b"", b"1 tick 1\n", PLAN_TOO_LONG),
     ("run sq.ray --plan F", b"", b"# none\n", None),
 ]
 
-# Files with an end: what is told of them.
+# Files with an end: what is told of them. The second and the third have as many bytes of settle lines as are kept, the last as many lines of a plan.
 GOOD = b"tick 1\n" * 100001
+SETTLED = b"settle\n" * 174760 + b"settle but 1 2 3\n"
+ONE_SETTLE = b"settle but" + b" 7" * 524283 + b"\n"
+PLANNED = b"0 tick 1\n" * 262144
 LONG = [
     ("sim sq.ray F", GOOD, too_long(100000)),
     ("sim sq.ray F", GOOD + b"kill 1\n" * 1000, too_long(100000)),
@@ -102,6 +109,13 @@ LONG = [
     ("sim sq.ray F", b"raysim 2\n" + b"0 tick 1\n" * 100001 + b"settle\n", b"refused 40 line 100003\n"),
     ("sim sq.ray F", b"raysim 2\n# none\n0 claim 1 7\n" + b"0 tick 1\n" * 100001, b"refused 42 line 3\n"),
     ("sim sq.ray F", b"raysim 2\n0 claim 1 7\n" + b"0 tick 1\n" * 100001 + b"1", b"refused 40 line 100004\n"),
+    ("sim sq.ray F", SETTLED + b"kill w2\n", b"refused 40 line 174762\n"),
+    ("sim sq.ray F", SETTLED + b"tick 1\nsettle\nkill w2\n", SETTLES_TOO_LONG),
+    ("sim sq.ray F", ONE_SETTLE + b"kill w2\n", b"refused 40 line 2\n"),
+    ("sim sq.ray F", ONE_SETTLE[:-1] + b" 7\n", SETTLES_TOO_LONG),
+    ("migrate sq.ray F", ONE_SETTLE + b"settle\n", SETTLES_TOO_LONG),
+    ("run sq.ray --plan F", PLANNED + b"# none\n\nkill 2\n", b"refused 40 line 262147\n"),
+    ("run sq.ray --plan F", PLANNED + b"# none\n\n2 kill 2\nkill 2\n", PLAN_TOO_LONG),
 ]
 
 

@@ -86,7 +86,7 @@ requestAnimationFrame(() => requestAnimationFrame(() => {
 </script></body>"""
 PICTURES = [
     ("page_death.png", "node_dies", None, 2, 1, "event=68&object=o1.3"),
-    ("page_end.png", "node_dies", None, 2, 1, "event=90&object=o1.2"),
+    ("page_end.png", "node_dies", None, 2, 1, "event=93&object=o1.2"),
     ("page_sort.png", "merge_sort", DEATH, 2, 2, "event=120&object=o1.1"),
 ]
 

@@ -1,15 +1,15 @@
 #!/usr/bin/env python3
 """Tries what no proof says, on the program that the gate just proved: tools/try_program.py FOLDER [LINE]. In the folder stand the program raysim as LLVM
-built it, and beside it, where the toolchain's own compiler built it too, raysim.by-rattle. Each of them is tried by tools/try_files.py, tools/try_hostile.py
-and tools/try_memory.py. LINE is the last line of `rt ci`, `N passed, M failed`; the last line here is the same with what was tried added. The status is 1
-where something failed."""
+built it, and beside it, where the toolchain's own compiler built it too, raysim.by-rattle. Each of them is tried by tools/try_files.py, tools/try_hostile.py,
+tools/try_memory.py and tools/try_growth.py. LINE is the last line of `rt ci`, `N passed, M failed`; the last line here is the same with what was tried added.
+The status is 1 where something failed."""
 import os
 import re
 import subprocess
 import sys
 
 TOOLS = os.path.dirname(os.path.abspath(__file__))
-TRIES = [("try_files.py", []), ("try_hostile.py", ["--gate"]), ("try_memory.py", ["--gate"])]
+TRIES = [("try_files.py", []), ("try_hostile.py", ["--gate"]), ("try_memory.py", ["--gate"]), ("try_growth.py", [])]
 BUILDS = ["raysim", "raysim.by-rattle"]
 # each takes less than a minute on a quiet machine
 SECONDS = 1200

@@ -1,5 +1,5 @@
 -- A message that was delivered stays so, whatever event comes.
-use Rattle.std.proofs.Common.{◌≡◌, ℕ, zero, suc, ◌+◌, ◌≤◌, Bool, true, false, List, [], ◌∷◌, ◌++◌, length, drop, Option, Some, None, refl, ap, ◌∙◌, arith}
+use Rattle.std.proofs.Common.{◌≡◌, ℕ, zero, suc, ◌+◌, ◌≤◌, Bool, true, false, List, [], ◌∷◌, ◌++◌, length, drop, Option, Some, None, refl, ap, sym, ◌∙◌, ◌<◌, arith}
 use Rattle.std.specs.Prelude.{if◌then◌else◌, slice_get, slice_set}
 use Rattle.event_log.specs.Entries.{Claim, Commit, Deliver, Event, Evict, Join, Kill, KillNode, Lose, Notice, NoticeNode, Tick}
 use Rattle.event_log.specs.Entries.{Refusal, Limit}
@@ -20,7 +20,7 @@ use Rattle.protocol.specs.Steps.{Here}
 use Rattle.protocol.specs.Tables.{Worker}
 use Rattle.protocol.specs.Ticks.{tick_step}
 use Rattle.protocol.specs.Whole.{Moved, Whole, here, moved, node_at, node_does, node_does_by, there, undelivered, worker_at, worker_does, worker_does_at, worker_does_by}
-use Rattle.cursor_laws.specs.Cursors.{IsPast}
+use Rattle.cursor_laws.specs.Cursors.{IsAtFirst, IsPast, OneFirst}
 
 -- that message was delivered
 abbrev Was : Whole → ℕ → Type 0
@@ -141,3 +141,38 @@ pub past_within : (k : ℕ) (bs : List Bool) → IsPast k bs → k ≤ length bs
 past_within zero bs p = omega arith
 past_within (suc k) [] p = let there : slice_get [] 0 ≡ Some true = p 0 (omega arith) in absurd cc
 past_within (suc k) (b ∷ bs) p = let rest = past_within k bs (λ i less. p (suc i) (omega (arith, less))) in omega (arith, rest)
+
+-- ---- the first message that was never delivered
+
+-- one that wasn't, behind such as were
+pub first_undelivered : (k : ℕ) (bs : List Bool) (b : Bool) → IsPast k bs → slice_get bs k ≡ Some b → b ≡ false → IsAtFirst k bs
+first_undelivered k bs b p there undelivered = record { past = p; stops = λ e. true_false (sym (some_is b true (sym there ∙ e)) ∙ undelivered) }
+  where
+    true_false : true ≡ false → ⊥
+    true_false e = cc
+
+none_behind : (bs : List Bool) → slice_get bs (length bs) ≡ Some true → ⊥
+none_behind [] e = cc
+none_behind (b ∷ bs) e = none_behind bs e
+
+-- or there is none
+pub all_delivered : (bs : List Bool) → IsPast (length bs) bs → IsAtFirst (length bs) bs
+all_delivered bs p = record { past = p; stops = none_behind bs }
+
+-- nothing is before the first message
+pub past_none : (bs : List Bool) → IsPast zero bs
+past_none bs = λ i less. absurd (omega (arith, less))
+
+-- and where none was sent it is the first that wasn't delivered
+pub first_of_none : (bs : List Bool) → bs ≡ [] → IsAtFirst zero bs
+first_of_none bs none = record { past = past_none bs; stops = λ e. no_item (sym (ap (λ xs. slice_get xs zero) none) ∙ e) }
+  where
+    no_item : ◌≡◌ {A = Option Bool} None (Some true) → ⊥
+    no_item e = cc
+
+-- no cursor at the first one is before another
+not_before : (i k : ℕ) (bs : List Bool) → IsAtFirst i bs → IsAtFirst k bs → i < k → ⊥
+not_before i k bs at_i at_k less = at_i.stops (at_k.past i less)
+
+pub one_first : OneFirst
+one_first i k bs at_i at_k = omega (arith, not_before i k bs at_i at_k, not_before k i bs at_k at_i)

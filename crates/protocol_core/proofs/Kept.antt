@@ -3,7 +3,6 @@ use Rattle.std.proofs.Common.{◌≡◌, ℕ, ◌<◌, ◌≤◌, true, false, L
 use Rattle.meaning.specs.Syntax.{Script}
 use Rattle.script_check.specs.Scripts.{IsWellTyped}
 use Rattle.event_log.specs.Entries.{Entry, Event}
-use Rattle.event_log.specs.Legal as logs
 use Rattle.log_entries.specs.declared.refusal.Refusal.{Refusal}
 use Rattle.segment.specs.Jobs.{JobParts, Done, IsBegun, IsTrueOf}
 use Rattle.answers.specs.Replies.{outcome_of, reply_of}

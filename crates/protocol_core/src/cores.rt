@@ -31,7 +31,7 @@ use std::marker::{Model, PhantomData};
 #[derive(Drop)]
 pub struct Core<S: ScriptName> {
     state: State,
-    /// Each message before that place was delivered: the search for the next one begins there.
+    /// The place of the first message that was never delivered: the search for the next event begins there.
     cursor: usize,
     script: PhantomData<S>,
 }
@@ -43,7 +43,7 @@ impl<S: ScriptName> Model for Core<S> {
     ghost use Rattle.ids.specs.Codes.{attempt_code};
     ghost use Rattle.values.specs.FaultCodes.{fault_code};
     ghost use Rattle.values.specs.contracts.value.RunValue as run_values;
-    ghost use Rattle.cursor_laws.specs.Cursors.{IsPast};
+    ghost use Rattle.cursor_laws.specs.Cursors.{IsAtFirst};
     ghost use Rattle.protocol_core.specs.States.{IsSoundRun, RunState};
     ghost use Rattle.protocol_core.specs.Views.{state_of};
 
@@ -53,7 +53,7 @@ impl<S: ScriptName> Model for Core<S> {
 
     ghost view = { λ c. state_of c.state };
 
-    ghost invariant = { λ c. IsSoundRun S.script (state_of c.state) × IsPast c.cursor c.state.whole.delivered };
+    ghost invariant = { λ c. IsSoundRun S.script (state_of c.state) × IsAtFirst c.cursor c.state.whole.delivered };
 }
 
 impl<S: ScriptName> Core<S> {

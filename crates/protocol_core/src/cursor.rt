@@ -1,7 +1,7 @@
 // How far the messages were delivered.
 
 ghost use Rattle.std.specs.Prelude.{◌≡◌, ◌≤◌, false};
-ghost use Rattle.cursor_laws.specs.Cursors.{IsPast};
+ghost use Rattle.cursor_laws.specs.Cursors.{IsAtFirst, IsPast};
 
 use crate::state::State;
 use sequence::Seq;
@@ -10,7 +10,7 @@ use sequence::Seq;
 #[tactic(auto, using(cursor_laws::proofs::Delivered::past_within))]
 fn past_delivered(delivered: &Seq<bool>, from: usize) -> usize
     requires { IsPast from delivered.now }
-    ensures past { IsPast result delivered.now }
+    ensures first { IsAtFirst result delivered.now }
     ensures on { from ≤ result }
 {
     for place in from..delivered.len() {
@@ -21,15 +21,15 @@ fn past_delivered(delivered: &Seq<bool>, from: usize) -> usize
     delivered.len()
 }
 
-/// The cursor behind an event: past what was delivered, and no further back than it was; at the first message where the event found no memory,
-/// since nothing is known then.
+/// The cursor behind an event: it goes on from where it was to the first message that was never delivered. Where the event found no memory it is
+/// looked for from the first message on, since nothing is known then.
 pub fn cursor_behind(state: &State, cursor: usize) -> usize
     requires { state.now.is_halted ≡ false → IsPast cursor state.now.whole.delivered }
-    ensures past { IsPast result state.now.whole.delivered }
+    ensures first { IsAtFirst result state.now.whole.delivered }
     ensures on { state.now.is_halted ≡ false → cursor ≤ result }
 {
     if state.is_halted {
-        return 0;
+        return past_delivered(&state.whole.delivered, 0);
     }
     past_delivered(&state.whole.delivered, cursor)
 }

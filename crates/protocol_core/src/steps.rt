@@ -1,7 +1,7 @@
 // The events of a run.
 
 ghost use Rattle.std.specs.Prelude.{◌≡◌, ◌≤◌, false, true, IfOk, IfSome, OnOk, OnErr};
-ghost use Rattle.cursor_laws.specs.Cursors.{IsPast};
+ghost use Rattle.cursor_laws.specs.Cursors.{IsAtFirst};
 ghost use Rattle.segment.specs.Jobs.{IsTrueOf};
 ghost use Rattle.protocol_core.specs.Limits.{Limits};
 ghost use Rattle.protocol_core.specs.Meant.{IsSoundLog};
@@ -113,7 +113,7 @@ pub fn step<S: ScriptName>(
 ) -> Reply<S>
     requires kept { IsSoundRun S.script (state_of state.old) }
     requires own { is_own ≡ true → IsOwn state.old.log done }
-    requires past { IsPast cursor.old state.old.whole.delivered }
+    requires first { IsAtFirst cursor.old state.old.whole.delivered }
     ensures answers { Answers (state_of state.old) event seat done (state_of state.new) (reply_of result) }
     ensures own { GivesOwn state.new.log (reply_of result) }
     ensures meant { IsSoundLog S.script (state_of state.new) }
@@ -121,7 +121,7 @@ pub fn step<S: ScriptName>(
     ensures paid { Pays S.script (state_of state.old) event seat done (state_of state.new) (reply_of result) }
     ensures limited { Limits S.script (state_of state.old) event seat done (state_of state.new) (reply_of result) }
     ensures kept { IsSoundRun S.script (state_of state.new) }
-    ensures past { IsPast cursor.new state.new.whole.delivered }
+    ensures first { IsAtFirst cursor.new state.new.whole.delivered }
     ensures on { state.new.is_halted ≡ false → cursor.old ≤ cursor.new }
 {
     refusals_are_as_shown();

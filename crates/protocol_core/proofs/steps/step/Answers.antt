@@ -14,7 +14,7 @@ returns-then-state-clause-meant g c =
 pub cursor_behind-requires : goal.cursor_behind-requires
 cursor_behind-requires g c =
     past_behind (state_of c.args.state.now) (state_of c.taken-told.new.state) c.args.event c.args.seat c.args.done
-    (reply_of c.taken-told.result) c.args.cursor.now c.taken-told.ensures.follows c.requires.past
+    (reply_of c.taken-told.result) c.args.cursor.now c.taken-told.ensures.follows c.requires.first.past
 
 pub returns-clause-meant : goal.returns-clause-meant
 returns-clause-meant g c =

@@ -1,4 +1,4 @@
-use Rattle.std.proofs.Common.{◌≡◌, Some, sym, ap, ◌∙◌, refl, subst}
+use Rattle.std.proofs.Common.{sym, ap, ◌∙◌, refl, subst}
 use Rattle.protocol.specs.Answers.{answer}
 use Rattle.answers.specs.declared.reply.Verdict.TheVariants.{Taken}
 use Rattle.protocol_core.specs.Own.{GivesOwn}
@@ -6,7 +6,7 @@ use Rattle.protocol_core.specs.Steps.{Accepts, GivesJob}
 use Rattle.protocol_core.specs.Steps as told
 use Rattle.protocol_core.specs.Views.{state_of}
 use Rattle.protocol_core.proofs.Jobs.{have_answers, in_pace}
-use Rattle.protocol_core.proofs.Kept.{came, applies, kept_behind, begun_behind, own_behind, tells_refused, tells_job}
+use Rattle.protocol_core.proofs.Kept.{came, applies, kept_behind, begun_behind, own_behind, tells_job}
 use Rattle.protocol_core.proofs.steps.try_step.Goals as goal
 
 pub handed_with-requires-clause-pace : goal.handed_with-requires-clause-pace

@@ -4,20 +4,20 @@ use Rattle.meaning.specs.Births.{birth_at, same_id}
 use Rattle.meaning.specs.Values.{Argument, Birth, Id, Name, Outcome, Put, Task, Val, Value}
 use Rattle.values.specs.Cells.{is_small}
 use Rattle.event_log.specs.Breaks.{Among}
-use Rattle.event_log.specs.Entries.{Accepted, Attempt, Born, Deliver, Ended, Entry, main_attempt}
+use Rattle.event_log.specs.Entries.{Accepted, Attempt, Born, Deliver, Ended, Entry, Released, main_attempt}
 use Rattle.event_log.specs.Events.{accepted_events, node_of, was_lost}
 use Rattle.event_log.specs.Rules.{Setting}
 use Rattle.event_log.specs.Words.{attempt, births, worker_of}
-use Rattle.protocol.specs.Messages.{Ask, CopyOf, Fetch, Finished, FinishedAck, Hold, HoldAck, Letter, Missing, Party, Push, Reason, TheNode, TheWorker, Unhold, letter}
+use Rattle.protocol.specs.Messages.{Ask, At, CopyOf, Fetch, Finished, FinishedAck, Hold, HoldAck, Letter, Message, Missing, Party, Push, Reason, TheNode, TheWorker, Unhold, Where, letter}
 use Rattle.protocol.specs.Numbered.{item_at}
 use Rattle.protocol.specs.Sets.{object_id}
 use Rattle.protocol_owed.specs.Ends.{EndsAreReported, HoldsAreAcknowledged, IsHoldOf}
-use Rattle.protocol_owed.specs.Replies.{BirthIsAsked, FetchIsAnswered, FinishIsAcknowledged, HasFirstCopy, Says}
-use Rattle.protocol_owed.specs.Seen.{IsContentOf, deliveries}
+use Rattle.protocol_owed.specs.Replies.{BirthIsAsked, FetchIsAnswered, FinishIsAcknowledged, HasFirstCopy, IsRequest, RequestIsTold, Says}
+use Rattle.protocol_owed.specs.Seen.{IsContentOf, IsKnownAt, Tells, deliveries}
 use Rattle.protocol_owed.proofs.Letters.{among-nothing}
 use Rattle.lease_discipline.specs.Examples.{first_one, given_log, one_once}
-use Rattle.owed_laws.specs.Examples.{BirthsAreJudged, EndsAreJudged, FetchesAreJudged, ReportsAreJudged, report_scene, acknowledged, birth_comes, empty_list, end_comes, ended_network}
-use Rattle.owed_laws.specs.Examples.{fetch_comes, fetch_scene, long_list, put_log, unaccepted_log}
+use Rattle.owed_laws.specs.Examples.{BirthsAreJudged, EndsAreJudged, FetchesAreJudged, ReportsAreJudged, RequestsAreJudged, report_scene, acknowledged, birth_comes, empty_list, end_comes, ended_network}
+use Rattle.owed_laws.specs.Examples.{fetch_comes, fetch_scene, long_list, put_log, request_comes, request_scene, unaccepted_log}
 
 -- ---- a birth
 
@@ -170,6 +170,110 @@ not_that c is (zero, e) = differ (content c (ap (λ (l : Letter). l.message) (sa
     differ : Val long_list ≡ Val empty_list → ⊥
     differ f = absurd (cc)
 not_that c is (suc k, e) = absurd (cc)
+
+-- ---- a place
+
+abbrev at_first_copy : Message
+at_first_copy = At (object_id 1 1) 0 (1 ∷ []) None
+
+abbrev at_another : Message
+at_another = At (object_id 1 1) 0 [] (Some (Val long_list))
+
+-- the object that was asked for, and who asked
+record AsksForIt (w : ℕ) (y : Id) : Type 0 where
+  object : object_id 1 1 ≡ y
+  asker : 2 ≡ w
+
+asked_so : (w : ℕ) (y : Id) (m : Message) → letter (TheWorker 2) (TheWorker 1) (Where (object_id 1 1)) ≡ letter (TheWorker w) (TheWorker y.owner) m →
+    IsRequest y m → AsksForIt w y
+asked_so w y m e (inl is) = record {
+  object = named (ap (λ (l : Letter). l.message) e ∙ is);
+  asker = sent_by (ap (λ (l : Letter). l.sender) e);
+}
+  where
+    named : Where (object_id 1 1) ≡ Where y → object_id 1 1 ≡ y
+    named f = cc
+
+    sent_by : TheWorker 2 ≡ TheWorker w → 2 ≡ w
+    sent_by f = cc
+asked_so w y m e (inr (number, n, is)) = absurd (apart (ap (λ (l : Letter). l.message) e ∙ is))
+  where
+    apart : Where (object_id 1 1) ≡ Missing y number n → ⊥
+    apart f = cc
+
+one_message : (s : Setting) (k : ℕ) (l : Letter) → item_at (request_scene s).network k ≡ Some l →
+    letter (TheWorker 2) (TheWorker 1) (Where (object_id 1 1)) ≡ l
+one_message s zero l e = absurd (cc)
+one_message s (suc zero) l e = cc
+one_message s (suc (suc k)) l e = absurd (cc)
+
+no_acceptance : (a : Attempt) → Among (Accepted a) put_log → ⊥
+no_acceptance a (zero, e) = absurd (cc)
+no_acceptance a (suc zero, e) = absurd (cc)
+no_acceptance a (suc (suc zero), e) = absurd (cc)
+no_acceptance a (suc (suc (suc zero)), e) = absurd (cc)
+no_acceptance a (suc (suc (suc (suc zero))), e) = absurd (cc)
+no_acceptance a (suc (suc (suc (suc (suc k)))), e) = absurd (cc)
+
+-- it is known as number 0, on node 1
+record IsKnownThere (number n : ℕ) : Type 0 where
+  number_is : number ≡ 0
+  node_is : 1 ≡ n
+
+known_there : (number n : ℕ) → IsKnownAt put_log (object_id 1 1) number n → IsKnownThere number n
+known_there number n (inl p) = record { number_is = p.first; node_is = on_one n p.place }
+known_there number n (inr q) = absurd (no_acceptance _ q.accepted)
+
+told_there : (s : Setting) (w : ℕ) (y : Id) (number n : ℕ) → AsksForIt w y → IsKnownAt put_log y number n →
+    Tells put_log (request_comes s at_first_copy).letters y w number n
+told_there s w y number n asks known =
+    let there = known_there number n (subst (λ o. IsKnownAt put_log o number n) (sym asks.object) known) in
+    subst (λ o. Tells put_log (request_comes s at_first_copy).letters o w number n) asks.object
+    (subst (λ v. Tells put_log (request_comes s at_first_copy).letters (object_id 1 1) v number n) asks.asker
+    (subst (λ i. Tells put_log (request_comes s at_first_copy).letters (object_id 1 1) 2 i n) (sym there.number_is)
+    (subst (λ m. Tells put_log (request_comes s at_first_copy).letters (object_id 1 1) 2 0 m) there.node_is
+    (record { nodes = 1 ∷ []; kept = None; told = (zero, refl); named = λ _. refl; known = λ c e. absurd (none_some c e) }))))
+  where
+    none_some : (c : Outcome) → ◌≡◌ {A = Option Outcome} None (Some c) → ⊥
+    none_some c e = cc
+
+place_is_paid : (s : Setting) → RequestIsTold (request_comes s at_first_copy)
+place_is_paid s w y m number n (k, event, sent) request known unreleased =
+    told_there s w y number n (asked_so w y m (one_message s k (letter (TheWorker w) (TheWorker y.owner) m) sent) request) known
+
+none_released : Among (Released (object_id 1 1)) put_log → ⊥
+none_released (zero, e) = absurd (cc)
+none_released (suc zero, e) = absurd (cc)
+none_released (suc (suc zero), e) = absurd (cc)
+none_released (suc (suc (suc zero)), e) = absurd (cc)
+none_released (suc (suc (suc (suc zero))), e) = absurd (cc)
+none_released (suc (suc (suc (suc (suc k)))), e) = absurd (cc)
+
+-- what came with it
+comes_with : (nodes : List ℕ) (kept : Option Outcome) →
+    Among (letter (TheWorker 1) (TheWorker 2) (At (object_id 1 1) 0 nodes kept)) (letter (TheWorker 1) (TheWorker 2) at_another ∷ []) → kept ≡ Some (Val long_list)
+comes_with nodes kept (zero, e) = content (ap (λ (l : Letter). l.message) (same e))
+  where
+    same : ◌≡◌ {A = Option Letter} (Some (letter (TheWorker 1) (TheWorker 2) at_another))
+        (Some (letter (TheWorker 1) (TheWorker 2) (At (object_id 1 1) 0 nodes kept))) →
+        letter (TheWorker 1) (TheWorker 2) at_another ≡ letter (TheWorker 1) (TheWorker 2) (At (object_id 1 1) 0 nodes kept)
+    same f = cc
+
+    content : at_another ≡ At (object_id 1 1) 0 nodes kept → kept ≡ Some (Val long_list)
+    content f = cc
+comes_with nodes kept (suc k, e) = absurd (cc)
+
+other_is_refused : (s : Setting) → RequestIsTold (request_comes s at_another) → ⊥
+other_is_refused s p =
+    let told = p 2 (object_id 1 1) (Where (object_id 1 1)) 0 1 (1, refl, refl) (inl refl)
+        (inl (record { value = empty_list; put = was_put; first = refl; place = refl })) none_released in
+    differ (put_alone (Val long_list) (told.known (Val long_list) (comes_with told.nodes told.kept told.told)))
+  where
+    differ : Val long_list ≡ Val empty_list → ⊥
+    differ f = absurd (cc)
+
+pub requests_are_judged : RequestsAreJudged
+requests_are_judged = record { paid = place_is_paid; other = other_is_refused }
 
 -- ---- what ended there
 

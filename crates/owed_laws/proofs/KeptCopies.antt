@@ -44,7 +44,8 @@ use Rattle.lease_discipline.proofs.Told.{events_stay_in_step, nowhere, opening_i
 use Rattle.owed_asks.proofs.Laws.{happens_network}
 use Rattle.owed_replies.specs.Kept.{came_by}
 use Rattle.owed_replies.proofs.Advancing.{among_flat, flat_among}
-use Rattle.owed_laws.proofs.Made.{end_before, ended_entry, put_before}
+use Rattle.owed_laws.proofs.Made.{end_before, put_before}
+use Rattle.owed_replies.proofs.Contents.{ended_entry}
 use Rattle.owed_laws.proofs.MadeCopies.{IsNewEnd, IsNewPut}
 use Rattle.owed_laws.proofs.StoreEvents.{Makes, TakesCopies, event_makes}
 use Rattle.owed_laws.proofs.StoreMoves.{Stores}

@@ -6,23 +6,22 @@ use Rattle.std.proofs.lemmas.List.Concat.{flat_map-append}
 use Rattle.sequence.proofs.Places.{slice_get-append}
 use Rattle.meaning.proofs.BirthLaws.{at_test, same_id-true}
 use Rattle.meaning.specs.Births.{Bearing, birth_at, same_id}
-use Rattle.meaning.specs.Values.{Birth, Id, Outcome, Put}
+use Rattle.meaning.specs.Values.{Birth, Id, Put}
 use Rattle.values.specs.Cells.{is_small}
 use Rattle.event_log.specs.Breaks.{Among}
 use Rattle.event_log.specs.Entries.{Accepted, Attempt, Begun, Born, Ended, Entry, Event, Faulted, Got, In, Opened, Printed, Refused, Released, Resolved}
 use Rattle.event_log.specs.Events.{node_of}
 use Rattle.event_log.specs.Rules.{Setting}
 use Rattle.event_log.specs.Sane.{Sane}
-use Rattle.event_log.specs.Words.{attempt, births, born_in, ended_in, ends_of, main_bearing, run_in, runs_of, same_attempt, worker_of}
+use Rattle.event_log.specs.Words.{attempt, births, born_in, ended_in, ends_of, main_bearing, run_in, runs_of, worker_of}
 use Rattle.event_log.proofs.Extending.{birth_at-more, node_of-more}
 use Rattle.event_log.proofs.SaneLaws.{legal_logs_are_sane}
-use Rattle.event_log.proofs.WordLaws.{same_attempt-true}
 use Rattle.protocol.specs.Whole.{Whole}
-use Rattle.protocol_legal.specs.Made.{EndsSmall, IsCopy, IsEndedAt, IsMadeAt, IsPutAt}
+use Rattle.protocol_legal.specs.Made.{EndsSmall, IsEndedAt, IsMadeAt, IsPutAt}
 use Rattle.protocol_legal.specs.Whole.{Between, setting_of}
-use Rattle.protocol_owed.specs.Seen.{IsContentOf}
 use Rattle.protocol_owed.proofs.Letters.{among-append_cases, among-nothing}
 use Rattle.owed_replies.proofs.Advancing.{flat_among}
+use Rattle.owed_replies.proofs.Contents.{ended_entry}
 use Rattle.owed_laws.proofs.MadeCopies.{IsNewEnd, IsNewPut}
 
 birth_behind : (xs ys : List Bearing) (o : Id) → birth_at xs o ≡ None → birth_at (xs ++ ys) o ≡ birth_at ys o
@@ -66,36 +65,6 @@ born_entry es o b i = let r = flat_among born_in es (record { object = o; birth 
     by_entry (Faulted a y f) j k = none j
     by_entry (Resolved p f) j k = none j
     by_entry (Released p) j k = none j
-
-pub ended_entry : (es : List Entry) (a : Attempt) (c : List Outcome) → Among c (flat_map (ended_in a) es) → Among (Ended a c) es
-ended_entry es a c i = let r = flat_among (ended_in a) es c i in by_entry r.0 r.2 r.1
-  where
-    none : {X : Type 0} → Among c [] → X
-    none h = absurd (among-nothing c h)
-
-    by_entry : (x : Entry) → Among c (ended_in a x) → Among x es → Among (Ended a c) es
-    by_entry (Ended d f) j k = at_test (λ t. same_attempt d a ≡ t → Among c (if t then f ∷ [] else []) → Among (Ended a c) es) (same_attempt d a)
-        (λ _ e h. subst (λ b. Among (Ended b c) es) (same_attempt-true d a e) (subst (λ g. Among (Ended d g) es) (only f h) k)) (λ _ _ h. none h) refl j
-      where
-        only : (f : List Outcome) → Among c (f ∷ []) → f ≡ c
-        only f (zero, e) = cc
-        only f (suc m, e) = absurd (cc)
-    by_entry (In e seat) j k = none j
-    by_entry (Refused code) j k = none j
-    by_entry (Opened w n) j k = none j
-    by_entry (Begun b w) j k = none j
-    by_entry (Born o b d) j k = none j
-    by_entry (Got b y d) j k = none j
-    by_entry (Printed v) j k = none j
-    by_entry (Accepted b) j k = none j
-    by_entry (Faulted b y f) j k = none j
-    by_entry (Resolved o f) j k = none j
-    by_entry (Released o) j k = none j
-
--- what is true of a copy is so by the entries
-pub copy_known : (log : List Entry) (y : Id) (number : ℕ) (c : Outcome) → IsCopy log y number c → IsContentOf log y number c
-copy_known log y number c (inl put) = inl put
-copy_known log y number c (inr ended) = inr (ended_entry log (attempt y number) (c ∷ []) ended)
 
 module _ (s : Setting) (log : List Entry) (c : Whole) (b : Between s log c) (e : Event) (seat : ℕ) (es : List Entry) where
   abbrev later : List Entry

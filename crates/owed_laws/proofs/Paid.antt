@@ -30,7 +30,7 @@ use Rattle.owed_asks.proofs.Needs.{copies_are_got}
 use Rattle.owed_asks.proofs.RightSlots.{run_uses, slots_are_all_right, there}
 use Rattle.owed_asks.proofs.UserEvents.{KeepsUses}
 use Rattle.owed_laws.proofs.KeptCopies.{KeepsMade, first_copy_kept, runs_keep_made}
-use Rattle.owed_laws.proofs.Made.{copy_known}
+use Rattle.owed_replies.proofs.Contents.{copy_known}
 use Rattle.owed_laws.proofs.Reports.{ends_are_reported}
 use Rattle.owed_laws.proofs.Senders.{senders_are_there}
 use Rattle.owed_laws.proofs.NewWaits.{new_waits_are_tended}

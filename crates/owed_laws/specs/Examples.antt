@@ -1,13 +1,13 @@
 -- Worked examples of what is owed: a birth and an end that pay, and altered ones in which the ask, or the acceptance, is missing.
-use Rattle.std.specs.Prelude.{Bool, List, None, [], false, true, ◌++◌, ◌∷◌}
+use Rattle.std.specs.Prelude.{Bool, List, None, Some, [], false, true, ◌++◌, ◌∷◌}
 use Rattle.meaning.specs.Values.{Items, Put, Val, Value, more, none}
 use Rattle.event_log.specs.Entries.{Accepted, Begun, Born, Claim, Commit, Deliver, Ended, Entry, In, main_attempt}
 use Rattle.event_log.specs.Rules.{Setting}
 use Rattle.event_log.specs.Legal.{opening}
-use Rattle.protocol.specs.Messages.{Ask, CopyOf, Fetch, Finished, FinishedAck, Hold, Letter, Message, Missing, Push, TheNode, TheWorker, letter}
+use Rattle.protocol.specs.Messages.{Ask, At, CopyOf, Fetch, Finished, FinishedAck, Hold, Letter, Message, Missing, Push, TheNode, TheWorker, Where, letter}
 use Rattle.protocol.specs.Sets.{object_id}
 use Rattle.protocol_owed.specs.Ends.{EndsAreReported}
-use Rattle.protocol_owed.specs.Replies.{BirthIsAsked, FetchIsAnswered, FinishIsAcknowledged, Happening, HasFirstCopy}
+use Rattle.protocol_owed.specs.Replies.{BirthIsAsked, FetchIsAnswered, FinishIsAcknowledged, Happening, HasFirstCopy, RequestIsTold}
 use Rattle.protocol_owed.specs.Seen.{Scene}
 use Rattle.lease_discipline.specs.Examples.{first_one, given_log, one_once, scene}
 
@@ -107,6 +107,35 @@ pub record FetchesAreJudged : Type 0 where
   pub withheld : (s : Setting) → FetchIsAnswered (fetch_comes s false (Missing (object_id 1 1) 0 1)) 1 2 (object_id 1 1) 0 → ⊥
   pub unaccepted : (s : Setting) → HasFirstCopy (fetch_scene s unaccepted_log false) 1 (object_id 1 1) 0
   pub small : (s : Setting) → HasFirstCopy (fetch_scene s ended_log false) 1 (object_id 1 1) 0 → ⊥
+
+-- ---- a place
+
+-- worker 2 has asked worker 1 where the list is
+abbrev pub request_scene : Setting → Scene
+request_scene s =
+    record {
+      setting = s;
+      slots = 1;
+      log = put_log;
+      network = letter (TheWorker 2) (TheWorker 1) (Where (object_id 1 1)) ∷ [];
+      holders = λ n. [];
+      keeps = λ n o number. true;
+    }
+
+abbrev pub request_comes : Setting → Message → Happening
+request_comes s answer =
+    record {
+      before = request_scene s;
+      event = Deliver 1;
+      entries = [];
+      letters = letter (TheWorker 1) (TheWorker 2) answer ∷ [];
+      after = request_scene s;
+    }
+
+-- the place of the first copy answers it; and altered, another content
+pub record RequestsAreJudged : Type 0 where
+  pub paid : (s : Setting) → RequestIsTold (request_comes s (At (object_id 1 1) 0 (1 ∷ []) None))
+  pub other : (s : Setting) → RequestIsTold (request_comes s (At (object_id 1 1) 0 [] (Some (Val long_list)))) → ⊥
 
 -- ---- a report
 

@@ -8,6 +8,7 @@ use Rattle.event_log.specs.Rules.{Setting}
 use Rattle.protocol.specs.Answers.{Answer, Refuses, Step, Takes, answer, decided, given_out, logged, takes, whole_after}
 use Rattle.protocol.specs.Events.{happens}
 use Rattle.protocol.specs.Jobs.{Handed}
+use Rattle.protocol.specs.Messages.{Letter}
 use Rattle.protocol.specs.Refusals.{is_within_limits, refusal}
 use Rattle.protocol.specs.Whole.{Moved, Whole}
 use Rattle.protocol_owed.specs.Runs.{Running, after_events, opening_run}
@@ -15,6 +16,7 @@ use Rattle.protocol_owed.specs.Seen.{IsCalm}
 use Rattle.lease_discipline.specs.Told.{IsInStep}
 use Rattle.owed_replies.specs.Law.{IsPaid, LawOfReplies, happening}
 use Rattle.owed_replies.proofs.Advancing.{Advances, IsBrought}
+use Rattle.owed_replies.proofs.Contents.{AtsAreKnown, sent_are_known}
 use Rattle.owed_replies.proofs.Happens.{event_advances}
 use Rattle.owed_replies.proofs.Replies.{accepted_owed, finish_owed}
 use Rattle.owed_replies.proofs.Requests.{request_owed}
@@ -43,25 +45,41 @@ module _ (s : Setting) (r : Running) (k : RunReplies s r) (calm : IsCalm r.log) 
   step_after : IsInStep s (r.log ++ In e seat ∷ step.entries) step.whole
   step_after = subst (λ a. IsInStep s (r.log ++ logged e seat a) (whole_after r.whole a)) answered after
 
+  here : IsTaken r.whole e handed step
+  here = taken r.whole e handed step answered
+
+  abbrev m : Moved
+  m = happens r.whole e handed
+
+  advances : Advances r.log r.whole e seat m
+  advances = event_advances s r.log r.whole k.step k.replies seat e handed here.unrefused
+      (subst (λ x. IsInStep s (r.log ++ logged e seat x) (whole_after r.whole x)) (answered ∙ sym here.same) after)
+
+  abbrev entries_in : Answer → List Entry
+  entries_in (Takes x) = x.entries
+  entries_in (Refuses code) = []
+
+  abbrev letters_in : Answer → List Letter
+  letters_in (Takes x) = x.letters
+  letters_in (Refuses code) = []
+
   brought : (a : Attempt) → Among (Accepted a) step.entries → IsBrought r.whole e a
-  brought a i =
-      let t = taken r.whole e handed step answered in
-      let m : Moved = happens r.whole e handed in
-      let advances : Advances r.log r.whole e seat m = event_advances s r.log r.whole k.step k.replies seat e handed t.unrefused
-      (subst (λ x. IsInStep s (r.log ++ logged e seat x) (whole_after r.whole x)) (answered ∙ sym t.same) after) in
-      advances.accepts a (subst (λ es. Among (Accepted a) es) (sym (ap entries_in t.same)) i)
-    where
-      entries_in : Answer → List Entry
-      entries_in (Takes x) = x.entries
-      entries_in (Refuses code) = []
+  brought a i = advances.accepts a (subst (λ es. Among (Accepted a) es) (sym (ap entries_in here.same)) i)
+
+  network : step.whole.network ≡ r.whole.network ++ step.letters
+  network =
+      sym (ap (λ a. (whole_after r.whole a).network) here.same) ∙ advances.network ∙ ap (λ a. r.whole.network ++ letters_in a) here.same
+
+  known : AtsAreKnown (r.log ++ In e seat ∷ step.entries) step.letters
+  known = sent_are_known s (r.log ++ In e seat ∷ step.entries) r.whole step.whole step.letters step_after.sound.between network
 
   pub is_paid : IsPaid (happening s r e seat step)
   is_paid = record {
-    requests = request_owed s r k calm e seat handed step answered;
+    requests = request_owed s r k calm e seat handed step answered known;
     places = places_owed s r k calm e seat handed step answered;
     holds = hold_owed s r k calm e seat handed step answered;
     finishes = finish_owed s r k calm e seat handed step answered;
-    accepted = accepted_owed s r k calm e seat handed step answered brought step_after;
+    accepted = accepted_owed s r k calm e seat handed step answered brought step_after known;
     owner = used_owed s r k calm e seat handed step answered brought step_after;
   }
 

@@ -7,6 +7,7 @@ pub mod Advancing
 pub mod Known
 pub mod Events
 pub mod Happens
+pub mod Contents
 pub mod Quiet
 pub mod Delivered
 pub mod Runs

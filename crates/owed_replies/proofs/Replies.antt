@@ -56,6 +56,7 @@ use Rattle.owed_replies.specs.Kept.{IsAnswered, IsAwaitedBy, IsBornIn, IsRightLe
 use Rattle.owed_replies.specs.Law.{happening}
 use Rattle.owed_replies.proofs.Advancing.{IsBrought, all_among, among_flat, entry_born, flat_among, owner_has}
 use Rattle.owed_replies.proofs.Committing.{accepted_object}
+use Rattle.owed_replies.proofs.Contents.{AtsAreKnown}
 use Rattle.owed_replies.proofs.Delivered.{born_serial, delivered_out, owner_there}
 use Rattle.owed_replies.proofs.Known.{accepted_by_past, born_by_past, made_so}
 use Rattle.owed_replies.proofs.Quiet.{accepted_among, begun_first, no_fault, none_begun}
@@ -305,8 +306,9 @@ module _ (s : Setting) (r : Running) (k : RunReplies s r) (calm : IsCalm r.log) 
         some_length [] x j = absurd (among-nothing x j)
         some_length (z ∷ xs) x j = omega arith
 
-    pub accepted_owed : ((a : Attempt) → Among (Accepted a) step.entries → IsBrought c e a) → IsInStep s (r.log ++ In e seat ∷ step.entries) step.whole → AcceptedIsTold hap
-    accepted_owed brought after y number n w m logged at request is =
+    pub accepted_owed : ((a : Attempt) → Among (Accepted a) step.entries → IsBrought c e a) → IsInStep s (r.log ++ In e seat ∷ step.entries) step.whole →
+        AtsAreKnown (r.log ++ In e seat ∷ step.entries) step.letters → AcceptedIsTold hap
+    accepted_owed brought after known_then y number n w m logged at request is =
         let a : Attempt = attempt y number in
         let f : IsBrought c e a = brought a logged in
         let q : IsEnd f.number f.sender f.owner a f.node f.ids f.kept = end_of f.number f.sender f.owner a f.node f.ids f.kept f.sent in
@@ -315,7 +317,7 @@ module _ (s : Setting) (r : Running) (k : RunReplies s r) (calm : IsCalm r.log) 
       where
         by_stage : (f : IsBrought c e (attempt y number)) (q : IsEnd f.number f.sender f.owner (attempt y number) f.node f.ids f.kept) →
             step.letters ≡ (release_step (reached (here c f.owner q.worker q.node) (TheWorker f.sender) (Finished (attempt y number) f.node f.ids f.kept))).there.out.letters →
-            Stage (attempt y number) q.object → Tells step.letters y w number n
+            Stage (attempt y number) q.object → Tells (r.log ++ In e seat ∷ step.entries) step.letters y w number n
         by_stage f q letters (IsAccepted i) = absurd (not_twice (attempt y number) after logged i)
         by_stage f q letters (Pends task made present unsettled kept) =
             let a : Attempt = attempt y number in
@@ -330,10 +332,12 @@ module _ (s : Setting) (r : Running) (k : RunReplies s r) (calm : IsCalm r.log) 
             let told : Among (letter (TheWorker f.owner) (TheWorker w) (At y number (places_for f.node f.kept) f.kept)) step.letters = subst (λ ls. Among (letter (TheWorker f.owner) (TheWorker w) (At y number (places_for f.node f.kept) f.kept)) ls) (sym letters) sent in
             let runner : at.worker ≡ q.ended.worker = same_some at.worker q.ended.worker (sym at.ran ∙ more_runs a (In e seat ∷ step.entries) q.ended.worker q.ended.runs) in
             let place : f.node ≡ n = same_some f.node n (sym (more_opened q.ended.worker (In e seat ∷ step.entries) f.node q.ended.home) ∙ ap (λ v. node_of v (r.log ++ In e seat ∷ step.entries)) (sym runner) ∙ at.place) in
+            let by_owner = subst (λ v. Among (letter (TheWorker v) (TheWorker w) (At y number (places_for f.node f.kept) f.kept)) step.letters) q.own told in
             record {
               nodes = places_for f.node f.kept;
               kept = f.kept;
-              told = subst (λ v. Among (letter (TheWorker v) (TheWorker w) (At y number (places_for f.node f.kept) f.kept)) step.letters) q.own told;
+              told = by_owner;
+              known = known_then y.owner w number y (places_for f.node f.kept) f.kept by_owner;
               named = λ none. subst (λ d. has (places_for f.node d) n ≡ true) (sym none) (ap (λ t. t || false) (own_now n f.node (sym place)));
             }
           where

@@ -1,5 +1,5 @@
 -- Whoever asks for what is there is told where it is.
-use Rattle.std.proofs.Common.{◌≡◌, ◌≢◌, ℕ, Some, None, refl, ap, sym, subst, ◌∙◌, inl, inr, arith, Option}
+use Rattle.std.proofs.Common.{◌≡◌, ◌≢◌, ℕ, List, ◌∷◌, ◌++◌, Some, None, refl, ap, sym, subst, ◌∙◌, inl, inr, arith, Option}
 use Rattle.std.specs.Prelude.{true, false, if◌then◌else◌, not, ◌==◌, ◌&&◌, is_some, is_none}
 use Rattle.std.proofs.lemmas.Bool.Decides.{nat_tests}
 use Rattle.sequence.proofs.Places.{and_left, and_right}
@@ -7,7 +7,7 @@ use Rattle.meaning.proofs.BirthLaws.{at_test, same_id-refl}
 use Rattle.meaning.specs.Births.{same_id}
 use Rattle.meaning.specs.Values.{Id, Put, main_birth, Outcome}
 use Rattle.event_log.specs.Breaks.{Among}
-use Rattle.event_log.specs.Entries.{Attempt, Deliver, Event, Released, main_object}
+use Rattle.event_log.specs.Entries.{Attempt, Deliver, Entry, Event, In, Released, main_object}
 use Rattle.event_log.specs.Rules.{Setting}
 use Rattle.event_log.specs.Words.{attempt}
 use Rattle.event_log.specs.Holding.{ids_of_birth}
@@ -41,6 +41,7 @@ use Rattle.smallest_steps.proofs.Known.{changed_here}
 use Rattle.owed_replies.specs.Kept.{IsBornIn, IsRightLetter}
 use Rattle.owed_replies.specs.Law.{happening}
 use Rattle.owed_replies.proofs.Advancing.{all_among, entry_born, owner_has}
+use Rattle.owed_replies.proofs.Contents.{AtsAreKnown}
 use Rattle.owed_replies.proofs.Delivered.{accepted_other, born_serial, delivered_out, owner_there}
 use Rattle.owed_replies.proofs.Known.{born_by_past}
 use Rattle.owed_replies.proofs.Quiet.{HasContentAt, IsHad, node_alive, none_lost, none_lost_put, put_known, released_among, same_home}
@@ -86,7 +87,11 @@ module _ (s : Setting) (r : Running) (k : RunReplies s r) (calm : IsCalm r.log) 
 
   -- ---- an event that is taken
 
-  module _ (e : Event) (seat : ℕ) (handed : Handed) (step : Step) (answered : answer c e handed ≡ Takes step) where
+  module _ (e : Event) (seat : ℕ) (handed : Handed) (step : Step) (answered : answer c e handed ≡ Takes step)
+      (known_then : AtsAreKnown (r.log ++ In e seat ∷ step.entries) step.letters) where
+    abbrev then_log : List Entry
+    then_log = r.log ++ In e seat ∷ step.entries
+
     abbrev hap : Happening
     hap = happening s r e seat step
 
@@ -102,13 +107,17 @@ module _ (s : Setting) (r : Running) (k : RunReplies s r) (calm : IsCalm r.log) 
     same_number : (m n : ℕ) → (m == n) ≡ true → m ≡ n
     same_number m n f = grind (arith, nat_tests)
 
-    told_so : (y : Id) (w number n : ℕ) (z : Object) → HasContentAt z number n → Among (letter (TheWorker y.owner) (TheWorker w) (At y (settled_number z) z.places z.kept)) step.letters → Tells step.letters y w number n
-    told_so y w number n z q told = record {
-      nodes = z.places;
-      kept = z.kept;
-      told = subst (λ i. Among (letter (TheWorker y.owner) (TheWorker w) (At y i z.places z.kept)) step.letters) q.number_is told;
-      named = q.place;
-    }
+    told_so : (y : Id) (w number n : ℕ) (z : Object) → HasContentAt z number n → Among (letter (TheWorker y.owner) (TheWorker w) (At y (settled_number z) z.places z.kept)) step.letters →
+        Tells then_log step.letters y w number n
+    told_so y w number n z q told =
+        let sent = subst (λ i. Among (letter (TheWorker y.owner) (TheWorker w) (At y i z.places z.kept)) step.letters) q.number_is told in
+        record {
+          nodes = z.places;
+          kept = z.kept;
+          told = sent;
+          named = q.place;
+          known = known_then y.owner w number y z.places z.kept sent;
+        }
 
     -- where a copy is missed, the content isn't
     none_of : (r : Option Outcome) → is_none r ≡ true → r ≡ None
@@ -139,7 +148,7 @@ module _ (s : Setting) (r : Running) (k : RunReplies s r) (calm : IsCalm r.log) 
         l = letter (TheWorker w) (TheWorker y.owner) m
 
         by_message : (x : Worker) (node : Node) (z : Object) → worker_at c y.owner ≡ Some x → item_at x.objects y.serial ≡ Some z → IsHad r.log y z number n →
-            step.letters ≡ (release_step (reached (here c y.owner x node) (TheWorker w) m)).there.out.letters → IsRequest y m → Tells step.letters y w number n
+            step.letters ≡ (release_step (reached (here c y.owner x node) (TheWorker w) m)).there.out.letters → IsRequest y m → Tells then_log step.letters y w number n
         by_message x node z at there (content, big) letters (inl where_is) =
             let h : Here = here c y.owner x node in
             let right : IsRightLetter r.log (letter (TheWorker w) (TheWorker y.owner) (Where y)) =
@@ -162,7 +171,7 @@ module _ (s : Setting) (r : Running) (k : RunReplies s r) (calm : IsCalm r.log) 
             letters ∙ ap (λ q. (release_step (reached h (TheWorker w) q)).there.out.letters) missing_is ∙
             ap (λ t. (release_step (if t then where_reached (takes_place h y number' j) w y else hands_missing_on h y number' j)).there.out.letters) own ∙
             ap (λ o. (release_step (where_reached (takes_place_by h y number' j o) w y)).there.out.letters) item in
-            at_test (λ t. is_present number' z ≡ t → step.letters ≡ (release_step (where_reached (if t then changes h y (without_place j) else h) w y)).there.out.letters → Tells step.letters y w number n)
+            at_test (λ t. is_present number' z ≡ t → step.letters ≡ (release_step (where_reached (if t then changes h y (without_place j) else h) w y)).there.out.letters → Tells then_log step.letters y w number n)
             (is_present number' z)
             (λ _ present so.
             let none : z.kept ≡ None = none_of z.kept (and_right (is_some z.settled && (settled_number z == number') && not z.is_released && not (is_pending z)) (is_none z.kept) present) in

@@ -333,9 +333,13 @@ module _ (s : Setting) (log : List Entry) (c : Whole) (sound : IsSound s log c) 
         no_births = λ u f. passes_refused g.event g.seat g.handed (record { unshown = u; beyond = bears_beyond (nat_lt ((counted s log).nodes + length (join_in g.event)) 65) (nat_lt ((counted s log).workers + would_open c g.event g.handed) 1025) ((counted s log).objects + borne g.event g.handed) f });
         accepted = k.accepted;
         one_opens = k.few;
+        numbers = λ e. one_more (counted s log).workers _ within_workers (event_grows s log c sound g.event g.handed e).few;
         otherwise = k.otherwise;
         within = k.within w;
       }
+    where
+      one_more : (n k : ℕ) → nat_lt n 1025 ≡ true → k ≤ 1 → n + k ≤ 1025
+      one_more n k e f = grind (arith, nat_tests, f)
 
 -- ---- runs
 

@@ -7,7 +7,7 @@ use Rattle.event_log.specs.Rules.{Setting}
 use Rattle.meaning.specs.Mains.{KeepsMainApart}
 pub use Rattle.owed_laws.specs.Law.{AnswerPays, IsReached}
 use Rattle.protocol.specs.Answers.{Refuses, Step, Takes}
-use Rattle.protocol.specs.Refusals.{is_of_job}
+use Rattle.protocol.specs.Refusals.{is_of_job, refusal}
 use Rattle.protocol_legal.specs.Whole.{setting_of}
 use Rattle.protocol_owed.specs.Runs.{Handing, Running, after_event, answer_to}
 use Rattle.count_laws.specs.Counts.{Counts, behind, borne, counted, is_within, would_open}
@@ -38,6 +38,8 @@ pub record IsLimited (s : Setting) (r : Running) (g : Handing) : Type 0 where
   pub no_join : g.event ≡ Join → (counted s r.log).nodes ≡ 64 → answer_to r g ≡ Refuses Limit
   pub no_births : shown (setting_of s r.whole) r.log (is_of_job g.handed) g.event ≡ None → 1000000 < (counted s r.log).objects + borne g.event g.handed →
       answer_to r g ≡ Refuses Limit
+  -- where log and tables show no cause, so that it is tried: with those that it would open there are 1,025 workers at most, and so is each one's number
+  pub numbers : refusal r.whole g.event g.handed ≡ None → (counted s r.log).workers + would_open r.whole g.event g.handed ≤ 1025
   -- behind it there are as many as there would be, if it is accepted, with one worker more at most; else as many as before
   pub accepted : (step : Step) → answer_to r g ≡ Takes step → counted s (after_event r g).log ≡ behind (counted s r.log) r.whole g.event g.handed
   pub one_opens : (step : Step) → answer_to r g ≡ Takes step → would_open r.whole g.event g.handed ≤ 1

@@ -9,3 +9,4 @@ pub mod UserEvents
 pub mod RightSlots
 pub mod WaitsTell
 pub mod Needs
+pub mod AskNumbers

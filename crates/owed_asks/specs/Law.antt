@@ -1,16 +1,20 @@
 -- What is owed of asks and slots, in every run.
-use Rattle.std.specs.Prelude.{◌≡◌, ◌≢◌, ◌<◌, ◌≤◌, ℕ, List}
+use Rattle.std.specs.Prelude.{◌≡◌, ◌≢◌, ◌<◌, ◌≤◌, ℕ, List, length, Some}
 use Rattle.event_log.specs.Entries.{Attempt}
 use Rattle.event_log.specs.Rules.{Setting}
 use Rattle.meaning.specs.Mains.{KeepsMainApart}
 use Rattle.meaning.specs.Values.{Id}
 use Rattle.protocol.specs.Answers.{Step, Takes}
 use Rattle.protocol.specs.Messages.{TheWorker, Where}
+use Rattle.protocol.specs.Numbered.{item_at}
+use Rattle.protocol.specs.Tables.{AskedAt, OwnTask, Worker, task_of}
+use Rattle.protocol.specs.Whole.{Whole, worker_at}
 use Rattle.protocol_laws.specs.Coming.{IsRight}
 use Rattle.protocol_owed.specs.Replies.{BirthIsAsked, CopyIsGot, ElsewhereIsAsked, GiveIsBegun, Happening, NewlyWaits, Says}
 use Rattle.protocol_owed.specs.Runs.{Handing, Running, after_event, after_events, answer_to, opening_run, seen}
 use Rattle.protocol_owed.specs.Seen.{IsCalm}
 use Rattle.protocol_owed.specs.Turns.{AllSlotsAreRight}
+use Rattle.lease_discipline.specs.Asks.{Asked}
 use Rattle.lease_discipline.specs.Slots.{AreRight}
 
 -- the event as it was accepted: what was so before, what it logged and sent, and what is so after it
@@ -63,3 +67,17 @@ abbrev pub SlotsAreAllRight : Type 0
 SlotsAreAllRight =
     (s : Setting) (slots : ℕ) → 0 < s.nodes → 1 ≤ slots → KeepsMainApart s.script → (gs : List Handing) → AreRight s (opening_run s.nodes slots) gs →
     AllSlotsAreRight (seen s (after_events (opening_run s.nodes slots) gs))
+
+-- ---- numbers of asks
+
+-- the number of each ask that was sent, and of each that stands, is less than how many messages were sent
+pub record AsksAreNumberedLow (c : Whole) : Type 0 where
+  pub sent : (a : Attempt) (t n : ℕ) → Asked c.network a t n → t < length c.network
+  pub standing : (v k : ℕ) (x : Worker) (task : OwnTask) (t n : ℕ) → worker_at c v ≡ Some x → task_of (item_at x.objects k) ≡ Some task →
+      task.progress ≡ AskedAt t n → t < length c.network
+
+-- whatever events come
+abbrev pub AskNumbersAreLow : Type 0
+AskNumbersAreLow =
+    (s : Setting) (slots : ℕ) → 0 < s.nodes → 1 ≤ slots → KeepsMainApart s.script → (gs : List Handing) → AreRight s (opening_run s.nodes slots) gs →
+    AsksAreNumberedLow (after_events (opening_run s.nodes slots) gs).whole

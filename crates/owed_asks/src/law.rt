@@ -1,6 +1,6 @@
 // The laws of what is owed of asks and slots.
 
-ghost use Rattle.owed_asks.specs.Law.{BirthsAreAsked, CopiesAreGot, ElsewheresAreAsked, GivesAreBegun, NewForeignWaitsAreAsked, SlotsAreAllRight};
+ghost use Rattle.owed_asks.specs.Law.{AskNumbersAreLow, BirthsAreAsked, CopiesAreGot, ElsewheresAreAsked, GivesAreBegun, NewForeignWaitsAreAsked, SlotsAreAllRight};
 
 /// As long as nothing was killed or lost, a task that is born is asked for at its owner's own node, in the event of its birth.
 pub fn births_are_asked()
@@ -37,4 +37,9 @@ pub fn new_foreign_waits_are_asked()
 /// on, stands in the queue.
 pub fn slots_are_all_right()
     ensures { SlotsAreAllRight }
+{}
+
+/// Whatever events come, the number of an ask is less than how many messages were sent: each ask but an attempt's first follows the one before it.
+pub fn asks_are_numbered_low()
+    ensures { AskNumbersAreLow }
 {}

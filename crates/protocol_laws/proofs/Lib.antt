@@ -8,3 +8,4 @@ pub mod Laws
 pub mod Pace
 pub mod Given
 pub mod Shown
+pub mod Plans

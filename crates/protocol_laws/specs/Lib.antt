@@ -4,3 +4,4 @@ pub mod Law
 pub mod Pace
 pub mod Given
 pub mod Shown
+pub mod Plans

@@ -2,6 +2,7 @@
 
 ghost use Rattle.protocol_laws.specs.Given.{ClaimsGiveGoodJobs, ClaimsGiveJobsOfTheLog, JobsStayOfTheLog, RunsAreGood, RunsHaveTheLogsAnswers};
 ghost use Rattle.protocol_laws.specs.Pace.{KeepsPace};
+ghost use Rattle.protocol_laws.specs.Plans.{PlansHavePremises};
 ghost use Rattle.protocol_laws.specs.Shown.{RefusalsAreAsShown, RefusalsAreShown};
 ghost use Rattle.protocol_laws.specs.Law.{EventsKeepSound, NothingHeldIsReleased, OpeningIsSound, ProtocolStaysLegal, SoundIsLegal};
 
@@ -76,4 +77,9 @@ pub fn refusals_are_as_shown()
 /// answered exactly where the log shows it.
 pub fn refusals_are_shown()
     ensures { RefusalsAreShown }
+{}
+
+/// What an object is made from and is lost is older than it, and a worker's objects are counted from 1: what the plan for a lost object asks of the tables.
+pub fn plans_have_premises()
+    ensures { PlansHavePremises }
 {}

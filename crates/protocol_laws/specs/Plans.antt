@@ -1,0 +1,22 @@
+-- What a plan asks of the tables, as every sound run has it.
+use Rattle.std.specs.Prelude.{◌≡◌, ◌≤◌, ℕ, List, Some, true}
+use Rattle.event_log.specs.Entries.{Entry}
+use Rattle.event_log.specs.Rules.{Setting}
+use Rattle.protocol.specs.Laws.{AreOlder}
+use Rattle.protocol.specs.Nodes.{Node}
+use Rattle.protocol.specs.Numbered.{item_at}
+use Rattle.protocol.specs.Steps.{Here}
+use Rattle.protocol.specs.Tables.{Object, Worker}
+use Rattle.protocol.specs.Whole.{Whole, here, worker_at}
+use Rattle.protocol_laws.specs.Sound.{IsSound}
+
+-- what an object is made from and is lost is older than it, and objects are counted from 1
+pub record HasPremises (h : Here) : Type 0 where
+  pub older : AreOlder h
+  pub counted : (k : ℕ) (z : Object) → item_at h.worker.objects k ≡ Some z → 1 ≤ k
+
+-- of each live worker of a sound run
+abbrev pub PlansHavePremises : Type 0
+PlansHavePremises =
+    (s : Setting) (log : List Entry) (c : Whole) → IsSound s log c → (w : ℕ) (x : Worker) (node : Node) → worker_at c w ≡ Some x → x.is_live ≡ true →
+    HasPremises (here c w x node)

@@ -7,12 +7,13 @@ use Rattle.protocol_board.specs.Drives.{Course}
 use Rattle.protocol_board.specs.Replays.{Play}
 use Rattle.raysim_streams.specs.declared.CommandRefusal.{CommandRefusal}
 use Rattle.raysim_streams.specs.declared.CommandRefusal.TheVariants.{At, NoMemory, Stopped, BadLine, WrongJob, Failed}
-use Rattle.script_commands.specs.Scripts.{ExplainsText, IsAllowed, IsRefusalOf}
+use Rattle.script_commands.specs.Scripts.{ExplainsText, IsAllowed, IsRefusalOf, IsScript}
 use Rattle.script_commands.proofs.Refused.{explains_text}
 use Rattle.run_commands.specs.declared.form.Form.{Form}
+use Rattle.run_commands.proofs.AsSerial.{as_serial}
 use Rattle.run_commands.specs.RunReports.{first_run}
-use Rattle.run_commands.specs.SimReports.{ExplainsList, first_play}
-use Rattle.run_commands.specs.SoFar.{ExplainsTexts, IsDriven, IsPlayed, IsReplaySoFar, IsReplayedSoFar, IsRunSoFar, IsToldOf, IsToldOfReplay}
+use Rattle.run_commands.specs.SimReports.{AreEvents, ExplainsList, first_play, lines_in_file}
+use Rattle.run_commands.specs.SoFar.{ExplainsTexts, IsDriven, IsPlayed, IsReplaySoFar, IsReplayToldOf, IsReplayedSoFar, IsRunSoFar, IsRunToldOf, IsToldOf, IsToldOfReplay}
 
 -- what is written of a run that was driven from its beginning
 pub run_told_so : (script named : Script) (size : Size) (form : Form) (before after : Course) (nowhere report : List ℕ) (status : ℕ) →
@@ -45,6 +46,29 @@ replay_told_so script size form says numbers play report status so told = record
   meant = so.meant;
   told = told.0;
   status_is = told.1;
+}
+
+-- ---- as what `serial` writes
+
+pub run_told_of : (script : Script) (size : Size) (form : Form) (text report : List ℕ) (status : ℕ) → IsScript text script →
+    IsRunSoFar script size form report status → IsRunToldOf size form text report status
+run_told_of script size form text report status is so = record {
+  script = script;
+  is_script = is;
+  so_far = so;
+  as_serial = as_serial text form script so.course.run so.course.sent [] report status is so.meant so.told so.status_is;
+}
+
+pub replay_told_of : (script : Script) (size : Size) (form : Form) (says : EventFile) (numbers text events report : List ℕ) (status : ℕ) →
+    IsScript text script → AreEvents events says numbers → IsReplaySoFar script size form says numbers report status → IsReplayToldOf size form text events report status
+replay_told_of script size form says numbers text events report status is are so = record {
+  script = script;
+  says = says;
+  numbers = numbers;
+  is_script = is;
+  are_events = are;
+  so_far = so;
+  as_serial = as_serial text form script so.play.run so.play.sent (lines_in_file numbers so.play.lines) report status is so.meant so.told so.status_is;
 }
 
 -- ---- why nothing is

@@ -11,7 +11,7 @@ use Rattle.protocol_board.specs.Replays.{FileStops, Play, PlaysFile}
 use Rattle.raysim_streams.specs.declared.CommandRefusal.{CommandRefusal}
 use Rattle.raysim_streams.specs.declared.CommandRefusal.TheVariants.{At, NoMemory, Stopped as Stops, BadLine, WrongJob, Failed}
 use Rattle.run_commands.specs.declared.form.Form.{Form}
-use Rattle.run_commands.specs.Reports.{IsReportIn, account_of}
+use Rattle.run_commands.specs.Reports.{IsAsSerialIn, IsReportIn, account_of}
 use Rattle.run_commands.specs.RunReports.{first_run}
 use Rattle.script_commands.specs.Scripts.{IsNoScriptFor, IsScript}
 use Rattle.run_commands.specs.SimReports.{AreEvents, IsBadLine, first_play, lines_in_file}
@@ -40,15 +40,22 @@ pub record IsReplaySoFar (script : Script) (size : Size) (form : Form) (says : E
   pub told : IsReportIn form (account_of play.run play.sent (lines_in_file numbers play.lines)) report
   pub status_is : status ≡ status_of play.run.log
 
--- of what the text is a script of
-abbrev pub IsRunToldOf : Size → Form → List ℕ → List ℕ → ℕ → Type 0
-IsRunToldOf size form text report status = (script : Script) × IsScript text script × IsRunSoFar script size form report status
+-- the text is a script, of whose run that is written, and it begins as what `serial` writes of that script
+pub record IsRunToldOf (size : Size) (form : Form) (text report : List ℕ) (status : ℕ) : Type 0 where
+  pub script : Script
+  pub is_script : IsScript text script
+  pub so_far : IsRunSoFar script size form report status
+  pub as_serial : IsAsSerialIn form script so_far.course.run.log report status
 
--- and the events an event file
-abbrev pub IsReplayToldOf : Size → Form → List ℕ → List ℕ → List ℕ → ℕ → Type 0
-IsReplayToldOf size form text events report status =
-    (script : Script) × (says : EventFile) × (numbers : List ℕ) × IsScript text script × AreEvents events says numbers
-    × IsReplaySoFar script size form says numbers report status
+-- the same of a replay of these events, which are an event file
+pub record IsReplayToldOf (size : Size) (form : Form) (text events report : List ℕ) (status : ℕ) : Type 0 where
+  pub script : Script
+  pub says : EventFile
+  pub numbers : List ℕ
+  pub is_script : IsScript text script
+  pub are_events : AreEvents events says numbers
+  pub so_far : IsReplaySoFar script size form says numbers report status
+  pub as_serial : IsAsSerialIn form script so_far.play.run.log report status
 
 -- why nothing is told of a replay of these events on a run of what the text is a script of: the text is none, and the refusal tells the error that says
 -- so; it is one, and that line is the first of the events that is none of an event file; or there was no memory

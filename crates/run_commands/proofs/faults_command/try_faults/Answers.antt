@@ -1,5 +1,4 @@
 use Rattle.std.proofs.Common.{rules}
-use Rattle.std.specs.Prelude.{string_bytes}
 use Rattle.script_check.specs.Trees.{script_of}
 use Rattle.run_commands.proofs.Trying.{table_so, tried_so}
 use Rattle.run_commands.proofs.faults_command.try_faults.Goals as goal

@@ -5,7 +5,7 @@ use Rattle.raysim_streams.specs.declared.CommandRefusal.TheVariants.{NoMemory}
 use Rattle.script_commands.specs.Scripts.{ExplainsText}
 use Rattle.script_commands.proofs.Refused.{explains_text}
 use Rattle.run_commands.specs.SoFar.{IsRunSoFar, IsRunToldOf}
-use Rattle.run_commands.proofs.UpToThere.{text_without_memory}
+use Rattle.run_commands.proofs.UpToThere.{run_told_of, text_without_memory}
 use Rattle.run_commands.proofs.so_far_command.run_so_far.Goals as goal
 
 pub returns-in-Err-clause-refused : goal.returns-in-Err-clause-refused
@@ -16,7 +16,8 @@ returns-clause-told c =
     let script = script_of c.in-Ok.script in
     IfOk-weaker c.run_script.result (λ s. IsRunSoFar script c.args.cluster c.args.form (string_bytes s.text) s.status)
     (λ s. IsRunToldOf c.args.cluster c.args.form c.args.text.now (string_bytes s.text) s.status)
-    (λ s told. (script, c.in-Ok.ensures.found, told)) c.run_script.ensures.told
+    (λ s told. run_told_of script c.args.cluster c.args.form c.args.text.now (string_bytes s.text) s.status c.in-Ok.ensures.found told)
+    c.run_script.ensures.told
 
 pub returns-clause-refused : goal.returns-clause-refused
 returns-clause-refused c =

@@ -3,7 +3,7 @@ use Rattle.std.proofs.lemmas.Result.{IfErr-weaker, IfOk-weaker}
 use Rattle.script_check.specs.Trees.{script_of}
 use Rattle.raysim_streams.specs.declared.CommandRefusal.TheVariants.{NoMemory}
 use Rattle.run_commands.specs.SoFar.{ExplainsTexts, IsReplaySoFar, IsReplayToldOf}
-use Rattle.run_commands.proofs.UpToThere.{texts_without_events, texts_without_memory, texts_without_script}
+use Rattle.run_commands.proofs.UpToThere.{replay_told_of, texts_without_events, texts_without_memory, texts_without_script}
 use Rattle.run_commands.proofs.so_far_command.sim_so_far.Goals as goal
 
 pub returns-in-Err-clause-refused : goal.returns-in-Err-clause-refused
@@ -21,7 +21,9 @@ returns-clause-told c =
     let numbers = c.in-Ok-event_lines.found.numbers in
     IfOk-weaker c.sim_script.result (λ s. IsReplaySoFar script c.args.cluster c.args.form says numbers (string_bytes s.text) s.status)
     (λ s. IsReplayToldOf c.args.cluster c.args.form c.args.text.now c.args.events.now (string_bytes s.text) s.status)
-    (λ s told. (script, says, numbers, c.in-Ok.ensures.found, c.in-Ok-event_lines.ensures.found, told)) c.sim_script.ensures.told
+    (λ s told. replay_told_of script c.args.cluster c.args.form says numbers c.args.text.now c.args.events.now (string_bytes s.text) s.status
+    c.in-Ok.ensures.found c.in-Ok-event_lines.ensures.found told)
+    c.sim_script.ensures.told
 
 pub returns-clause-refused : goal.returns-clause-refused
 returns-clause-refused c =

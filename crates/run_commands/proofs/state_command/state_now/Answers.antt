@@ -1,5 +1,4 @@
 use Rattle.std.proofs.Common.{◌∙◌, ap}
-use Rattle.event_log.specs.Entries.{Entry}
 use Rattle.state_text.specs.Text.{state_text}
 use Rattle.run_commands.proofs.state_command.state_now.Goals as goal
 

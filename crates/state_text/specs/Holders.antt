@@ -2,13 +2,14 @@
 use Rattle.std.specs.Prelude.{Bool, List, None, Option, Some, [], codes, false, if◌then◌else◌, not, ℕ, ◌&&◌, ◌++◌}
 use Rattle.std.specs.List.{flat_map, list_any}
 use Rattle.std.specs.Fmt.{decimal}
-use Rattle.meaning.specs.Births.{birth_at, same_id}
+use Rattle.meaning.specs.Births.{Bearing, birth_at, same_id}
 use Rattle.meaning.specs.Values.{Argument, Birth, Id, Name, Put, Task}
 use Rattle.ids.specs.Texts.{object_text}
 use Rattle.event_log.specs.Entries.{Attempt, Entry}
 use Rattle.event_log.specs.Words.{births, same_attempt}
 use Rattle.log_text.specs.Attempts.{named_text}
 use Rattle.log_words.specs.Ids.{ids_of}
+use Rattle.log_words.specs.Tasks.{task_of}
 use Rattle.protocol_data.specs.declared.tables.Run.{Run}
 use Rattle.protocol_data.specs.declared.tables.Worker.{Worker}
 
@@ -35,9 +36,17 @@ holder_note o None = codes "\n"
 holder_note o (Some (Put v)) = codes " in its value\n"
 holder_note o (Some (Task g args depth retries others)) = way_note g (is_argument o args)
 
+abbrev pub or_of_task : List Bearing → Id → Option Birth → Option Birth
+or_of_task births o None = birth_at births (task_of births o)
+or_of_task births o (Some b) = Some b
+
+-- what makes the object: what was born with it first, else the task of which it is a further result
+abbrev pub maker_of : List Bearing → Id → Option Birth
+maker_of births o = or_of_task births o (birth_at births o)
+
 -- o1.1: held by o1.2 as an argument of f
 unfoldable pub holder_line : List Entry → Id → Id → List ℕ
-holder_line log o e = object_text o ++ (codes ": held by " ++ object_text e) ++ holder_note o (birth_at (births log) e)
+holder_line log o e = object_text o ++ (codes ": held by " ++ object_text e) ++ holder_note o (maker_of (births log) e)
 
 -- who was removed holds it no more
 abbrev pub holder_lines : List Entry → Id → List Id → Id → List ℕ

@@ -2,7 +2,7 @@
 use Rattle.std.specs.Prelude.{Bool, List, None, Option, Some, [], codes, if◌then◌else◌, false, length, slice_get, true, ℕ, ◌+◌, ◌++◌, ◌∷◌}
 use Rattle.std.specs.Fmt.{decimal}
 use Rattle.meaning.specs.Births.{birth_at}
-use Rattle.meaning.specs.Values.{Birth, Id, Name, Outcome, Put, Task}
+use Rattle.meaning.specs.Values.{Birth, Id, Name, Outcome, Task}
 use Rattle.ids.specs.Texts.{attempt_text, object_text}
 use Rattle.event_log.specs.Entries.{Entry, Fault}
 use Rattle.event_log.specs.Words.{attempt, births}

@@ -1,5 +1,5 @@
 -- What is told of the entries of a log, one after the other.
-use Rattle.std.proofs.Common.{◌≡◌, ◌∙◌, ◌+◌, ◌++◌, ℕ, zero, suc, List, [], Option, None, Some, ap, append-nil, append_assoc, sym, refl, length, arith, ◌≤◌}
+use Rattle.std.proofs.Common.{◌≡◌, ◌∙◌, ◌+◌, ◌++◌, ℕ, suc, List, [], None, Some, ap, append-nil, append_assoc, sym, refl, length, arith, ◌≤◌}
 use Rattle.std.specs.Prelude.{slice_get}
 use Rattle.std.proofs.lemmas.Option.{slice_get_past}
 use Rattle.event_log.specs.Events.{from_one}

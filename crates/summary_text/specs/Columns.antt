@@ -1,11 +1,12 @@
 -- What is counted of a function.
 use Rattle.std.specs.Prelude.{Bool, List, None, Option, Some, [], codes, false, if◌then◌else◌, not, true, ℕ, ◌&&◌, ◌+◌, ◌-◌, ◌==◌, ◌∷◌}
-use Rattle.meaning.specs.Births.{birth_at}
+use Rattle.meaning.specs.Births.{Bearing, birth_at}
 use Rattle.meaning.specs.Meaning.{same_name}
 use Rattle.meaning.specs.Values.{Birth, Id, Name, Put, Task}
 use Rattle.event_log.specs.Entries.{Attempt, Begun, Born, Ended, Entry, Faulted, Resolved}
 use Rattle.event_log.specs.Words.{attempt, births}
 use Rattle.history.specs.Attempts.{state_of}
+use Rattle.log_words.specs.Tasks.{task_of}
 use Rattle.summary_text.specs.declared.columns.Column.{Column}
 use Rattle.summary_text.specs.declared.columns.Column.TheVariants.{AfterDeaths, AfterLosses, Attempts, Faults, GivenUp, Results, Tasks}
 
@@ -17,9 +18,21 @@ abbrev pub is_of : Name → Option Birth → Bool
 is_of g None = false
 is_of g (Some b) = is_born_of g b
 
--- a task of the function makes the object
+-- a task of the function has this first object
 abbrev pub is_made_by : List Entry → Name → Id → Bool
 is_made_by log g o = is_of g (birth_at (births log) o)
+
+abbrev pub or_of_task : List Bearing → Id → Option Birth → Option Birth
+or_of_task births o None = birth_at births (task_of births o)
+or_of_task births o (Some b) = Some b
+
+-- what makes the object: what was born with it first, else the task of which it is a further result
+abbrev pub maker_of : List Bearing → Id → Option Birth
+maker_of births o = or_of_task births o (birth_at births o)
+
+-- a task of the function has the object as a result
+abbrev pub is_result_of : List Entry → Name → Id → Bool
+is_result_of log g o = is_of g (maker_of (births log) o)
 
 -- the report's word for the attempt is `accepted`
 abbrev pub was_accepted : List Entry → Attempt → Bool
@@ -56,7 +69,7 @@ faults log g (Faulted a o f) = is_made_by log g a.object
 faults log g _ = false
 
 abbrev pub resolves : List Entry → Name → Entry → Bool
-resolves log g (Resolved o f) = is_made_by log g o
+resolves log g (Resolved o f) = is_result_of log g o
 resolves log g _ = false
 
 -- the entry counts for the function: an attempt behind one that broke was needed because of a death, and one behind one that was accepted because

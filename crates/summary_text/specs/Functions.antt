@@ -1,5 +1,5 @@
 -- The lines of functions.
-use Rattle.std.specs.Prelude.{Bool, List, None, Option, Some, [], codes, if◌then◌else◌, length, slice_get, take, true, ℕ, ◌+◌, ◌++◌, ◌∷◌}
+use Rattle.std.specs.Prelude.{Bool, List, Option, Some, [], codes, if◌then◌else◌, length, slice_get, take, true, ℕ, ◌++◌}
 use Rattle.std.specs.List.{list_any}
 use Rattle.std.specs.Fmt.{decimal}
 use Rattle.meaning.specs.Meaning.{same_name}

@@ -4,15 +4,16 @@ ghost use Rattle.std.specs.Prelude.{◌≡◌, ◌&&◌, List, option_copied};
 ghost use Rattle.std.specs.Option.{option_map};
 ghost use Rattle.task_spec.specs.Births.{birth_of};
 ghost use Rattle.event_log.specs.Entries.{Entry as Logged};
+ghost use Rattle.event_log.specs.Words.{births};
 ghost use Rattle.history.specs.Attempts.{AreStatesOf};
 ghost use Rattle.log_words.specs.Index.{IsIndexOf};
 ghost use Rattle.summary_text.specs.Columns.{begins, begins_after, born_in, column_count, ends, faults, is_born_of, is_counted};
-ghost use Rattle.summary_text.specs.Columns.{is_behind, is_further, is_made_by, is_of, resolves, was_accepted};
+ghost use Rattle.summary_text.specs.Columns.{is_behind, is_further, is_made_by, is_of, is_result_of, maker_of, resolves, was_accepted};
 
 use history::AttemptStates;
 use ids::{AttemptId, ObjectId};
 use log_entries::Entry;
-use log_words::BirthIndex;
+use log_words::{BirthIndex, task_of};
 use task_spec::Birth;
 
 /// What is counted of a function.
@@ -30,7 +31,7 @@ pub enum Column {
     Results,
     /// The attempts that ended with a fault.
     Faults,
-    /// The tasks whose objects were given up.
+    /// The results of its tasks that were given up.
     GivenUp,
 }
 
@@ -54,11 +55,29 @@ pub fn is_born_of(birth: &Birth, function: &str) -> bool
     }
 }
 
-/// Whether a task of the function makes the object.
+/// Whether a task of the function has this first object.
 fn is_made_by(index: &BirthIndex, log: &[Entry], object: ObjectId, function: &str) -> bool
     ensures { IsIndexOf index.now log.now → result ≡ is_made_by log.now function.now object }
 {
     is_of(index.birth(log, object), function)
+}
+
+/// What makes the object: what was born with it first, else the task of which it is a further result.
+fn maker_of<'a>(index: &'a BirthIndex, log: &'a [Entry], object: ObjectId) -> Option<&'a Birth>
+    ensures { IsIndexOf index.now log.now →
+        option_map birth_of (option_copied result) ≡ maker_of (births log.now) object }
+{
+    let Some(birth) = index.birth(log, object) else {
+        return index.birth(log, task_of(log, object));
+    };
+    Some(birth)
+}
+
+/// Whether a task of the function has the object as a result.
+fn is_result_of(index: &BirthIndex, log: &[Entry], object: ObjectId, function: &str) -> bool
+    ensures { IsIndexOf index.now log.now → result ≡ is_result_of log.now function.now object }
+{
+    is_of(maker_of(index, log, object), function)
 }
 
 /// Whether the attempt's owner learned that it ended.
@@ -169,7 +188,7 @@ fn resolves(index: &BirthIndex, log: &[Entry], entry: &Entry, function: &str) ->
     ensures { IsIndexOf index.now log.now → result ≡ resolves log.now function.now entry.now }
 {
     match entry {
-        Entry::Resolved { object, .. } => is_made_by(index, log, *object, function),
+        Entry::Resolved { object, .. } => is_result_of(index, log, *object, function),
         _ => false,
     }
 }

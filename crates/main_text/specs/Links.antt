@@ -1,5 +1,5 @@
 -- What keeps an attempt from going on, in sentences.
-use Rattle.std.specs.Prelude.{List, None, Option, Some, [], codes, ℕ, ◌++◌, ◌∷◌}
+use Rattle.std.specs.Prelude.{List, None, Option, Some, [], codes, if◌then◌else◌, ℕ, ◌+◌, ◌++◌, ◌-◌, ◌==◌, ◌∷◌}
 use Rattle.std.specs.List.{flat_map}
 use Rattle.std.specs.Fmt.{decimal}
 use Rattle.report.specs.Values.{id_text}
@@ -11,6 +11,7 @@ use Rattle.event_log.specs.Words.{births}
 use Rattle.history.specs.Texts.{event_text}
 use Rattle.log_words.specs.declared.contents.Contents.{Contents}
 use Rattle.log_words.specs.Calls.{birth_text}
+use Rattle.log_words.specs.Tasks.{task_of}
 use Rattle.log_text.specs.Attempts.{named_text}
 use Rattle.message_text.specs.Messages.{kind_text}
 use Rattle.protocol_data.specs.declared.message.Letter.{Letter}
@@ -77,9 +78,17 @@ abbrev pub birth_note : Contents → Option Birth → List ℕ
 birth_note how None = []
 birth_note how (Some b) = codes ": " ++ birth_text how b
 
--- o1.2: remote(2) inc(get o1.1, 5)
+-- which of a task's results it is, counted from 0, if it isn't the first
+unfoldable pub result_note : ℕ → List ℕ
+result_note place = if place == 0 then [] else codes ", result " ++ decimal (place + 1)
+
+-- of an object, whose task is named by that one
+abbrev pub made_by : Contents → List Bearing → Id → Id → List ℕ
+made_by how births o task = id_text o ++ (birth_note how (birth_at births task) ++ result_note (o.serial - task.serial))
+
+-- o1.2: remote(2) inc(get o1.1, 5), and o1.4: remote(3) two(4), result 2
 unfoldable pub made_text : Contents → List Bearing → Id → List ℕ
-made_text how births o = id_text o ++ birth_note how (birth_at births o)
+made_text how births o = made_by how births o (task_of births o)
 
 unfoldable pub stopped_text : List Entry → List ℕ → Whole → ℕ → Attempt → List ℕ
 stopped_text log lines c w a = named_text (births log) a ++ (codes " stopped" ++ when_last c.jobs lines log (Commits w))
@@ -119,7 +128,9 @@ ask_text log a n =
 -- a1.2#1 (inc) began on w3 in event 10 (deliver 5, line 4), since w2 died in event 6 (kill 2, line 2).
 abbrev pub run_text : List Entry → List ℕ → Whole → Attempt → ℕ → List ℕ
 run_text log lines c a v =
-    named_text (births log) a ++ (codes " began on " ++ (worker_text v ++ (when_last c.jobs lines log (Begins a) ++ (again_note lines log a ++ codes ".\n"))))
+    named_text (births log) a
+    ++ (codes " began on "
+    ++ (worker_text v ++ (when_last c.jobs lines log (Begins a) ++ (again_note (births log) lines log a ++ codes ".\n"))))
 
 abbrev pub party_text : Party → List ℕ
 party_text (TheWorker w) = worker_text w

@@ -1,8 +1,7 @@
 -- Where a trap comes from.
-use Rattle.std.specs.Prelude.{Bool, List, None, Option, Some, [], codes, false, if◌then◌else◌, suc, true, zero, ℕ, ◌&&◌, ◌+◌, ◌++◌, ◌∷◌}
+use Rattle.std.specs.Prelude.{List, None, Option, Some, [], codes, if◌then◌else◌, suc, zero, ℕ, ◌+◌, ◌++◌, ◌∷◌}
 use Rattle.std.specs.List.{flat_map}
 use Rattle.std.specs.Fmt.{decimal}
-use Rattle.meaning.specs.Births.{same_id}
 use Rattle.meaning.specs.Values.{Broken, DivZero, Id, Index, Loop, Outcome, Overflow, TooDeep, TooLong, Trap, Trapped, Val}
 use Rattle.report.specs.MainLines.{trap_name}
 use Rattle.event_log.specs.Entries.{Attempt, Ended, Entry, Got}

@@ -7,7 +7,7 @@ ghost use Rattle.event_log.specs.Words.{births};
 ghost use Rattle.log_words.specs.Index.{IsIndexOf};
 ghost use Rattle.main_text.specs.Links.{ask_text, birth_note, copy_text, end_text, fetch_text, hold_text};
 ghost use Rattle.main_text.specs.Links.{knowledge_text};
-ghost use Rattle.main_text.specs.Links.{made_text};
+ghost use Rattle.main_text.specs.Links.{made_by, made_text, result_note};
 ghost use Rattle.main_text.specs.Links.{run_text, stopped_text};
 ghost use Rattle.main_text.specs.Links.{wait_text};
 
@@ -16,7 +16,7 @@ use crate::parties::{write_node, write_owner, write_owner_of, write_worker};
 use ids::{AttemptId, NodeId, ObjectId, WorkerId};
 use log_entries::Entry;
 use log_text::write_named;
-use log_words::{BirthIndex, Contents, write_birth};
+use log_words::{BirthIndex, Contents, task_of, write_birth};
 use protocol_data::Whole;
 use std::alloc::{AllocError, Global};
 use task_spec::Birth;
@@ -36,6 +36,35 @@ fn write_birth_note(
     write_birth(text, contents, birth)
 }
 
+/// Writes which of a task's results it is, counted from 0, if it isn't the first.
+#[tactic(auto, unfolding(crate::specs::Links::result_note))]
+fn write_result_note(text: &mut String, place: u64) -> Result<(), AllocError>
+    ensures { OnOk result (string_bytes text.new ≡ string_bytes text.old ++ result_note place) }
+{
+    if place == 0 {
+        return Ok(());
+    }
+    let number = place as u128 + 1;
+    write!(text, ", result {number}")
+}
+
+/// Writes the object, whose task is named by that one, with what makes it.
+fn write_made_by(
+    text: &mut String,
+    contents: Contents,
+    index: &BirthIndex,
+    log: &[Entry],
+    object: ObjectId,
+    task: ObjectId,
+) -> Result<(), AllocError>
+    ensures { IsIndexOf index.now log.now → OnOk result
+        (string_bytes text.new ≡ string_bytes text.old ++ made_by contents (births log.now) object task) }
+{
+    write!(text, "{object}")?;
+    write_birth_note(text, contents, index.birth(log, task))?;
+    write_result_note(text, object.serial.saturating_sub(task.serial))
+}
+
 /// Writes the object with what makes it.
 #[tactic(auto, unfolding(crate::specs::Links::made_text))]
 pub fn write_made(
@@ -47,8 +76,7 @@ pub fn write_made(
 ) -> Result<(), AllocError>
     ensures { IsIndexOf index.now log.now → OnOk result (string_bytes text.new ≡ string_bytes text.old ++ made_text contents (births log.now) object) }
 {
-    write!(text, "{object}")?;
-    write_birth_note(text, contents, index.birth(log, object))
+    write_made_by(text, contents, index, log, object, task_of(log, object))
 }
 
 #[tactic(auto, unfolding(crate::specs::Links::stopped_text))]
@@ -207,7 +235,7 @@ pub fn write_run(
     text.push_str(" began on ")?;
     write_worker(text, worker)?;
     write_when_last(text, whole, lines, log, &Happening::Begins(attempt))?;
-    write_again(alloc, text, log, lines, attempt)?;
+    write_again(alloc, text, index, log, log, lines, attempt)?;
     text.push_str(".\n")?;
     Ok(())
 }

@@ -1,8 +1,8 @@
 -- Why a node is as it is.
-use Rattle.std.specs.Prelude.{ℕ, ◌+◌, Bool, true, false, not, ◌&&◌, ◌==◌, nat_lt, if◌then◌else◌, List, [], ◌∷◌, ◌++◌, codes, length, Option, Some, None}
+use Rattle.std.specs.Prelude.{ℕ, ◌+◌, ◌-◌, Bool, true, false, not, ◌&&◌, ◌==◌, nat_lt, if◌then◌else◌, List, [], ◌∷◌, ◌++◌, codes, Option, Some, None, slice_get}
 use Rattle.std.specs.List.{filter, flat_map, list_any}
 use Rattle.meaning.specs.Values.{Id, Outcome, Birth, Put}
-use Rattle.meaning.specs.Births.{same_id}
+use Rattle.meaning.specs.Births.{Bearing, objects_at, same_id}
 use Rattle.values.specs.Cells.{is_small}
 use Rattle.event_log.specs.Entries.{Attempt, Event, Evict, Join, Kill, KillNode, Lose, NoticeNode}
 use Rattle.event_log.specs.Entries.{Entry, In, Opened, Begun, Born, Ended, Released}
@@ -124,14 +124,20 @@ is_put _ = false
 abbrev pub born_there : Site → Id → Birth → Bool
 born_there s o b = is_put b && is_on s.nodes s.node o.owner
 
--- the content of the first object is small
-abbrev pub is_first_small : List Outcome → Bool
-is_first_small [] = true
-is_first_small (c ∷ cs) = is_small c
+abbrev pub is_large_one : Option Outcome → Bool
+is_large_one None = false
+is_large_one (Some c) = not (is_small c)
 
--- a large result of an attempt on it
-abbrev pub ended_there : Site → Attempt → Bool → Bool
-ended_there s a small = not small && is_one_of s.attempts a
+-- the content of the object is large, of those with which the attempt ended
+unfoldable pub is_large_result : Attempt → List Outcome → Id → Bool
+is_large_result a cs o = is_large_one (slice_get cs (o.serial - a.object.serial))
+
+abbrev pub large_results : List Bearing → Attempt → List Outcome → List Id
+large_results births a cs = filter (is_large_result a cs) (objects_at births a.object)
+
+-- those with large contents, of an attempt on it
+abbrev pub ended_there : List Bearing → Site → Attempt → List Outcome → List Id
+ended_there births s a cs = if is_one_of s.attempts a then large_results births a cs else []
 
 abbrev pub without_if : Bool → List Id → Id → List Id
 without_if there ids o = if there then without ids o else ids
@@ -139,28 +145,32 @@ without_if there ids o = if there then without ids o else ids
 abbrev pub with_if : Bool → List Id → Id → List Id
 with_if there ids o = if there then with_one ids o else ids
 
--- the objects whose primary copy is there behind the entry, of those before it
-abbrev pub copies_after : Site → List Id → Entry → Bool → List Id
-copies_after s ids (Born o a b) refused = with_if (born_there s o b) ids o
-copies_after s ids (Ended a cs) refused = with_if (ended_there s a (is_first_small cs)) ids a.object
-copies_after s ids (Released o) refused = without ids o
-copies_after s ids (In (Lose n o) seat) refused = without_if ((n == s.node) && not refused) ids o
-copies_after s ids _ refused = ids
+abbrev pub with_all : List Id → List Id → List Id
+with_all ids [] = ids
+with_all ids (o ∷ os) = with_all (with_one ids o) os
 
-abbrev pub copies_from : Site → List Id → List Entry → List Id
-copies_from s ids [] = ids
-copies_from s ids (x ∷ rest) = copies_from s (copies_after s ids x (refused_next rest)) rest
+-- the objects whose primary copy is there behind the entry, of those before it
+abbrev pub copies_after : List Bearing → Site → List Id → Entry → Bool → List Id
+copies_after births s ids (Born o a b) refused = with_if (born_there s o b) ids o
+copies_after births s ids (Ended a cs) refused = with_all ids (ended_there births s a cs)
+copies_after births s ids (Released o) refused = without ids o
+copies_after births s ids (In (Lose n o) seat) refused = without_if ((n == s.node) && not refused) ids o
+copies_after births s ids _ refused = ids
+
+abbrev pub copies_from : List Bearing → Site → List Id → List Entry → List Id
+copies_from births s ids [] = ids
+copies_from births s ids (x ∷ rest) = copies_from births s (copies_after births s ids x (refused_next rest)) rest
 
 -- n2 lost the primary copies of o1.2, o1.5.
 abbrev pub lost_note : Contents → ℕ → List Id → List ℕ
 lost_note how n [] = []
 lost_note how n (o ∷ rest) = node_text n ++ (codes " lost the primary copies of " ++ (ids_text how (o ∷ rest) ++ codes ".\n"))
 
-unfoldable pub lost_text : Contents → Site → List Entry → List ℕ
-lost_text how s before = lost_note how s.node (copies_from s [] before)
+unfoldable pub lost_text : Contents → List Bearing → Site → List Entry → List ℕ
+lost_text how births s before = lost_note how s.node (copies_from births s [] before)
 
 unfoldable pub node_death : Contents → List Entry → Site → List Entry → Moment → List ℕ
-node_death how log s before m = death_line log m s.node ++ (broken_lines log s ++ lost_text how s before)
+node_death how log s before m = death_line log m s.node ++ (broken_lines log s ++ lost_text how (births log) s before)
 
 -- ---- entry by entry
 

@@ -1,5 +1,5 @@
 -- Why a worker is as it is.
-use Rattle.std.specs.Prelude.{ℕ, Bool, not, ◌&&◌, ◌||◌, ◌==◌, if◌then◌else◌, List, [], ◌∷◌, ◌++◌, codes, Option, Some, None}
+use Rattle.std.specs.Prelude.{ℕ, Bool, not, ◌&&◌, ◌||◌, ◌==◌, if◌then◌else◌, List, [], ◌∷◌, ◌++◌, codes, Option}
 use Rattle.std.specs.List.{flat_map}
 use Rattle.meaning.specs.Values.{Id}
 use Rattle.event_log.specs.Entries.{Attempt, Event, Kill, KillNode, Notice, NoticeNode}
@@ -7,6 +7,7 @@ use Rattle.event_log.specs.Entries.{Entry, In, Opened, Begun, Born, Ended, Accep
 use Rattle.event_log.specs.Events.{from_one}
 use Rattle.event_log.specs.Words.{births, opened}
 use Rattle.log_words.specs.declared.contents.Contents.{Contents}
+use Rattle.log_words.specs.Tasks.{objects_made}
 use Rattle.protocol_data.specs.declared.message.Letter.{Letter}
 use Rattle.main_text.specs.Links.{worker_text}
 use Rattle.why_text.specs.Entries.{accepted_text, began_text, ended_text, faulted_text, given_up_text}
@@ -58,7 +59,7 @@ worker_sentence how log lines letters s before m (In e seat) refused = if refuse
 worker_sentence how log lines letters s before m x refused = entry_sentence how log lines letters s before m x
 
 abbrev pub owned_in : ℕ → Entry → List Id
-owned_in w (Born o a b) = if o.owner == w then o ∷ [] else []
+owned_in w (Born o a b) = if o.owner == w then objects_made o b else []
 owned_in w _ = []
 
 -- the objects that it made, and so owns

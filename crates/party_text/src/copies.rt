@@ -4,21 +4,24 @@ ghost use Rattle.std.specs.Prelude.{◌≡◌, ◌∷◌, ◌++◌, [], IfOk, On
 ghost use Rattle.std.specs.List.{filter};
 ghost use Rattle.meaning.specs.Births.{same_id};
 ghost use Rattle.task_spec.specs.Births.{birth_of};
+ghost use Rattle.event_log.specs.Words.{births};
+ghost use Rattle.log_words.specs.Index.{IsIndexOf};
 ghost use Rattle.main_text.specs.Links.{node_text};
 ghost use Rattle.party_text.specs.Lists.{ids_text};
-ghost use Rattle.party_text.specs.Nodes.{born_there, copies_after, copies_from, ended_there, is_first_small, is_put, lost_note, lost_text};
-ghost use Rattle.party_text.specs.Nodes.{seen_of, with_if, with_one, without, without_if};
+ghost use Rattle.party_text.specs.Nodes.{born_there, copies_after, copies_from, ended_there, is_large_result, is_put, large_results, lost_note};
+ghost use Rattle.party_text.specs.Nodes.{lost_text, seen_of, with_all, with_if, with_one, without, without_if};
 
 use crate::lists::{is_one_of, write_ids};
 use crate::sites::{Site, is_on};
 use held::SharedContent;
 use ids::{AttemptId, NodeId, ObjectId};
 use log_entries::{Entry, Event};
-use log_words::{Contents, is_refusal_at};
+use log_words::{BirthIndex, Contents, is_refusal_at};
 use main_text::write_node;
 use sequence::Seq;
 use std::alloc::{AllocError, Global};
 use task_spec::Birth;
+use why_text::objects_of;
 
 fn add_other(kept: &mut Vec<ObjectId>, object: ObjectId, item: ObjectId) -> Result<(), AllocError>
     ensures { OnOk result (kept.new.items ≡ kept.old.items ++ filter (λ p. not (same_id p object)) (item ∷ [])) }
@@ -100,31 +103,122 @@ fn born_there(site: &Site, object: ObjectId, birth: &Birth) -> bool
     is_put(birth) && is_on(&site.nodes, site.node, object.owner.0)
 }
 
-/// Whether the content of the first object is small.
-fn is_first_small(contents: &Seq<SharedContent>) -> bool
-    ensures { result ≡ is_first_small contents.now }
+/// The objects with those behind them, each once.
+fn with_all(
+    alloc: Global,
+    objects: Vec<ObjectId>,
+    others: &[ObjectId],
+) -> Result<Vec<ObjectId>, AllocError>
+    ensures { IfOk result (λ all. all.items ≡ with_all objects.items others.now) }
 {
-    let [first, ..] = contents.as_slice() else {
-        return true;
+    let mut all = objects;
+    for object in others {
+        all = with_one(alloc, &all, *object)?;
+    }
+    Ok(all)
+}
+
+/// Whether the content of the object is large, of those with which the attempt ended.
+#[tactic(auto, unfolding(crate::specs::Nodes::is_large_result))]
+fn is_large_result(attempt: AttemptId, results: &Seq<SharedContent>, object: ObjectId) -> bool
+    ensures { result ≡ is_large_result attempt results.now object }
+{
+    let place = object.serial.saturating_sub(attempt.object.serial) as usize;
+    let Some(content) = results.as_slice().get(place) else {
+        return false;
     };
-    first.is_small()
+    !content.is_small()
 }
 
-fn ended_there(site: &Site, attempt: AttemptId, is_small: bool) -> bool
-    ensures { result ≡ ended_there (seen_of site.now) attempt is_small }
+fn add_large(
+    large: &mut Vec<ObjectId>,
+    attempt: AttemptId,
+    results: &Seq<SharedContent>,
+    object: ObjectId,
+) -> Result<(), AllocError>
+    ensures { OnOk result (large.new.items ≡ large.old.items ++ filter (is_large_result attempt results.now) (object ∷ [])) }
 {
-    !is_small && is_one_of(&site.attempts, attempt)
+    if is_large_result(attempt, results, object) {
+        return Ok(large.push(object)?);
+    }
+    Ok(())
 }
 
-/// The objects whose primary copy is at the node behind the entry, of those before it.
+fn large_among(
+    alloc: Global,
+    attempt: AttemptId,
+    results: &Seq<SharedContent>,
+    objects: &[ObjectId],
+) -> Result<Vec<ObjectId>, AllocError>
+    ensures { IfOk result (λ large. large.items ≡ filter (is_large_result attempt results.now) objects.now) }
+{
+    let mut large = Vec::new(alloc);
+    for object in objects {
+        add_large(&mut large, attempt, results, *object)?;
+    }
+    Ok(large)
+}
+
+/// Those of the attempt's objects whose contents are large, by the log of which that is the index.
+fn large_results(
+    alloc: Global,
+    index: &BirthIndex,
+    log: &[Entry],
+    attempt: AttemptId,
+    results: &Seq<SharedContent>,
+) -> Result<Vec<ObjectId>, AllocError>
+    ensures { IsIndexOf index.now log.now → IfOk result
+        (λ large. large.items ≡ large_results (births log.now) attempt results.now) }
+{
+    let objects = objects_of(alloc, index, log, attempt)?;
+    large_among(alloc, attempt, results, &objects)
+}
+
+fn ended_there(
+    alloc: Global,
+    index: &BirthIndex,
+    log: &[Entry],
+    site: &Site,
+    attempt: AttemptId,
+    results: &Seq<SharedContent>,
+) -> Result<Vec<ObjectId>, AllocError>
+    ensures { IsIndexOf index.now log.now → IfOk result
+        (λ there. there.items ≡ ended_there (births log.now) (seen_of site.now) attempt results.now) }
+{
+    if is_one_of(&site.attempts, attempt) {
+        return large_results(alloc, index, log, attempt, results);
+    }
+    Ok(Vec::new(alloc))
+}
+
+fn with_ended(
+    alloc: Global,
+    index: &BirthIndex,
+    log: &[Entry],
+    site: &Site,
+    objects: Vec<ObjectId>,
+    attempt: AttemptId,
+    results: &Seq<SharedContent>,
+) -> Result<Vec<ObjectId>, AllocError>
+    ensures { IsIndexOf index.now log.now → IfOk result
+        (λ all. all.items ≡ with_all objects.items (ended_there (births log.now) (seen_of site.now) attempt results.now)) }
+{
+    let there = ended_there(alloc, index, log, site, attempt, results)?;
+    with_all(alloc, objects, &there)
+}
+
+/// The objects whose primary copy is at the node behind the entry, of those before it; the index is that of the whole log.
 fn copies_after(
     alloc: Global,
+    index: &BirthIndex,
+    log: &[Entry],
     site: &Site,
     objects: Vec<ObjectId>,
     entry: &Entry,
     is_refused: bool,
 ) -> Result<Vec<ObjectId>, AllocError>
-    ensures { IfOk result (λ all. all.items ≡ copies_after (seen_of site.now) objects.items entry.now is_refused) }
+    ensures { IsIndexOf index.now log.now → IfOk result
+        (λ all. all.items ≡ copies_after (births log.now) (seen_of site.now) objects.items entry.now is_refused) }
 {
     match entry {
         Entry::Born { object, birth, .. } => {
@@ -132,8 +226,7 @@ fn copies_after(
             with_if(alloc, there, objects, *object)
         }
         Entry::Ended { attempt, contents } => {
-            let there = ended_there(site, *attempt, is_first_small(contents));
-            with_if(alloc, there, objects, attempt.object)
+            with_ended(alloc, index, log, site, objects, *attempt, contents)
         }
         Entry::Released(object) => without(alloc, &objects, *object),
         Entry::In {
@@ -148,13 +241,20 @@ fn copies_after(
 }
 
 /// The objects whose primary copy is at the node behind these entries.
-fn copies_at(alloc: Global, site: &Site, before: &[Entry]) -> Result<Vec<ObjectId>, AllocError>
-    ensures { IfOk result (λ all. all.items ≡ copies_from (seen_of site.now) [] before.now) }
+fn copies_at(
+    alloc: Global,
+    index: &BirthIndex,
+    log: &[Entry],
+    site: &Site,
+    before: &[Entry],
+) -> Result<Vec<ObjectId>, AllocError>
+    ensures { IsIndexOf index.now log.now → IfOk result
+        (λ all. all.items ≡ copies_from (births log.now) (seen_of site.now) [] before.now) }
 {
     let mut objects = Vec::new(alloc);
     for (place, entry) in before.iter().enumerate() {
         let is_refused = is_refusal_at(before, place + 1);
-        objects = copies_after(alloc, site, objects, entry, is_refused)?;
+        objects = copies_after(alloc, index, log, site, objects, entry, is_refused)?;
     }
     Ok(objects)
 }
@@ -195,11 +295,14 @@ pub fn write_lost(
     alloc: Global,
     text: &mut String,
     contents: Contents,
+    index: &BirthIndex,
+    log: &[Entry],
     site: &Site,
     before: &[Entry],
 ) -> Result<(), AllocError>
-    ensures { OnOk result (string_bytes text.new ≡ string_bytes text.old ++ lost_text contents (seen_of site.now) before.now) }
+    ensures { IsIndexOf index.now log.now → OnOk result
+        (string_bytes text.new ≡ string_bytes text.old ++ lost_text contents (births log.now) (seen_of site.now) before.now) }
 {
-    let objects = copies_at(alloc, site, before)?;
+    let objects = copies_at(alloc, index, log, site, before)?;
     write_lost_note(text, contents, site.node, &objects)
 }

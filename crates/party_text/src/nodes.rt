@@ -165,7 +165,7 @@ fn write_node_death(
 {
     write_death_line(alloc, text, log, moment, site.node)?;
     write_broken_lines(text, index, log, site)?;
-    write_lost(alloc, text, contents, site, before)
+    write_lost(alloc, text, contents, index, log, site, before)
 }
 
 fn write_worker_death(

@@ -10,7 +10,7 @@ use crate::deaths::{ran_on, write_death, write_death_with, write_opened};
 use crate::lists::{is_one_of, write_ids};
 use ids::{AttemptId, ObjectId, WorkerId};
 use log_entries::{Entry, Event};
-use log_words::{BirthIndex, Contents};
+use log_words::{BirthIndex, Contents, add_objects};
 use main_text::write_worker;
 use protocol_data::Letter;
 use std::alloc::{AllocError, Global};
@@ -140,7 +140,7 @@ fn write_entry(
         }
         Entry::Accepted(attempt) => {
             if is_one_of(&subject.attempts, *attempt) {
-                return write_accepted(text, index, log, before, moment, *attempt);
+                return write_accepted(alloc, text, index, log, before, moment, *attempt);
             }
             Ok(())
         }
@@ -215,11 +215,11 @@ pub fn write_worker_sentence(
 fn add_owned(objects: &mut Vec<ObjectId>, worker: WorkerId, entry: &Entry) -> Result<(), AllocError>
     ensures { OnOk result (objects.new.items ≡ objects.old.items ++ owned_in worker entry.now) }
 {
-    let Entry::Born { object, .. } = entry else {
+    let Entry::Born { object, birth, .. } = entry else {
         return Ok(());
     };
     if object.owner.is(worker) {
-        return Ok(objects.push(*object)?);
+        return add_objects(objects, *object, &birth.inner);
     }
     Ok(())
 }

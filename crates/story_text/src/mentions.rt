@@ -14,7 +14,8 @@ use std::alloc::{AllocError, Global};
 use task_spec::{Argument, Birth};
 use values::{Content, ids_in};
 
-fn is_among(object: ObjectId, ids: &[ObjectId]) -> bool
+/// Whether the object is one of them.
+pub fn is_among(object: ObjectId, ids: &[ObjectId]) -> bool
     ensures { result ≡ is_among object ids.now }
 {
     for id in ids {

@@ -1,13 +1,16 @@
 -- Why an attempt was begun again: what became of the one before it.
-use Rattle.std.specs.Prelude.{ℕ, ◌-◌, Bool, false, ◌==◌, if◌then◌else◌, List, [], ◌∷◌, ◌++◌, codes, Option, Some, None}
+use Rattle.std.specs.Prelude.{ℕ, ◌-◌, Bool, false, ◌==◌, nat_lt, if◌then◌else◌, List, [], ◌∷◌, ◌++◌, codes, length, Option, Some, None}
 use Rattle.std.specs.List.{flat_map, list_any}
 use Rattle.std.specs.Fmt.{decimal}
+use Rattle.meaning.specs.Values.{Id}
+use Rattle.meaning.specs.Births.{Bearing}
 use Rattle.event_log.specs.Entries.{Attempt, Event, KillNode, Entry, Begun, Accepted}
 use Rattle.event_log.specs.Words.{same_attempt}
 use Rattle.history.specs.Main.{first}
 use Rattle.history.specs.Texts.{attempt_text}
 use Rattle.why_text.specs.Moments.{Moment, when_text}
 use Rattle.why_text.specs.Holders.{death_of}
+use Rattle.why_text.specs.Results.{objects_of}
 
 unfoldable pub is_accept_of : Attempt → Entry → Bool
 is_accept_of a (Accepted b) = same_attempt b a
@@ -28,9 +31,11 @@ runner_of log a = first (flat_map (runner_in a) log)
 abbrev pub one_before : Attempt → Attempt
 one_before a = record { object = a.object; number = a.number - 1 }
 
--- , since the result of a1.1#0 was lost
-unfoldable pub lost_text : Attempt → List ℕ
-lost_text a = codes ", since the result of " ++ (attempt_text a ++ codes " was lost")
+-- , since the result of a1.1#0 was lost; of several, one of these objects
+unfoldable pub lost_text : List Id → Attempt → List ℕ
+lost_text objects a =
+    if nat_lt 1 (length objects) then codes ", since a result of " ++ (attempt_text a ++ codes " was lost")
+    else codes ", since the result of " ++ (attempt_text a ++ codes " was lost")
 
 -- the worker died in the event, by itself or with its node
 unfoldable pub died_by : ℕ → Event → List ℕ
@@ -57,10 +62,11 @@ abbrev pub broken_text : List ℕ → List Entry → Option ℕ → List ℕ
 broken_text lines before None = broke_text
 broken_text lines before (Some w) = death_text lines before w
 
--- an attempt whose end the owner knew is not run again unless its result was lost; any other broke with its worker
-unfoldable pub reason_text : List ℕ → List Entry → Attempt → List ℕ
-reason_text lines before a = if is_accepted_in before a then lost_text a else broken_text lines before (runner_of before a)
+-- an attempt whose end the owner knew is not run again unless a result of it was lost; any other broke with its worker
+unfoldable pub reason_text : List Bearing → List ℕ → List Entry → Attempt → List ℕ
+reason_text births lines before a =
+    if is_accepted_in before a then lost_text (objects_of births a) a else broken_text lines before (runner_of before a)
 
 -- behind a later attempt of a task; `before` are the entries before it, and `lines` are those of their events
-unfoldable pub again_note : List ℕ → List Entry → Attempt → List ℕ
-again_note lines before a = if a.number == 0 then [] else reason_text lines before (one_before a)
+unfoldable pub again_note : List Bearing → List ℕ → List Entry → Attempt → List ℕ
+again_note births lines before a = if a.number == 0 then [] else reason_text births lines before (one_before a)

@@ -7,6 +7,7 @@ use Rattle.meaning.specs.Values.{Id}
 use Rattle.meaning.specs.Births.{same_id}
 use Rattle.event_log.specs.Entries.{Attempt, Event, Notice, NoticeNode, Evict, Lose, Kill, KillNode}
 use Rattle.history.specs.Texts.{attempt_text}
+use Rattle.story_text.specs.Mentions.{is_among}
 use Rattle.why_text.specs.Moments.{Moment, when_text}
 use Rattle.why_text.specs.Notes.{owner_text}
 use Rattle.why_text.specs.Runs.{Run, Subject, is_node}
@@ -39,6 +40,10 @@ concerns s w = (s.object.owner == w) || list_any (is_on w) s.runs
 -- so one on the node
 unfoldable pub concerns_node : Subject → ℕ → Bool
 concerns_node s n = is_node n s.home || list_any (is_at n) s.runs
+
+-- it is the object, or another result of its task, with which the object is made again
+unfoldable pub is_of_task : Subject → Id → Bool
+is_of_task s o = same_id o s.object || is_among o s.results
 
 -- w2 died, or w1, the owner of o1.1, died
 unfoldable pub dead_text : Id → ℕ → List ℕ
@@ -92,6 +97,6 @@ event_sentence s m (Kill w) = if concerns s w then kill_text s m w else []
 event_sentence s m (KillNode n) = if concerns_node s n then node_kill_text s m n else []
 event_sentence s m (Notice w v) = if (s.object.owner == w || s.object.owner == v) && concerns s v then notice_text m w v else []
 event_sentence s m (NoticeNode w n) = if (s.object.owner == w || is_node n s.home) && concerns_node s n then node_notice_text m w n else []
-event_sentence s m (Lose n o) = if same_id o s.object then copies_text m n (codes " lost its copies of ") o else []
+event_sentence s m (Lose n o) = if is_of_task s o then copies_text m n (codes " lost its copies of ") o else []
 event_sentence s m (Evict n o) = if same_id o s.object then copies_text m n (codes " dropped its secondary copies of ") o else []
 event_sentence s m _ = []

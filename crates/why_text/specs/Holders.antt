@@ -1,15 +1,17 @@
--- What had an object, and which of that went with its owner; `before` are the entries up to then, and `lines` are those of their events.
+-- What had an object, and which of that went with its owner; `before` are the entries up to then, `lines` are those of their events, and `births` are
+-- those of the whole log.
 use Rattle.std.specs.Prelude.{ℕ, Bool, true, false, not, ◌&&◌, ◌==◌, if◌then◌else◌, List, [], ◌∷◌, Option, Some, None}
-use Rattle.std.specs.List.{flat_map, list_all, list_any}
+use Rattle.std.specs.List.{filter, flat_map, list_any}
 use Rattle.meaning.specs.Values.{Id}
-use Rattle.meaning.specs.Births.{same_id}
-use Rattle.values.specs.Cells.{is_small}
+use Rattle.meaning.specs.Births.{Bearing, same_id}
 use Rattle.event_log.specs.Entries.{Attempt, FaultKind, OwnerDied, Fault, Kill, KillNode, Entry, In, Born, Ended, Released}
 use Rattle.event_log.specs.Words.{opened, same_attempt}
 use Rattle.event_log.specs.Events.{from_one, refused_next}
 use Rattle.history.specs.Main.{first}
-use Rattle.story_text.specs.Mentions.{is_in_birth, is_in_contents}
+use Rattle.log_words.specs.Tasks.{objects_made}
+use Rattle.story_text.specs.Mentions.{is_among, is_in_birth}
 use Rattle.why_text.specs.Moments.{Moment, first_moment, moment_after}
+use Rattle.why_text.specs.Results.{is_in_result, is_small_result, objects_of}
 use Rattle.why_text.specs.Runs.{is_node}
 
 -- the event kills the worker, or its node
@@ -27,11 +29,11 @@ death_from lines m w n (x ∷ rest) =
 unfoldable pub death_of : List ℕ → List Entry → ℕ → Option Moment
 death_of lines before w = death_from lines first_moment w (from_one (opened before) w) before
 
--- the object that has the other by the entry: in its put value, in its arguments, or in a content with which an attempt of it ended
-unfoldable pub holder_in : Id → Entry → Option Id
-holder_in o (Born e a b) = if is_in_birth o b then Some e else None
-holder_in o (Ended a cs) = if is_in_contents o cs then Some a.object else None
-holder_in o _ = None
+-- the objects that have the other by the entry: in their put value, in their arguments, or in the content that an attempt ended with for them
+unfoldable pub holders_in : List Bearing → Id → Entry → List Id
+holders_in births o (Born e a b) = if is_in_birth o b then objects_made e b else []
+holders_in births o (Ended a cs) = filter (is_in_result o a cs) (objects_of births a)
+holders_in births o _ = []
 
 unfoldable pub is_release_of : Id → Entry → Bool
 is_release_of o (Released p) = same_id p o
@@ -48,41 +50,33 @@ is_found (Some m) = true
 unfoldable pub is_gone : List ℕ → List Entry → Id → Bool
 is_gone lines before e = if is_released_in e before then false else is_found (death_of lines before e.owner)
 
-abbrev pub if_gone : List ℕ → List Entry → Option Id → List Id
-if_gone lines before None = []
-if_gone lines before (Some e) = if is_gone lines before e then e ∷ [] else []
-
-abbrev pub gone_in : List ℕ → List Entry → Id → Entry → List Id
-gone_in lines before o x = if_gone lines before (holder_in o x)
+abbrev pub gone_in : List Bearing → List ℕ → List Entry → Id → Entry → List Id
+gone_in births lines before o x = filter (is_gone lines before) (holders_in births o x)
 
 -- the first object that had the other and went with its owner
-unfoldable pub gone_holder : List ℕ → List Entry → Id → Option Id
-gone_holder lines before o = first (flat_map (gone_in lines before o) before)
+unfoldable pub gone_holder : List Bearing → List ℕ → List Entry → Id → Option Id
+gone_holder births lines before o = first (flat_map (gone_in births lines before o) before)
 
-abbrev pub is_that : Id → Option Id → Bool
-is_that e None = false
-is_that e (Some p) = same_id p e
-
-abbrev pub is_had_in : Id → Id → Entry → Bool
-is_had_in e o x = is_that e (holder_in o x)
+abbrev pub is_had_in : List Bearing → Id → Id → Entry → Bool
+is_had_in births e o x = is_among e (holders_in births o x)
 
 -- the first object had the second
-abbrev pub has : List Entry → Id → Id → Bool
-has before e o = list_any (is_had_in e o) before
+abbrev pub has : List Bearing → List Entry → Id → Id → Bool
+has births before e o = list_any (is_had_in births e o) before
 
 abbrev pub is_owner_died : FaultKind → Bool
 is_owner_died OwnerDied = true
 is_owner_died _ = false
 
 -- the object was released, and the fault began in one that had it, whose owner died
-unfoldable pub is_from_above : List Entry → Id → Fault → Bool
-is_from_above before y f =
-    if is_owner_died f.kind then (if is_released_in y before then has before f.object y else false) else false
+unfoldable pub is_from_above : List Bearing → List Entry → Id → Fault → Bool
+is_from_above births before y f =
+    if is_owner_died f.kind then (if is_released_in y before then has births before f.object y else false) else false
 
--- the attempt ended with small contents: their owner keeps them once it accepts it, and no store has them
-unfoldable pub is_small_end : Attempt → Entry → Bool
-is_small_end a (Ended b cs) = same_attempt b a && list_all is_small cs
-is_small_end a _ = false
+-- the attempt ended with a small content of the object: its owner keeps that once it accepts the end, and no store has it
+unfoldable pub is_small_end : Attempt → Id → Entry → Bool
+is_small_end a o (Ended b cs) = same_attempt b a && is_small_result a cs o
+is_small_end a o _ = false
 
-abbrev pub is_kept : List Entry → Attempt → Bool
-is_kept before a = list_any (is_small_end a) before
+abbrev pub is_kept : List Entry → Attempt → Id → Bool
+is_kept before a o = list_any (is_small_end a o) before

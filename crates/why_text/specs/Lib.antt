@@ -1,3 +1,4 @@
+pub mod Results
 pub mod Runs
 pub mod Moments
 pub mod Events

@@ -1,11 +1,15 @@
 -- What is told beside a release, a fault and an end that was accepted.
-use Rattle.std.specs.Prelude.{ℕ, if◌then◌else◌, List, [], ◌++◌, codes, Option, Some, None}
+use Rattle.std.specs.Prelude.{ℕ, nat_lt, if◌then◌else◌, List, [], ◌∷◌, ◌++◌, codes, length, Option, Some, None}
+use Rattle.std.specs.List.{filter}
 use Rattle.std.specs.Fmt.{decimal}
 use Rattle.report.specs.Values.{id_text}
 use Rattle.meaning.specs.Values.{Id}
+use Rattle.meaning.specs.Births.{Bearing}
 use Rattle.event_log.specs.Entries.{Attempt, Fault, Entry}
+use Rattle.log_words.specs.Tasks.{listed_text}
 use Rattle.why_text.specs.Moments.{Moment, when_text}
 use Rattle.why_text.specs.Holders.{death_of, gone_holder, is_from_above, is_kept}
+use Rattle.why_text.specs.Results.{objects_of}
 
 -- the worker that owns the object
 unfoldable pub owner_text : Id → List ℕ
@@ -27,17 +31,27 @@ holder_note lines before None = []
 holder_note lines before (Some e) = death_note lines before e
 
 -- why nothing needs the object any more, where what had it went with its owner
-unfoldable pub release_note : List ℕ → List Entry → Id → List ℕ
-release_note lines before o = holder_note lines before (gone_holder lines before o)
+unfoldable pub release_note : List Bearing → List ℕ → List Entry → Id → List ℕ
+release_note births lines before o = holder_note lines before (gone_holder births lines before o)
 
 -- ; o3.1, which o2.1 had, was released
 unfoldable pub above_note : Id → Id → List ℕ
 above_note y e = codes "; " ++ (id_text y ++ (codes ", which " ++ (id_text e ++ codes " had, was released")))
 
 -- why the fault of one object answers a get of another
-unfoldable pub fault_note : List Entry → Id → Fault → List ℕ
-fault_note before y f = if is_from_above before y f then above_note y f.object else []
+unfoldable pub fault_note : List Bearing → List Entry → Id → Fault → List ℕ
+fault_note births before y f = if is_from_above births before y f then above_note y f.object else []
+
+-- , and keeps o1.2, o1.3 itself, which no node can lose
+unfoldable pub several_kept : List Id → List ℕ
+several_kept kept = codes ", and keeps " ++ (listed_text kept ++ codes " itself, which no node can lose")
+
+-- those of a task's objects that are kept
+abbrev pub kept_text : List Id → List Id → List ℕ
+kept_text objects [] = []
+kept_text objects (o ∷ os) =
+    if nat_lt 1 (length objects) then several_kept (o ∷ os) else codes ", and keeps the result itself: no node can lose it"
 
 -- a small result is in no store
-unfoldable pub kept_note : List Entry → Attempt → List ℕ
-kept_note before a = if is_kept before a then codes ", and keeps the result itself: no node can lose it" else []
+unfoldable pub kept_note : List Bearing → List Entry → Attempt → List ℕ
+kept_note births before a = kept_text (objects_of births a) (filter (is_kept before a) (objects_of births a))

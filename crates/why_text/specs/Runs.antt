@@ -2,9 +2,9 @@
 use Rattle.std.specs.Prelude.{ℕ, Bool, false, not, ◌&&◌, ◌||◌, ◌==◌, if◌then◌else◌, List, [], ◌∷◌, Option, Some, None, map}
 use Rattle.std.specs.List.{flat_map, list_any}
 use Rattle.meaning.specs.Values.{Id}
-use Rattle.meaning.specs.Births.{same_id}
+use Rattle.meaning.specs.Births.{objects_at, same_id}
 use Rattle.event_log.specs.Entries.{Attempt, Kill, Entry, In, Begun, Ended, Faulted}
-use Rattle.event_log.specs.Words.{opened, same_attempt}
+use Rattle.event_log.specs.Words.{births, opened, same_attempt}
 use Rattle.event_log.specs.Events.{from_one, refused_next}
 use Rattle.why_text.specs.declared.runs.Run.{Run as CodeRun}
 use Rattle.why_text.specs.declared.runs.Subject.{Subject as CodeSubject}
@@ -42,21 +42,29 @@ run_of log a w = record {
 }
 
 abbrev pub run_in : List Entry → Id → Entry → List Run
-run_in log o (Begun a w) = if same_id a.object o then run_of log a w ∷ [] else []
-run_in log o _ = []
+run_in log task (Begun a w) = if same_id a.object task then run_of log a w ∷ [] else []
+run_in log task _ = []
 
--- the attempts of the object's task, in the order in which they were begun
+-- the attempts that are named by the object, in the order in which they were begun
 abbrev pub runs_of : List Entry → Id → List Run
-runs_of log o = flat_map (run_in log o) log
+runs_of log task = flat_map (run_in log task) log
 
--- an object, the node of its owner, and the attempts of its task
+-- an object, the one by which the attempts of its task are named, the objects of that task, the node of their owner, and the attempts
 pub record Subject : Type 0 where
   pub object : Id
+  pub task : Id
+  pub results : List Id
   pub home : Option ℕ
   pub runs : List Run
 
-abbrev pub subject_of : List Entry → Id → Subject
-subject_of log o = record { object = o; home = from_one (opened log) o.owner; runs = runs_of log o }
+abbrev pub subject_of : List Entry → Id → Id → Subject
+subject_of log o task = record {
+  object = o;
+  task = task;
+  results = objects_at (births log) task;
+  home = from_one (opened log) o.owner;
+  runs = runs_of log task;
+}
 
 abbrev pub is_node : ℕ → Option ℕ → Bool
 is_node n None = false
@@ -68,4 +76,4 @@ abbrev pub run_seen : CodeRun → Run
 run_seen r = record { attempt = r.attempt; worker = r.worker; node = r.node; is_open = r.is_open; was_killed = r.was_killed }
 
 abbrev pub seen_of : CodeSubject → Subject
-seen_of s = record { object = s.object; home = s.home; runs = map run_seen s.runs.items }
+seen_of s = record { object = s.object; task = s.task; results = s.results.items; home = s.home; runs = map run_seen s.runs.items }

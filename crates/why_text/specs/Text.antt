@@ -11,6 +11,7 @@ use Rattle.why_text.specs.declared.causes.Lack.{Lack as CodeLack}
 use Rattle.history.specs.Main.{first}
 use Rattle.log_words.specs.declared.contents.Contents.{Contents}
 use Rattle.log_words.specs.Faults.{fault_words}
+use Rattle.log_words.specs.Tasks.{task_of}
 use Rattle.why_text.specs.Moments.{Moment, first_moment, moment_after}
 use Rattle.why_text.specs.Runs.{Subject, subject_of}
 use Rattle.why_text.specs.Entries.{sentence}
@@ -29,18 +30,27 @@ unfoldable pub unborn_note : Id → Option Birth → List ℕ
 unborn_note o (Some b) = []
 unborn_note o None = codes "There is no " ++ (id_text o ++ codes ".\n")
 
+-- of an object, whose task is named by that one: that there is none, or what the entries say one by one
+abbrev pub account_of : Contents → List Entry → List ℕ → Id → Id → List ℕ
+account_of how log lines o task =
+    unborn_note o (birth_at (births log) task) ++ sentences how (subject_of log o task) (births log) lines log 0 first_moment log
+
 -- what the log says of an object, entry by entry
 unfoldable pub account : Contents → List Entry → List ℕ → Id → List ℕ
-account how log lines o = unborn_note o (birth_at (births log) o) ++ sentences how (subject_of log o) (births log) lines log 0 first_moment log
+account how log lines o = account_of how log lines o (task_of (births log) o)
 
--- the object in which the fault of another began, where the entry says that the other has a fault
-unfoldable pub cause_in : Id → Entry → List Id
-cause_in o (Resolved p f) = if same_id p o then f.object ∷ [] else []
-cause_in o (Faulted a y f) = if same_id a.object o then f.object ∷ [] else (if same_id y o then f.object ∷ [] else [])
-cause_in o _ = []
+-- the object in which the fault of another began, where the entry says that the other has a fault: it was given up, an attempt of its task ended with
+-- the fault, or a get of it was answered so
+unfoldable pub cause_in : Id → Id → Entry → List Id
+cause_in o task (Resolved p f) = if same_id p o then f.object ∷ [] else []
+cause_in o task (Faulted a y f) = if same_id a.object task then f.object ∷ [] else (if same_id y o then f.object ∷ [] else [])
+cause_in o task _ = []
+
+abbrev pub cause_by : List Entry → Id → Id → Option Id
+cause_by log o task = first (flat_map (cause_in o task) log)
 
 abbrev pub cause : List Entry → Id → Option Id
-cause log o = first (flat_map (cause_in o) log)
+cause log o = cause_by log o (task_of (births log) o)
 
 -- where a fault began in another object, that one's account follows
 abbrev pub cause_text : Contents → List Entry → List ℕ → Id → Option Id → List ℕ

@@ -5,12 +5,14 @@ use Rattle.meaning.specs.Births.{same_id}
 use Rattle.meaning.specs.Values.{Id}
 use Rattle.task_spec.specs.Dereferenced.{dereferenced_in}
 use Rattle.event_log.specs.Entries.{Born, Entry, Faulted}
+use Rattle.event_log.specs.Words.{births}
 use Rattle.history.specs.Main.{first}
+use Rattle.log_words.specs.Tasks.{objects_made, task_of}
 
--- the object at whose get an attempt of the other's task ended with a fault that began in z
+-- the object at whose get an attempt that is named by the other ended with a fault that began in z
 unfoldable pub lacked_in : Id → Id → Entry → List Id
-lacked_in z o (Faulted a y f) = if same_id a.object o && same_id f.object z then y ∷ [] else []
-lacked_in z o _ = []
+lacked_in z task (Faulted a y f) = if same_id a.object task && same_id f.object z then y ∷ [] else []
+lacked_in z task _ = []
 
 abbrev pub is_found : List Id → Id → Bool
 is_found found p = list_any (λ q. same_id q p) found
@@ -19,9 +21,9 @@ is_found found p = list_any (λ q. same_id q p) found
 abbrev pub leads : Id → List Id → Id → Bool
 leads z found p = same_id p z || is_found found p
 
--- the object that is born, if one of its dereferenced arguments leads to z
+-- the objects that are born, if one of their dereferenced arguments leads to z
 unfoldable pub leading_in : Id → List Id → Entry → List Id
-leading_in z found (Born o a b) = if list_any (leads z found) (dereferenced_in b) then o ∷ [] else []
+leading_in z found (Born o a b) = if list_any (leads z found) (dereferenced_in b) then objects_made o b else []
 leading_in z found _ = []
 
 -- the objects from which z is reached by dereferenced arguments, in birth order, behind those that were found
@@ -29,23 +31,26 @@ abbrev pub leading_from : Id → List Id → List Entry → List Id
 leading_from z found [] = found
 leading_from z found (x ∷ rest) = leading_from z (found ++ leading_in z found x) rest
 
--- the dereferenced arguments of the object that lead to z
+-- the dereferenced arguments of the task with that first object that lead to z
 unfoldable pub argument_in : Id → List Id → Id → Entry → List Id
-argument_in z found o (Born p a b) = if same_id p o then filter (leads z found) (dereferenced_in b) else []
-argument_in z found o _ = []
+argument_in z found task (Born p a b) = if same_id p task then filter (leads z found) (dereferenced_in b) else []
+argument_in z found task _ = []
 
 abbrev pub argument_among : List Entry → Id → Id → List Id → Option Id
-argument_among log z o found = first (flat_map (argument_in z found o) log)
+argument_among log z task found = first (flat_map (argument_in z found task) log)
 
 -- the first of them
 abbrev pub argument_to : List Entry → Id → Id → Option Id
-argument_to log z o = argument_among log z o (leading_from z [] log)
+argument_to log z task = argument_among log z task (leading_from z [] log)
 
 abbrev pub id_or : Option Id → Id → Id
 id_or None z = z
 id_or (Some y) z = y
 
--- the next object on the way from that one to z: the one that its attempt lacked; else, where it was given up since what it stands on is lost, the
--- argument that leads there; else z itself
+-- the next object on the way from a result of that task to z: the one that an attempt of it lacked; else, where the result was given up since what it
+-- stands on is lost, the argument that leads there; else z itself
+abbrev pub next_from : List Entry → Id → Id → Id
+next_from log z task = id_or (first (flat_map (lacked_in z task) log)) (id_or (argument_to log z task) z)
+
 unfoldable pub next_cause : List Entry → Id → Id → Id
-next_cause log z o = id_or (first (flat_map (lacked_in z o) log)) (id_or (argument_to log z o) z)
+next_cause log z o = next_from log z (task_of (births log) o)

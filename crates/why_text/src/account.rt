@@ -7,14 +7,14 @@ ghost use Rattle.event_log.specs.Words.{births};
 ghost use Rattle.log_words.specs.Index.{IsIndexOf};
 ghost use Rattle.why_text.specs.Moments.{first_moment};
 ghost use Rattle.why_text.specs.Runs.{seen_of, subject_of};
-ghost use Rattle.why_text.specs.Text.{account, sentences, unborn_note};
+ghost use Rattle.why_text.specs.Text.{account, account_of, sentences, unborn_note};
 
 use crate::entries::write_sentence;
 use crate::moments::Moment;
 use crate::runs::Subject;
 use ids::ObjectId;
 use log_entries::Entry;
-use log_words::{BirthIndex, Contents, is_refusal_at};
+use log_words::{BirthIndex, Contents, is_refusal_at, task_of};
 use std::alloc::{AllocError, Global};
 use task_spec::Birth;
 
@@ -59,6 +59,24 @@ fn write_sentences(
     Ok(())
 }
 
+/// Writes what the log says of an object, whose task is named by that one.
+fn write_account_of(
+    alloc: Global,
+    text: &mut String,
+    contents: Contents,
+    log: &[Entry],
+    lines: &[usize],
+    object: ObjectId,
+    task: ObjectId,
+) -> Result<(), AllocError>
+    ensures { OnOk result (string_bytes text.new ≡ string_bytes text.old ++ account_of contents log.now lines.now object task) }
+{
+    let index = BirthIndex::of(alloc, log)?;
+    let subject = Subject::of(alloc, &index, log, object, task)?;
+    write_unborn(text, object, index.birth(log, task))?;
+    write_sentences(alloc, text, contents, &subject, &index, log, lines)
+}
+
 /// Writes what the log says of an object.
 #[tactic(auto, unfolding(crate::specs::Text::account))]
 pub fn write_account(
@@ -71,8 +89,13 @@ pub fn write_account(
 ) -> Result<(), AllocError>
     ensures { OnOk result (string_bytes text.new ≡ string_bytes text.old ++ account contents log.now lines.now object) }
 {
-    let index = BirthIndex::of(alloc, log)?;
-    let subject = Subject::of(alloc, log, object)?;
-    write_unborn(text, object, index.birth(log, object))?;
-    write_sentences(alloc, text, contents, &subject, &index, log, lines)
+    write_account_of(
+        alloc,
+        text,
+        contents,
+        log,
+        lines,
+        object,
+        task_of(log, object),
+    )
 }

@@ -16,12 +16,15 @@ use held::SharedContent;
 use ids::{AttemptId, ObjectId, WorkerId};
 use log_entries::Entry;
 use log_text::write_named;
-use log_words::{BirthIndex, Contents, write_birth, write_content, write_contents, write_fault};
+use log_words::{
+    BirthIndex, Contents, write_birth, write_content, write_contents, write_fault, write_objects,
+};
 use sequence::Seq;
 use std::alloc::{AllocError, Global};
 use task_spec::Birth;
 use values::{Content, Fault};
 
+/// Writes what made the objects of a birth.
 pub fn write_made(
     text: &mut String,
     contents: Contents,
@@ -36,7 +39,8 @@ pub fn write_made(
         ++ made_text contents (births log.now) (moment_of moment.now) object attempt (birth_of birth.now)) }
 {
     write_named(text, index, log, attempt)?;
-    write!(text, " made {object}")?;
+    text.push_str(" made ")?;
+    write_objects(text, object, birth)?;
     write_when(text, moment)?;
     text.push_str(": ")?;
     write_birth(text, contents, birth)?;
@@ -61,7 +65,7 @@ pub fn write_began(
     write_named(text, index, log, attempt)?;
     write!(text, " began on {worker}")?;
     write_when(text, moment)?;
-    write_again(alloc, text, before, lines, attempt)?;
+    write_again(alloc, text, index, log, before, lines, attempt)?;
     text.push_str(".\n")
 }
 
@@ -117,6 +121,7 @@ fn write_accepted_head(text: &mut String, attempt: AttemptId) -> Result<(), Allo
 
 /// Writes that the owner learned how an attempt ended; `before` are the entries before.
 pub fn write_accepted(
+    alloc: Global,
     text: &mut String,
     index: &BirthIndex,
     log: &[Entry],
@@ -130,7 +135,7 @@ pub fn write_accepted(
     write_accepted_head(text, attempt)?;
     write_named(text, index, log, attempt)?;
     write_when(text, moment)?;
-    write_kept_note(text, before, attempt)?;
+    write_kept_note(alloc, text, index, log, before, attempt)?;
     text.push_str(".\n")
 }
 
@@ -176,7 +181,7 @@ pub fn write_faulted(
     write_faulted_head(text, index, log, moment, attempt)?;
     write_get(text, object)?;
     write_fault(text, fault)?;
-    write_fault_note(alloc, text, before, object, fault)?;
+    write_fault_note(alloc, text, index, log, before, object, fault)?;
     text.push_str(".\n")
 }
 
@@ -212,18 +217,21 @@ fn write_released_head(
     text.push_str(": nothing needed it any more")
 }
 
+/// Writes that its owner released the object; `before` are the entries before.
 pub fn write_released(
     alloc: Global,
     text: &mut String,
+    index: &BirthIndex,
+    log: &[Entry],
     before: &[Entry],
     lines: &[usize],
     moment: &Moment,
     object: ObjectId,
 ) -> Result<(), AllocError>
-    ensures { OnOk result (string_bytes text.new
-        ≡ string_bytes text.old ++ released_text lines.now before.now (moment_of moment.now) object) }
+    ensures { IsIndexOf index.now log.now → OnOk result (string_bytes text.new
+        ≡ string_bytes text.old ++ released_text (births log.now) lines.now before.now (moment_of moment.now) object) }
 {
     write_released_head(text, moment, object)?;
-    write_release_note(alloc, text, before, lines, object)?;
+    write_release_note(alloc, text, index, log, before, lines, object)?;
     text.push_str(".\n")
 }

@@ -2,15 +2,20 @@
 
 ghost use Rattle.std.specs.Prelude.{◌≡◌, ◌++◌, OnOk, string_bytes};
 ghost use Rattle.std.specs.Option.{option_map};
+ghost use Rattle.event_log.specs.Words.{births};
 ghost use Rattle.history.specs.Main.{first};
+ghost use Rattle.log_words.specs.Index.{IsIndexOf};
 ghost use Rattle.why_text.specs.Moments.{moment_of};
 ghost use Rattle.why_text.specs.Again.{again_note, broken_text, death_text, died_by, died_head, died_text, is_accept_of, is_accepted_in, lost_text};
 ghost use Rattle.why_text.specs.Again.{one_before, reason_text, runner_in, runner_of};
+ghost use Rattle.why_text.specs.Results.{objects_of};
 
 use crate::holders::death_of;
 use crate::moments::{Moment, write_when};
-use ids::{AttemptId, WorkerId};
+use crate::results::objects_of;
+use ids::{AttemptId, ObjectId, WorkerId};
 use log_entries::{Entry, Event};
+use log_words::BirthIndex;
 use std::alloc::{AllocError, Global};
 
 #[tactic(auto, unfolding(crate::specs::Again::is_accept_of))]
@@ -73,10 +78,28 @@ fn one_before(attempt: AttemptId) -> AttemptId
 }
 
 #[tactic(auto, unfolding(crate::specs::Again::lost_text))]
-fn write_lost(text: &mut String, attempt: AttemptId) -> Result<(), AllocError>
-    ensures { OnOk result (string_bytes text.new ≡ string_bytes text.old ++ lost_text attempt) }
+fn write_lost(text: &mut String, objects: &[ObjectId], attempt: AttemptId) -> Result<(), AllocError>
+    ensures { OnOk result (string_bytes text.new ≡ string_bytes text.old ++ lost_text objects.now attempt) }
 {
+    if objects.len() > 1 {
+        return write!(text, ", since a result of {attempt} was lost");
+    }
     write!(text, ", since the result of {attempt} was lost")
+}
+
+/// Writes that a result of the attempt was lost; the index is that of the whole log.
+fn write_lost_of(
+    alloc: Global,
+    text: &mut String,
+    index: &BirthIndex,
+    log: &[Entry],
+    attempt: AttemptId,
+) -> Result<(), AllocError>
+    ensures { IsIndexOf index.now log.now → OnOk result
+        (string_bytes text.new ≡ string_bytes text.old ++ lost_text (objects_of (births log.now) attempt) attempt) }
+{
+    let objects = objects_of(alloc, index, log, attempt)?;
+    write_lost(text, &objects, attempt)
 }
 
 #[tactic(auto, unfolding(crate::specs::Again::died_by))]
@@ -145,32 +168,38 @@ fn write_broken(
 fn write_reason(
     alloc: Global,
     text: &mut String,
+    index: &BirthIndex,
     log: &[Entry],
+    before: &[Entry],
     lines: &[usize],
     attempt: AttemptId,
 ) -> Result<(), AllocError>
-    ensures { OnOk result (string_bytes text.new ≡ string_bytes text.old ++ reason_text lines.now log.now attempt) }
+    ensures { IsIndexOf index.now log.now → OnOk result
+        (string_bytes text.new ≡ string_bytes text.old ++ reason_text (births log.now) lines.now before.now attempt) }
 {
-    if is_accepted_in(log, attempt) {
-        return write_lost(text, attempt);
+    if is_accepted_in(before, attempt) {
+        return write_lost_of(alloc, text, index, log, attempt);
     }
-    write_broken(alloc, text, log, lines, runner_of(log, attempt))
+    write_broken(alloc, text, before, lines, runner_of(before, attempt))
 }
 
-/// Writes why a later attempt of a task was begun: since the worker of the one before it died, or its node, and when, or since its result
-/// was lost. `log` are the entries before it, and `lines` are those of their events.
+/// Writes why a later attempt of a task was begun: since the worker of the one before it died, or its node, and when, or since a result of that
+/// one was lost. `before` are the entries of the log before it, and `lines` are those of their events.
 #[tactic(auto, unfolding(crate::specs::Again::again_note))]
 pub fn write_again(
     alloc: Global,
     text: &mut String,
+    index: &BirthIndex,
     log: &[Entry],
+    before: &[Entry],
     lines: &[usize],
     attempt: AttemptId,
 ) -> Result<(), AllocError>
-    ensures { OnOk result (string_bytes text.new ≡ string_bytes text.old ++ again_note lines.now log.now attempt) }
+    ensures { IsIndexOf index.now log.now → OnOk result
+        (string_bytes text.new ≡ string_bytes text.old ++ again_note (births log.now) lines.now before.now attempt) }
 {
     if attempt.number == 0 {
         return Ok(());
     }
-    write_reason(alloc, text, log, lines, one_before(attempt))
+    write_reason(alloc, text, index, log, before, lines, one_before(attempt))
 }

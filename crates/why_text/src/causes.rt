@@ -5,21 +5,21 @@ ghost use Rattle.std.specs.Option.{option_map};
 ghost use Rattle.event_log.specs.Entries.{main_attempt};
 ghost use Rattle.event_log.specs.Words.{faulted_in, faults_of};
 ghost use Rattle.history.specs.Main.{first};
-ghost use Rattle.why_text.specs.Text.{cause, cause_in, cause_text, causes_text, lack_of, main_lack_text, why_text};
+ghost use Rattle.why_text.specs.Text.{cause, cause_by, cause_in, cause_text, causes_text, lack_of, main_lack_text, why_text};
 
 use crate::account::write_account;
 use crate::ways::next_cause;
 use history::main_end::is_main;
 use ids::ObjectId;
 use log_entries::Entry;
-use log_words::{Contents, write_fault};
+use log_words::{Contents, task_of, write_fault};
 use std::alloc::{AllocError, Global};
 use values::Fault;
 
 /// The object in which the fault of another began, where the entry says that the other has one.
 #[tactic(auto, unfolding(crate::specs::Text::cause_in))]
-fn cause_in(object: ObjectId, entry: &Entry) -> Option<ObjectId>
-    ensures { result ≡ first (cause_in object entry.now) }
+fn cause_in(object: ObjectId, task: ObjectId, entry: &Entry) -> Option<ObjectId>
+    ensures { result ≡ first (cause_in object task entry.now) }
 {
     match entry {
         Entry::Resolved {
@@ -36,7 +36,7 @@ fn cause_in(object: ObjectId, entry: &Entry) -> Option<ObjectId>
             object: got,
             fault,
         } => {
-            if attempt.object.is(object) {
+            if attempt.object.is(task) {
                 return Some(fault.object);
             }
             if got.is(object) {
@@ -48,16 +48,22 @@ fn cause_in(object: ObjectId, entry: &Entry) -> Option<ObjectId>
     }
 }
 
-/// The object in which its fault began, if it has one.
-fn cause(log: &[Entry], object: ObjectId) -> Option<ObjectId>
-    ensures { result ≡ cause log.now object }
+fn cause_by(log: &[Entry], object: ObjectId, task: ObjectId) -> Option<ObjectId>
+    ensures { result ≡ cause_by log.now object task }
 {
     for entry in log {
-        if let Some(found) = cause_in(object, entry) {
+        if let Some(found) = cause_in(object, task, entry) {
             return Some(found);
         }
     }
     None
+}
+
+/// The object in which its fault began, if it has one.
+fn cause(log: &[Entry], object: ObjectId) -> Option<ObjectId>
+    ensures { result ≡ cause log.now object }
+{
+    cause_by(log, object, task_of(log, object))
 }
 
 fn write_cause(

@@ -29,7 +29,7 @@ fn write_birth_sentence(
     alloc: Global,
     text: &mut String,
     contents: Contents,
-    subject: ObjectId,
+    subject: &Subject,
     index: &BirthIndex,
     log: &[Entry],
     moment: &Moment,
@@ -37,13 +37,13 @@ fn write_birth_sentence(
     attempt: AttemptId,
     birth: &Birth,
 ) -> Result<(), AllocError>
-    ensures { IsIndexOf index.now log.now → OnOk result (string_bytes text.new ≡ string_bytes text.old ++ birth_sentence contents subject
+    ensures { IsIndexOf index.now log.now → OnOk result (string_bytes text.new ≡ string_bytes text.old ++ birth_sentence contents (seen_of subject.now)
         (births log.now) (moment_of moment.now) object attempt (birth_of birth.now)) }
 {
-    if object.is(subject) {
+    if object.is(subject.task) {
         return write_made(text, contents, index, log, moment, object, attempt, birth);
     }
-    if is_in_birth(alloc, subject, birth)? {
+    if is_in_birth(alloc, subject.object, birth)? {
         return write_made(text, contents, index, log, moment, object, attempt, birth);
     }
     Ok(())
@@ -52,7 +52,7 @@ fn write_birth_sentence(
 fn write_got_sentence(
     text: &mut String,
     contents: Contents,
-    subject: ObjectId,
+    subject: &Subject,
     index: &BirthIndex,
     log: &[Entry],
     moment: &Moment,
@@ -60,13 +60,13 @@ fn write_got_sentence(
     object: ObjectId,
     content: &Content,
 ) -> Result<(), AllocError>
-    ensures { IsIndexOf index.now log.now → OnOk result (string_bytes text.new ≡ string_bytes text.old ++ got_sentence contents subject
+    ensures { IsIndexOf index.now log.now → OnOk result (string_bytes text.new ≡ string_bytes text.old ++ got_sentence contents (seen_of subject.now)
         (births log.now) (moment_of moment.now) attempt object (content_of content.now)) }
 {
-    if attempt.object.is(subject) {
+    if attempt.object.is(subject.task) {
         return write_got(text, contents, index, log, moment, attempt, object, content);
     }
-    if object.is(subject) {
+    if object.is(subject.object) {
         return write_got(text, contents, index, log, moment, attempt, object, content);
     }
     Ok(())
@@ -75,7 +75,7 @@ fn write_got_sentence(
 fn write_faulted_sentence(
     alloc: Global,
     text: &mut String,
-    subject: ObjectId,
+    subject: &Subject,
     index: &BirthIndex,
     log: &[Entry],
     before: &[Entry],
@@ -85,15 +85,15 @@ fn write_faulted_sentence(
     fault: Fault,
 ) -> Result<(), AllocError>
     ensures { IsIndexOf index.now log.now → OnOk result
-        (string_bytes text.new ≡ string_bytes text.old ++ faulted_sentence subject (births log.now)
+        (string_bytes text.new ≡ string_bytes text.old ++ faulted_sentence (seen_of subject.now) (births log.now)
         before.now (moment_of moment.now) attempt object fault) }
 {
-    if attempt.object.is(subject) {
+    if attempt.object.is(subject.task) {
         return write_faulted(
             alloc, text, index, log, before, moment, attempt, object, fault,
         );
     }
-    if object.is(subject) {
+    if object.is(subject.object) {
         return write_faulted(
             alloc, text, index, log, before, moment, attempt, object, fault,
         );
@@ -106,7 +106,7 @@ fn write_entry_sentence(
     alloc: Global,
     text: &mut String,
     contents: Contents,
-    subject: ObjectId,
+    subject: &Subject,
     index: &BirthIndex,
     log: &[Entry],
     before: &[Entry],
@@ -115,7 +115,7 @@ fn write_entry_sentence(
     entry: &Entry,
 ) -> Result<(), AllocError>
     ensures { IsIndexOf index.now log.now → OnOk result (string_bytes text.new ≡ string_bytes text.old ++ entry_sentence contents
-        subject (births log.now) lines.now before.now (moment_of moment.now) entry.now) }
+        (seen_of subject.now) (births log.now) lines.now before.now (moment_of moment.now) entry.now) }
 {
     match entry {
         Entry::Born {
@@ -135,7 +135,7 @@ fn write_entry_sentence(
             &birth.inner,
         ),
         Entry::Begun { attempt, worker } => {
-            if attempt.object.is(subject) {
+            if attempt.object.is(subject.task) {
                 return write_began(
                     alloc, text, index, log, before, lines, moment, *attempt, *worker,
                 );
@@ -161,14 +161,14 @@ fn write_entry_sentence(
             attempt,
             contents: results,
         } => {
-            if attempt.object.is(subject) {
+            if attempt.object.is(subject.task) {
                 return write_ended(text, contents, index, log, moment, *attempt, results);
             }
             Ok(())
         }
         Entry::Accepted(attempt) => {
-            if attempt.object.is(subject) {
-                return write_accepted(text, index, log, before, moment, *attempt);
+            if attempt.object.is(subject.task) {
+                return write_accepted(alloc, text, index, log, before, moment, *attempt);
             }
             Ok(())
         }
@@ -180,14 +180,14 @@ fn write_entry_sentence(
             alloc, text, subject, index, log, before, moment, *attempt, *object, *fault,
         ),
         Entry::Resolved { object, fault } => {
-            if object.is(subject) {
+            if object.is(subject.object) {
                 return write_given_up(text, moment, *object, *fault);
             }
             Ok(())
         }
         Entry::Released(object) => {
-            if object.is(subject) {
-                return write_released(alloc, text, before, lines, moment, *object);
+            if object.is(subject.object) {
+                return write_released(alloc, text, index, log, before, lines, moment, *object);
             }
             Ok(())
         }
@@ -233,8 +233,7 @@ pub fn write_sentence(
     if let Entry::In { event, .. } = entry {
         return write_event_unless(text, subject, moment, event, is_refused);
     }
-    let object = subject.object;
     write_entry_sentence(
-        alloc, text, contents, object, index, log, before, lines, moment, entry,
+        alloc, text, contents, subject, index, log, before, lines, moment, entry,
     )
 }

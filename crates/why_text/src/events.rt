@@ -1,11 +1,12 @@
 // What an event says of an object.
 
-ghost use Rattle.std.specs.Prelude.{◌≡◌, ◌++◌, OnOk, map, string_bytes};
+ghost use Rattle.std.specs.Prelude.{◌≡◌, ◌++◌, [], OnOk, codes, if◌then◌else◌, map, string_bytes};
 ghost use Rattle.std.specs.List.{flat_map, list_any};
+ghost use Rattle.meaning.specs.Births.{same_id};
 ghost use Rattle.why_text.specs.Moments.{moment_of};
 ghost use Rattle.why_text.specs.Runs.{run_seen, seen_of};
 ghost use Rattle.why_text.specs.Events.{concerns, concerns_node, copies_head, copies_text, dead_node_text, dead_text};
-ghost use Rattle.why_text.specs.Events.{event_sentence, fate_at, fate_on, fate_text, fate_unless, is_at, is_on};
+ghost use Rattle.why_text.specs.Events.{event_sentence, fate_at, fate_on, fate_text, fate_unless, is_at, is_of_task, is_on};
 ghost use Rattle.why_text.specs.Events.{kill_text, learned_text, node_kill_text, node_note, node_notice_text};
 ghost use Rattle.why_text.specs.Events.{notice_text, owner_note, owner_too, worker_note};
 
@@ -15,6 +16,7 @@ use crate::runs::{Run, Subject, is_node};
 use ids::{AttemptId, NodeId, ObjectId, WorkerId};
 use log_entries::Event;
 use std::alloc::AllocError;
+use story_text::is_among;
 
 #[tactic(auto, unfolding(crate::specs::Events::fate_text))]
 fn write_fate(text: &mut String, attempt: AttemptId, is_open: bool) -> Result<(), AllocError>
@@ -121,6 +123,17 @@ fn concerns_node(subject: &Subject, node: u32) -> bool
         return true;
     }
     is_any_at(node, &subject.runs)
+}
+
+/// Whether it is the object, or another result of its task, with which the object is made again.
+#[tactic(auto, unfolding(crate::specs::Events::is_of_task))]
+fn is_of_task(subject: &Subject, object: ObjectId) -> bool
+    ensures { result ≡ is_of_task (seen_of subject.now) object }
+{
+    if object.is(subject.object) {
+        return true;
+    }
+    is_among(object, &subject.results)
 }
 
 #[tactic(auto, unfolding(crate::specs::Events::dead_text))]
@@ -265,6 +278,45 @@ pub fn write_copies(
     text.push_str(".\n")
 }
 
+fn write_loss(
+    text: &mut String,
+    subject: &Subject,
+    moment: &Moment,
+    node: NodeId,
+    object: ObjectId,
+) -> Result<(), AllocError>
+    ensures { OnOk result (string_bytes text.new ≡ string_bytes text.old
+        ++ (if is_of_task (seen_of subject.now) object then copies_text (moment_of moment.now) node (codes " lost its copies of ") object else [])) }
+{
+    if is_of_task(subject, object) {
+        return write_copies(text, moment, node, " lost its copies of ", object);
+    }
+    Ok(())
+}
+
+fn write_eviction(
+    text: &mut String,
+    subject: &Subject,
+    moment: &Moment,
+    node: NodeId,
+    object: ObjectId,
+) -> Result<(), AllocError>
+    ensures { OnOk result (string_bytes text.new ≡ string_bytes text.old
+        ++ (if same_id object subject.now.object
+        then copies_text (moment_of moment.now) node (codes " dropped its secondary copies of ") object else [])) }
+{
+    if object.is(subject.object) {
+        return write_copies(
+            text,
+            moment,
+            node,
+            " dropped its secondary copies of ",
+            object,
+        );
+    }
+    Ok(())
+}
+
 /// Writes what an event that was taken says of the object.
 pub fn write_event_sentence(
     text: &mut String,
@@ -303,19 +355,8 @@ pub fn write_event_sentence(
             }
             Ok(())
         }
-        Event::Lose { node, object } => {
-            if object.is(subject.object) {
-                return write_copies(text, moment, *node, " lost its copies of ", *object);
-            }
-            Ok(())
-        }
-        Event::Evict { node, object } => {
-            if object.is(subject.object) {
-                let did = " dropped its secondary copies of ";
-                return write_copies(text, moment, *node, did, *object);
-            }
-            Ok(())
-        }
+        Event::Lose { node, object } => write_loss(text, subject, moment, *node, *object),
+        Event::Evict { node, object } => write_eviction(text, subject, moment, *node, *object),
         _ => Ok(()),
     }
 }

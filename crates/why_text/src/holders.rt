@@ -1,23 +1,30 @@
 // What had an object, and which of that went with its owner.
 
-ghost use Rattle.std.specs.Prelude.{◌≡◌, IfOk};
-ghost use Rattle.std.specs.List.{list_all};
+ghost use Rattle.std.specs.Prelude.{◌≡◌, ◌∷◌, ◌++◌, [], IfOk, OnOk, if◌then◌else◌};
+ghost use Rattle.std.specs.List.{filter};
 ghost use Rattle.std.specs.Option.{option_map};
-ghost use Rattle.values.specs.Cells.{is_small};
+ghost use Rattle.task_spec.specs.Births.{birth_of};
+ghost use Rattle.event_log.specs.Words.{births};
 ghost use Rattle.history.specs.Main.{first};
+ghost use Rattle.log_words.specs.Index.{IsIndexOf};
+ghost use Rattle.log_words.specs.Tasks.{objects_made};
+ghost use Rattle.story_text.specs.Mentions.{is_in_birth};
 ghost use Rattle.why_text.specs.Moments.{first_moment, moment_of};
-ghost use Rattle.why_text.specs.Holders.{death_from, death_of, gone_holder, gone_in, has, holder_in, if_gone, is_death, is_found, is_from_above};
-ghost use Rattle.why_text.specs.Holders.{is_gone, is_had_in, is_kept, is_owner_died, is_release_of, is_released_in, is_small_end, is_that};
+ghost use Rattle.why_text.specs.Results.{is_in_result, objects_of};
+ghost use Rattle.why_text.specs.Holders.{death_from, death_of, gone_holder, gone_in, has, holders_in, is_death, is_found, is_from_above};
+ghost use Rattle.why_text.specs.Holders.{is_gone, is_had_in, is_kept, is_owner_died, is_release_of, is_released_in, is_small_end};
 
 use crate::moments::Moment;
+use crate::results::{is_in_result, is_small_result, objects_of};
 use crate::runs::is_node;
 use held::SharedContent;
 use ids::{AttemptId, ObjectId};
 use log_entries::{Entry, Event};
-use log_words::is_refusal_at;
+use log_words::{BirthIndex, add_objects, is_refusal_at};
 use sequence::Seq;
 use std::alloc::{AllocError, Global};
-use story_text::{is_in_birth, is_in_contents, node_of, opened};
+use story_text::{is_among, is_in_birth, node_of, opened};
+use task_spec::Birth;
 use values::{Fault, FaultKind};
 
 /// Whether the event kills the worker, or its node.
@@ -66,29 +73,93 @@ pub fn death_of(
     Ok(death_from(log, lines, worker, node))
 }
 
-/// The object that has the other by the entry, if one does.
-#[tactic(auto, unfolding(crate::specs::Holders::holder_in))]
-fn holder_in(alloc: Global, object: ObjectId, entry: &Entry) -> Result<Option<ObjectId>, AllocError>
-    ensures { IfOk result (λ holder. holder ≡ holder_in object entry.now) }
+/// The objects of a birth, if the other stands in its put value or its arguments.
+fn born_holders(
+    alloc: Global,
+    object: ObjectId,
+    first: ObjectId,
+    birth: &Birth,
+) -> Result<Vec<ObjectId>, AllocError>
+    ensures { IfOk result (λ holders. holders.items
+        ≡ (if is_in_birth object (birth_of birth.now) then objects_made first (birth_of birth.now) else [])) }
+{
+    let mut holders = Vec::new(alloc);
+    if is_in_birth(alloc, object, birth)? {
+        add_objects(&mut holders, first, birth)?;
+        return Ok(holders);
+    }
+    Ok(holders)
+}
+
+fn add_holder(
+    alloc: Global,
+    holders: &mut Vec<ObjectId>,
+    object: ObjectId,
+    attempt: AttemptId,
+    results: &Seq<SharedContent>,
+    holder: ObjectId,
+) -> Result<(), AllocError>
+    ensures { OnOk result (holders.new.items ≡ holders.old.items ++ filter (is_in_result object attempt results.now) (holder ∷ [])) }
+{
+    if is_in_result(alloc, object, attempt, results, holder)? {
+        return Ok(holders.push(holder)?);
+    }
+    Ok(())
+}
+
+/// Those of the objects in whose content the other stands, of those with which the attempt ended.
+fn holders_among(
+    alloc: Global,
+    object: ObjectId,
+    attempt: AttemptId,
+    results: &Seq<SharedContent>,
+    objects: &[ObjectId],
+) -> Result<Vec<ObjectId>, AllocError>
+    ensures { IfOk result (λ holders. holders.items ≡ filter (is_in_result object attempt results.now) objects.now) }
+{
+    let mut holders = Vec::new(alloc);
+    for holder in objects {
+        add_holder(alloc, &mut holders, object, attempt, results, *holder)?;
+    }
+    Ok(holders)
+}
+
+fn ended_holders(
+    alloc: Global,
+    index: &BirthIndex,
+    log: &[Entry],
+    object: ObjectId,
+    attempt: AttemptId,
+    results: &Seq<SharedContent>,
+) -> Result<Vec<ObjectId>, AllocError>
+    ensures { IsIndexOf index.now log.now → IfOk result
+        (λ holders. holders.items ≡ filter (is_in_result object attempt results.now) (objects_of (births log.now) attempt)) }
+{
+    let objects = objects_of(alloc, index, log, attempt)?;
+    holders_among(alloc, object, attempt, results, &objects)
+}
+
+/// The objects that have the other by the entry; the index is that of the whole log.
+#[tactic(auto, unfolding(crate::specs::Holders::holders_in))]
+fn holders_in(
+    alloc: Global,
+    index: &BirthIndex,
+    log: &[Entry],
+    object: ObjectId,
+    entry: &Entry,
+) -> Result<Vec<ObjectId>, AllocError>
+    ensures { IsIndexOf index.now log.now → IfOk result (λ holders. holders.items ≡ holders_in (births log.now) object entry.now) }
 {
     match entry {
         Entry::Born {
-            object: born,
+            object: first,
             birth,
             ..
-        } => {
-            if is_in_birth(alloc, object, &birth.inner)? {
-                return Ok(Some(*born));
-            }
-            Ok(None)
-        }
+        } => born_holders(alloc, object, *first, &birth.inner),
         Entry::Ended { attempt, contents } => {
-            if is_in_contents(alloc, object, contents)? {
-                return Ok(Some(attempt.object));
-            }
-            Ok(None)
+            ended_holders(alloc, index, log, object, *attempt, contents)
         }
-        _ => Ok(None),
+        _ => Ok(Vec::new(alloc)),
     }
 }
 
@@ -139,83 +210,87 @@ fn is_gone(
     Ok(is_found(death))
 }
 
-fn if_gone(
+/// The first of the objects that went with its owner.
+fn first_gone(
     alloc: Global,
-    log: &[Entry],
+    before: &[Entry],
     lines: &[usize],
-    holder: Option<ObjectId>,
+    holders: &[ObjectId],
 ) -> Result<Option<ObjectId>, AllocError>
-    ensures { IfOk result
-        (λ gone. gone ≡ first (if_gone lines.now log.now holder)) }
+    ensures { IfOk result (λ gone. gone ≡ first (filter (is_gone lines.now before.now) holders.now)) }
 {
-    let Some(holder) = holder else {
-        return Ok(None);
-    };
-    if is_gone(alloc, log, lines, holder)? {
-        return Ok(Some(holder));
+    for holder in holders {
+        if is_gone(alloc, before, lines, *holder)? {
+            return Ok(Some(*holder));
+        }
     }
     Ok(None)
 }
 
 fn gone_in(
     alloc: Global,
+    index: &BirthIndex,
     log: &[Entry],
+    before: &[Entry],
     lines: &[usize],
     object: ObjectId,
     entry: &Entry,
 ) -> Result<Option<ObjectId>, AllocError>
-    ensures { IfOk result
-        (λ gone. gone ≡ first (gone_in lines.now log.now object entry.now)) }
+    ensures { IsIndexOf index.now log.now → IfOk result
+        (λ gone. gone ≡ first (gone_in (births log.now) lines.now before.now object entry.now)) }
 {
-    let holder = holder_in(alloc, object, entry)?;
-    if_gone(alloc, log, lines, holder)
+    let holders = holders_in(alloc, index, log, object, entry)?;
+    first_gone(alloc, before, lines, &holders)
 }
 
-/// The first object that had the other and went with its owner.
+/// The first object that had the other and went with its owner, by the entries before; the index is that of the whole log.
 #[tactic(auto, unfolding(crate::specs::Holders::gone_holder))]
 pub fn gone_holder(
     alloc: Global,
+    index: &BirthIndex,
     log: &[Entry],
+    before: &[Entry],
     lines: &[usize],
     object: ObjectId,
 ) -> Result<Option<ObjectId>, AllocError>
-    ensures { IfOk result (λ gone. gone ≡ gone_holder lines.now log.now object) }
+    ensures { IsIndexOf index.now log.now → IfOk result
+        (λ gone. gone ≡ gone_holder (births log.now) lines.now before.now object) }
 {
-    for entry in log {
-        if let Some(found) = gone_in(alloc, log, lines, object, entry)? {
+    for entry in before {
+        if let Some(found) = gone_in(alloc, index, log, before, lines, object, entry)? {
             return Ok(Some(found));
         }
     }
     Ok(None)
 }
 
-fn is_that(object: ObjectId, holder: Option<ObjectId>) -> bool
-    ensures { result ≡ is_that object holder }
-{
-    match holder {
-        None => false,
-        Some(holder) => holder.is(object),
-    }
-}
-
 fn is_had_in(
     alloc: Global,
+    index: &BirthIndex,
+    log: &[Entry],
     holder: ObjectId,
     object: ObjectId,
     entry: &Entry,
 ) -> Result<bool, AllocError>
-    ensures { IfOk result (λ b. b ≡ is_had_in holder object entry.now) }
+    ensures { IsIndexOf index.now log.now → IfOk result (λ b. b ≡ is_had_in (births log.now) holder object entry.now) }
 {
-    let found = holder_in(alloc, object, entry)?;
-    Ok(is_that(holder, found))
+    let holders = holders_in(alloc, index, log, object, entry)?;
+    Ok(is_among(holder, &holders))
 }
 
 /// Whether the first object had the second.
-fn has(alloc: Global, log: &[Entry], holder: ObjectId, object: ObjectId) -> Result<bool, AllocError>
-    ensures { IfOk result (λ b. b ≡ has log.now holder object) }
+fn has(
+    alloc: Global,
+    index: &BirthIndex,
+    log: &[Entry],
+    before: &[Entry],
+    holder: ObjectId,
+    object: ObjectId,
+) -> Result<bool, AllocError>
+    ensures { IsIndexOf index.now log.now → IfOk result (λ b. b ≡ has (births log.now) before.now holder object) }
 {
-    for entry in log {
-        if is_had_in(alloc, holder, object, entry)? {
+    for entry in before {
+        if is_had_in(alloc, index, log, holder, object, entry)? {
             return Ok(true);
         }
     }
@@ -235,36 +310,27 @@ fn is_owner_died(kind: FaultKind) -> bool
 #[tactic(auto, unfolding(crate::specs::Holders::is_from_above))]
 pub fn is_from_above(
     alloc: Global,
+    index: &BirthIndex,
     log: &[Entry],
+    before: &[Entry],
     object: ObjectId,
     fault: Fault,
 ) -> Result<bool, AllocError>
-    ensures { IfOk result (λ b. b ≡ is_from_above log.now object fault) }
+    ensures { IsIndexOf index.now log.now → IfOk result (λ b. b ≡ is_from_above (births log.now) before.now object fault) }
 {
     if !is_owner_died(fault.kind) {
         return Ok(false);
     }
-    if !is_released_in(log, object) {
+    if !is_released_in(before, object) {
         return Ok(false);
     }
-    has(alloc, log, fault.object, object)
+    has(alloc, index, log, before, fault.object, object)
 }
 
-fn are_small(contents: &Seq<SharedContent>) -> bool
-    ensures { result ≡ list_all is_small contents.now }
-{
-    for content in contents.as_slice() {
-        if !content.is_small() {
-            return false;
-        }
-    }
-    true
-}
-
-/// Whether the attempt ended so with small contents.
+/// Whether the attempt ended so with a small content of the object.
 #[tactic(auto, unfolding(crate::specs::Holders::is_small_end))]
-fn is_small_end(attempt: AttemptId, entry: &Entry) -> bool
-    ensures { result ≡ is_small_end attempt entry.now }
+fn is_small_end(attempt: AttemptId, object: ObjectId, entry: &Entry) -> bool
+    ensures { result ≡ is_small_end attempt object entry.now }
 {
     let Entry::Ended {
         attempt: ended,
@@ -276,17 +342,47 @@ fn is_small_end(attempt: AttemptId, entry: &Entry) -> bool
     if !ended.is(attempt) {
         return false;
     }
-    are_small(contents)
+    is_small_result(attempt, contents, object)
 }
 
-/// Whether the attempt ended with small contents, which their owner keeps once it accepts it.
-pub fn is_kept(log: &[Entry], attempt: AttemptId) -> bool
-    ensures { result ≡ is_kept log.now attempt }
+/// Whether the attempt ended with a small content of the object, which its owner keeps once it accepts the end.
+fn is_kept(before: &[Entry], attempt: AttemptId, object: ObjectId) -> bool
+    ensures { result ≡ is_kept before.now attempt object }
 {
-    for entry in log {
-        if is_small_end(attempt, entry) {
+    for entry in before {
+        if is_small_end(attempt, object, entry) {
             return true;
         }
     }
     false
+}
+
+fn add_kept(
+    kept: &mut Vec<ObjectId>,
+    before: &[Entry],
+    attempt: AttemptId,
+    object: ObjectId,
+) -> Result<(), AllocError>
+    ensures { OnOk result (kept.new.items ≡ kept.old.items ++ filter (is_kept before.now attempt) (object ∷ [])) }
+{
+    if is_kept(before, attempt, object) {
+        return Ok(kept.push(object)?);
+    }
+    Ok(())
+}
+
+/// Those of the objects that their owner keeps once it accepts the attempt's end.
+pub fn kept_among(
+    alloc: Global,
+    before: &[Entry],
+    attempt: AttemptId,
+    objects: &[ObjectId],
+) -> Result<Vec<ObjectId>, AllocError>
+    ensures { IfOk result (λ kept. kept.items ≡ filter (is_kept before.now attempt) objects.now) }
+{
+    let mut kept = Vec::new(alloc);
+    for object in objects {
+        add_kept(&mut kept, before, attempt, *object)?;
+    }
+    Ok(kept)
 }

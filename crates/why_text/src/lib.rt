@@ -10,6 +10,7 @@ mod events;
 mod holders;
 mod moments;
 mod notes;
+mod results;
 mod runs;
 mod ways;
 
@@ -19,4 +20,5 @@ pub use causes::{Lack, main_lack, why_text, write_main_lack};
 pub use events::{write_copies, write_dead_node, write_node_notice, write_notice};
 pub use holders::death_of;
 pub use moments::{Moment, write_when};
+pub use results::objects_of;
 pub use runs::{has_ended, is_killed_in, is_node};

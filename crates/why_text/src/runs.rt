@@ -3,11 +3,13 @@
 ghost use Rattle.std.specs.Prelude.{◌≡◌, ◌++◌, IfOk, OnOk, map};
 ghost use Rattle.std.specs.List.{list_any};
 ghost use Rattle.event_log.specs.Words.{opened};
+ghost use Rattle.log_words.specs.Index.{IsIndexOf};
 ghost use Rattle.why_text.specs.Runs.{is_end_of, is_kill, is_killed_in, is_node, run_in, run_of, run_seen, runs_of, seen_of, subject_of};
 
+use crate::results::objects_with;
 use ids::{AttemptId, ObjectId};
 use log_entries::{Entry, Event};
-use log_words::is_refusal_at;
+use log_words::{BirthIndex, is_refusal_at};
 use std::alloc::{AllocError, Global};
 use story_text::{node_of, opened};
 
@@ -22,10 +24,12 @@ pub struct Run {
     pub was_killed: bool,
 }
 
-/// An object, the number of its owner's node, and the attempts of its task.
+/// An object, the one by which the attempts of its task are named, the objects of that task, the number of their owner's node, and the attempts.
 #[derive(Drop)]
 pub struct Subject {
     pub object: ObjectId,
+    pub task: ObjectId,
+    pub results: Vec<ObjectId>,
     pub home: Option<u32>,
     pub runs: Vec<Run>,
 }
@@ -95,16 +99,16 @@ fn add_run(
     runs: &mut Vec<Run>,
     log: &[Entry],
     nodes: &[u32],
-    object: ObjectId,
+    task: ObjectId,
     entry: &Entry,
 ) -> Result<(), AllocError>
     ensures { nodes.now ≡ opened log.now → OnOk result
-        (map run_seen runs.new.items ≡ map run_seen runs.old.items ++ run_in log.now object entry.now) }
+        (map run_seen runs.new.items ≡ map run_seen runs.old.items ++ run_in log.now task entry.now) }
 {
     let Entry::Begun { attempt, worker } = entry else {
         return Ok(());
     };
-    if attempt.object.is(object) {
+    if attempt.object.is(task) {
         let run = run_of(log, nodes, *attempt, worker.0);
         return Ok(runs.push(run)?);
     }
@@ -115,26 +119,38 @@ fn runs_of(
     alloc: Global,
     log: &[Entry],
     nodes: &[u32],
-    object: ObjectId,
+    task: ObjectId,
 ) -> Result<Vec<Run>, AllocError>
-    ensures { nodes.now ≡ opened log.now → IfOk result (λ runs. map run_seen runs.items ≡ runs_of log.now object) }
+    ensures { nodes.now ≡ opened log.now → IfOk result (λ runs. map run_seen runs.items ≡ runs_of log.now task) }
 {
     let mut runs = Vec::new(alloc);
     for entry in log {
-        add_run(&mut runs, log, nodes, object, entry)?;
+        add_run(&mut runs, log, nodes, task, entry)?;
     }
     Ok(runs)
 }
 
-impl Subject {
-    /// The object with what the log says of its attempts.
-    pub fn of(alloc: Global, log: &[Entry], object: ObjectId) -> Result<Subject, AllocError>
-        ensures { IfOk result (λ subject. seen_of subject ≡ subject_of log.now object) }
+impl Subject { /// The object, whose task is named by that one, with what the log says of that.
+    pub fn of(
+        alloc: Global,
+        index: &BirthIndex,
+        log: &[Entry],
+        object: ObjectId,
+        task: ObjectId,
+    ) -> Result<Subject, AllocError>
+        ensures { IsIndexOf index.now log.now → IfOk result (λ subject. seen_of subject ≡ subject_of log.now object task) }
     {
         let nodes = opened(alloc, log)?;
         let home = node_of(&nodes, object.owner.0);
-        let runs = runs_of(alloc, log, &nodes, object)?;
-        Ok(Subject { object, home, runs })
+        let results = objects_with(alloc, task, index.birth(log, task))?;
+        let runs = runs_of(alloc, log, &nodes, task)?;
+        Ok(Subject {
+            object,
+            task,
+            results,
+            home,
+            runs,
+        })
     }
 }
 

@@ -4,16 +4,18 @@ ghost use Rattle.std.specs.Prelude.{◌≡◌, ◌++◌, IfOk, OnOk, []};
 ghost use Rattle.std.specs.List.{filter, flat_map, list_any};
 ghost use Rattle.history.specs.Main.{first};
 ghost use Rattle.why_text.specs.Ways.{argument_among, argument_in, argument_to, is_found, lacked_in, leading_from, leading_in, leads, next_cause};
+ghost use Rattle.why_text.specs.Ways.{next_from};
 
 use ids::ObjectId;
 use log_entries::Entry;
+use log_words::{add_objects, task_of};
 use std::alloc::{AllocError, Global};
 use task_spec::dereferenced;
 
-/// The object at whose get an attempt of the other's task ended with a fault that began in the cause.
+/// The object at whose get an attempt that is named by the other ended with a fault that began in the cause.
 #[tactic(auto, unfolding(crate::specs::Ways::lacked_in))]
-fn lacked_in(cause: ObjectId, object: ObjectId, entry: &Entry) -> Option<ObjectId>
-    ensures { result ≡ first (lacked_in cause object entry.now) }
+fn lacked_in(cause: ObjectId, task: ObjectId, entry: &Entry) -> Option<ObjectId>
+    ensures { result ≡ first (lacked_in cause task entry.now) }
 {
     let Entry::Faulted {
         attempt,
@@ -23,18 +25,18 @@ fn lacked_in(cause: ObjectId, object: ObjectId, entry: &Entry) -> Option<ObjectI
     else {
         return None;
     };
-    if attempt.object.is(object) && fault.object.is(cause) {
+    if attempt.object.is(task) && fault.object.is(cause) {
         return Some(*got);
     }
     None
 }
 
-/// The object that an attempt of the other's task lacked.
-fn lacked(log: &[Entry], cause: ObjectId, object: ObjectId) -> Option<ObjectId>
-    ensures { result ≡ first (flat_map (lacked_in cause object) log.now) }
+/// The object that such an attempt lacked.
+fn lacked(log: &[Entry], cause: ObjectId, task: ObjectId) -> Option<ObjectId>
+    ensures { result ≡ first (flat_map (lacked_in cause task) log.now) }
 {
     for entry in log {
-        if let Some(found) = lacked_in(cause, object, entry) {
+        if let Some(found) = lacked_in(cause, task, entry) {
             return Some(found);
         }
     }
@@ -80,7 +82,7 @@ fn first_leading(cause: ObjectId, found: &[ObjectId], objects: &[ObjectId]) -> O
     None
 }
 
-/// Adds what is born, if one of its dereferenced arguments leads to the cause.
+/// Adds the objects that are born, if one of their dereferenced arguments leads to the cause.
 #[tactic(auto, unfolding(crate::specs::Ways::leading_in))]
 fn add_leading(
     alloc: Global,
@@ -95,7 +97,7 @@ fn add_leading(
     };
     let objects = dereferenced(&birth.inner, alloc)?;
     if any_leads(cause, found, &objects) {
-        return Ok(found.push(*object)?);
+        return add_objects(found, *object, &birth.inner);
     }
     Ok(())
 }
@@ -111,16 +113,16 @@ fn leading(alloc: Global, log: &[Entry], cause: ObjectId) -> Result<Vec<ObjectId
     Ok(found)
 }
 
-/// The first dereferenced argument of the object that leads to the cause, where the entry is its birth.
+/// The first dereferenced argument that leads to the cause, where the entry is the birth of the task with that first object.
 #[tactic(auto, unfolding(crate::specs::Ways::argument_in))]
 fn argument_in(
     alloc: Global,
     cause: ObjectId,
     found: &[ObjectId],
-    object: ObjectId,
+    task: ObjectId,
     entry: &Entry,
 ) -> Result<Option<ObjectId>, AllocError>
-    ensures { IfOk result (λ argument. argument ≡ first (argument_in cause found.now object entry.now)) }
+    ensures { IfOk result (λ argument. argument ≡ first (argument_in cause found.now task entry.now)) }
 {
     let Entry::Born {
         object: born,
@@ -130,7 +132,7 @@ fn argument_in(
     else {
         return Ok(None);
     };
-    if !born.is(object) {
+    if !born.is(task) {
         return Ok(None);
     }
     let objects = dereferenced(&birth.inner, alloc)?;
@@ -141,30 +143,48 @@ fn argument_among(
     alloc: Global,
     log: &[Entry],
     cause: ObjectId,
-    object: ObjectId,
+    task: ObjectId,
     found: &[ObjectId],
 ) -> Result<Option<ObjectId>, AllocError>
-    ensures { IfOk result (λ argument. argument ≡ argument_among log.now cause object found.now) }
+    ensures { IfOk result (λ argument. argument ≡ argument_among log.now cause task found.now) }
 {
     for entry in log {
-        if let Some(argument) = argument_in(alloc, cause, found, object, entry)? {
+        if let Some(argument) = argument_in(alloc, cause, found, task, entry)? {
             return Ok(Some(argument));
         }
     }
     Ok(None)
 }
 
-/// The first dereferenced argument of the object that leads to the cause.
+/// The first dereferenced argument of the task that leads to the cause.
 fn argument_to(
     alloc: Global,
     log: &[Entry],
     cause: ObjectId,
-    object: ObjectId,
+    task: ObjectId,
 ) -> Result<Option<ObjectId>, AllocError>
-    ensures { IfOk result (λ argument. argument ≡ argument_to log.now cause object) }
+    ensures { IfOk result (λ argument. argument ≡ argument_to log.now cause task) }
 {
     let found = leading(alloc, log, cause)?;
-    argument_among(alloc, log, cause, object, &found)
+    argument_among(alloc, log, cause, task, &found)
+}
+
+/// The next object on the way from a result of the task to the cause.
+fn next_from(
+    alloc: Global,
+    log: &[Entry],
+    cause: ObjectId,
+    task: ObjectId,
+) -> Result<ObjectId, AllocError>
+    ensures { IfOk result (λ next. next ≡ next_from log.now cause task) }
+{
+    if let Some(found) = lacked(log, cause, task) {
+        return Ok(found);
+    }
+    match argument_to(alloc, log, cause, task)? {
+        None => Ok(cause),
+        Some(argument) => Ok(argument),
+    }
 }
 
 /// The next object on the way from that one to the cause, in which its fault began.
@@ -177,11 +197,5 @@ pub fn next_cause(
 ) -> Result<ObjectId, AllocError>
     ensures { IfOk result (λ next. next ≡ next_cause log.now cause object) }
 {
-    if let Some(found) = lacked(log, cause, object) {
-        return Ok(found);
-    }
-    match argument_to(alloc, log, cause, object)? {
-        None => Ok(cause),
-        Some(argument) => Ok(argument),
-    }
+    next_from(alloc, log, cause, task_of(log, object))
 }

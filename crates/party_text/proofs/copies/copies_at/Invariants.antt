@@ -1,6 +1,10 @@
 use Rattle.std.proofs.Common.{◌≡◌, [], drop}
+use Rattle.event_log.specs.Words.{births}
+use Rattle.log_words.specs.Index.{IsIndexOf}
 use Rattle.party_text.specs.Nodes.{copies_from, seen_of}
 use Rattle.party_text.proofs.copies.copies_at.Given as goal
 
 abbrev pub invariant-loop-place : goal.invariant-loop-place
-invariant-loop-place l = copies_from (seen_of l.site) l.objects.items (drop l.place l.before) ≡ copies_from (seen_of l.site) [] l.before
+invariant-loop-place l =
+    IsIndexOf l.index l.log →
+    copies_from (births l.log) (seen_of l.site) l.objects.items (drop l.place l.before) ≡ copies_from (births l.log) (seen_of l.site) [] l.before

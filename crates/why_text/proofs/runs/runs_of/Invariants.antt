@@ -7,4 +7,4 @@ use Rattle.why_text.proofs.runs.runs_of.Given as goal
 abbrev pub invariant-loop-entry : goal.invariant-loop-entry
 invariant-loop-entry l =
     l.nodes ≡ opened l.log →
-    map run_seen l.runs.items ≡ flat_map (run_in l.log l.object) (take l.entry-index l.log)
+    map run_seen l.runs.items ≡ flat_map (run_in l.log l.task) (take l.entry-index l.log)

@@ -6,4 +6,4 @@ use Rattle.why_text.proofs.ways.lacked.Given as goal
 
 abbrev pub invariant-loop-entry : goal.invariant-loop-entry
 invariant-loop-entry l =
-    first (flat_map (lacked_in l.cause l.object) l.log) ≡ first (flat_map (lacked_in l.cause l.object) (drop l.entry-index l.log))
+    first (flat_map (lacked_in l.cause l.task) l.log) ≡ first (flat_map (lacked_in l.cause l.task) (drop l.entry-index l.log))

@@ -266,7 +266,7 @@ comes_with nodes kept (suc k, e) = absurd (cc)
 other_is_refused : (s : Setting) → RequestIsTold (request_comes s at_another) → ⊥
 other_is_refused s p =
     let told = p 2 (object_id 1 1) (Where (object_id 1 1)) 0 1 (1, refl, refl) (inl refl)
-        (inl (record { value = empty_list; put = was_put; first = refl; place = refl })) none_released in
+    (inl (record { value = empty_list; put = was_put; first = refl; place = refl })) none_released in
     differ (put_alone (Val long_list) (told.known (Val long_list) (comes_with told.nodes told.kept told.told)))
   where
     differ : Val long_list ≡ Val empty_list → ⊥

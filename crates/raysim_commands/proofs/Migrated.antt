@@ -27,6 +27,7 @@ use Rattle.raysim_streams.specs.declared.Failure.{Failure}
 use Rattle.raysim_streams.specs.declared.Failure.TheVariants.{Read, Write, Closed}
 use Rattle.raysim_streams.specs.declared.CommandRefusal.{CommandRefusal}
 use Rattle.raysim_streams.specs.declared.CommandRefusal.TheVariants.{At, NoMemory, Stopped, BadLine, WrongJob, Failed}
+use Rattle.run_commands.proofs.Lasting.{replay_goes_on}
 use Rattle.raysim_commands.specs.Migrations.{ExplainsLines, ExplainsMigration, IsHistoryOf, IsLinesFile, IsLinesStop, IsMigrated, IsMigrationBegun}
 use Rattle.script_commands.specs.Scripts.{Counts, Explains, FailedIn, IsAllowed, IsScript}
 use Rattle.run_commands.specs.SimReports.{IfBoth, first_play}
@@ -109,7 +110,7 @@ history_so script named size lines first after log text own begins plays meant o
     let h = histories_replay script lines (first_play size) after log start played of_log in
     record {
       play = after;
-      replayed = record { plays = played; meant = sound };
+      replayed = record { plays = played; goes_on = replay_goes_on script (files.Lines lines) size after played; meant = sound };
       log = log;
       of_log = of_log;
       written = written;

@@ -10,6 +10,7 @@ use Rattle.raysim_streams.specs.declared.CommandRefusal.TheVariants.{NoMemory, S
 use Rattle.run_commands.specs.declared.form.Form.{Form}
 use Rattle.run_commands.specs.RunReports.{IsReportOf, IsRunStop, first_run}
 use Rattle.run_commands.specs.SoFar.{IsToldOf}
+use Rattle.run_commands.proofs.Lasting.{run_goes_on}
 
 -- it begins, and no event came
 pub begins_so : (run : RunState) (sent : List ℕ) (size : Size) → run ≡ first_state size.nodes size.slots → sent ≡ [] →
@@ -25,7 +26,7 @@ run_ends script named size form before after nowhere report status own first end
     let driven = subst (λ s. EndsSo s (first_run size) after) (sym own) (subst (λ b. EndsSo named b after) first ends) in
     let sound = subst (λ s. IsSoundLog s after.run) (sym own) meant in
     let here = subst (λ l. IsToldOf form after.run after.sent l report status) none told in
-    (after, record { ends = driven; meant = sound }, here.0, here.1)
+    (after, record { ends = driven; goes_on = run_goes_on script size after driven; meant = sound }, here.0, here.1)
 
 -- it stops before its end
 pub run_stops : (script named : Script) (size : Size) (before after : Course) (unfinished : Unfinished) (code : ℕ) →

@@ -1,6 +1,7 @@
 pub mod Accounts
 pub mod AsSerial
 pub mod Driven
+pub mod Lasting
 pub mod Paging
 pub mod Running
 pub mod Simulated

@@ -21,15 +21,20 @@ use Rattle.run_commands.specs.declared.form.Form.{Form}
 use Rattle.run_commands.specs.SimReports.{AreEvents, ExplainsEvents, ExplainsList, ExplainsSim, IfBoth, IsReplayed, IsSimBegun, IsSimReportOf, IsSimReported}
 use Rattle.run_commands.specs.SimReports.{IsStopOf, first_play, lines_in_file, number_of, stop_refusal}
 use Rattle.run_commands.proofs.AsSerial.{as_serial}
+use Rattle.run_commands.proofs.Lasting.{replay_goes_on}
 
 -- ---- a replay, which began so
 
 pub replayed_so : (script named : Script) (size : Size) (says : EventFile) (begun first after : Play) → script ≡ named → begun ≡ first →
     first ≡ first_play size → PlaysFile named says begun after → IsSoundLog named after.run → IsReplayed script size says after
-replayed_so script named size says begun first after own same begins plays meant = record {
-  plays = subst (λ s. PlaysFile s says (first_play size) after) (sym own) (subst (λ p. PlaysFile named says p after) (same ∙ begins) plays);
-  meant = subst (λ s. IsSoundLog s after.run) (sym own) meant;
-}
+replayed_so script named size says begun first after own same begins plays meant =
+    let played : PlaysFile script says (first_play size) after =
+    subst (λ s. PlaysFile s says (first_play size) after) (sym own) (subst (λ p. PlaysFile named says p after) (same ∙ begins) plays) in
+    record {
+      plays = played;
+      goes_on = replay_goes_on script says size after played;
+      meant = subst (λ s. IsSoundLog s after.run) (sym own) meant;
+    }
 
 stops_so : (script : Script) (size : Size) (says : EventFile) (numbers : List ℕ) (after : Play) (stopped : ReplayStop) (n : ℕ) →
     FileStops script says (first_play size) after stopped → n ≡ number_of numbers after.begun → IsStopOf script size says numbers (stop_refusal stopped n)

@@ -1,5 +1,5 @@
 -- What `run` writes, and its status.
-use Rattle.std.specs.Prelude.{◌≡◌, ◌⊎◌, ℕ, List, [], Option, take, IfSome}
+use Rattle.std.specs.Prelude.{◌≡◌, ◌⊎◌, ℕ, false, List, [], Option, take, IfSome}
 use Rattle.std.specs.Io.KnownBytes.{Appends}
 use Rattle.meaning.specs.Syntax.{Script}
 use Rattle.history.specs.Main.{status_of}
@@ -21,6 +21,8 @@ first_run size = record { run = first_state size.nodes size.slots; sent = [] }
 -- a run of the script ends so: it was driven until nothing was left to do, and what its log then means
 pub record IsEndOf (script : Script) (size : Size) (c : Course) : Type 0 where
   pub ends : EndsSo script (first_run size) c
+  -- each event found memory, so that its tables are those to which its log led
+  pub goes_on : c.run.is_halted ≡ false
   pub meant : IsSoundLog script c.run
 
 -- the report of the run of the script, and its status

@@ -1,5 +1,5 @@
 -- What `sim` writes, and its status.
-use Rattle.std.specs.Prelude.{◌≡◌, ◌⊎◌, ℕ, List, [], Option, Some, None, map, take, drop, IfSome}
+use Rattle.std.specs.Prelude.{◌≡◌, ◌⊎◌, ℕ, false, List, [], Option, Some, None, map, take, drop, IfSome}
 use Rattle.std.specs.Io.KnownBytes.{Appends}
 use Rattle.meaning.specs.Syntax.{Script}
 use Rattle.event_files.specs.declared.error.EventError.TheVariants as errors
@@ -48,6 +48,8 @@ first_play size = record { run = first_state size.nodes size.slots; jobs = []; a
 -- the lines make this of a run of the script that begins on the cluster, and what its log then means
 pub record IsReplayed (script : Script) (size : Size) (says : EventFile) (p : Play) : Type 0 where
   pub plays : PlaysFile script says (first_play size) p
+  -- each event found memory, so that its tables are those to which its log led
+  pub goes_on : p.run.is_halted ≡ false
   pub meant : IsSoundLog script p.run
 
 -- the report of the replay of these lines, which have these numbers in their file, and its status

@@ -8,7 +8,7 @@ use Rattle.meaning.specs.Syntax.{Script}
 use Rattle.script_check.specs.Scripts.{IsWellTyped}
 use Rattle.event_log.specs.Entries.{Claim, Entry, Event, In, Join, Refused, Tick}
 use Rattle.event_log.specs.Entries.{Refusal, Limit}
-use Rattle.event_log.specs.Events.{refused_next}
+use Rattle.event_log.specs.Events.{accepted_events, refused_next}
 use Rattle.event_log.specs.Legal.{opening}
 use Rattle.event_log.specs.Books.{Totals}
 use Rattle.event_log.specs.Rules.{Setting}
@@ -28,9 +28,11 @@ use Rattle.count_laws.specs.Law.{IsFull}
 use Rattle.count_laws.proofs.Laws.{events_are_limited}
 use Rattle.protocol_board.specs.Cores.{Size}
 use Rattle.protocol_board.specs.Cores.{IsReachedRun, RunState, beside}
-use Rattle.seats.specs.Ends.{IsAtLimit, first_events}
+use Rattle.event_files.specs.declared.plan.PlanLine.{PlanLine}
+use Rattle.run_paths.specs.Handing.{AllHandedIn}
+use Rattle.seats.specs.Ends.{IsAtLimit, IsOverBeside, WasLimited, first_events}
 use Rattle.seats.specs.Outside.{is_outside, outside}
-use Rattle.run_examples.specs.Examples.{BooksAreTrue, LimitsAreTrue, OpeningIsNotOver, SeatsAreTrue, early_limit}
+use Rattle.run_examples.specs.Examples.{BooksAreTrue, LimitsAreTrue, OpeningIsNotOver, OverIsTrue, SeatsAreTrue, dropped_job, early_limit}
 
 -- ---- what events add
 
@@ -197,6 +199,23 @@ limits_are_true = record {
       not_so script typed r.first_nodes k.slots some few at.handings (ap (λ (x : Running). x.log) at.leads ∙ k.log ∙ e);
   unplanned = none_joins;
 }
+
+-- ---- a run that isn't over
+
+no_dropped : (script : Script) (is_open : Bool) (plan : List PlanLine) (size : Size) (r : RunState) → IsOverBeside script is_open plan size r →
+    r.log ≡ dropped_job → ⊥
+unfolding accepted_events
+no_dropped script is_open plan size r over e =
+    let all : AllHandedIn dropped_job = subst AllHandedIn e over.handed_in in
+    let bad : false ≡ true = all 1 (omega arith) (omega arith) in
+    absurd (cc)
+
+no_limited : (script : Script) (is_open : Bool) (plan : List PlanLine) (size : Size) (r : RunState) → IsOverBeside script is_open plan size r →
+    r.log ≡ early_limit → ⊥
+no_limited script is_open plan size r over e = over.within_limits (subst WasLimited (sym e) limits_are_true.says_so)
+
+pub over_is_true : OverIsTrue
+over_is_true = record { dropped = no_dropped; limited = no_limited }
 
 -- ---- a third seat
 

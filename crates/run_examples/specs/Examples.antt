@@ -3,7 +3,7 @@ use Rattle.std.specs.Prelude.{◌≡◌, ◌<◌, ◌≤◌, ℕ, Bool, false, L
 use Rattle.meaning.specs.Syntax.{Script}
 use Rattle.event_files.specs.declared.plan.PlanLine.{PlanLine}
 use Rattle.script_check.specs.Scripts.{IsWellTyped}
-use Rattle.event_log.specs.Entries.{Entry, In, Join, Refused, Tick}
+use Rattle.event_log.specs.Entries.{Claim, Entry, In, Join, Kill, Refused, Tick}
 use Rattle.event_log.specs.Entries.{Limit}
 use Rattle.event_log.specs.Legal.{opening}
 use Rattle.protocol_board.specs.Cores.{IsCluster, Size}
@@ -19,6 +19,10 @@ OpeningIsNotOver =
     (script : Script) (is_open : Bool) (plan : List PlanLine) (size : Size) → IsCluster size →
     (r : RunState) → IsSoundLog script r → IsOverBeside script is_open plan size r → r.log ≡ opening → ⊥
 
+-- main's first job is given out, and its worker dies before it is handed in
+abbrev pub dropped_job : List Entry
+dropped_job = opening ++ In (Claim 1) 1 ∷ In (Kill 1) 1 ∷ []
+
 -- worker 1 ticks as the run opens, and is refused for a limit
 abbrev pub early_limit : List Entry
 early_limit = opening ++ In (Tick 1) 1 ∷ Refused Limit ∷ []
@@ -32,6 +36,15 @@ pub record LimitsAreTrue : Type 0 where
   -- beside a plan with no lines nothing joins on the way to a limit, however many joins there would be to it
   pub unplanned : (script : Script) (size : Size) (r : RunState) → IsAtLimit script false [] size r →
       (before after : List Entry) (seat : ℕ) → r.log ≡ before ++ In Join seat ∷ after → ⊥
+
+-- of no run that is over, whatever the plan and the cluster
+pub record OverIsTrue : Type 0 where
+  -- is the log such that a job was given out and not handed in
+  pub dropped : (script : Script) (is_open : Bool) (plan : List PlanLine) (size : Size) (r : RunState) → IsOverBeside script is_open plan size r →
+      r.log ≡ dropped_job → ⊥
+  -- nor such that an event was refused at a limit
+  pub limited : (script : Script) (is_open : Bool) (plan : List PlanLine) (size : Size) (r : RunState) → IsOverBeside script is_open plan size r →
+      r.log ≡ early_limit → ⊥
 
 -- a tick from a third seat
 abbrev pub from_third : List Entry

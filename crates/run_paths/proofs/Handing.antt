@@ -1,11 +1,12 @@
 -- What is true of the commits of a log by the test.
-use Rattle.std.proofs.Common.{◌≡◌, ℕ, Bool, true, false, List, [], ◌∷◌, ◌++◌, refl, sym, ap, ◌∙◌}
+use Rattle.std.proofs.Common.{◌≡◌, ◌≤◌, ℕ, zero, suc, Bool, true, false, List, [], ◌∷◌, ◌++◌, refl, sym, ap, ◌∙◌, arith}
 use Rattle.std.specs.Prelude.{◌&&◌, ◌||◌, ◌==◌, not}
 use Rattle.std.proofs.lemmas.Bool.{and_parts, eq-eqb, eqb-true, not-true, true≢false}
 use Rattle.meaning.proofs.BirthLaws.{at_test}
 use Rattle.event_log.specs.Entries.{Claim, Commit, Entry, Event, In, Kill, Refused}
 use Rattle.event_log.specs.Entries.{Pinned, NoCopy, NoWorker, NotReady, NoJob, Stale, NoMessage, NotDead, NoNode, Limit, Halted, NoMemory}
-use Rattle.run_paths.specs.Handing.{Examples, HandsInOnce, IsTested, hands_in_once, has_commit, refused_unknown}
+use Rattle.event_log.specs.Events.{accepted_events}
+use Rattle.run_paths.specs.Handing.{AllHandedIn, Examples, HandsInOnce, IsTested, hands_in_once, has_commit, refused_unknown, two_given}
 
 or_false : (a b : Bool) → (a || b) ≡ false → (a ≡ false) × (b ≡ false)
 or_false false false e = (refl, refl)
@@ -122,9 +123,29 @@ passed_by (x ∷ log) h = passed_by log (rest_once x log h)
 pub is_tested : IsTested
 is_tested = record { once = once_of; passed = passed_by }
 
+-- ---- worked logs
+
+both_handed_in : AllHandedIn (two_given ++ In (Commit 2) 2 ∷ Refused Stale ∷ [])
+unfolding accepted_events
+both_handed_in zero some few = absurd (omega (arith, some))
+both_handed_in (suc zero) some few = refl
+both_handed_in (suc (suc zero)) some few = refl
+both_handed_in (suc (suc (suc j))) some few = absurd (omega (arith, few))
+
+one_dropped : AllHandedIn two_given → ⊥
+unfolding accepted_events
+one_dropped h = true≢false (sym (h 2 (omega arith) (omega arith)))
+
+one_with_nothing : AllHandedIn (two_given ++ In (Commit 2) 2 ∷ Refused NoJob ∷ []) → ⊥
+unfolding accepted_events
+one_with_nothing h = true≢false (sym (h 2 (omega arith) (omega arith)))
+
 pub examples : Examples
 examples = record {
   once = once_of _ refl;
   twice = λ h. true≢false (h.once (In (Claim 2) 2 ∷ In (Kill 2) 0 ∷ In (Commit 1) 2 ∷ Refused Stale ∷ []) (Refused Stale ∷ []) 1 2 refl);
   unknown = λ h. h.out (In (Claim 1) 1 ∷ []) [] 2 1 refl;
+  both = both_handed_in;
+  dropped = one_dropped;
+  with_nothing = one_with_nothing;
 }

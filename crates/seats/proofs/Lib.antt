@@ -7,6 +7,7 @@ pub mod Few
 pub mod Jobs
 mod Limited
 mod Outside
+mod Owed
 mod Planned
 mod Seated
 mod Sizes

@@ -133,7 +133,7 @@ own_keeps : (is_open : Bool) (es : List Event) (before after : RunState) (e : Ev
 own_keeps is_open es before after e seat ran told refusals.Limit may answers h = own_has is_open es before after e seat ran told may answers h
 own_keeps is_open es before after e seat ran told x may answers h = tt
 
-stays_so : (told : Reply) (x : Refusal) → given_up_by told (Some x) ≡ Some x
+pub stays_so : (told : Reply) (x : Refusal) → given_up_by told (Some x) ≡ Some x
 stays_so (Refuses refusals.Limit) x = refl
 stays_so (Refuses refusals.Halted) x = refl
 stays_so (Refuses refusals.NoMemory) x = refl

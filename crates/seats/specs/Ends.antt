@@ -10,6 +10,7 @@ use Rattle.log_entries.specs.declared.refusal.Refusal.TheVariants as refusals
 use Rattle.protocol.specs.Settling.{next}
 use Rattle.meaning.specs.Syntax.{Script}
 use Rattle.protocol_board.specs.Cores.{RunState, Size, first_state}
+use Rattle.run_paths.specs.Handing.{AllHandedIn}
 use Rattle.run_paths.specs.Paths.{Comes}
 use Rattle.books.specs.SeatTotals.{seat_totals}
 use Rattle.seat_books.specs.Seats.{SeatOf, book_of, sums}
@@ -47,14 +48,17 @@ size_of r = record { nodes = r.first_nodes; slots = r.whole.slots }
 abbrev pub ArePlanned : Bool → List Event → List Entry → Type 0
 ArePlanned is_open es log = AreIn es log × HasNoOther is_open es log
 
--- a run of the script beside the plan on such a cluster is over: the settle rule names no event, and of the events from outside the plan's, and, unless
--- the run is open, no others, stand in the log
+-- a run of the script beside the plan on such a cluster is over: the settle rule names no event, each job that was given out was handed in, and of the events
+-- from outside the plan's, and, unless the run is open, no others, stand in the log
 pub record IsOverBeside (script : Script) (is_open : Bool) (plan : List PlanLine) (size : Size) (r : RunState) : Type 0 where
   pub settled : next r.whole [] ≡ None
+  pub handed_in : AllHandedIn r.log
   pub planned : ArePlanned is_open (events_of plan) r.log
   pub on_cluster : size_of r ≡ size
   -- each event found memory, so that these are the workers, nodes and messages to which the log led
   pub goes_on : r.is_halted ≡ false
+  -- and none was refused at a limit
+  pub within_limits : WasLimited r.log → ⊥
   -- and that came of events, one after the other, each with what was handed in, true of its job
   pub came : Comes script (first_state size.nodes size.slots) r
 
@@ -110,3 +114,8 @@ Stands es log (Some refusal) = ⊥
 abbrev pub GoesOn : ℕ → RunState → Option Refusal → Type 0
 GoesOn slots r None = (r.whole.slots ≡ slots) × (r.is_halted ≡ false)
 GoesOn slots r (Some refusal) = Unit {0}
+
+-- unless the run is given up, no event was refused at a limit
+abbrev pub IsWithinLimits : List Entry → Option Refusal → Type 0
+IsWithinLimits log None = WasLimited log → ⊥
+IsWithinLimits log (Some refusal) = Unit {0}

@@ -14,8 +14,7 @@ use Rattle.protocol_board.specs.Cores.{RunState, Answers, Reply, GivesJob, Accep
 use Rattle.seats.specs.Counted.{one_event, refused_totals}
 use Rattle.seats.specs.declared.outs.JobOut.{JobOut}
 
--- the run; the plan, and how many of its lines were taken; the jobs that were given out and whose commits weren't accepted; and why the run was
--- given up, if it was
+-- the run; the plan, and how many of its lines were taken; the jobs that were given out and not handed in; and why the run was given up, if it was
 pub record TurnState : Type 0 where
   pub run : RunState
   pub plan : List PlanLine
@@ -64,14 +63,19 @@ choice t =
     (or_wait (next t.run.whole [])
     (or_plan (slice_get t.plan t.taken) Ends))))
 
--- whether the run is at its end: it is given up, or nothing is left to do, nor of the plan
+-- whether the run is at its end: it is given up, or nothing is left to do, nor of the plan, and no job is out
 abbrev pub is_at_end : TurnState → Bool
-is_at_end t = is_some t.given_up || not (nat_lt t.taken (length t.plan) || is_some (next t.run.whole []))
+is_at_end t = is_some t.given_up || not (nat_lt t.taken (length t.plan) || nat_lt 0 (length t.out) || is_some (next t.run.whole []))
 
--- the jobs that are out behind an answer
+-- the jobs but that one
+abbrev pub without : ℕ → List JobOut → List JobOut
+without j out = filter (λ x. not (x.job == j)) out
+
+-- the jobs that are out behind an answer: one whose commit is refused since its worker is dead was handed in too
 abbrev pub out_behind : Event → Reply → List JobOut → List JobOut
 out_behind (Claim w) (GivesJob job) out = out ++ record { job = job.number; worker = w } ∷ []
-out_behind (Commit j) Accepts out = filter (λ x. not (x.job == j)) out
+out_behind (Commit j) Accepts out = without j out
+out_behind (Commit j) (Refuses refusals.Stale) out = without j out
 out_behind e told out = out
 
 -- what a turn comes to: the job that it gives out, an event, its refusal, a wait, or the end

@@ -1,9 +1,8 @@
 // The jobs that are out.
 
-ghost use Rattle.std.specs.Prelude.{◌≡◌, ◌==◌, not, IfOk, OnOk, OnErr};
-ghost use Rattle.std.specs.List.{filter};
+ghost use Rattle.std.specs.Prelude.{◌≡◌, IfOk, OnOk, OnErr};
 ghost use Rattle.protocol_board.specs.Cores.{reply_of};
-ghost use Rattle.seats.specs.Turns.{KeepsOut, busy, given_up_by, or_first, out_behind};
+ghost use Rattle.seats.specs.Turns.{KeepsOut, busy, given_up_by, or_first, out_behind, without};
 
 use ids::WorkerId;
 use log_entries::{Event, Refusal};
@@ -12,7 +11,7 @@ use segment::ScriptName;
 use sequence::Seq;
 use std::alloc::{AllocError, Global};
 
-/// A job that was given out and whose commit wasn't accepted, and the worker that claimed it.
+/// A job that was given out and isn't handed in, and the worker that claimed it.
 #[derive(Clone, Copy, PartialEq, Eq, Debug)]
 pub struct JobOut {
     pub job: u64,
@@ -20,7 +19,7 @@ pub struct JobOut {
 }
 
 fn take_out(out: &mut Seq<JobOut>, job: u64)
-    ensures { out.new ≡ filter (λ x. not (x.job == job)) out.old }
+    ensures { out.new ≡ without job out.old }
 {
     out.items.retain(|x| x.job != job);
 }
@@ -36,7 +35,7 @@ pub fn busy(alloc: Global, out: &Seq<JobOut>) -> Result<Seq<WorkerId>, AllocErro
     Ok(workers)
 }
 
-/// Keeps the jobs that are out, behind an event with its answer.
+/// Keeps the jobs that are out, behind an event with its answer. A commit that is refused since its worker is dead hands its job in too.
 fn keep<S: ScriptName>(
     out: &mut Seq<JobOut>,
     event: &Event,
@@ -50,7 +49,7 @@ fn keep<S: ScriptName>(
             job: job.number(),
             worker: *worker,
         }),
-        (Event::Commit(job), Reply::Ok) => {
+        (Event::Commit(job), Reply::Ok | Reply::Refused(Refusal::Stale)) => {
             take_out(out, *job);
             Ok(())
         }

@@ -55,8 +55,9 @@ impl<S: ScriptName, P: RunName> Model for Turning<S, P> {
     ghost use Rattle.protocol_board.specs.Cores.{first_state};
     ghost use Rattle.run_paths.specs.Paths.{Comes};
     ghost use Rattle.seats.specs.Counted.{ClaimsGaveJobs};
-    ghost use Rattle.seats.specs.Ends.{GoesOn, Stands, first_events};
+    ghost use Rattle.seats.specs.Ends.{GoesOn, IsWithinLimits, Stands, first_events};
     ghost use Rattle.seats.specs.Outside.{KeepsToThem};
+    ghost use Rattle.seats.specs.Owed.{AreOut};
     ghost use Rattle.seats.specs.Turns.{TurnState};
 
     ghost Value = { TurnState };
@@ -69,7 +70,8 @@ impl<S: ScriptName, P: RunName> Model for Turning<S, P> {
         × (t.plan ≡ P.plan) × (t.board.first_nodes ≡ P.size.nodes) × GoesOn P.size.slots t.board t.given_up
         × Stands (first_events t.taken t.plan) t.board.log t.given_up
         × KeepsToThem P.is_open (first_events t.taken t.plan) t.board.log t.given_up
-        × Comes S.script (first_state P.size.nodes P.size.slots) t.board };
+        × Comes S.script (first_state P.size.nodes P.size.slots) t.board
+        × AreOut t.out t.board.log t.given_up × IsWithinLimits t.board.log t.given_up };
 }
 
 /// How many commits were accepted, behind one event more; no more than the log has entries.
@@ -286,7 +288,7 @@ impl<S: ScriptName, P: RunName> Turning<S, P> {
         self.given_up
     }
 
-    /// Whether the run is at its end: it was given up, or nothing is left to do, nor of the plan.
+    /// Whether the run is at its end: it was given up, or nothing is left to do, nor of the plan, and each job that was given out was handed in.
     pub fn is_at_end(&self, alloc: Global) -> bool
         ensures at_end { result ≡ is_at_end self.now }
         ensures over { result ≡ true → self.now.given_up ≡ None → IsOverBeside S.script P.is_open P.plan P.size self.now.run }
@@ -295,6 +297,9 @@ impl<S: ScriptName, P: RunName> Turning<S, P> {
             return true;
         }
         if self.taken < self.plan.len() {
+            return false;
+        }
+        if self.out.len() > 0 {
             return false;
         }
         let nobody = Seq::new(alloc);

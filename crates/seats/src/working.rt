@@ -1,15 +1,20 @@
 // A thread's loop.
 
-ghost use Rattle.std.specs.Prelude.{◌≡◌};
+ghost use Rattle.std.specs.Prelude.{◌≡◌, IfOk};
 ghost use Rattle.script_check.specs.Trees.{script_of};
+ghost use Rattle.event_log.specs.Entries.{Commit};
+ghost use Rattle.protocol_board.specs.Cores.{reply_of};
+ghost use Rattle.seat_books.specs.Seats.{with_more};
+ghost use Rattle.seats.specs.Counted.{counted};
 
 use crate::gate::Gate;
 use crate::run_name::RunName;
 use crate::shared::Shared;
 use crate::turn::Turn;
 use kept_frames::Frames;
+use protocol_board::Reply;
 use seat_books::Seat;
-use segment::{Compiled, Job, ScriptName};
+use segment::{Compiled, Job, NoMemory, ScriptName};
 use std::alloc::Global;
 use std::rt::Clock;
 use std::sync::Wait;
@@ -40,8 +45,44 @@ fn show<
     }
 }
 
-/// Runs the job outside the lock, from the frame of its attempt if this thread kept it, and commits what was done on it.
+/// Runs the job outside the lock, from the frame of its attempt if this thread kept it, and hands in what was done on it, whether its worker lives or
+/// not: the seat's book counts that commit by its answer. It fails where the job finds no memory.
 fn run_job<
+    S: ScriptName,
+    P: RunName,
+    E: Ledger,
+    G: Ledger,
+    C: Ledger,
+    J: Ledger,
+    V: Ledger,
+    H: Ledger,
+    D: Ledger,
+    M: Ledger,
+    K: Gate,
+    R: Wait,
+>(
+    rt: &R,
+    alloc: Global,
+    shared: &Shared<S, P, E, G, C, J, V, H, D, M>,
+    seat: &mut Seat<P, E, G, C, J, V, H, D, M>,
+    script: &Compiled,
+    frames: &mut Frames<S>,
+    gate: &K,
+    job: Job<S>,
+) -> Result<Reply<S>, NoMemory>
+    requires { script_of script.now ≡ S.script }
+    ensures handed_in { IfOk result (λ told. seat.new ≡ with_more (counted (Commit job.number) (reply_of told)) seat.old) }
+    ensures number { seat.new.number ≡ seat.old.number }
+{
+    gate.enter(job.number());
+    let done = frames.run(alloc, script, job)?;
+    let told = shared.commit(rt, alloc, seat, done);
+    show(rt, shared, gate);
+    Ok(told)
+}
+
+/// Does a job that the seat was given, or gives the run up.
+fn do_job<
     S: ScriptName,
     P: RunName,
     E: Ledger,
@@ -67,13 +108,8 @@ fn run_job<
     requires { script_of script.now ≡ S.script }
     ensures { seat.new.number ≡ seat.old.number }
 {
-    gate.enter(job.number());
-    match frames.run(alloc, script, job) {
-        Ok(done) => {
-            shared.commit(rt, alloc, seat, done);
-            show(rt, shared, gate);
-        }
-        Err(_) => shared.give_up(rt),
+    if run_job(rt, alloc, shared, seat, script, frames, gate, job).is_err() {
+        shared.give_up(rt);
     }
 }
 
@@ -108,7 +144,7 @@ pub fn work<
     let mut frames = Frames::new(alloc);
     for _ in rt.forever() {
         match shared.turn(rt, alloc, &mut seat) {
-            Turn::Job(job) => run_job(rt, alloc, shared, &mut seat, script, &mut frames, gate, job),
+            Turn::Job(job) => do_job(rt, alloc, shared, &mut seat, script, &mut frames, gate, job),
             Turn::Did | Turn::Refused(_) => {}
             Turn::Again => thread::sleep(rt, Duration::from_micros(PAUSE)),
             Turn::End => break,

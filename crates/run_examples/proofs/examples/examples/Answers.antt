@@ -1,4 +1,4 @@
-use Rattle.run_examples.proofs.Ruled.{books_are_true, limits_are_true, opening_is_not_over, seats_are_true}
+use Rattle.run_examples.proofs.Ruled.{books_are_true, limits_are_true, opening_is_not_over, over_is_true, seats_are_true}
 use Rattle.run_examples.proofs.examples.examples.Goals as goal
 
 pub returns-clause-over : goal.returns-clause-over
@@ -6,6 +6,9 @@ returns-clause-over c = opening_is_not_over
 
 pub returns-clause-limits : goal.returns-clause-limits
 returns-clause-limits c = limits_are_true
+
+pub returns-clause-ends : goal.returns-clause-ends
+returns-clause-ends c = over_is_true
 
 pub returns-clause-seats : goal.returns-clause-seats
 returns-clause-seats c = seats_are_true

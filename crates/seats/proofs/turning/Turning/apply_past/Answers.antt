@@ -10,6 +10,7 @@ use Rattle.seats.specs.Turns.{TurnState}
 use Rattle.seats.proofs.Counted.{answers_counted}
 use Rattle.seats.proofs.Few.{commits_now, few_behind}
 use Rattle.seats.proofs.Outside.{keeps_kept, keeps_past}
+use Rattle.seats.proofs.Owed.{IsKept, kept_behind}
 use Rattle.seats.proofs.Planned.{stands_past}
 use Rattle.seats.proofs.Seated.{stays_from}
 use Rattle.seats.proofs.Sizes.{same_nodes, slots_behind, slots_kept}
@@ -36,6 +37,10 @@ invariant_of-self g c =
     let t : TurnState = record { run = before; plan = c.self.inside.plan; taken = c.self.inside.taken; out = c.self.inside.out; given_up = c.self.inside.given_up } in
     let es = first_events c.args.taken c.self.inside.plan in
     let h = answers_counted before after e c.args.seat c.args.done told c.self.invariant.0 c.apply-told.ensures.answers in
+    let out = c.keep_or_give_up.new.out in
+    let kept : IsKept out after.log c.keep_or_give_up.new.given_up =
+    kept_behind c.self.inside.out c.self.inside.given_up before after e c.args.seat c.args.done told out c.keep_or_give_up.new.given_up
+    c.self.invariant.0 c.apply-told.ensures.answers (record { jobs = c.self.invariant.8; within = c.self.invariant.9 }) c.keep_or_give_up.ensures in
     let passes : Passes is_open t e c.args.taken =
     subst (λ (r : TurnState). Passes is_open r e c.args.taken) (sym c.self.view_is) c.requires in (
       h.jobs,
@@ -55,6 +60,8 @@ invariant_of-self g c =
           c.keep_or_give_up.ensures,
       c.paths_go_on.ensures.one_more g.S.ScriptName.script (first_state g.P.RunName.size.nodes g.P.RunName.size.slots) before after e
           c.args.seat c.args.done told c.self.invariant.7 c.attest.ensures c.apply-told.ensures.answers,
+      kept.jobs,
+      kept.within,
     )
 
 pub returns-clause-counted : goal.returns-clause-counted

@@ -1,16 +1,18 @@
-use Rattle.std.proofs.Common.{ap, sym}
+use Rattle.std.proofs.Common.{None, ap, subst, sym}
 use Rattle.event_log.specs.Books.{Totals}
 use Rattle.protocol_board.specs.Cores.{Size}
 use Rattle.seats.proofs.Came.{fresh_came}
 use Rattle.seats.proofs.Counted.{fresh_claims, fresh_seat_totals, fresh_totals}
 use Rattle.seats.proofs.Outside.{none_yet}
+use Rattle.seats.proofs.Owed.{IsKept, none_out_yet}
 use Rattle.seats.proofs.Seated.{none_came_yet}
 use Rattle.seats.proofs.Standing.{none_in}
 use Rattle.seats.proofs.turning.Turning.new.Goals as goal
 
 pub invariant_of-result : goal.invariant_of-result
 invariant_of-result g c =
-    let r = c.args.board in (
+    let r = c.args.board in
+    let kept : IsKept c.new.result r.log None = subst (λ out. IsKept out r.log None) (sym c.new.ensures) (none_out_yet r.log c.requires.fresh.0) in (
       fresh_claims r c.requires.fresh,
       sym (ap (λ (t : Totals). t.commits) (fresh_totals r c.requires.fresh)),
       c.requires.named.0,
@@ -20,6 +22,8 @@ invariant_of-result g c =
       none_yet g.P.RunName.is_open r.log c.requires.fresh.0,
       fresh_came c.none_came.ensures c.paths_go_on.ensures.none g.S.ScriptName.script g.P.RunName.size r c.log.ensures.meant.reached c.requires.fresh
           c.requires.named.1,
+      kept.jobs,
+      kept.within,
     )
 
 pub returns-clause-totals : goal.returns-clause-totals

@@ -1,0 +1,84 @@
+-- A replay that comes to its end found memory for each event, and so did a run that was driven to its end.
+use Rattle.std.proofs.Common.{◌≡◌, ◌∙◌, ℕ, zero, suc, true, false, List, [], ◌∷◌, Option, Some, None, inl, inr, refl, sym, ap, subst}
+use Rattle.std.proofs.lemmas.Bool.{true≢false}
+use Rattle.meaning.specs.Syntax.{Script}
+use Rattle.segment.specs.Jobs.{Done}
+use Rattle.event_log.specs.Entries.{Commit, Event}
+use Rattle.event_files.specs.declared.line.Line.{Line}
+use Rattle.event_files.specs.declared.line.Line.TheVariants as lines
+use Rattle.event_files.specs.declared.event_file.EventFile.{EventFile}
+use Rattle.event_files.specs.declared.event_file.EventFile.TheVariants as files
+use Rattle.event_files.specs.declared.recorded.RecordedEvent.{RecordedEvent}
+use Rattle.protocol_board.specs.Cores.{Accepts, Follows, GivesJob, Reply, RunState, Size}
+use Rattle.protocol_board.specs.Replays.{AllPlay, EventPlays, LinePlays, Play, PlaysFile, Settles, Step, found_no_memory, next_line}
+use Rattle.protocol_board.specs.Drives.{Course, EndsSo, Goes, IsTaken, Turn, Turns}
+use Rattle.run_commands.specs.SimReports.{first_play}
+use Rattle.run_commands.specs.RunReports.{first_run}
+
+-- each event so far found memory
+abbrev FoundMemory : RunState → Type 0
+FoundMemory r = r.is_halted ≡ false
+
+-- ---- a replay
+
+behind_answer : (before after : RunState) (e : Event) (seat : ℕ) (done : Option Done) (told : Reply) → found_no_memory told ≡ false →
+    Follows before e seat done after told → FoundMemory after
+behind_answer before after e seat ran told memory (inl out) = absurd (true≢false (sym (ap found_no_memory out.told_so) ∙ memory))
+behind_answer before after e seat ran told memory (inr (handed, is_handed, is)) = is.goes_on
+
+behind_step : (script : Script) (before after : Play) (e : Event) (seat : ℕ) → Step script before e seat after → FoundMemory before.run → FoundMemory after.run
+behind_step script before after e seat s h =
+    let a = s.answered in
+    behind_answer before.run after.run e seat a.0 s.told s.goes_on (a.2.follows h)
+
+behind_settle : (script : Script) (but : List ℕ) (n : ℕ) (before after : Play) → Settles script but n before after → FoundMemory before.run → FoundMemory after.run
+unfolding Settles
+behind_settle script but zero before after same h = subst (λ (p : Play). FoundMemory p.run) (sym same) h
+behind_settle script but (suc n) before after (between, e, settled, is_next, s) h =
+    behind_step script between after e 0 s (behind_settle script but n before between settled h)
+
+behind_line : (script : Script) (line : Line) (before after : Play) → LinePlays script line before after → FoundMemory before.run → FoundMemory after.run
+behind_line script (lines.Event e) before after s h = behind_step script (next_line before) after e 0 s h
+behind_line script (lines.Settle workers) before after (n, settled, rests) h = behind_settle script workers n (next_line before) after settled h
+
+behind_event : (script : Script) (r : RecordedEvent) (before after : Play) → EventPlays script r before after → FoundMemory before.run → FoundMemory after.run
+behind_event script r before after (s, given) h = behind_step script (next_line before) after r.event r.seat s h
+
+behind_all : {A : Type 0} (plays : A → Play → Play → Type 0) →
+    ((x : A) (before after : Play) → plays x before after → FoundMemory before.run → FoundMemory after.run) → (xs : List A) (before after : Play) →
+    AllPlay plays xs before after → FoundMemory before.run → FoundMemory after.run
+unfolding AllPlay
+behind_all plays one [] before after same h = subst (λ (p : Play). FoundMemory p.run) (sym same) h
+behind_all plays one (x ∷ xs) before after (between, here, rest) h = behind_all plays one xs between after rest (one x before between here h)
+
+pub replay_goes_on : (script : Script) (says : EventFile) (size : Size) (after : Play) → PlaysFile script says (first_play size) after → FoundMemory after.run
+replay_goes_on script (files.Lines lines) size after plays = behind_all (LinePlays script) (behind_line script) lines (first_play size) after plays refl
+replay_goes_on script (files.Recorded events) size after plays = behind_all (EventPlays script) (behind_event script) events (first_play size) after plays refl
+
+-- ---- a run that is driven
+
+-- what is taken found memory
+taken_finds : (told : Reply) → IsTaken told → found_no_memory told ≡ false
+taken_finds Accepts taken = refl
+taken_finds (GivesJob job) taken = refl
+taken_finds _ taken = absurd taken
+
+behind_going : (before after : Course) (e : Event) (done : Option Done) (told : Reply) → Goes before e done after told → IsTaken told → FoundMemory before.run →
+    FoundMemory after.run
+behind_going before after e done told goes taken h =
+    behind_answer before.run after.run e 0 done told (taken_finds told taken) (goes.answers.follows h)
+
+behind_turn : (script : Script) (before after : Course) (e : Event) → Turn script before e after → FoundMemory before.run → FoundMemory after.run
+behind_turn script before after e (inl goes) h = behind_going before after e None Accepts goes tt h
+behind_turn script before after e (inr (claimed, job, goes, commits)) h =
+    behind_going claimed after (Commit job.number) (Some commits.work) commits.told commits.goes commits.taken
+    (behind_going before claimed e None (GivesJob job) goes tt h)
+
+behind_turns : (script : Script) (n : ℕ) (before after : Course) → Turns script n before after → FoundMemory before.run → FoundMemory after.run
+unfolding Turns
+behind_turns script zero before after same h = subst (λ (c : Course). FoundMemory c.run) (sym same) h
+behind_turns script (suc n) before after (between, e, turned, is_next, turn) h =
+    behind_turn script between after e turn (behind_turns script n before between turned h)
+
+pub run_goes_on : (script : Script) (size : Size) (after : Course) → EndsSo script (first_run size) after → FoundMemory after.run
+run_goes_on script size after (n, turned, rests) = behind_turns script n (first_run size) after turned refl

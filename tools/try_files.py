@@ -566,6 +566,10 @@ def try_names(trial):
     reason += b"Example: claim 7 in a run with two workers\n"
     for word in ["30", "NoWorker", "noworker"]:
         trial.run(f"explain {word}", 0, report=reason)
+    limits = b"41 TooLong\nMore than 100,000 events would be applied. A run that meets it ends with no report.\nExample: a file of 100,001 lines join\n"
+    limits += b"Limits: 100,000 events, those of settle lines counted, or turns; 262,144 lines of a plan that say something; "
+    limits += b"1,048,576 bytes of settle lines in all, their line feeds not counted\n"
+    trial.run("explain 41", 0, report=limits)
     trap = b"DivZero, a trap\nA number was divided by 0.\nComes of: / or % by 0\nExample: 1 / 0\nWhat to do: test the divisor before\n"
     trial.run("explain divzero", 0, report=trap)
     trial.run("explain OwnerDie", 1, "OwnerDie is the name of no refusal, fault or trap; near are: OwnerDied\n")

@@ -11,6 +11,10 @@ use std::process::ExitCode;
 /// What the standard output is called.
 pub const OUTPUT: &str = "the standard output";
 
+/// The most that is kept of a plan, and of a list's settle lines.
+const MOST_OF_A_PLAN: &str = "262,144 lines of a plan that say something";
+const MOST_OF_SETTLES: &str = "1,048,576 bytes of settle lines in all, their line feeds not counted";
+
 /// Why a command stops, or a part of it.
 #[derive(Clone, Copy)]
 pub enum Stop<'a> {
@@ -150,11 +154,11 @@ fn tell_overlong<R: Eprint>(rt: &R, kind: ListKind) {
     let refusal = CommandRefusal::Stopped { code: 41 };
     let (limit, remedy) = match kind {
         ListKind::Plan => (
-            "262,144 lines of a plan that say something",
+            MOST_OF_A_PLAN,
             "leave out lines of which nothing comes",
         ),
         _ => (
-            "1,048,576 bytes of settle lines in all, their line feeds not counted",
+            MOST_OF_SETTLES,
             "leave out settle lines that stand for nothing, and name each worker once",
         ),
     };
@@ -193,8 +197,11 @@ pub fn explain<R: Print + Eprint + AllocGlobal>(rt: &R, what: &str) -> ExitCode 
         refusal_named(what.as_bytes()),
         Ending::named(what.as_bytes()),
     ) {
-        (Some(reason), Some(ending)) => println!(rt; "{reason}\n\n{ending}"),
-        (Some(reason), None) => println!(rt; "{reason}"),
+        (Some(reason), Some(ending)) => match print_reason(rt, reason) {
+            Ok(()) => println!(rt; "\n{ending}"),
+            Err(error) => Err(error),
+        },
+        (Some(reason), None) => print_reason(rt, reason),
         (None, Some(ending)) => println!(rt; "{ending}"),
         (None, None) => return unknown_name(rt, what),
     };
@@ -206,8 +213,18 @@ fn explain_number<R: Print + Eprint + AllocGlobal>(rt: &R, number: u8) -> ExitCo
         let _ = eprintln!(rt; "nothing is refused {number}");
         return ExitCode::FAILURE;
     };
-    let written = println!(rt; "{reason}");
+    let written = print_reason(rt, reason);
     is_out(rt, written)
+}
+
+/// Prints what a refusal is, and of 41 each limit, since files have some too.
+fn print_reason<R: Print>(rt: &R, reason: RefusalCause) -> io::Result<()> {
+    match reason {
+        RefusalCause::TooLong => {
+            println!(rt; "{reason}\nLimits: 100,000 events, those of settle lines counted, or turns; {MOST_OF_A_PLAN}; {MOST_OF_SETTLES}")
+        }
+        _ => println!(rt; "{reason}"),
+    }
 }
 
 /// Tells that nothing has this name, and which names are near.

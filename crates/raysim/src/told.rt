@@ -13,7 +13,9 @@ pub const OUTPUT: &str = "the standard output";
 
 /// The most that is kept of a plan, and of a list's settle lines.
 const MOST_OF_A_PLAN: &str = "262,144 lines of a plan that say something";
-const MOST_OF_SETTLES: &str = "1,048,576 bytes of settle lines in all, their line feeds not counted";
+
+const MOST_OF_SETTLES: &str =
+    "1,048,576 bytes of settle lines in all, their line feeds not counted";
 
 /// Why a command stops, or a part of it.
 #[derive(Clone, Copy)]
@@ -153,10 +155,7 @@ pub fn tell<R: Eprint + AllocGlobal>(rt: &R, stop: Stop<'_>, known: &Known<'_, '
 fn tell_overlong<R: Eprint>(rt: &R, kind: ListKind) {
     let refusal = CommandRefusal::Stopped { code: 41 };
     let (limit, remedy) = match kind {
-        ListKind::Plan => (
-            MOST_OF_A_PLAN,
-            "leave out lines of which nothing comes",
-        ),
+        ListKind::Plan => (MOST_OF_A_PLAN, "leave out lines of which nothing comes"),
         _ => (
             MOST_OF_SETTLES,
             "leave out settle lines that stand for nothing, and name each worker once",
@@ -221,7 +220,9 @@ fn explain_number<R: Print + Eprint + AllocGlobal>(rt: &R, number: u8) -> ExitCo
 fn print_reason<R: Print>(rt: &R, reason: RefusalCause) -> io::Result<()> {
     match reason {
         RefusalCause::TooLong => {
-            println!(rt; "{reason}\nLimits: 100,000 events, those of settle lines counted, or turns; {MOST_OF_A_PLAN}; {MOST_OF_SETTLES}")
+            println!(rt;
+                "{reason}\nLimits: 100,000 events, those of settle lines counted, or turns; {MOST_OF_A_PLAN}; {MOST_OF_SETTLES}"
+            )
         }
         _ => println!(rt; "{reason}"),
     }

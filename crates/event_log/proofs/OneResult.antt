@@ -206,7 +206,7 @@ module _ (log : List Entry) (one : AreSingle (births log)) where
       depth = depth;
       retries = retries;
       others = others;
-      task = is;
+      task = born ∙ ap Some is;
       begun = begun;
       places = places;
       all = all;

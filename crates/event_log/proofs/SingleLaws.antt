@@ -42,7 +42,7 @@ last_single (z ∷ xs) x [] one h = absurd h
 last_single (z ∷ xs) x (y ∷ ys) one h = last_single xs x ys one.1 h.1
 
 -- a replay that is over has an outcome for each result
-over_outcomes : (n : ℕ) (run : Run) (base : Id) (answers : List Outcome) (cs : List Outcome) → (piece n run base answers).stop ≡ Over cs → (e : Completion) × (cs ≡ outcomes n e)
+pub over_outcomes : (n : ℕ) (run : Run) (base : Id) (answers : List Outcome) (cs : List Outcome) → (piece n run base answers).stop ≡ Over cs → (e : Completion) × (cs ≡ outcomes n e)
 over_outcomes n (Ends e) base answers cs h = (e, cc)
 over_outcomes n (Prints v next) base answers cs h = over_outcomes n next base answers cs h
 over_outcomes n (Bears b made_by next) base answers cs h = over_outcomes n (next (named base b)) (behind base b) answers cs h

@@ -108,7 +108,7 @@ module _ (j : ℕ) (job : Job) where
 
   heard : (h : Here) (w : ℕ) (m : Message) → StopsFirst h.worker → Stays h → IsHeard Stays kept h w m
   heard h w (Push a spec) over p = pushed h a spec over p
-  heard h w (Finished a n ids content) over p = finished_reached-kept Stays kept h w a n ids content
+  heard h w (Finished a n rs) over p = finished_reached-kept Stays kept h w a n rs
       (λ task. record { run = p.run; there = p.there; out = p.out; same = p.same }) p
   heard h w (Failed a f) over p = tt
   heard h w (FinishedAck a) over p = tt

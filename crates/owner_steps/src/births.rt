@@ -6,9 +6,11 @@ ghost use Rattle.values.specs.Values.{value_of};
 ghost use Rattle.protocol.specs.Numbered.{changed_at};
 ghost use Rattle.protocol.specs.Tables.{ByTask, new_object, new_task, put_object, with_task};
 ghost use Rattle.protocol.specs.Asking.{requests};
-ghost use Rattle.protocol.specs.Commits.{bears, bears_all, bears_put, bears_task, next_id_here, with_object};
+ghost use Rattle.protocol.specs.Commits.{bears, bears_all, bears_put, bears_task, next_id_here, with_objects};
+ghost use Rattle.protocol.specs.Steps.{own_id};
 
 use crate::birth_ids::ids_in_birth;
+use crate::results::own_id;
 use held::{Origin, SharedContent};
 use ids::{AttemptId, NodeId, ObjectId};
 use number_lists::row_of;
@@ -18,7 +20,7 @@ use sequence::Seq;
 use std::alloc::{AllocError, Global};
 use task_spec::Birth;
 use values::RunValue;
-use worker_steps::{hold_ids, say_to_node};
+use worker_steps::{hold_ids, results_of, say_to_node};
 
 /// The id of the worker's next object.
 pub fn next_id(here: &Here) -> ObjectId
@@ -35,7 +37,7 @@ pub fn next_id(here: &Here) -> ObjectId
 
 /// One more own object.
 fn add_own(here: &mut Here, object: Object) -> Result<(), AllocError>
-    ensures { OnOk result (here.new ≡ with_object here.old object) }
+    ensures { OnOk result (here.new ≡ with_objects here.old (object ∷ [])) }
 {
     here.worker.objects.push(object)?;
     Ok(())
@@ -163,17 +165,20 @@ fn request_first(
     say_to_node(here, node, Message::Ask(AttemptId { object, number: 0 }, 0))
 }
 
-/// A task is born and asked for.
+/// A task of one result is born and asked for.
+#[tactic(auto, using(crate::proofs::Once::borne))]
 fn bear_task(
     alloc: Global,
     here: &mut Here,
     bearer: AttemptId,
-    object: ObjectId,
+    serial: u64,
     spec: &Origin,
     ids: &Seq<ObjectId>,
 ) -> Result<(), AllocError>
-    ensures { OnOk result (here.new ≡ bears_task here.old bearer object spec.now ids.now) }
+    ensures { OnOk result (here.new ≡ bears_task here.old bearer (own_id here.old serial) spec.now 0 ids.now) }
 {
+    let _ = results_of(spec);
+    let object = own_id(here, serial);
     let kept = ids.copy(alloc)?;
     let made = task_object(alloc, spec, bearer, kept)?;
     add_own(here, made)?;
@@ -189,7 +194,7 @@ fn bear(alloc: Global, here: &mut Here, bearer: AttemptId, spec: &Origin) -> Res
     let ids = ids_in_birth(alloc, spec)?;
     match &spec.inner {
         Birth::Put(value) => bear_put(alloc, here, bearer, object, value, &ids),
-        Birth::Task { .. } => bear_task(alloc, here, bearer, object, spec, &ids),
+        Birth::Task { .. } => bear_task(alloc, here, bearer, object.serial, spec, &ids),
     }
 }
 

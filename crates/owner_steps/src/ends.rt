@@ -1,24 +1,24 @@
 // The owner hears how an attempt stopped.
 
-ghost use Rattle.std.specs.Prelude.{◌≡◌, ◌&&◌, ◌==◌, IfOk, OnOk, [], ◌∷◌, ◌++◌, Some, None};
+ghost use Rattle.std.specs.Prelude.{◌≡◌, ◌&&◌, ◌==◌, IfOk, OnOk, [], ◌∷◌, ◌++◌, Some, None, true};
 ghost use Rattle.protocol.specs.Numbered.{changed_at, item_at};
 ghost use Rattle.protocol.specs.Tables.{ever_for, is_pending_task, places_for, task_of, with_content};
 ghost use Rattle.protocol.specs.Steps.{changes, with_task_of};
 ghost use Rattle.protocol.specs.Asking.{rests};
-ghost use Rattle.protocol.specs.Ends.{accepts, failed_reached, finished_reached, hears_of_end, if_present};
+ghost use Rattle.protocol.specs.Ends.{accepts, failed_by, failed_reached, fails, finished_by, finished_reached, first_result, hears_of_end, if_present};
+ghost use Rattle.meaning.specs.Values.{results_of};
 ghost use Rattle.protocol_data.specs.declared.tables.OwnTask.{OwnTask};
 
-use crate::answers::answer_settled;
-use crate::faulted::answer_faulted;
+use crate::results::{answer_faulted_own, answer_settled_own, resolve_open};
 use held::SharedContent;
 use ids::{AttemptId, NodeId, ObjectId, WorkerId};
 use log_entries::Entry;
 use number_lists::{add_node, add_objects, object_at_number, row_of};
-use protocol_data::{Here, Maker, Message, Object, Objects, OwnTask, Progress, copy_of};
+use protocol_data::{EndedResult, Here, Maker, Message, Object, Objects, OwnTask, Progress, copy_of};
 use sequence::Seq;
 use std::alloc::{AllocError, Global};
 use values::Fault;
-use worker_steps::{is_own, log, resolve, say, set_progress_at};
+use worker_steps::{is_own, log, results_of, say, set_progress_at};
 
 /// Whether it is the present attempt of a pending task.
 fn is_present_attempt(attempt: AttemptId, task: &OwnTask) -> bool
@@ -107,44 +107,91 @@ fn set_content_at(
     Ok(())
 }
 
+/// The object of that serial has the content that the first of these results tells of; where there is none, one of which nothing is told.
+#[tactic(auto, using(crate::proofs::Once::first_told, crate::proofs::Once::none_told))]
+fn set_first_content_at(
+    alloc: Global,
+    objects: &mut Objects,
+    serial: u64,
+    number: u32,
+    node: NodeId,
+    results: &Seq<EndedResult>,
+) -> Result<(), AllocError>
+    ensures { OnOk result (objects.new ≡ changed_at objects.old serial
+        (with_content number node (first_result results.now).ids (first_result results.now).kept)) }
+{
+    let Some(first) = results.items.first() else {
+        let ids = Seq::new(alloc);
+        let kept = None;
+        return set_content_at(alloc, objects, serial, number, node, &ids, &kept);
+    };
+    set_content_at(
+        alloc,
+        objects,
+        serial,
+        number,
+        node,
+        &first.ids,
+        &first.kept,
+    )
+}
+
 /// The attempt's end is accepted.
+#[tactic(auto, using(crate::proofs::Once::accepted))]
 fn accept(
     alloc: Global,
     here: &mut Here,
     attempt: AttemptId,
     node: NodeId,
-    ids: &Seq<ObjectId>,
-    kept: &Option<SharedContent>,
+    results: &Seq<EndedResult>,
 ) -> Result<(), AllocError>
     ensures { (task : OwnTask) → task_of (item_at here.old.worker.objects attempt.object.serial) ≡ Some task → task.number ≡ attempt.number
-        → OnOk result (here.new ≡ accepts here.old attempt task node ids.now kept.now) }
+        → results_of task.spec ≡ 1 → OnOk result (here.new ≡ accepts here.old attempt task node results.now) }
 {
     rest(here, attempt.object, attempt.number);
     let serial = attempt.object.serial;
-    set_content_at(
+    set_first_content_at(
         alloc,
         &mut here.worker.objects,
         serial,
         attempt.number,
         node,
-        ids,
-        kept,
+        results,
     )?;
     log(here, Entry::Accepted(attempt))
 }
 
-/// The worker tells that the attempt has ended, with a content at the node that has these ids, and that comes along if it is small. If it is the
-/// present attempt of a pending task it is accepted, and whoever waits for the object is answered. Of any attempt the worker is told that its end was heard.
+/// The attempt under way has ended: that is accepted, and whoever waits for the task's object is answered.
+#[tactic(auto, using(crate::proofs::Once::finished))]
+fn take_end(
+    alloc: Global,
+    here: &mut Here,
+    worker: WorkerId,
+    attempt: AttemptId,
+    node: NodeId,
+    results: &Seq<EndedResult>,
+) -> Result<(), AllocError>
+    ensures { (task : OwnTask) → task_of (item_at here.old.worker.objects attempt.object.serial) ≡ Some task → task.number ≡ attempt.number
+        → results_of task.spec ≡ 1 → if_present attempt task ≡ true
+        → OnOk result (here.new ≡ finished_by here.old worker attempt node results.now (Some task)) }
+{
+    accept(alloc, here, attempt, node, results)?;
+    hear_of_end(here, worker, attempt)?;
+    answer_settled_own(alloc, here, attempt.object.serial)
+}
+
+/// The worker tells that the attempt has ended, with contents at the node of which this is told, a small one with its content. If it is the
+/// present attempt of a pending task it is accepted, and whoever waits for the task's object is answered. Of any attempt the worker is told that its
+/// end was heard.
 pub fn finished_reached(
     alloc: Global,
     here: &mut Here,
     worker: WorkerId,
     attempt: AttemptId,
     node: NodeId,
-    ids: &Seq<ObjectId>,
-    kept: &Option<SharedContent>,
+    results: &Seq<EndedResult>,
 ) -> Result<(), AllocError>
-    ensures { OnOk result (here.new ≡ finished_reached here.old worker attempt node ids.now kept.now) }
+    ensures { OnOk result (here.new ≡ finished_reached here.old worker attempt node results.now) }
 {
     if !is_own(here, attempt.object) {
         return hear_of_end(here, worker, attempt);
@@ -158,13 +205,31 @@ pub fn finished_reached(
     if !is_present_attempt(attempt, task) {
         return hear_of_end(here, worker, attempt);
     }
-    accept(alloc, here, attempt, node, ids, kept)?;
-    hear_of_end(here, worker, attempt)?;
-    answer_settled(alloc, here, attempt.object)
+    let _ = results_of(&task.spec);
+    take_end(alloc, here, worker, attempt, node, results)
 }
 
-/// The worker tells that the attempt has ended by a fault. If it is the present attempt of a pending task its object is resolved to that fault,
-/// and whoever waits for it is answered. Of any attempt the worker is told that its end was heard.
+/// The attempt under way has that fault: the task's object is resolved to it, unless it has one, and whoever waits for it is answered.
+#[tactic(auto, using(crate::proofs::Once::failed))]
+fn take_fault(
+    alloc: Global,
+    here: &mut Here,
+    worker: WorkerId,
+    attempt: AttemptId,
+    why: Fault,
+) -> Result<(), AllocError>
+    ensures { (task : OwnTask) → task_of (item_at here.old.worker.objects attempt.object.serial) ≡ Some task → task.number ≡ attempt.number
+        → results_of task.spec ≡ 1 → if_present attempt task ≡ true
+        → OnOk result (here.new ≡ failed_by here.old worker attempt why (Some task)) }
+{
+    rest(here, attempt.object, attempt.number);
+    resolve_open(here, attempt.object.serial, why)?;
+    hear_of_end(here, worker, attempt)?;
+    answer_faulted_own(alloc, here, attempt.object.serial)
+}
+
+/// The worker tells that the attempt has ended by a fault. If it is the present attempt of a pending task the task's object is resolved to that
+/// fault, unless it has one, and whoever waits for it is answered. Of any attempt the worker is told that its end was heard.
 pub fn failed_reached(
     alloc: Global,
     here: &mut Here,
@@ -186,8 +251,6 @@ pub fn failed_reached(
     if !is_present_attempt(attempt, task) {
         return hear_of_end(here, worker, attempt);
     }
-    rest(here, attempt.object, attempt.number);
-    resolve(here, attempt.object, why)?;
-    hear_of_end(here, worker, attempt)?;
-    answer_faulted(alloc, here, attempt.object)
+    let _ = results_of(&task.spec);
+    take_fault(alloc, here, worker, attempt, why)
 }

@@ -8,12 +8,12 @@ ghost use Rattle.protocol.specs.Notices.{notice_node_step, notice_step};
 ghost use Rattle.protocol.specs.Places.{adds_places, missing_reached, where_reached};
 ghost use Rattle.protocol.specs.Releases.{release_step};
 
-use held::{Origin, SharedContent};
+use held::Origin;
 use ids::{AttemptId, NodeId, ObjectId, WorkerId};
 use owner_steps::{
     bear_all, failed_reached, finished_reached, given_reached, missing_reached, where_reached,
 };
-use protocol_data::{Here, Party};
+use protocol_data::{EndedResult, Here, Party};
 use sequence::Seq;
 use std::alloc::{AllocError, Global};
 use values::Fault;
@@ -41,18 +41,17 @@ pub trait OwnerTable {
         worker: WorkerId,
     ) -> Result<(), AllocError>;
 
-    /// The attempt has ended with a content at the node, that has these ids, and that comes along if it is small: it is accepted if it is the present one.
+    /// The attempt has ended at the node, with this for each result of its task: it is accepted if it is the present one.
     fn accepted(
         &mut self,
         alloc: Global,
         worker: WorkerId,
         attempt: AttemptId,
         node: NodeId,
-        ids: &Seq<ObjectId>,
-        kept: &Option<SharedContent>,
+        results: &Seq<EndedResult>,
     ) -> Result<(), AllocError>;
 
-    /// The attempt has ended by a fault: its object is resolved to that fault if it is the present one.
+    /// The attempt has ended by a fault: the objects of its task are resolved to that fault if it is the present one.
     fn failed(
         &mut self,
         alloc: Global,
@@ -128,12 +127,11 @@ impl OwnerTable for Here {
         worker: WorkerId,
         attempt: AttemptId,
         node: NodeId,
-        ids: &Seq<ObjectId>,
-        kept: &Option<SharedContent>,
+        results: &Seq<EndedResult>,
     ) -> Result<(), AllocError>
-        ensures { OnOk result (self.new ≡ finished_reached self.old worker attempt node ids.now kept.now) }
+        ensures { OnOk result (self.new ≡ finished_reached self.old worker attempt node results.now) }
     {
-        finished_reached(alloc, self, worker, attempt, node, ids, kept)
+        finished_reached(alloc, self, worker, attempt, node, results)
     }
 
     fn failed(

@@ -1,5 +1,5 @@
 -- What was done on a job, as the pure steps take it.
-use Rattle.std.specs.Prelude.{List, map}
+use Rattle.std.specs.Prelude.{List, [], map, ◌∷◌}
 use Rattle.values.specs.declared.value.RunValue.{RunValue}
 use Rattle.values.specs.Values.{value_of, content_of}
 use Rattle.task_spec.specs.declared.birth.Birth.{Birth}
@@ -8,10 +8,10 @@ use Rattle.evaluation.specs.declared.piece.PieceStop.{PieceStop}
 use Rattle.evaluation.specs.declared.piece.PieceStop.TheVariants as stops
 use Rattle.protocol.specs.Jobs.{Outcomes, Stopped, AtGet, AtEnd}
 
--- where a job stopped
+-- where a job stopped; an end has the content of the one result
 abbrev pub stopped_of : PieceStop → Stopped
 stopped_of (stops.Needs y) = AtGet y
-stopped_of (stops.Ends c) = AtEnd (content_of c)
+stopped_of (stops.Ends c) = AtEnd (content_of c ∷ [])
 
 -- what was done on a job, as the pure steps take it
 abbrev pub work_of : List Birth → List RunValue → PieceStop → Outcomes

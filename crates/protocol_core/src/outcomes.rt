@@ -1,8 +1,9 @@
 // What was done on a job.
 
-ghost use Rattle.std.specs.Prelude.{◌≡◌, IfOk, map};
-ghost use Rattle.values.specs.Values.{value_of};
+ghost use Rattle.std.specs.Prelude.{◌≡◌, ◌∷◌, [], IfOk, map};
+ghost use Rattle.values.specs.Values.{content_of, value_of};
 ghost use Rattle.task_spec.specs.Births.{birth_of};
+ghost use Rattle.protocol.specs.Jobs.{AtEnd};
 ghost use Rattle.protocol_core.specs.Work.{stopped_of, work_of};
 
 use evaluation::PieceStop;
@@ -11,7 +12,7 @@ use protocol_data::{Outcomes, Stopped};
 use sequence::Seq;
 use std::alloc::{AllocError, Global};
 use task_spec::Birth;
-use values::RunValue;
+use values::{Content, RunValue};
 
 fn origins(alloc: Global, births: Vec<Birth>) -> Result<Seq<Origin>, AllocError>
     ensures { IfOk result (λ all. all ≡ map birth_of births.items) }
@@ -33,12 +34,21 @@ fn printed(alloc: Global, values: Vec<RunValue>) -> Result<Seq<Printed>, AllocEr
     Ok(all)
 }
 
+/// A job of one result is at its end.
+fn ended(alloc: Global, content: Content) -> Result<Stopped, AllocError>
+    ensures { IfOk result (λ s. s ≡ AtEnd (content_of content ∷ [])) }
+{
+    let mut contents = Seq::new(alloc);
+    contents.push(SharedContent::new(alloc, content)?)?;
+    Ok(Stopped::AtEnd(contents))
+}
+
 fn stopped(alloc: Global, stop: PieceStop) -> Result<Stopped, AllocError>
     ensures { IfOk result (λ s. s ≡ stopped_of stop) }
 {
     match stop {
         PieceStop::Needs(object) => Ok(Stopped::AtGet(object)),
-        PieceStop::Ends(content) => Ok(Stopped::AtEnd(SharedContent::new(alloc, content)?)),
+        PieceStop::Ends(content) => ended(alloc, content),
     }
 }
 

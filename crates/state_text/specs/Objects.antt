@@ -8,7 +8,7 @@ use Rattle.event_log.specs.Entries.{Entry, Fault}
 use Rattle.event_log.specs.Words.{attempt, births}
 use Rattle.log_words.specs.Faults.{fault_words}
 use Rattle.protocol_data.specs.declared.tables.Maker.{Maker}
-use Rattle.protocol_data.specs.declared.tables.Maker.TheVariants.{ByTask, WasPut}
+use Rattle.protocol_data.specs.declared.tables.Maker.TheVariants.{Beside, ByTask, WasPut}
 use Rattle.protocol_data.specs.declared.tables.Object.{Object}
 use Rattle.protocol_data.specs.declared.tables.Progress.{Progress}
 use Rattle.protocol_data.specs.declared.tables.Progress.TheVariants.{AskedAt, AtRest, RunsOn}
@@ -21,13 +21,23 @@ abbrev pub function_name : Option Birth → Name
 function_name (Some (Task g args depth retries others)) = g
 function_name _ = []
 
+-- the first object of the task that makes it too
+abbrev pub first_of : Id → ℕ → Id
+first_of o serial = record { owner = o.owner; serial = serial }
+
 abbrev pub maker_text : List Entry → Id → Maker → List ℕ
 maker_text log o WasPut = codes "put"
 maker_text log o (ByTask task) = codes "made by " ++ function_name (birth_at (births log) o)
+maker_text log o (Beside serial) = codes "made by " ++ function_name (birth_at (births log) (first_of o serial))
+
+-- settled by attempt k of the task that stands with the object
+abbrev pub settled_by : Id → ℕ → List ℕ
+settled_by o k = codes ", settled by " ++ (attempt_text (attempt o k) ++ codes "\n")
 
 abbrev pub settled_note : Id → Maker → ℕ → List ℕ
 settled_note o WasPut k = codes ", settled\n"
-settled_note o (ByTask task) k = codes ", settled by " ++ (attempt_text (attempt o k) ++ codes "\n")
+settled_note o (ByTask task) k = settled_by o k
+settled_note o (Beside serial) k = settled_by (first_of o serial) k
 
 -- the content is with the owner, or at a node
 abbrev pub is_somewhere : List ℕ → Option Outcome → Bool
@@ -52,9 +62,18 @@ progress_text o x k (AskedAt t n) =
     codes ", pending: " ++ (attempt_text (attempt o k) ++ (codes " asked n" ++ (decimal n ++ codes " for a worker\n")))
 progress_text o x k (RunsOn v n) = codes ", pending: " ++ (attempt_text (attempt o k) ++ (codes " began on w" ++ (decimal v ++ codes "\n")))
 
+abbrev pub comes_with : Id → List ℕ
+comes_with o = codes ", comes with " ++ (object_text o ++ codes "\n")
+
+-- a further result: how its task is stands with the first
+abbrev pub beside_state : Id → Object → Id → Option ℕ → List ℕ
+beside_state o x first None = comes_with first
+beside_state o x first (Some k) = rest_text o x
+
 abbrev pub made_state : Id → Object → Maker → List ℕ
 made_state o x WasPut = rest_text o x
 made_state o x (ByTask task) = progress_text o x task.number task.progress
+made_state o x (Beside serial) = beside_state o x (first_of o serial) x.settled
 
 abbrev pub resolved_note : Fault → List ℕ
 resolved_note f = codes ", resolved: " ++ (fault_words f ++ codes "\n")
@@ -89,6 +108,7 @@ used_line o k _ = []
 abbrev pub retries_line : List Entry → Id → Maker → List ℕ
 retries_line log o WasPut = []
 retries_line log o (ByTask task) = used_line o task.number (birth_at (births log) o)
+retries_line log o (Beside serial) = []
 
 unfoldable pub placed_head : Id → List ℕ
 placed_head o = object_text o ++ codes ": copies at"

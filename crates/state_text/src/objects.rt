@@ -1,14 +1,16 @@
 // What is said of objects.
 
-ghost use Rattle.std.specs.Prelude.{◌≡◌, ◌++◌, ◌<◌, OnOk, option_copied, string_bytes};
+ghost use Rattle.std.specs.Prelude.{◌≡◌, ◌++◌, ◌<◌, OnOk, codes, option_copied, string_bytes};
 ghost use Rattle.std.specs.Option.{option_map};
+ghost use Rattle.meaning.specs.Births.{birth_at};
+ghost use Rattle.event_log.specs.Words.{births};
 ghost use Rattle.task_spec.specs.Births.{birth_of};
 ghost use Rattle.log_words.specs.Index.{IsIndexOf};
-ghost use Rattle.state_text.specs.Objects.{all_objects_text, copies_line, dead_note, function_name};
+ghost use Rattle.state_text.specs.Objects.{all_objects_text, beside_state, copies_line, dead_note, first_of, function_name};
 ghost use Rattle.state_text.specs.Objects.{is_somewhere, kept_line, live_lines, made_state, maker_text};
 ghost use Rattle.state_text.specs.Objects.{object_head, object_text_of, objects_text, owner_head, owner_note, placed_head};
 ghost use Rattle.state_text.specs.Objects.{placed_text, progress_text, resolved_note, rest_text, retries_line, row_lines};
-ghost use Rattle.state_text.specs.Objects.{settled_note, stands_text, used_line, worker_objects};
+ghost use Rattle.state_text.specs.Objects.{settled_by, settled_note, stands_text, used_line, worker_objects};
 
 use crate::holders::{write_askers, write_frame, write_holders};
 use crate::standing::{worker_count, write_node_words};
@@ -31,6 +33,28 @@ fn write_function(text: &mut String, birth: Option<&Birth>) -> Result<(), AllocE
     text.push_str(function.as_str())
 }
 
+/// The first object of the task that makes it too.
+fn first_of(object: ObjectId, serial: u64) -> ObjectId
+    ensures { result ≡ first_of object serial }
+{
+    let owner = object.owner;
+    ObjectId { owner, serial }
+}
+
+/// Writes the function of the object's task.
+fn write_task(
+    text: &mut String,
+    index: &BirthIndex,
+    log: &[Entry],
+    object: ObjectId,
+) -> Result<(), AllocError>
+    ensures { IsIndexOf index.now log.now → OnOk result
+        (string_bytes text.new ≡ string_bytes text.old ++ (codes "made by " ++ function_name (birth_at (births log.now) object))) }
+{
+    text.push_str("made by ")?;
+    write_function(text, index.birth(log, object))
+}
+
 /// Writes what makes the object.
 fn write_maker(
     text: &mut String,
@@ -44,11 +68,17 @@ fn write_maker(
 {
     match maker {
         Maker::WasPut => text.push_str("put"),
-        Maker::ByTask(_) => {
-            text.push_str("made by ")?;
-            write_function(text, index.birth(log, object))
-        }
+        Maker::ByTask(_) => write_task(text, index, log, object),
+        Maker::Beside(serial) => write_task(text, index, log, first_of(object, *serial)),
     }
+}
+
+/// Writes of which attempt of the task that stands with the object the content is.
+fn write_settled_by(text: &mut String, object: ObjectId, number: u32) -> Result<(), AllocError>
+    ensures { OnOk result (string_bytes text.new ≡ string_bytes text.old ++ settled_by object number) }
+{
+    let attempt = AttemptId { object, number };
+    write!(text, ", settled by {attempt}\n")
 }
 
 /// Writes of which attempt the content is; nothing for what was put.
@@ -62,10 +92,8 @@ fn write_settled(
 {
     match maker {
         Maker::WasPut => text.push_str(", settled\n"),
-        Maker::ByTask(_) => {
-            let attempt = AttemptId { object, number };
-            write!(text, ", settled by {attempt}\n")
-        }
+        Maker::ByTask(_) => write_settled_by(text, object, number),
+        Maker::Beside(serial) => write_settled_by(text, first_of(object, *serial), number),
     }
 }
 
@@ -108,6 +136,21 @@ fn write_progress(
     }
 }
 
+/// Writes how a further result of a task stands.
+fn write_beside(
+    text: &mut String,
+    object: ObjectId,
+    row: &Object,
+    first: ObjectId,
+) -> Result<(), AllocError>
+    ensures { OnOk result (string_bytes text.new ≡ string_bytes text.old ++ beside_state object row.now first row.now.settled) }
+{
+    match row.settled {
+        None => write!(text, ", comes with {first}\n"),
+        Some(_) => write_rest(text, object, row),
+    }
+}
+
 /// Writes how an object stands that is neither released nor resolved.
 fn write_made(text: &mut String, object: ObjectId, row: &Object) -> Result<(), AllocError>
     ensures { OnOk result (string_bytes text.new ≡ string_bytes text.old ++ made_state object row.now row.now.maker) }
@@ -115,6 +158,7 @@ fn write_made(text: &mut String, object: ObjectId, row: &Object) -> Result<(), A
     match &row.maker {
         Maker::WasPut => write_rest(text, object, row),
         Maker::ByTask(task) => write_progress(text, object, row, task.number, task.progress),
+        Maker::Beside(serial) => write_beside(text, object, row, first_of(object, *serial)),
     }
 }
 
@@ -219,7 +263,7 @@ fn write_retries(
         (string_bytes text.new ≡ string_bytes text.old ++ retries_line log.now object maker.now) }
 {
     match maker {
-        Maker::WasPut => Ok(()),
+        Maker::WasPut | Maker::Beside(_) => Ok(()),
         Maker::ByTask(task) => write_used(text, index.birth(log, object), object, task.number),
     }
 }

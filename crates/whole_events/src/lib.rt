@@ -7,6 +7,7 @@ mod deaths;
 mod deliveries;
 mod happening;
 mod jobs;
+mod made;
 mod node_events;
 mod stores;
 mod within_limits;

@@ -42,16 +42,22 @@ def get(reference, timeout=None):
 class RemoteFunction:
     """A function whose calls are tasks."""
 
-    def __init__(self, function, retries=3):
+    def __init__(self, function, retries=3, count=1):
         self.function = function
         self.retries = retries
+        self.count = count
 
-    def options(self, max_retries):
-        return RemoteFunction(self.function, max_retries)
+    def options(self, max_retries, num_returns=1):
+        return RemoteFunction(self.function, max_retries, num_returns)
 
     def remote(self, *arguments):
         given = pickle.loads(pickle.dumps(arguments))
-        return put(self.function(*[get(it) if isinstance(it, ObjectRef) else it for it in given]))
+        end = self.function(*[get(it) if isinstance(it, ObjectRef) else it for it in given])
+        if self.count == 1:
+            return put(end)
+        if len(end) != self.count:
+            raise ValueError(f"The task returned {len(end)} values, and not {self.count}.")
+        return [put(it) for it in end]
 
 
 def remote(function):

@@ -91,11 +91,10 @@ abbrev pub last_places : Span → Expr → List Span
 last_places word e = operand_places e ++ over word e.span ∷ []
 
 abbrev mutual
-  -- no task of several results has code
   pub statement_places : Statement → List Span
   statement_places (statements.Let x e) = expr_places e
   statement_places (statements.LetCall x xs g args) = call_places g.span args.items
-  statement_places (statements.LetRemote x xs r g args) = []
+  statement_places (statements.LetRemote x xs r g args) = call_places g.span args.items
   statement_places (statements.Set x e) = expr_places e
   statement_places (statements.If' e shape a other) = operand_places e ++ (enclosed_places e.span (block_places a) ++ else_places other)
   statement_places (statements.For' x from to shape body) =

@@ -37,7 +37,9 @@ fn add_statement(places: &mut Vec<Span>, statement: &Statement) -> Result<(), Al
         Statement::LetCall(_, _, function, arguments) => {
             add_call(places, function.span, arguments)
         }
-        Statement::LetRemote(_, _, _, _, _) => Ok(()),
+        Statement::LetRemote(_, _, _, function, arguments) => {
+            add_call(places, function.span, arguments)
+        }
         Statement::Set(_, expr) => add_expr(places, expr),
         Statement::If(condition, first, second) => {
             add_operand(places, condition)?;

@@ -33,9 +33,21 @@ operation syntax.Push = codes "push"
 abbrev pub call_head : Name → List ℕ
 call_head g = codes "call(" ++ (function_name g ++ codes ", depth")
 
+-- 3, fn_g, depth
+abbrev pub task_head : ℕ → Name → List ℕ
+task_head retries g = decimal retries ++ (codes ", " ++ (function_name g ++ codes ", depth"))
+
 -- remote(3, fn_g, depth
 abbrev pub remote_head : ℕ → Name → List ℕ
-remote_head retries g = codes "remote(" ++ (decimal retries ++ (codes ", " ++ (function_name g ++ codes ", depth")))
+remote_head retries g = codes "remote(" ++ task_head retries g
+
+-- remote_all(1, : of two results, which is one beside the first
+unfoldable pub remote_all_of : ℕ → List ℕ
+remote_all_of others = codes "remote_all(" ++ (decimal others ++ codes ", ")
+
+-- remote_all(1, 3, fn_g, depth
+abbrev pub remote_all_head : ℕ → ℕ → Name → List ℕ
+remote_all_head others retries g = remote_all_of others ++ task_head retries g
 
 abbrev pub is_first_marked : List Bool → Bool
 is_first_marked [] = false

@@ -1,9 +1,9 @@
 -- How statements are written in Python: on lines of their own, each behind a margin.
-use Rattle.std.specs.Prelude.{ℕ, Bool, true, false, List, [], ◌++◌, codes}
+use Rattle.std.specs.Prelude.{ℕ, Bool, true, false, List, [], ◌++◌, length, codes}
 use Rattle.std.specs.List.{flat_map}
 use Rattle.meaning.specs.Values.{Name}
-use Rattle.meaning.specs.Syntax.{Expr, Exprs, end, also, Stmt, Let, LetCall, Set, Print, Return, If, For, Block, done, step}
-use Rattle.engine_text.specs.Expressions.{variable_name, after_comma, separator, call_head, arguments_text, expression_text}
+use Rattle.meaning.specs.Syntax.{Expr, Exprs, end, also, Stmt, Let, LetCall, LetRemote, Set, Print, Return, If, For, Block, done, step}
+use Rattle.engine_text.specs.Expressions.{variable_name, after_comma, separator, call_head, arguments_text, remote_all_head, marked_text, expression_text}
 
 abbrev pub deeper : List ℕ → List ℕ
 deeper margin = margin ++ codes "    "
@@ -20,6 +20,12 @@ other_name x = after_comma (variable_name x)
 abbrev pub results_text : List ℕ → Name → List Name → Name → Exprs → List ℕ
 results_text margin x xs g args =
     margin ++ (variable_name x ++ (flat_map other_name xs ++ (codes " = " ++ (call_head g ++ (arguments_text args ++ codes "\n")))))
+
+-- v_x, v_y = remote_all(1, 3, fn_g, depth, 1): a reference for each result
+abbrev pub references_text : List ℕ → Name → List Name → ℕ → Name → List Bool → Exprs → List ℕ
+references_text margin x xs retries g marks args =
+    margin ++ (variable_name x ++ (flat_map other_name xs
+    ++ (codes " = " ++ (remote_all_head (length xs) retries g ++ (marked_text marks args ++ codes "\n")))))
 
 -- what is returned, later values than the first or all of them, and the line's end
 abbrev pub values_text : Bool → Exprs → List ℕ
@@ -48,6 +54,7 @@ abbrev mutual
   pub statement_text : List ℕ → Stmt → List ℕ
   statement_text margin (Let x e) = assignment_text margin x e
   statement_text margin (LetCall x xs g args) = results_text margin x xs g args
+  statement_text margin (LetRemote x xs retries g marks args) = references_text margin x xs retries g marks args
   statement_text margin (Set x e) = assignment_text margin x e
   statement_text margin (Print e) = word_text margin (codes "show(") e (codes ")\n")
   statement_text margin (Return es) = return_text margin es

@@ -1,8 +1,9 @@
 // Names, and what stands around operands.
 
 ghost use Rattle.std.specs.Prelude.{◌≡◌, ◌++◌, List, Bool, OnOk, drop, string_bytes};
+ghost use Rattle.std.specs.Fmt.{decimal};
 ghost use Rattle.script_check.specs.Trees.{operator_of, unary_of};
-ghost use Rattle.engine_text.specs.Expressions.{call_head, function_name, is_first_marked, operation, prefix_operation, remote_head, separator, variable_name};
+ghost use Rattle.engine_text.specs.Expressions.{call_head, function_name, is_first_marked, operation, prefix_operation, remote_all_head, remote_all_of, remote_head, separator, task_head, variable_name};
 
 use itoa::Buffer;
 use script_check::{Operator, UnaryOperator};
@@ -72,6 +73,16 @@ pub(crate) fn write_call_head(text: &mut String, function: &str) -> Result<(), A
     text.push_str(", depth")
 }
 
+/// What a remote call's own part begins with: how many new runs it allows, and its function.
+fn write_task_head(text: &mut String, retries: u8, function: &str) -> Result<(), AllocError>
+    ensures { OnOk result (string_bytes text.new ≡ string_bytes text.old ++ task_head retries function.now) }
+{
+    text.push_str(Buffer::new().format(retries))?;
+    text.push_str(", ")?;
+    write_function_name(text, function)?;
+    text.push_str(", depth")
+}
+
 /// How a remote call begins.
 pub(crate) fn write_remote_head(
     text: &mut String,
@@ -81,10 +92,37 @@ pub(crate) fn write_remote_head(
     ensures { OnOk result (string_bytes text.new ≡ string_bytes text.old ++ remote_head retries function.now) }
 {
     text.push_str("remote(")?;
-    text.push_str(Buffer::new().format(retries))?;
-    text.push_str(", ")?;
-    write_function_name(text, function)?;
-    text.push_str(", depth")
+    write_task_head(text, retries, function)
+}
+
+/// Writes a number.
+fn write_number(text: &mut String, number: usize) -> Result<(), AllocError>
+    ensures { OnOk result (string_bytes text.new ≡ string_bytes text.old ++ decimal number) }
+{
+    text.push_str(Buffer::new().format(number))
+}
+
+/// Writes that so many results beside the first are asked for.
+#[tactic(auto, unfolding(crate::specs::Expressions::remote_all_of))]
+fn write_remote_all_of(text: &mut String, others: usize) -> Result<(), AllocError>
+    ensures { OnOk result (string_bytes text.new ≡ string_bytes text.old ++ remote_all_of others) }
+{
+    text.push_str("remote_all(")?;
+    write_number(text, others)?;
+    text.push_str(", ")
+}
+
+/// How a remote call begins of so many results beside the first.
+pub(crate) fn write_remote_all_head(
+    text: &mut String,
+    others: usize,
+    retries: u8,
+    function: &str,
+) -> Result<(), AllocError>
+    ensures { OnOk result (string_bytes text.new ≡ string_bytes text.old ++ remote_all_head others retries function.now) }
+{
+    write_remote_all_of(text, others)?;
+    write_task_head(text, retries, function)
 }
 
 /// Whether the first argument of those that are left is marked.

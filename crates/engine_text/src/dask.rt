@@ -14,6 +14,7 @@ import sys
 import threading
 import time
 from contextlib import suppress
+from operator import getitem
 
 from distributed import Client, LocalCluster, get_client, get_worker, rejoin, secede
 
@@ -90,6 +91,12 @@ def submit(task, retries, arguments):
     future = get_client().submit(task, *arguments, retries=retries, pure=False)
     threading.current_thread().born = future
     return keep(future)
+
+
+def submit_for_several(task, count, retries, arguments):
+    """Begins a task of several results, and for each of them one that takes it out."""
+    whole = submit(task, retries, arguments)
+    return [submit(getitem, retries, [whole, place]) for place in range(count)]
 
 
 def store(value):

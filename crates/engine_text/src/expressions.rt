@@ -123,7 +123,7 @@ fn write_argument(text: &mut String, marked: bool, argument: &CheckedExpr) -> Re
 
 /// The arguments of a remote call, each after a comma, and the end of the call.
 #[cycle(expressions)]
-fn write_marked(
+pub(crate) fn write_marked(
     text: &mut String,
     marks: &[bool],
     arguments: &[CheckedExpr],

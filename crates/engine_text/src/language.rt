@@ -108,9 +108,8 @@ def script(function):
     return function
 
 
-@as_task
-def task(name, depth, *arguments):
-    """A remote call, where it runs. Its trap is what it comes to, and so is the first trap among its arguments."""
+def outcome(name, depth, *arguments):
+    """What a remote call comes to: its results or its trap, which is the first one among its arguments if there is one."""
     try:
         if depth >= 32:
             raise Trap("TooDeep")
@@ -122,9 +121,28 @@ def task(name, depth, *arguments):
         return Trapped(trap.args[0])
 
 
+@as_task
+def task(name, depth, *arguments):
+    """A remote call, where it runs."""
+    return outcome(name, depth, *arguments)
+
+
+@as_task
+def task_of_several(others, name, depth, *arguments):
+    """A remote call of several results, where it runs. Its trap is what each of them comes to."""
+    end = outcome(name, depth, *arguments)
+    return (end,) * (1 + others) if isinstance(end, Trapped) else end
+
+
 def remote(retries, function, depth, *arguments):
     """A remote call: a reference at once."""
     return Reference(submit(task, retries, [function.__name__, depth, *arguments]))
+
+
+def remote_all(others, retries, function, depth, *arguments):
+    """A remote call of so many results beside the first: a reference for each at once."""
+    given = [others, function.__name__, depth, *arguments]
+    return [Reference(future) for future in submit_for_several(task_of_several, 1 + others, retries, given)]
 
 
 def marked(reference):

@@ -40,6 +40,11 @@ def submit(task, retries, arguments):
     return task.options(max_retries=retries).remote(*arguments)
 
 
+def submit_for_several(task, count, retries, arguments):
+    """Begins a task of several results, each of which is an object of its own."""
+    return task.options(max_retries=retries, num_returns=count).remote(*arguments)
+
+
 def store(value):
     """Makes an object of a value."""
     return ray.put(value)

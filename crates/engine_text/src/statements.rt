@@ -5,10 +5,10 @@ ghost use Rattle.std.specs.List.{flat_map};
 ghost use Rattle.script_check.specs.Trees.{expr_of, exprs_of, statement_of, statements_of};
 ghost use Rattle.engine_text.specs.Expressions.{variable_name};
 ghost use Rattle.engine_text.specs.Statements.{assignment_text, block_text, bounds_text, deeper, else_text, lines_text, loop_head, loop_name, statement_text, word_text};
-ghost use Rattle.engine_text.specs.Statements.{other_name, results_text, return_text, values_text};
+ghost use Rattle.engine_text.specs.Statements.{other_name, references_text, results_text, return_text, values_text};
 
-use crate::calls::{separate, write_call_head, write_variable_name};
-use crate::expressions::{write_arguments, write_expression};
+use crate::calls::{separate, write_call_head, write_remote_all_head, write_variable_name};
+use crate::expressions::{write_arguments, write_expression, write_marked};
 use script_check::{CheckedExpr, CheckedStatement};
 use std::alloc::{AllocError, Global};
 
@@ -67,6 +67,28 @@ fn write_results(
     text.push_str(" = ")?;
     write_call_head(text, function)?;
     write_arguments(text, arguments)?;
+    text.push_str("\n")
+}
+
+/// A line that gives names the references of a remote call.
+fn write_references(
+    text: &mut String,
+    margin: &str,
+    first: &str,
+    others: &[String],
+    retries: u8,
+    function: &str,
+    marks: &[bool],
+    arguments: &[CheckedExpr],
+) -> Result<(), AllocError>
+    ensures { OnOk result (string_bytes text.new ≡ string_bytes text.old
+        ++ references_text margin.now first.now (map string_bytes others.now) retries function.now marks.now (exprs_of arguments.now)) }
+{
+    text.push_str(margin)?;
+    write_names(text, first, others)?;
+    text.push_str(" = ")?;
+    write_remote_all_head(text, others.len(), retries, function)?;
+    write_marked(text, marks, arguments)?;
     text.push_str("\n")
 }
 
@@ -158,6 +180,18 @@ fn write_statement(
                 name.as_str(),
                 others,
                 function.as_str(),
+                arguments,
+            )
+        }
+        CheckedStatement::LetRemote(name, others, retries, function, marks, arguments) => {
+            write_references(
+                text,
+                margin,
+                name.as_str(),
+                others,
+                *retries,
+                function.as_str(),
+                marks,
                 arguments,
             )
         }

@@ -1,3 +1,4 @@
 pub mod Conversions
+pub mod Results
 pub mod Standing
 pub mod TaskRuns

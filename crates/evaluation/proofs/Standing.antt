@@ -1,11 +1,10 @@
 -- Where an attempt stands.
-use Rattle.std.proofs.Common.{◌≡◌, ℕ, suc, List, [], ◌∷◌, ◌++◌, map, Result, Ok, Err, IfOk, IfErr, IfSome, Option, Some, None, refl, sym, ap, ◌∙◌, subst}
+use Rattle.std.proofs.Common.{◌≡◌, ℕ, suc, ◌+◌, List, [], ◌∷◌, ◌++◌, map, Result, Ok, Err, IfOk, IfErr, IfSome, Option, Some, None, refl, sym, ap, ◌∙◌, subst, arith}
 use Rattle.std.specs.Prelude.{IsErrAnd}
 use Rattle.meaning.specs.Values as meant
 use Rattle.meaning.specs.Values.{Name, Id, Argument, Outcome, Task}
 use Rattle.meaning.specs.Syntax.{Script}
 use Rattle.meaning.specs.Meaning.{replay}
-use Rattle.meaning.specs.Singles.{IsSingle}
 use Rattle.task_spec.specs.Births.{birth_of}
 use Rattle.task_spec.specs.declared.birth.Birth.{Birth as TBirth}
 use Rattle.meaning.specs.Runs.{Stop}
@@ -21,7 +20,7 @@ use Rattle.frames.specs.declared.halt.Halt.{Halt}
 use Rattle.frames.specs.declared.frame.Frame.{Frame}
 use Rattle.evaluation.specs.TaskValues.{IsTaskStop, IsTaskPiece, AreTaskBirths, EachTaskValue}
 use Rattle.evaluation.specs.declared.piece.Piece.{Piece}
-use Rattle.evaluation.specs.Pieces.{IsNoTaskStop, IsPieceOf, Keeps, Stands, past_with, piece_of, stop_of}
+use Rattle.evaluation.specs.Pieces.{IsBrokenEnd, IsBrokenStop, IsNoTaskStop, IsPieceOf, Keeps, Stands, past_with, piece_of, stop_of}
 
 -- an error that a `?` hands on
 pub handed_on : {A E : Type 0} (P : E → Type 0) (r : Result A E) (h : E) → IsErrAnd r (λ e. e ≡ h) → P h → IfErr r P
@@ -33,20 +32,32 @@ pub both_ok : {A B : Type 0} (P Q R : A → Type 0) (r : Result A B) → ((a : A
 both_ok P Q R (Ok a) f p q = f a p q
 both_ok P Q R (Err b) f p q = p
 
--- of a task of one result
-pub stopped_single : (h : Halt) (spec : meant.Birth) (s : Stop) → IsSingle spec → stopped_by 1 h ≡ Some s → stopped_by (meant.results_of spec) h ≡ Some s
-stopped_single h spec s single is = ap (λ n. stopped_by (suc n) h) single ∙ is
+-- of a task with so many results beside the first
+pub stopped_of : (h : Halt) (spec : meant.Birth) (others : ℕ) (s : Stop) → meant.others_of spec ≡ others → stopped_by (others + 1) h ≡ Some s →
+    stopped_by (meant.results_of spec) h ≡ Some s
+stopped_of h spec others s counted is =
+    let many : suc others ≡ others + 1 = omega arith in
+    ap (λ n. stopped_by (suc n) h) counted ∙ ap (λ n. stopped_by n h) many ∙ is
 
 -- where it stopped
-pub stop_stands : (past : Past) (a : Attempt) (q : runs.Piece) (s : Stop) → Stands past a q → stopped_by 1 a.halt ≡ Some s → q.stop ≡ s
-stop_stands past a q s stands e = ap (λ (p : runs.Piece). p.stop) (stands s e)
+pub stop_stands : (n : ℕ) (past : Past) (a : Attempt) (q : runs.Piece) (s : Stop) → Stands n past a q → stopped_by n a.halt ≡ Some s → q.stop ≡ s
+stop_stands n past a q s stands e = ap (λ (p : runs.Piece). p.stop) (stands s e)
 
-not_task_at : (past : Past) (a : Attempt) (q : runs.Piece) (o : Option Stop) → stopped_by 1 a.halt ≡ o → IsNoTaskStop o → Stands past a q → IsTaskPiece q → ⊥
-not_task_at past a q None e bars stands plain = absurd bars
-not_task_at past a q (Some s) e bars stands plain = bars (subst IsTaskStop (stop_stands past a q s stands e) plain.stop)
+not_task_at : (n : ℕ) (past : Past) (a : Attempt) (q : runs.Piece) (o : Option Stop) → stopped_by n a.halt ≡ o → IsNoTaskStop o → Stands n past a q →
+    IsTaskPiece q → ⊥
+not_task_at n past a q None e bars stands plain = absurd bars
+not_task_at n past a q (Some s) e bars stands plain = bars (subst IsTaskStop (stop_stands n past a q s stands e) plain.stop)
 
-pub not_task : (past : Past) (a : Attempt) (q : runs.Piece) → IsNoTaskStop (stopped_by 1 a.halt) → Stands past a q → IsTaskPiece q → ⊥
-not_task past a q bars stands plain = not_task_at past a q (stopped_by 1 a.halt) refl bars stands plain
+pub not_task : (n : ℕ) (past : Past) (a : Attempt) (q : runs.Piece) → IsNoTaskStop (stopped_by n a.halt) → Stands n past a q → IsTaskPiece q → ⊥
+not_task n past a q bars stands plain = not_task_at n past a q (stopped_by n a.halt) refl bars stands plain
+
+broken_at : (n : ℕ) (past : Past) (a : Attempt) (q : runs.Piece) (o : Option Stop) → stopped_by n a.halt ≡ o → IsBrokenEnd o → Stands n past a q →
+    IsBrokenStop q.stop
+broken_at n past a q None e broken stands = absurd broken
+broken_at n past a q (Some s) e broken stands = subst IsBrokenStop (sym (stop_stands n past a q s stands e)) broken
+
+pub broken_stop : (n : ℕ) (past : Past) (a : Attempt) (q : runs.Piece) → IsBrokenEnd (stopped_by n a.halt) → Stands n past a q → IsBrokenStop q.stop
+broken_stop n past a q broken stands = broken_at n past a q (stopped_by n a.halt) refl broken stands
 
 -- what comes behind
 pub births_behind : (xs ys : List meant.Birth) → AreTaskBirths (xs ++ ys) → AreTaskBirths ys
@@ -58,14 +69,15 @@ values_behind [] ys h = h
 values_behind (x ∷ xs) ys h = values_behind xs ys h.1
 
 -- a task's replay, by what was made of its birth
-pub stands_so : (script : Script) (spec : TBirth) (g : Name) (args : List Argument) (depth retries : ℕ) (base : Id) (given answers : List Outcome)
-    (a : Attempt) → Halts script (Task g args depth retries 0) base given a → birth_of spec ≡ Task g args depth retries 0 → given ≡ answers →
-    Stands no_past a (replay script (birth_of spec) base answers)
-stands_so script spec g args depth retries base given answers a halts is same =
-    λ s e. ap (λ b. replay script b base answers) is ∙ ap (replay script (Task g args depth retries 0) base) (sym same) ∙ halts s e
+pub stands_so : (script : Script) (spec : TBirth) (g : Name) (args : List Argument) (depth retries others : ℕ) (base : Id)
+    (given answers : List Outcome) (a : Attempt) → Halts script (Task g args depth retries others) base given a →
+    birth_of spec ≡ Task g args depth retries others → given ≡ answers → Stands (others + 1) no_past a (replay script (birth_of spec) base answers)
+stands_so script spec g args depth retries others base given answers a halts is same =
+    λ s e. ap (λ b. replay script b base answers) is ∙ ap (replay script (Task g args depth retries others) base) (sym same)
+    ∙ halts s (stopped_of a.halt (Task g args depth retries others) others s refl e)
 
 -- the piece of an attempt
-module _ (p : Piece) (a : Attempt) (of : IsPieceOf p a) where
+module _ (n : ℕ) (p : Piece) (a : Attempt) (of : IsPieceOf n p a) where
   pub piece_is : piece_of p ≡ piece_at a (stop_of p.stop)
   piece_is =
       ap (λ bs. record { births = bs; prints = map value_of p.prints.items; stop = stop_of p.stop }) of.births

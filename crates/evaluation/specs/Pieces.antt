@@ -1,8 +1,8 @@
 -- What the code's pieces stand for.
-use Rattle.std.specs.Prelude.{◌≡◌, List, [], ◌∷◌, ◌++◌, map, Option, Some, None, IfSome}
+use Rattle.std.specs.Prelude.{◌≡◌, ◌⊎◌, ℕ, List, [], ◌∷◌, ◌++◌, map, Option, Some, None, IfSome}
 use Rattle.meaning.specs.Syntax.{Script}
 use Rattle.meaning.specs.Values as meant
-use Rattle.meaning.specs.Values.{Id, Named, Outcome}
+use Rattle.meaning.specs.Values.{Id, Named, Outcome, Trapped, Broken}
 use Rattle.meaning.specs.Runs as runs
 use Rattle.values.specs.declared.content.Content.{Content}
 use Rattle.values.specs.Values.{value_of, content_of}
@@ -19,10 +19,9 @@ use Rattle.evaluation.specs.declared.piece.PieceStop.{PieceStop}
 use Rattle.evaluation.specs.declared.piece.PieceStop.TheVariants as stops
 use Rattle.evaluation.specs.declared.piece.Piece.{Piece}
 
--- of a task of one result
 abbrev pub stop_of : PieceStop → runs.Stop
 stop_of (stops.Needs o) = runs.Needs (Named o)
-stop_of (stops.Ends c) = runs.Over (content_of c ∷ [])
+stop_of (stops.Ends cs) = runs.Over (map content_of cs.items)
 
 abbrev pub piece_of : Piece → runs.Piece
 piece_of p = record { births = map birth_of p.births.items; prints = map value_of p.prints.items; stop = stop_of p.stop }
@@ -32,15 +31,29 @@ abbrev pub IsNoTaskStop : Option runs.Stop → Type 0
 IsNoTaskStop None = ⊥
 IsNoTaskStop (Some s) = IsTaskStop s → ⊥
 
--- behind that past the attempt did this
-abbrev pub Stands : Past → Attempt → runs.Piece → Type 0
-Stands past a q = (s : runs.Stop) → stopped_by 1 a.halt ≡ Some s → q ≡ after past.births past.prints (piece_at a s)
+-- one of them is an operand of the wrong kind
+abbrev pub HasBroken : List Outcome → Type 0
+HasBroken [] = ⊥
+HasBroken (c ∷ cs) = (c ≡ Trapped Broken) ⊎ HasBroken cs
 
--- the piece has what the attempt did
-pub record IsPieceOf (p : Piece) (a : Attempt) : Type 0 where
+-- it is an end at which one of the results is broken
+abbrev pub IsBrokenStop : runs.Stop → Type 0
+IsBrokenStop (runs.Needs r) = ⊥
+IsBrokenStop (runs.Over cs) = HasBroken cs
+
+abbrev pub IsBrokenEnd : Option runs.Stop → Type 0
+IsBrokenEnd None = ⊥
+IsBrokenEnd (Some s) = IsBrokenStop s
+
+-- behind that past the attempt of a task of so many results did this
+abbrev pub Stands : ℕ → Past → Attempt → runs.Piece → Type 0
+Stands n past a q = (s : runs.Stop) → stopped_by n a.halt ≡ Some s → q ≡ after past.births past.prints (piece_at a s)
+
+-- the piece has what the attempt of a task of so many results did
+pub record IsPieceOf (n : ℕ) (p : Piece) (a : Attempt) : Type 0 where
   pub births : map birth_of p.births.items ≡ map made_of a.births.items
   pub prints : map value_of p.prints.items ≡ map run_value_of a.prints.items
-  pub stop : stopped_by 1 a.halt ≡ Some (stop_of p.stop)
+  pub stop : stopped_by n a.halt ≡ Some (stop_of p.stop)
 
 -- all answers of one that goes on with this one
 abbrev pub answered_so : Past → Content → List Outcome

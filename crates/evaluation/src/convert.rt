@@ -188,7 +188,7 @@ fn to_arguments(
     Ok(copies)
 }
 
-/// What makes an object, as a task has it.
+/// What makes objects, as a task has it.
 fn to_birth(alloc: Global, made: &Made) -> Result<Birth, ConversionError>
     ensures value { IfOk result (λ b. birth_of b ≡ made_of made.now) }
     ensures kind { IfErr result (λ e. e ≡ ConversionError.Broken → ⊥) }
@@ -201,6 +201,7 @@ fn to_birth(alloc: Global, made: &Made) -> Result<Birth, ConversionError>
             arguments,
             depth,
             retries,
+            others,
         } => {
             let function = function.clone()?;
             let arguments = to_arguments(alloc, arguments)?;
@@ -209,6 +210,7 @@ fn to_birth(alloc: Global, made: &Made) -> Result<Birth, ConversionError>
                 arguments,
                 depth: *depth,
                 retries: *retries,
+                others: *others,
             })
         }
     }

@@ -1,14 +1,13 @@
 // A piece of a task's run.
 
-ghost use Rattle.std.specs.Prelude.{◌≡◌, ◌∷◌, [], IfOk, IfErr, None, Some, map, true};
+ghost use Rattle.std.specs.Prelude.{◌≡◌, ◌≤◌, ◌∷◌, [], IfOk, IfErr, None, Some, drop, map, true};
 ghost use Rattle.meaning.specs.Values as meant;
-ghost use Rattle.meaning.specs.Values.{Id, Val, Trapped, Broken, Returned, first_outcome};
+ghost use Rattle.meaning.specs.Values.{Id, Val, Trapped, Broken, Returned, Aborted, first_outcome, outcomes, others_of};
 ghost use Rattle.meaning.specs.Runs.{Over, stopped};
 ghost use Rattle.meaning.specs.Runs as runs;
 ghost use Rattle.meaning.specs.Meaning.{replay};
-ghost use Rattle.meaning.specs.Singles.{IsSingle};
 ghost use Rattle.script_check.specs.Trees.{script_of};
-ghost use Rattle.values.specs.Values.{value_of, content_of};
+ghost use Rattle.values.specs.Values.{value_of, content_of, trap_of};
 ghost use Rattle.task_spec.specs.Births.{birth_of};
 ghost use Rattle.frame_laws.specs.Resuming.{after};
 ghost use Rattle.frame_laws.specs.Steps.{HasSteps};
@@ -18,7 +17,7 @@ ghost use Rattle.frames.specs.Courses.{Past, no_past};
 ghost use Rattle.frames.specs.Frames.{IsWaiting};
 ghost use Rattle.frames.specs.Tasks.{stopped_by};
 ghost use Rattle.evaluation.specs.TaskValues.{AreTaskOutcomes, IsTaskBirth, IsTaskOutcome, IsTaskPiece};
-ghost use Rattle.evaluation.specs.Pieces.{IsNoTaskStop, IsPieceOf, Keeps, Stands, answered_so, piece_of, stop_of};
+ghost use Rattle.evaluation.specs.Pieces.{HasBroken, IsBrokenEnd, IsBrokenStop, IsNoTaskStop, IsPieceOf, Keeps, Stands, answered_so, piece_of, stop_of};
 
 use crate::convert::{
     ConversionError, from_arguments, from_content, from_contents, named, to_births, to_value,
@@ -29,15 +28,15 @@ use ids::ObjectId;
 use std::alloc::{AllocError, AllocFailed, Global};
 use task_spec::Birth;
 use thiserror::Error;
-use values::{Content, RunValue};
+use values::{Content, RunValue, Trap};
 
 /// Where a piece stops.
 #[derive(Drop)]
 pub enum PieceStop {
     /// At a get of this object, for which there is no answer left.
     Needs(ObjectId),
-    /// At the end of the task, whose one result has this content.
-    Ends(Content),
+    /// At the end of the task, whose results have these contents.
+    Ends(Vec<Content>),
 }
 
 /// What a task does up to its next get: what it bears, in the order of the ids that the births take, what it prints,
@@ -85,38 +84,65 @@ impl<T: Drop> From<AllocFailed<T>> for PieceError {
     }
 }
 
-/// The content of the first of a run's results, as tasks have it.
-fn first_content(alloc: Global, values: &[Value]) -> Result<Content, ConversionError>
-    ensures value { IfOk result (λ c. first_outcome (Returned (map run_value_of values.now)) ≡ content_of c) }
-    ensures broken { IfErr result (λ e. e ≡ ConversionError.Broken → first_outcome (Returned (map run_value_of values.now)) ≡ Trapped Broken) }
-    ensures plain { IfErr result (λ e. e ≡ ConversionError.HasOutcome → IsTaskOutcome (first_outcome (Returned (map run_value_of values.now))) → ⊥) }
+/// The content of the result at a place, as tasks have it. It is broken where the run has no such result.
+fn content_at(alloc: Global, values: &[Value], place: usize) -> Result<Content, ConversionError>
+    ensures value { IfOk result (λ c. content_of c ≡ first_outcome (Returned (map run_value_of (drop place values.now)))) }
+    ensures broken { IfErr result (λ e. e ≡ ConversionError.Broken → first_outcome (Returned (map run_value_of (drop place values.now))) ≡ Trapped Broken) }
+    ensures plain { IfErr result (λ e. e ≡ ConversionError.HasOutcome →
+        IsTaskOutcome (first_outcome (Returned (map run_value_of (drop place values.now)))) → ⊥) }
 {
-    if values.is_empty() {
+    if place >= values.len() {
         return Err(ConversionError::Broken);
     }
-    match to_value(alloc, &values[0]) {
+    match to_value(alloc, &values[place]) {
         Ok(value) => Ok(Content::Value(value)),
         Err(error) => Err(error),
     }
 }
 
-/// Where a run of one result stopped, as tasks have it.
-fn to_stop(alloc: Global, halt: &Halt) -> Result<PieceStop, ConversionError>
-    requires { is_stop halt.now ≡ true }
-    ensures value { IfOk result (λ s. stopped_by 1 halt.now ≡ Some (stop_of s)) }
-    ensures broken { IfErr result (λ e. e ≡ ConversionError.Broken → stopped_by 1 halt.now ≡ Some (Over (Trapped Broken ∷ []))) }
-    ensures plain { IfErr result (λ e. e ≡ ConversionError.HasOutcome → IsNoTaskStop (stopped_by 1 halt.now)) }
+/// The contents of so many results, as tasks have them.
+fn of_values(alloc: Global, values: &[Value], count: usize) -> Result<Vec<Content>, ConversionError>
+    ensures value { IfOk result (λ cs. map content_of cs.items ≡ outcomes count (Returned (map run_value_of values.now))) }
+    ensures broken { IfErr result (λ e. e ≡ ConversionError.Broken → HasBroken (outcomes count (Returned (map run_value_of values.now)))) }
+    ensures plain { IfErr result (λ e. e ≡ ConversionError.HasOutcome →
+        AreTaskOutcomes (outcomes count (Returned (map run_value_of values.now))) → ⊥) }
+{
+    let mut contents = Vec::new(alloc);
+    for place in 0..count {
+        contents.push(content_at(alloc, values, place)?)?;
+    }
+    Ok(contents)
+}
+
+/// A trap, as the content of each of so many results.
+fn of_trap(alloc: Global, trap: Trap, count: usize) -> Result<Vec<Content>, AllocError>
+    ensures { IfOk result (λ cs. map content_of cs.items ≡ outcomes count (Aborted (trap_of trap))) }
+{
+    let mut contents = Vec::new(alloc);
+    for _ in 0..count {
+        contents.push(Content::Trap(trap))?;
+    }
+    Ok(contents)
+}
+
+/// Where a run of so many results stopped, one at least, as tasks have it.
+fn to_stop(alloc: Global, halt: &Halt, count: usize) -> Result<PieceStop, ConversionError>
+    requires stops { is_stop halt.now ≡ true }
+    requires some { 1 ≤ count }
+    ensures value { IfOk result (λ s. stopped_by count halt.now ≡ Some (stop_of s)) }
+    ensures broken { IfErr result (λ e. e ≡ ConversionError.Broken → IsBrokenEnd (stopped_by count halt.now)) }
+    ensures plain { IfErr result (λ e. e ≡ ConversionError.HasOutcome → IsNoTaskStop (stopped_by count halt.now)) }
 {
     match halt {
-        Halt::Over(values) => match first_content(alloc, values) {
-            Ok(content) => Ok(PieceStop::Ends(content)),
+        Halt::Over(values) => match of_values(alloc, values, count) {
+            Ok(contents) => Ok(PieceStop::Ends(contents)),
             Err(error) => Err(error),
         },
         Halt::Asks(reference, _) => match named(reference) {
             Ok(object) => Ok(PieceStop::Needs(object)),
             Err(error) => Err(error),
         },
-        Halt::Trap(trap) => Ok(PieceStop::Ends(Content::Trap(*trap))),
+        Halt::Trap(trap) => Ok(PieceStop::Ends(of_trap(alloc, *trap, count)?)),
         Halt::Broken => Err(ConversionError::Broken),
         Halt::NoMemory => Err(ConversionError::NoMemory),
         Halt::Bears(_, _) => unreachable!(),
@@ -125,14 +151,16 @@ fn to_stop(alloc: Global, halt: &Halt) -> Result<PieceStop, ConversionError>
 }
 
 /// What an attempt did up to where it stopped, as tasks have it, without its frame.
-fn to_piece(alloc: Global, attempt: &Attempt) -> Result<Piece, ConversionError>
-    requires { is_stop attempt.now.halt ≡ true }
-    ensures value { IfOk result (λ p. IsPieceOf p attempt.now) }
-    ensures broken { IfErr result (λ e. e ≡ ConversionError.Broken → (past : Past) (q : runs.Piece) → Stands past attempt.now q →
-        q.stop ≡ Over (Trapped Broken ∷ [])) }
-    ensures plain { IfErr result (λ e. e ≡ ConversionError.HasOutcome → (past : Past) (q : runs.Piece) → Stands past attempt.now q → IsTaskPiece q → ⊥) }
+fn to_piece(alloc: Global, attempt: &Attempt, count: usize) -> Result<Piece, ConversionError>
+    requires stops { is_stop attempt.now.halt ≡ true }
+    requires some { 1 ≤ count }
+    ensures value { IfOk result (λ p. IsPieceOf count p attempt.now) }
+    ensures broken { IfErr result (λ e. e ≡ ConversionError.Broken → (past : Past) (q : runs.Piece) → Stands count past attempt.now q →
+        IsBrokenStop q.stop) }
+    ensures plain { IfErr result (λ e. e ≡ ConversionError.HasOutcome → (past : Past) (q : runs.Piece) → Stands count past attempt.now q →
+        IsTaskPiece q → ⊥) }
 {
-    let stop = to_stop(alloc, &attempt.halt)?;
+    let stop = to_stop(alloc, &attempt.halt, count)?;
     let births = to_births(alloc, &attempt.births)?;
     let prints = to_values(alloc, &attempt.prints)?;
     Ok(Piece {
@@ -145,15 +173,16 @@ fn to_piece(alloc: Global, attempt: &Attempt) -> Result<Piece, ConversionError>
 }
 
 /// What an attempt did up to where it stopped, as tasks have it, and its frame.
-fn finish(alloc: Global, attempt: Attempt) -> Result<Piece, PieceError>
-    requires { is_stop attempt.halt ≡ true }
-    ensures value { IfOk result (λ p. IsPieceOf p attempt) }
+fn finish(alloc: Global, attempt: Attempt, count: usize) -> Result<Piece, PieceError>
+    requires stops { is_stop attempt.halt ≡ true }
+    requires some { 1 ≤ count }
+    ensures value { IfOk result (λ p. IsPieceOf count p attempt) }
     ensures frame { IfOk result (λ p. p.frame ≡ attempt.frame) }
     ensures steps { IfOk result (λ p. p.steps ≡ attempt.steps) }
-    ensures broken { IfErr result (λ e. e ≡ PieceError.Broken → (past : Past) (q : runs.Piece) → Stands past attempt q → IsTaskPiece q →
-        q.stop ≡ Over (Trapped Broken ∷ [])) }
+    ensures broken { IfErr result (λ e. e ≡ PieceError.Broken → (past : Past) (q : runs.Piece) → Stands count past attempt q → IsTaskPiece q →
+        IsBrokenStop q.stop) }
 {
-    match to_piece(alloc, &attempt) {
+    match to_piece(alloc, &attempt, count) {
         Ok(piece) => Ok(with_frame(piece, attempt)),
         Err(ConversionError::Broken) => Err(PieceError::Broken),
         // No task has such a value.
@@ -200,10 +229,12 @@ fn put_piece(alloc: Global, value: &RunValue) -> Result<Piece, AllocError>
     ensures steps { IfOk result (λ p. p.steps ≡ 0) }
 {
     let value = value.copy(alloc)?;
+    let mut contents = Vec::new(alloc);
+    contents.push(Content::Value(value))?;
     Ok(Piece {
         births: Vec::new(alloc),
         prints: Vec::new(alloc),
-        stop: PieceStop::Ends(Content::Value(value)),
+        stop: PieceStop::Ends(contents),
         frame: None,
         steps: 0,
     })
@@ -221,7 +252,7 @@ pub fn run_piece(
     ensures replayed { IfOk result (λ p. piece_of p ≡ replay (script_of script.now) (birth_of spec.now) base (map content_of answers.now)) }
     // It is broken only where the replay is.
     ensures broken { IfErr result (λ e. e ≡ PieceError.Broken →
-        (replay (script_of script.now) (birth_of spec.now) base (map content_of answers.now)).stop ≡ Over (Trapped Broken ∷ [])) }
+        IsBrokenStop (replay (script_of script.now) (birth_of spec.now) base (map content_of answers.now)).stop) }
     // Its frame, if it has one, is where the task waits that was so answered.
     ensures keeps { IfOk result (λ p. Keeps (script_of script.now) (birth_of spec.now) base no_past (map content_of answers.now) p) }
     // Its steps are those that the task began since the last of the answers.
@@ -234,6 +265,7 @@ pub fn run_piece(
             arguments,
             depth,
             retries: _,
+            others,
         } => {
             let arguments = from_arguments(alloc, arguments)?;
             let answers = from_contents(alloc, answers)?;
@@ -246,35 +278,37 @@ pub fn run_piece(
                 base,
                 answers,
             )?;
-            finish(alloc, attempt)
+            finish(alloc, attempt, *others as usize + 1)
         }
     }
 }
 
-/// Goes on from where a task of one result waits, with the answer that it waits for. What is given is what the task does from there on.
+/// Goes on from where a task waits that has so many results beside the first, with the answer that it waits for. What is given is what the task does from
+/// there on.
 pub fn go_on(
     alloc: Global,
     script: &Compiled,
     frame: Frame,
+    others: u8,
     answer: &Content,
 ) -> Result<Piece, PieceError>
     // Behind what was done before, what is given is the task's replay.
-    ensures replayed { IfOk result (λ p. (spec : meant.Birth) (base : Id) (past : Past) → IsSingle spec →
+    ensures replayed { IfOk result (λ p. (spec : meant.Birth) (base : Id) (past : Past) → others_of spec ≡ others →
         IsWaiting (script_of script.now) spec base past frame →
         after past.births past.prints (piece_of p) ≡ replay (script_of script.now) spec base (answered_so past answer.now)) }
     // It is broken only where the replay is, if no value of the task's has an outcome in it.
-    ensures broken { IfErr result (λ e. e ≡ PieceError.Broken → (spec : meant.Birth) (base : Id) (past : Past) → IsSingle spec → IsTaskBirth spec →
-        AreTaskOutcomes past.answers → IsWaiting (script_of script.now) spec base past frame →
-        (replay (script_of script.now) spec base (answered_so past answer.now)).stop ≡ Over (Trapped Broken ∷ [])) }
+    ensures broken { IfErr result (λ e. e ≡ PieceError.Broken → (spec : meant.Birth) (base : Id) (past : Past) → others_of spec ≡ others →
+        IsTaskBirth spec → AreTaskOutcomes past.answers → IsWaiting (script_of script.now) spec base past frame →
+        IsBrokenStop (replay (script_of script.now) spec base (answered_so past answer.now)).stop) }
     // Its frame, if it has one, is where the task waits that was so answered.
     ensures keeps { IfOk result (λ p. (spec : meant.Birth) (base : Id) (past : Past) → IsWaiting (script_of script.now) spec base past frame →
         Keeps (script_of script.now) spec base past (content_of answer.now ∷ []) p) }
     // Its steps are those that the task began since this answer.
-    ensures counts { IfOk result (λ p. (spec : meant.Birth) (base : Id) (past : Past) → IsSingle spec →
+    ensures counts { IfOk result (λ p. (spec : meant.Birth) (base : Id) (past : Past) → others_of spec ≡ others →
         IsWaiting (script_of script.now) spec base past frame →
         HasSteps (script_of script.now) spec base (answered_so past answer.now) p.steps) }
 {
     let answer = from_content(alloc, answer)?;
     let attempt = frame.go_on(alloc, script, answer)?;
-    finish(alloc, attempt)
+    finish(alloc, attempt, others as usize + 1)
 }

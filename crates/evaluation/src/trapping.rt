@@ -33,6 +33,7 @@ pub fn find_trap(
             arguments,
             depth,
             retries: _,
+            others: _,
         } => {
             let arguments = from_arguments(alloc, arguments)?;
             let answers = from_contents(alloc, answers)?;

@@ -41,7 +41,7 @@ pub(crate) fn place_in(names: &[Register<'_>], name: &str) -> Option<usize>
 }
 
 /// The error of a growth that is refused, as no memory has room for so many bytes. It is answered where a register or a weight would be past
-/// 2^32 - 1, since code with as many of them is told as want of memory, and that is to come of a growth alone.
+/// 2^32 - 1 or further results past 255, since code with as many of them is told as want of memory, and that is to come of a growth alone.
 fn refused_growth(alloc: Global) -> AllocError {
     let mut bytes: Vec<u8> = Vec::new(alloc);
     match bytes.reserve(usize::MAX) {
@@ -59,6 +59,17 @@ pub(crate) fn slot(alloc: Global, place: usize) -> Result<u32, AllocError>
         return Err(refused_growth(alloc));
     }
     Ok(place as u32)
+}
+
+/// How many results a remote call has beside the first, in an instruction. More than 255 have no number there.
+pub(crate) fn further(alloc: Global, count: usize) -> Result<u8, AllocError>
+    ensures value { IfOk result (λ n. n ≡ count) }
+    ensures refused { OnErr result (2 ^ 8 ≤ count) }
+{
+    if count > u8::MAX as usize {
+        return Err(refused_growth(alloc));
+    }
+    Ok(count as u8)
 }
 
 /// The register after it.

@@ -18,9 +18,9 @@ ghost use Rattle.frame_laws.specs.Instructions as pure;
 ghost use Rattle.script_check.specs.Trees.{exprs_of, statement_of, statements_of, script_of};
 ghost use Rattle.frame_code.specs.Views.{given_of, instruction_of, codes, names_of};
 
-use crate::expressions::{emit_expr, emit_exprs, emit_operand};
+use crate::expressions::{emit_expr, emit_exprs, emit_operand, put_spawn};
 use crate::instruction::{Instruction, Operand};
-use crate::names::{Register, following, number_of, place_or, slot};
+use crate::names::{Register, following, further, number_of, place_or, slot};
 use crate::operands::{past, put};
 use script_check::{CheckedExpr, CheckedFunction, CheckedStatement};
 use std::alloc::AllocError;
@@ -73,6 +73,36 @@ fn emit_results(
     let others = slot(*code.allocator(), others)?;
     let results = following(*code.allocator(), others)?;
     put(code, Instruction::Enter(number, free, free, results))
+}
+
+/// A remote call: references for its first result and so many others go into registers from the first free one on.
+fn emit_references(
+    code: &mut Vec<Instruction>,
+    script: &[CheckedFunction],
+    names: &[Register<'_>],
+    retries: u8,
+    function: &String,
+    marks: &[bool],
+    arguments: &[CheckedExpr],
+    free: u32,
+    others: usize,
+) -> Result<(), AllocError>
+    ensures { OnOk result (codes code.new.items
+        ≡ codes code.old.items ++ (exprs_code (script_of script.now) (names_of names.now) (exprs_of arguments.now) free
+        ++ pure.Spawn retries (string_bytes function.now) marks.now free (length arguments.now) free others ∷ [])) }
+{
+    emit_exprs(code, script, names, arguments, free)?;
+    let others = further(*code.allocator(), others)?;
+    put_spawn(
+        code,
+        retries,
+        function,
+        marks,
+        free,
+        arguments.len(),
+        free,
+        others,
+    )
 }
 
 /// Operands, one after another.
@@ -149,6 +179,21 @@ fn emit_statement<'a>(
                 script,
                 names,
                 function.as_str(),
+                arguments,
+                free,
+                others.len(),
+            )?;
+            names.push(Register::Variable(name.as_str()))?;
+            push_names(names, others)
+        }
+        CheckedStatement::LetRemote(name, others, retries, function, marks, arguments) => {
+            emit_references(
+                code,
+                script,
+                names,
+                *retries,
+                function,
+                marks,
                 arguments,
                 free,
                 others.len(),

@@ -353,23 +353,23 @@ module _ (script : Script) (code : Code) (limit n : ℕ) (few : n ≤ 32) where
           takes_one next (pc + 1) to registers go,
         )
 
-    spawn_does : (k : ℕ) (g : Name) (marks : List Bool) (d count to pc : ℕ) (vs low registers : List Value) (next : Value → Run) →
-        IsAt pc (Spawn k g marks d count to) → length vs ≡ count → length low ≡ base + d → Holds (low ++ vs) registers →
-        ((r : Value) → Goes (next r) (pc + 1) (put_at registers (base + to) r)) →
-        Goes (Bears (Task g (mark vs marks) (33 - n) k 0) (task_by (no_level n) (parameters_of (find script g)) (call_at script n g) (mark vs marks))
-        (λ rs. only rs next)) pc registers
-    spawn_does k g marks d count to pc vs low registers next h c e held go =
+    pub spawn_does : (k : ℕ) (g : Name) (marks : List Bool) (d count to others pc : ℕ) (vs low registers : List Value) (next : List Value → Run) →
+        IsAt pc (Spawn k g marks d count to others) → length vs ≡ count → length low ≡ base + d → Holds (low ++ vs) registers →
+        ((rs : List Value) → length rs ≡ suc others → Goes (next rs) (pc + 1) (put_all registers (base + to) rs)) →
+        Goes (Bears (Task g (mark vs marks) (33 - n) k others) (task_by (no_level n) (parameters_of (find script g)) (call_at script n g) (mark vs marks)) next) pc
+        registers
+    spawn_does k g marks d count to others pc vs low registers next h c e held go =
         let left : limit - length callers ≡ n = omega (arith, levels) in
         let values : values_at registers (base + d) count ≡ vs =
         ap (λ m. values_at registers (base + d) m) (sym c) ∙ values_held low vs registers (base + d) (sym e) held in
-        let same : perform code limit (at pc registers) (Some (Spawn k g marks d count to)) ≡ Bore (Task g (mark vs marks) (33 - n) k 0) (base + to) =
-        ap (λ xs. Bore (Task g (mark xs marks) (33 - (limit - length callers)) k 0) (base + to)) values
-        ∙ ap (λ m. Bore (Task g (mark vs marks) (33 - m) k 0) (base + to)) left in
+        let same : perform code limit (at pc registers) (Some (Spawn k g marks d count to others)) ≡ Bore (Task g (mark vs marks) (33 - n) k others) (base + to) =
+        ap (λ xs. Bore (Task g (mark xs marks) (33 - (limit - length callers)) k others) (base + to)) values
+        ∙ ap (λ m. Bore (Task g (mark vs marks) (33 - m) k others) (base + to)) left in
         at_once code limit (at pc registers) (
           base + to,
-          fetched code limit (at pc registers) (Spawn k g marks d count to) _ h same,
+          fetched code limit (at pc registers) (Spawn k g marks d count to others) _ h same,
           sym (same_task script n g (mark vs marks) few),
-          takes_one next (pc + 1) to registers go,
+          go,
         )
 
     mutual
@@ -423,10 +423,11 @@ module _ (script : Script) (code : Code) (limit n : ℕ) (few : n ≤ 32) where
           (takes_no_other next))
       expr_does (Remote k g ms args) to d pc low registers scope next h e f held go =
           let c = exprs_code script names args d in
-          let i = Spawn k g ms d (how_many args) to in
+          let i = Spawn k g ms d (how_many args) to 0 in
           exprs_do args d pc low registers scope _ (has_front code.instructions pc c (i ∷ []) h) e f held
-          (λ vs registers' l hs. spawn_does k g ms d (how_many args) to (pc + length c) vs low registers' next (last_at pc c i h) l e hs
-          (λ v. moved (next v) _ _ _ (ends_at pc c i) (go v registers' (holds_less low vs registers' hs))))
+          (λ vs registers' l hs. spawn_does k g ms d (how_many args) to 0 (pc + length c) vs low registers' (λ rs. only rs next) (last_at pc c i h) l e hs
+          (takes_one next (pc + length c + 1) to registers'
+          (λ v. moved (next v) _ _ _ (ends_at pc c i) (go v registers' (holds_less low vs registers' hs)))))
       expr_does (PutOf a) to d pc low registers scope next h e f held go =
           let c = operand_code names a (expr_code script names a d d) in
           let i = PutIn to (operand_of names a d) in

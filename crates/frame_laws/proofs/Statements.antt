@@ -32,7 +32,7 @@ use Rattle.std.proofs.Common.{
 }
 use Rattle.std.specs.Prelude.{slice_get, slice_set, ℤ, pos, ◌+ℤ◌, ◌-ℤ◌, int_lt, nat_lt, if◌then◌else◌}
 use Rattle.meaning.specs.Values.{Name, Loop, Value, Int, Items, Named, Known, Completion, Aborted}
-use Rattle.meaning.specs.Syntax.{Expr, Stmt, Let, LetCall, Set, Print, Return, If, For, Block, done, step, Script}
+use Rattle.meaning.specs.Syntax.{Expr, Stmt, Let, LetCall, LetRemote, Set, Print, Return, If, For, Block, done, step, Script}
 use Rattle.meaning.specs.Runs.{Run, Ends, Prints}
 use Rattle.meaning.specs.Meaning.{
   Scope,
@@ -51,7 +51,7 @@ use Rattle.meaning.specs.Meaning.{
   execute_all,
   calls_below,
 }
-use Rattle.frame_laws.specs.Instructions.{Operand, Instruction, Enter, Show, Back, SkipZero, Skip, Begin, Again}
+use Rattle.frame_laws.specs.Instructions.{Operand, Instruction, Enter, Spawn, Show, Back, SkipZero, Skip, Begin, Again}
 use Rattle.frame_laws.specs.Compile.{
   Names,
   place_in,
@@ -96,7 +96,7 @@ use Rattle.frame_laws.specs.Machine.{
 }
 use Rattle.frame_laws.proofs.Places.{HasAt, has_front, has_back, Holds, holds_less, holds_put, holds_put_all, holds_set}
 use Rattle.frame_laws.proofs.Steps.{sooner, at_once, fetched}
-use Rattle.frame_laws.proofs.Expressions.{CallsDo, expr_does, exprs_do, operand_does, operands_do, fits_more}
+use Rattle.frame_laws.proofs.Expressions.{CallsDo, expr_does, exprs_do, operand_does, operands_do, fits_more, spawn_does}
 use Rattle.frame_laws.proofs.Scopes.{
   scope_at,
   scope_fits,
@@ -127,6 +127,7 @@ use Rattle.frame_laws.proofs.Scopes.{
 names_grow : (names : Names) (s : Stmt) → (more : Names) × (names_after names s ≡ names ++ more)
 names_grow names (Let x e) = (Some x ∷ [], refl)
 names_grow names (LetCall x xs g args) = (names_of (x ∷ xs), refl)
+names_grow names (LetRemote x xs retries g marks args) = (names_of (x ∷ xs), refl)
 names_grow names (Set x e) = ([], sym (append-nil names))
 names_grow names (Print e) = ([], sym (append-nil names))
 names_grow names (Return e) = ([], sym (append-nil names))
@@ -553,6 +554,18 @@ module _ (script : Script) (code : Code) (limit n : ℕ) (few : n ≤ 32) (calls
         (λ vals3 registers3 l3 k3 held3. moved (next (scope_at (names ++ names_of (x ∷ xs)) vals3)) _ _ registers3 (omega (arith, length-append c (i ∷ [])))
         (go vals3 registers3 l3 k3 held3)))
         (λ ws wrong. bind_no_other (x ∷ xs) ws (scope_at names vals) next wrong))
+    stmt_does (LetRemote x xs k g marks args) names pc vals registers next return h l held go returns =
+        let d = length names in
+        let c = exprs_code script names args d in
+        let i = Spawn k g marks d (how_many args) d (length xs) in
+        let low = low_length names vals l in
+        exprs_do script code limit n few calls base callers levels names args d pc (below ++ vals) registers (scope_at names vals) _
+        (has_front code.instructions pc c (i ∷ []) h) low (scope_fits names below vals base eb l) held
+        (λ vs registers' l' hs. spawn_does script code limit n few calls base callers levels names k g marks d (how_many args) d (length xs) (pc + length c) vs
+        (below ++ vals) registers' (λ rs. bind_each broken (scope_at names vals) (x ∷ xs) rs next) (has_back code.instructions pc c (i ∷ []) h).0 l' low hs
+        (λ rs lr. bound_goes (x ∷ xs) rs names (pc + length c + 1) vals registers' next l lr (holds_less (below ++ vals) vs registers' hs)
+        (λ vals3 registers3 l3 k3 held3. moved (next (scope_at (names ++ names_of (x ∷ xs)) vals3)) _ _ registers3 (omega (arith, length-append c (i ∷ [])))
+        (go vals3 registers3 l3 k3 held3))))
     stmt_does (Let x e) names pc vals registers next return h l held go returns =
         into e names (length names) pc vals registers _ h l held
         (λ v registers' hs.

@@ -48,7 +48,7 @@ sq_code = SkipZero (Slot 1) 1 ∷ Fetch 0 (Slot 0) ∷ Two Mul 1 (Slot 0) (Slot 
 -- let r = remote sq(7); print get r; return 0;
 abbrev pub main_code : List Instruction
 main_code =
-    Load 0 (Const (pos 7)) ∷ Spawn 3 (codes "sq") (false ∷ []) 0 1 0 ∷ Fetch 1 (Slot 0) ∷ Show (Slot 1) ∷ Back (Const (pos 0) ∷ []) ∷ Wrong ∷ []
+    Load 0 (Const (pos 7)) ∷ Spawn 3 (codes "sq") (false ∷ []) 0 1 0 0 ∷ Fetch 1 (Slot 0) ∷ Show (Slot 1) ∷ Back (Const (pos 0) ∷ []) ∷ Wrong ∷ []
 
 -- a reference that a run in pieces was given
 abbrev pub reference : Value

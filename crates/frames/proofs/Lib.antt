@@ -4,7 +4,7 @@ pub mod Doing
 pub mod Calling
 pub mod Shallow
 pub mod Stepping
-pub mod Single
+pub mod Endings
 pub mod Going
 pub mod Meeting
 pub mod SerialRuns

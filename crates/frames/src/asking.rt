@@ -56,7 +56,7 @@ impl State {
     fn task(&self, limit: usize, spawn: &Spawn) -> Result<Made, AllocError>
         ensures { IfOk result (λ m. made_of m ≡ Task (string_bytes spawn.now.function)
             (mark (values_at (map value_of self.now.registers.items) (self.now.base + spawn.now.first) spawn.now.count) spawn.now.marks.items)
-            (33 - (limit - vec_len self.now.callers)) spawn.now.retries 0) }
+            (33 - (limit - vec_len self.now.callers)) spawn.now.retries spawn.now.others) }
     {
         let alloc = *self.registers.allocator();
         let values = share_from(alloc, &self.registers, self.place(spawn.first), spawn.count)?;
@@ -67,6 +67,7 @@ impl State {
             arguments,
             depth: self.depth(limit),
             retries: spawn.retries,
+            others: spawn.others,
         })
     }
 

@@ -12,7 +12,7 @@ pub struct MarkedArgument {
     pub is_dereferenced: bool,
 }
 
-/// What makes an object.
+/// What makes objects: a put one, and a task one a result, of which it has so many beside the first.
 #[derive(Drop)]
 pub enum Made {
     Put(Value),
@@ -21,11 +21,33 @@ pub enum Made {
         arguments: Vec<MarkedArgument>,
         depth: u32,
         retries: u8,
+        others: u8,
     },
 }
 
-/// Why the machine stops: the run is over, it asks or tells something outside, or it is out of memory. A birth and a get say which
-/// register takes what they are given.
+impl Made {
+    ghost use Rattle.meaning.specs.Values.{results_of};
+    ghost use Rattle.frames.specs.Machines.{made_of};
+
+    /// How many objects it makes.
+    pub(crate) fn results(&self) -> usize
+        ensures { result ≡ results_of (made_of self.now) }
+    {
+        match self {
+            Made::Put(_) => 1,
+            Made::Task {
+                function: _,
+                arguments: _,
+                depth: _,
+                retries: _,
+                others,
+            } => *others as usize + 1,
+        }
+    }
+}
+
+/// Why the machine stops: the run is over, it asks or tells something outside, or it is out of memory. A get says which
+/// register takes what it is given, and a birth which is the first of those that take its references.
 #[derive(Drop)]
 pub enum Halt {
     /// With these results.

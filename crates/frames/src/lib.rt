@@ -5,6 +5,7 @@ mod asking;
 mod attempt;
 mod compiled;
 mod course;
+mod ending;
 mod frame;
 mod halt;
 mod jumping;

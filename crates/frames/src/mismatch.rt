@@ -1,18 +1,18 @@
 // Tasks that no function takes: the script has none of that name, or it takes another number of arguments. A checked script makes none.
 
-ghost use Rattle.std.specs.Prelude.{◌≡◌, ◌∷◌, ℕ, IfOk, IfErr, OnOk, List, Some, drop, false, length, map, take, true};
+ghost use Rattle.std.specs.Prelude.{◌≡◌, ◌∷◌, ℕ, IfOk, IfErr, OnOk, List, Some, drop, length, map, true};
 ghost use Rattle.meaning.specs.Values as meant;
-ghost use Rattle.meaning.specs.Values.{Returned, first_outcome};
 ghost use Rattle.meaning.specs.Meaning.{find, parameters_of};
 ghost use Rattle.meaning.specs.Runs.{Stop};
 ghost use Rattle.script_check.specs.Trees.{script_of};
 ghost use Rattle.frames.specs.Values.{outcome_of};
-ghost use Rattle.frames.specs.Values.{value_of};
-ghost use Rattle.frames.specs.Machines.{argument_of, goes_on, is_stop};
-ghost use Rattle.frames.specs.Tasks.{GivesEnd, matched, mismatch_end, mismatch_stop, ended_by, first_by, stopped_by};
+ghost use Rattle.frames.specs.Machines.{argument_of, is_stop};
+ghost use Rattle.frames.specs.Tasks.{GivesEnd, matched, mismatch_end, mismatch_stop, stopped_by};
+ghost use Rattle.frames.specs.Endings.{end_of};
 
+use crate::ending::End;
 use crate::halt::{Halt, MarkedArgument};
-use crate::value::{Outcome, Value};
+use crate::value::Outcome;
 use script_check::CheckedFunction;
 use std::alloc::AllocError;
 
@@ -81,48 +81,20 @@ fn pass_answered(argument: &MarkedArgument, answers: &[Outcome], used: usize) ->
     }
 }
 
-/// The outcome of the first of a run's results. A run that has none is broken.
-fn first(values: Vec<Value>) -> Outcome
-    ensures { outcome_of result ≡ first_outcome (Returned (map value_of values.items)) }
-{
-    let mut values = values;
-    if values.is_empty() {
-        return Outcome::Broken;
-    }
-    Outcome::Value(values.swap_remove(0))
-}
-
-/// The outcome of the first result of a run that a halt ends. An error is the halt's want of memory.
-pub(crate) fn outcome(halt: Halt) -> Result<Outcome, AllocError>
-    requires { goes_on halt ≡ false }
-    ensures value { IfOk result (λ c. first_by halt ≡ Some (outcome_of c)) }
-    ensures refused { IfErr result (λ _. halt ≡ Halt.NoMemory) }
-{
-    match halt {
-        Halt::Over(values) => Ok(first(values)),
-        Halt::Trap(trap) => Ok(Outcome::Trap(trap)),
-        Halt::Broken => Ok(Outcome::Broken),
-        Halt::NoMemory => Err(AllocError),
-        Halt::Bears(_, _) => unreachable!(),
-        Halt::Asks(_, _) => unreachable!(),
-        Halt::Shows(_) => unreachable!(),
-    }
-}
-
-/// How such a task ends in a serial run: the outcome of its first result.
+/// How such a task ends in a serial run.
 pub(crate) fn end_mismatch(
     script: &[CheckedFunction],
     name: &str,
     arguments: &[MarkedArgument],
-) -> Result<Outcome, AllocError>
-    ensures { IfOk result (λ c. first_outcome (mismatch_end (matched (script_of script.now) name.now (map argument_of arguments.now))) ≡ outcome_of c) }
+) -> Result<End, AllocError>
+    ensures { IfOk result (λ e. mismatch_end (matched (script_of script.now) name.now (map argument_of arguments.now)) ≡ end_of e) }
 {
     for argument in matched(script, name, arguments) {
         if let Err(halt) = pass_known(argument) {
-            return outcome(halt);
+            return End::of(halt);
         }
     }
-    Ok(Outcome::Broken)
+    Ok(End::Broken)
 }
 
 /// Where such a task stops in pieces.

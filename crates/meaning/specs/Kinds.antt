@@ -58,6 +58,7 @@ use Rattle.meaning.specs.Syntax.{
   Stmt,
   Let,
   LetCall,
+  LetRemote,
   Set,
   Print,
   Return,
@@ -231,6 +232,9 @@ abbrev mutual
   StmtChecks (Let x e) script result context after = (t : Kind) × Checks script context e t × (after ≡ context ++ record { name = x; kind = t } ∷ [])
   StmtChecks (LetCall x xs g args) script result context after =
       (f : Function) × (find script g ≡ Some f) × ArgumentsCheck script context args f.parameters × Binds (x ∷ xs) (results f) context after
+  StmtChecks (LetRemote x xs k g marks args) script result context after =
+      (f : Function) × (find script g ≡ Some f) × MarkedCheck script context args marks f.parameters
+      × Binds (x ∷ xs) (map RefKind (results f)) context after
   StmtChecks (Set x e) script result context after = (t : Kind) × (kind_in context x ≡ Some t) × Checks script context e t × (after ≡ context)
   StmtChecks (Print e) script result context after = (t : Kind) × Checks script context e t × (has_reference t ≡ false) × (after ≡ context)
   StmtChecks (Return es) script result context after = ResultsCheck script context es result × (after ≡ context)
@@ -251,6 +255,7 @@ abbrev mutual
   Returns (If e a b) = BlockReturns a × BlockReturns b
   Returns (Let x e) = ⊥
   Returns (LetCall x xs g args) = ⊥
+  Returns (LetRemote x xs k g marks args) = ⊥
   Returns (Set x e) = ⊥
   Returns (Print e) = ⊥
   Returns (For x from to body) = ⊥

@@ -11,4 +11,3 @@ pub mod Mains
 pub mod Kinds
 pub mod KindLaw
 pub mod Examples
-pub mod Singles

@@ -20,6 +20,7 @@ use Rattle.meaning.specs.Syntax.{
   Stmt,
   Let,
   LetCall,
+  LetRemote,
   Set,
   Print,
   Return,
@@ -60,6 +61,7 @@ module _ (function : Name) where
     pub IsApart : Stmt → Type 0
     IsApart (Let x e) = CallsOthers e
     IsApart (LetCall x xs g args) = (g ≢ main_name) × AllCallOthers args
+    IsApart (LetRemote x xs retries g marks args) = (g ≢ main_name) × AllCallOthers args
     IsApart (Set x e) = CallsOthers e
     IsApart (Print e) = (function ≡ main_name) × CallsOthers e
     IsApart (Return es) = AllCallOthers es

@@ -50,6 +50,8 @@ mutual
     Let : (x : Name) (e : Expr) → Stmt
     -- the results of a plain call, bound to as many names
     LetCall : (x : Name) (xs : List Name) (g : Name) (args : Exprs) → Stmt
+    -- the references that a remote call gives, one a result
+    LetRemote : (x : Name) (xs : List Name) (retries : ℕ) (g : Name) (marks : List Bool) (args : Exprs) → Stmt
     Set : (x : Name) (e : Expr) → Stmt
     Print : (e : Expr) → Stmt
     -- a value for each result

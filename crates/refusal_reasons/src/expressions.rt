@@ -117,7 +117,7 @@ pub(crate) fn check_arguments(
 
 /// That each argument is of its parameter's type, or a reference to that.
 #[cycle(kinds)]
-fn check_marked(
+pub(crate) fn check_marked(
     scene: Scene<'_>,
     parameters: &[Parameter],
     arguments: &[Expr],

@@ -1,12 +1,14 @@
 // Statements and functions, in the order in which the checker looks at them. Whether a body may end with no return isn't looked at: a script in which
 // one may has no earlier fault, and of that one its name says all.
 
-use crate::expressions::{check_arguments, kind_met, kind_of};
+use crate::expressions::{check_arguments, check_marked, kind_met, kind_of};
 use crate::kind::Kind;
-use crate::scope::{Scene, Variable, callee, counted, declare, find, fresh, twice, variable_kind};
+use crate::scope::{
+    Scene, Variable, callee, counted, declare, few_retries, find, fresh, twice, variable_kind,
+};
 use crate::stop::{Fault, Stop, stop_at};
 use crate::wanted::Wanted;
-use script_syntax::{Block, Expr, Function, Name, Span, Statement, ValueType, parse};
+use script_syntax::{Block, Expr, Function, Name, Retries, Span, Statement, ValueType, parse};
 use std::alloc::Global;
 
 /// How many expressions or statements stand inside one another at most: more than any script that is parsed has.
@@ -139,12 +141,46 @@ fn check_let_call(
     Ok(())
 }
 
-/// The stop at a `let` over a remote call of so many results.
-fn remote_results(alloc: Global, count: usize, span: Span) -> Stop {
-    match format!(in alloc; "    found: a remote call for {count} results, which is not run yet") {
-        Ok(told) => stop_at(18, span, told),
-        Err(_) => Stop::Unsure,
+/// A call as a task, for so many results.
+fn check_remote(
+    within: Within<'_>,
+    scope: &[Variable],
+    retries: Option<Retries>,
+    called: &Name,
+    wanted: usize,
+    arguments: &[Expr],
+) -> Result<(), Stop> {
+    let scene = within.scene(scope);
+    few_retries(scene, retries)?;
+    let function = callee(scene, called, wanted, arguments.len())?;
+    check_marked(scene, &function.parameters, arguments, MOST_LEVELS)
+}
+
+/// The names of a `let` of several, each a reference to a result of a call as a task.
+fn check_let_remote(
+    within: Within<'_>,
+    scope: &mut Vec<Variable>,
+    name: &Name,
+    others: &[Name],
+    retries: Option<Retries>,
+    called: &Name,
+    arguments: &[Expr],
+) -> Result<(), Stop> {
+    check_names_given(within, scope, name, others)?;
+    let wanted = others.len().saturating_add(1);
+    check_remote(within, scope, retries, called, wanted, arguments)?;
+    let Some(function) = find(within.functions, called.text.as_str()) else {
+        return Err(Stop::Unsure);
+    };
+    let alloc = within.alloc;
+    declare(scope, name, Kind::of(alloc, &function.result)?.referred()?)?;
+    for (i, other) in others.iter().enumerate() {
+        let Some(result) = function.others.get(i) else {
+            return Err(Stop::Unsure);
+        };
+        declare(scope, other, Kind::of(alloc, result)?.referred()?)?;
     }
+    Ok(())
 }
 
 fn check_value(
@@ -196,9 +232,8 @@ fn check_statement(
         Statement::LetCall(name, others, called, arguments) => {
             check_let_call(within, scope, name, others, called, arguments)
         }
-        Statement::LetRemote(_, others, _, called, _) => {
-            let count = others.len().saturating_add(1);
-            Err(remote_results(within.alloc, count, called.span))
+        Statement::LetRemote(name, others, retries, called, arguments) => {
+            check_let_remote(within, scope, name, others, *retries, called, arguments)
         }
         Statement::Set(name, expr) => check_set(within, scope, name, expr),
         Statement::If(condition, first, second) => {

@@ -15,7 +15,7 @@ use Rattle.script_check.specs.Rules.{variable}
 use Rattle.script_check.specs.Trees.{statement_of as checked_statement, statements_of as checked_statements}
 use Rattle.script_check.specs.Scopes.{typed_of, context_of}
 use Rattle.script_check.specs.Typings.{joined_steps, onto_steps}
-use Rattle.script_check.specs.Inference.{◌>>=◌, only, count, callee, new_names, Typing, Stepped, Blocked, infer, infer_as, infer_arguments, infer_results, fresh, step_of, steps_of, block_from, else_from, let_step, returns, block_returns, else_returns}
+use Rattle.script_check.specs.Inference.{◌>>=◌, only, count, callee, new_names, Typing, Stepped, Blocked, infer, infer_as, infer_arguments, infer_results, fresh, step_of, steps_of, block_from, else_from, let_step, returns, block_returns, else_returns, retries_within, infer_marked}
 use Rattle.script_check.specs.declared.scope.Variable.{Variable}
 use Rattle.script_check.specs.declared.tree.CheckedStatement.{CheckedStatement}
 use Rattle.script_check.proofs.Arms.{here, drop_end, both, neither}
@@ -115,7 +115,10 @@ module _ (program : parsed.Program) (function : parsed.Function) where
       let n = bind_some (new_names before [] (x ∷ others)) _ r h in let f = bind_some (callee program g (length others) (count args)) _ r n.2 in
       let cs = bind_some (infer_arguments program before args f.0.parameters) _ r f.2 in let b = behind before (x ∷ others) (f.0.result ∷ f.0.others) in
       (b.0, sym (ap (λ (y : Stepped). y.after) (some_is _ _ cs.2)) ∙ b.1)
-  step_extends (parsed.LetRemote x others k g args) before r h = absurd (cc)
+  step_extends (parsed.LetRemote x others k g args) before r h =
+      let n = bind_some (new_names before [] (x ∷ others)) _ r h in let few = bind_some (retries_within k) _ r n.2 in
+      let f = bind_some (callee program g (length others) (count args)) _ r few.2 in let m = bind_some (infer_marked program before args f.0.parameters) _ r f.2 in
+      let b = behind before (x ∷ others) (map parsed.RefType (f.0.result ∷ f.0.others)) in (b.0, sym (ap (λ (y : Stepped). y.after) (some_is _ _ m.2)) ∙ b.1)
   step_extends (parsed.Set x e) before r h =
       let k = bind_some (kind_in before x) _ r h in let i = bind_some (infer_as program before k.0 e) _ r k.2 in ends_as before _ r i.2
   step_extends (parsed.If e a) before r h =

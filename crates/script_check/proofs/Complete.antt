@@ -59,7 +59,7 @@ module _ (program : parsed.Program) (context : Context) where
   results_count (parsed.also e es) cs [] h = absurd h
   results_count (parsed.also e es) cs (t ∷ ts) h = let r = results_count es h.1 ts h.3 in omega arith
 
-  marked_count : (es : parsed.Exprs) (ms : List Bool) (cs : Exprs) (ps : List parsed.Parameter) → MarkedChecked program context es ms cs ps → length ps ≡ count es
+  pub marked_count : (es : parsed.Exprs) (ms : List Bool) (cs : Exprs) (ps : List parsed.Parameter) → MarkedChecked program context es ms cs ps → length ps ≡ count es
   marked_count parsed.no_expr ms cs [] h = refl
   marked_count parsed.no_expr ms cs (p ∷ ps) h = absurd h
   marked_count (parsed.also e es) ms cs [] h = absurd h
@@ -125,6 +125,9 @@ is_complete_as program context e c t h = as_kind program context e c t (complete
 
 pub are_complete_arguments : (program : parsed.Program) (context : Context) (es : parsed.Exprs) (cs : Exprs) (ps : List parsed.Parameter) → ArgumentsChecked program context es cs ps → infer_arguments program context es ps ≡ Some cs
 are_complete_arguments program context = complete_arguments program context
+
+pub are_complete_marked : (program : parsed.Program) (context : Context) (es : parsed.Exprs) (ms : List Bool) (cs : Exprs) (ps : List parsed.Parameter) → MarkedChecked program context es ms cs ps → infer_marked program context es ps ≡ Some (record { marks = ms; exprs = cs })
+are_complete_marked program context = complete_marked program context
 
 pub are_complete_results : (program : parsed.Program) (context : Context) (es : parsed.Exprs) (cs : Exprs) (ts : List parsed.Kind) → ResultsChecked program context es cs ts → infer_results program context es ts ≡ Some cs
 are_complete_results program context = complete_results program context

@@ -54,7 +54,7 @@ module _ (program : parsed.Program) where
       statement_apart : (s : parsed.Stmt) (before : Context) (c : Stmt) (after : Context) → StatementChecked program function s before c after → IsApart function.name c
       statement_apart (parsed.Let x e) before c after h = subst (IsApart function.name) (sym h.4) (expr_apart before e h.0 h.1 h.3)
       statement_apart (parsed.LetCall x others g args) before c after h = subst (IsApart function.name) (sym h.5) (h.2.not_main, arguments_apart before args h.1 h.0.parameters h.3)
-      statement_apart (parsed.LetRemote x others k g args) before c after h = absurd h
+      statement_apart (parsed.LetRemote x others r g args) before c after h = subst (IsApart function.name) (sym h.7) (h.4.not_main, marked_apart before args h.1 h.2 h.0.parameters h.5)
       statement_apart (parsed.Set x e) before c after h = subst (IsApart function.name) (sym h.4) (expr_apart before e h.0 h.1 h.3)
       statement_apart (parsed.If e a) before c after h = subst (IsApart function.name) (sym h.4) (expr_apart before e h.0 Number h.2, block_apart a before h.1 h.3, tt)
       statement_apart (parsed.IfElse e a b) before c after h = subst (IsApart function.name) (sym h.6) (expr_apart before e h.0 Number h.3, block_apart a before h.1 h.4, block_apart b before h.2 h.5)

@@ -1,6 +1,7 @@
 -- What is made of statements, functions and programs is what is allowed.
 use Rattle.std.proofs.Common.{◌≡◌, Bool, true, false, List, [], ◌∷◌, ◌++◌, length, map, refl, sym, ap, ◌∙◌, subst, arith, Option, Some, None, inl, inr}
 use Rattle.std.specs.Prelude.{nat_eq, if◌then◌else◌, ◌&&◌, ◌||◌, ◌⊎◌}
+use Rattle.std.proofs.lemmas.List.{length-map}
 use Rattle.meaning.specs.Syntax.{Kind, Number, ListKind, RefKind, Expr, Stmt, Block, done, step, Parameter, Function, Script}
 use Rattle.meaning.specs.Syntax as syntax
 use Rattle.meaning.specs.Meaning.{same_name}
@@ -8,9 +9,9 @@ use Rattle.meaning.specs.Kinds.{Context, kind_in, has_reference}
 use Rattle.meaning.proofs.Names.{same_name-true, same_name-refl}
 use Rattle.script_syntax.specs.Trees as parsed
 use Rattle.script_check.specs.Trees.{kind_named}
-use Rattle.script_check.specs.Rules.{function_in, variable, NamesChecked, StatementChecked, BlockChecked, Returns, BlockReturns, ParametersChecked, FunctionChecked, FunctionsChecked, AreNamedApart, HasMain, IsCheckedOf}
+use Rattle.script_check.specs.Rules.{function_in, variable, retries_of, NamesChecked, StatementChecked, BlockChecked, Returns, BlockReturns, ParametersChecked, FunctionChecked, FunctionsChecked, AreNamedApart, HasMain, IsCheckedOf}
 use Rattle.meaning.specs.Values.{main_name}
-use Rattle.script_check.specs.Inference.{◌>>=◌, when, same_kind, Typing, infer, infer_as, fresh, Stepped, Blocked, step_of, steps_of, block_from, block_alone, returns, block_returns, Declared, declared, only, count, callee, infer_arguments, infer_results, new_names, is_single, function_from, functions_from, is_absent, are_apart, is_main_good}
+use Rattle.script_check.specs.Inference.{◌>>=◌, when, same_kind, Typing, infer, infer_as, fresh, Stepped, Blocked, step_of, steps_of, block_from, block_alone, returns, block_returns, Declared, declared, only, count, callee, infer_arguments, infer_results, new_names, is_single, function_from, functions_from, is_absent, are_apart, is_main_good, retries_within, infer_marked}
 use Rattle.std.specs.Prelude.{IsTrue}
 use Rattle.script_check.specs.Refusals.{is_refusal}
 use Rattle.script_check.specs.declared.error.CheckError.{CheckError}
@@ -18,8 +19,8 @@ use Rattle.script_check.specs.declared.error.CheckError.TheVariants.{UnknownName
 use Rattle.script_check.proofs.Binds.{bind_some, some_is, when_some, and_true, both_true, none_left}
 use Rattle.script_check.proofs.Names.{free_from, free_to, are_sound_names, are_complete_names}
 use Rattle.script_check.proofs.Arms.{both}
-use Rattle.script_check.proofs.Sound.{is_sound, is_sound_as, are_sound_arguments, are_sound_results, callee_is, same_kind_is, eq_from, eq_to}
-use Rattle.script_check.proofs.Complete.{is_complete, is_complete_as, are_complete_arguments, are_complete_results, callee_to, arguments_count, results_count}
+use Rattle.script_check.proofs.Sound.{is_sound, is_sound_as, are_sound_arguments, are_sound_marked, are_sound_results, few_are, callee_is, same_kind_is, eq_from, eq_to, le_to}
+use Rattle.script_check.proofs.Complete.{is_complete, is_complete_as, are_complete_arguments, are_complete_marked, are_complete_results, callee_to, arguments_count, marked_count, results_count}
 
 -- Tests
 
@@ -102,7 +103,20 @@ module _ (program : parsed.Program) (function : parsed.Function) where
         let n = bind_some (new_names before [] (x ∷ others)) _ r h in let f = bind_some (callee program g (length others) (count args)) _ r n.2 in
         let cs = bind_some (infer_arguments program before args f.0.parameters) _ r f.2 in let k = callee_is program g (length others) (count args) f.0 f.1 in
         (f.0, cs.0, k, are_sound_arguments program before args f.0.parameters cs.0 cs.1, subst (λ z. NamesChecked (x ∷ others) (f.0.result ∷ f.0.others) before z) (sym (after_eq _ r cs.2)) (are_sound_names before (x ∷ others) (f.0.result ∷ f.0.others) (let l = k.results in omega arith) n.1), stmt_eq _ r cs.2)
-    step_sound (parsed.LetRemote x others k g args) before r h = absurd (cc)
+    step_sound (parsed.LetRemote x others k g args) before r h =
+        let n = bind_some (new_names before [] (x ∷ others)) _ r h in let few = bind_some (retries_within k) _ r n.2 in
+        let f = bind_some (callee program g (length others) (count args)) _ r few.2 in let m = bind_some (infer_marked program before args f.0.parameters) _ r f.2 in
+        let w = few_are k few.0 few.1 in let is = callee_is program g (length others) (count args) f.0 f.1 in
+        let ts = map parsed.RefType (f.0.result ∷ f.0.others) in (
+          f.0,
+          m.0.marks,
+          m.0.exprs,
+          w.0,
+          is,
+          are_sound_marked program before args f.0.parameters m.0 m.1,
+          subst (λ z. NamesChecked (x ∷ others) ts before z) (sym (after_eq _ r m.2)) (are_sound_names before (x ∷ others) ts (length-map (f.0.result ∷ f.0.others) parsed.RefType ∙ (let l = is.results in omega arith)) n.1),
+          stmt_eq _ r m.2 ∙ ap (λ i. syntax.LetRemote x others i g m.0.marks m.0.exprs) (sym w.1),
+        )
     step_sound (parsed.Set x e) before r h =
         let k = bind_some (kind_in before x) _ r h in let i = bind_some (infer_as program before k.0 e) _ r k.2 in
         (i.0, k.0, k.1, is_sound_as program before k.0 e i.0 i.1, stmt_eq _ r i.2, after_eq _ r i.2)
@@ -143,7 +157,11 @@ module _ (program : parsed.Program) (function : parsed.Function) where
         let n = are_complete_names before (x ∷ others) (h.0.result ∷ h.0.others) after h.4 in
         both (new_names before [] (x ∷ others)) tt _ _ n.0 (both (callee program g (length others) (count args)) h.0 _ _ (callee_to program g (length others) (count args) h.0 h.2 (arguments_count program before args h.1 h.0.parameters h.3))
         (both (infer_arguments program before args h.0.parameters) h.1 _ _ (are_complete_arguments program before args h.1 h.0.parameters h.3) (stepped_is _ _ c after h.5 n.1)))
-    step_complete (parsed.LetRemote x others k g args) before c after h = absurd h
+    step_complete (parsed.LetRemote x others k g args) before c after h =
+        let n = are_complete_names before (x ∷ others) (map parsed.RefType (h.0.result ∷ h.0.others)) after h.6 in
+        both (new_names before [] (x ∷ others)) tt _ _ n.0 (both (retries_within k) (retries_of k) _ _ (ap (λ b. when b (retries_of k)) (le_to (retries_of k) 10 h.3))
+        (both (callee program g (length others) (count args)) h.0 _ _ (callee_to program g (length others) (count args) h.0 h.4 (marked_count program before args h.1 h.2 h.0.parameters h.5))
+        (both (infer_marked program before args h.0.parameters) (record { marks = h.1; exprs = h.2 }) _ _ (are_complete_marked program before args h.1 h.2 h.0.parameters h.5) (stepped_is _ _ c after h.7 n.1))))
     step_complete (parsed.Set x e) before c after h =
         both (kind_in before x) h.1 _ _ h.2 (both (infer_as program before h.1 e) h.0 _ _ (is_complete_as program before e h.0 h.1 h.3) (stepped_is _ _ c after h.4 h.5))
     step_complete (parsed.If e a) before c after h =

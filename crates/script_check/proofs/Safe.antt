@@ -29,6 +29,10 @@ record IsFound (script : Script) (g : Name) (f : parsed.Function) (h : Function)
 results_found : (script : Script) (g : Name) (f : parsed.Function) (h : Function) → IsFound script g f h → results h ≡ map kind_named (f.result ∷ f.others)
 results_found script g f h d = ap (λ t. t ∷ h.others) d.result ∙ ap (λ ts. kind_named f.result ∷ ts) d.others
 
+references_named : (ts : List parsed.Kind) → map kind_named (map parsed.RefType ts) ≡ map RefKind (map kind_named ts)
+references_named [] = refl
+references_named (t ∷ ts) = ap (λ us. RefKind (kind_named t) ∷ us) (references_named ts)
+
 one_result : (script : Script) (g : Name) (f : parsed.Function) (h : Function) (t : Kind) → IsFound script g f h → length f.others ≡ 0 → t ≡ kind_named f.result → results h ≡ t ∷ []
 one_result script g f h t d n e = results_found script g f h d ∙ ap (λ ts. map kind_named (f.result ∷ ts)) (none_left f.others n) ∙ ap (λ k. k ∷ []) (sym e)
 
@@ -111,7 +115,9 @@ module _ (program : parsed.Program) (script : Script) (finds : Finds program scr
       statement_safe (parsed.LetCall x others g args) before c after h =
           let d = finds g h.0 h.2.found in
           subst (λ z. StmtChecks z script result before after) (sym h.5) (d.0, d.1.found, subst (λ ps. ArgumentsCheck script before h.1 ps) (sym d.1.parameters) (arguments_safe before args h.1 h.0.parameters h.3), subst (λ ts. Binds (x ∷ others) ts before after) (sym (results_found script g h.0 d.0 d.1)) (names_bind (x ∷ others) (h.0.result ∷ h.0.others) before after h.4))
-      statement_safe (parsed.LetRemote x others k g args) before c after h = absurd h
+      statement_safe (parsed.LetRemote x others r g args) before c after h =
+          let d = finds g h.0 h.4.found in
+          subst (λ z. StmtChecks z script result before after) (sym h.7) (d.0, d.1.found, subst (λ ps. MarkedCheck script before h.2 h.1 ps) (sym d.1.parameters) (marked_safe before args h.1 h.2 h.0.parameters h.5), subst (λ ts. Binds (x ∷ others) (map RefKind ts) before after) (sym (results_found script g h.0 d.0 d.1)) (subst (λ ts. Binds (x ∷ others) ts before after) (references_named (h.0.result ∷ h.0.others)) (names_bind (x ∷ others) (map parsed.RefType (h.0.result ∷ h.0.others)) before after h.6)))
       statement_safe (parsed.Set x e) before c after h = subst (λ z. StmtChecks z script result before after) (sym h.4) (h.1, h.2, expr_safe before e h.0 h.1 h.3, h.5)
       statement_safe (parsed.If e a) before c after h = subst (λ z. StmtChecks z script result before after) (sym h.4) (expr_safe before e h.0 Number h.2, block_safe a before h.1 h.3, tt, h.5)
       statement_safe (parsed.IfElse e a b) before c after h = subst (λ z. StmtChecks z script result before after) (sym h.6) (expr_safe before e h.0 Number h.3, block_safe a before h.1 h.4, block_safe b before h.2 h.5, h.7)

@@ -91,7 +91,7 @@ callee_is program g others n f e = go (same_name g main_name) refl e
           results = ap (λ (y : parsed.Function). length y.others) (sym w.1) ∙ eq_from (length i.0.others) others a.0;
         }
 
-few_are : (r : Option ℕ) (k : ℕ) → retries_within r ≡ Some k → (retries_of r ≤ 10) × (retries_of r ≡ k)
+pub few_are : (r : Option ℕ) (k : ℕ) → retries_within r ≡ Some k → (retries_of r ≤ 10) × (retries_of r ≡ k)
 few_are r k e = let w = when_some (nat_le (retries_of r) 10) (retries_of r) k e in (le_from (retries_of r) 10 w.0, w.1)
 
 module _ (program : parsed.Program) (context : Context) where
@@ -180,6 +180,9 @@ is_sound_as program context t e c h = let z = bind_some (infer program context e
 
 pub are_sound_arguments : (program : parsed.Program) (context : Context) (es : parsed.Exprs) (ps : List parsed.Parameter) (cs : Exprs) → infer_arguments program context es ps ≡ Some cs → ArgumentsChecked program context es cs ps
 are_sound_arguments program context = sound_arguments program context
+
+pub are_sound_marked : (program : parsed.Program) (context : Context) (es : parsed.Exprs) (ps : List parsed.Parameter) (m : Marked) → infer_marked program context es ps ≡ Some m → MarkedChecked program context es m.marks m.exprs ps
+are_sound_marked program context = sound_marked program context
 
 pub are_sound_results : (program : parsed.Program) (context : Context) (es : parsed.Exprs) (ts : List parsed.Kind) (cs : Exprs) → infer_results program context es ts ≡ Some cs → ResultsChecked program context es cs ts
 are_sound_results program context = sound_results program context

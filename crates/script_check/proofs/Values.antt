@@ -3,7 +3,7 @@ use Rattle.std.proofs.Common.{◌≡◌, ℕ, zero, suc, ◌+◌, ◌<◌, ◌�
 use Rattle.std.specs.Prelude.{nat_eq}
 use Rattle.std.proofs.lemmas.List.{length-map}
 use Rattle.meaning.specs.Values.{Name as AName}
-use Rattle.meaning.specs.Syntax.{Expr as AnExpr, Exprs, also}
+use Rattle.meaning.specs.Syntax.{RefKind, Expr as AnExpr, Exprs, also}
 use Rattle.meaning.specs.Syntax as syntax
 use Rattle.meaning.specs.Kinds.{Context}
 use Rattle.script_syntax.specs.Trees as parsed
@@ -14,7 +14,7 @@ use Rattle.script_syntax.specs.declared.tree.ValueType.{ValueType}
 use Rattle.script_check.specs.Rules.{variable}
 use Rattle.script_check.specs.Trees.{kind_named, kind_of, expr_of, exprs_of}
 use Rattle.script_check.specs.Typings.{onto}
-use Rattle.script_check.specs.Inference.{only, count, callee, infer, infer_as, infer_arguments, infer_results, fresh, new_name, new_names, bound, let_call_step, return_step}
+use Rattle.script_check.specs.Inference.{only, count, callee, infer, infer_as, infer_arguments, infer_results, fresh, new_name, new_names, bound, let_call_step, return_step, retries_within, infer_marked, let_remote_step, Marked}
 use Rattle.script_check.specs.declared.tree.CheckedExpr.{CheckedExpr}
 use Rattle.script_check.proofs.Arms.{here, drop_end, both, neither, onto_none, onto_more, joined_end, count_trees}
 use Rattle.script_check.proofs.Sound.{eq_from, eq_to}
@@ -146,6 +146,24 @@ bound_end before whole xs ts i h so = sym (ap (λ ys. bound before (map name_of 
     nothing c [] = refl
     nothing c (u ∷ us) = refl
 
+pub references_step : (before after whole : Context) (xs : List Name) (ts : List ValueType) (i : ℕ) (x : Name) (t : ValueType) → i < length xs → x ≡ get_or xs i x → i < length ts → t ≡ get_or ts i t →
+    bound before (map name_of (drop i xs)) (map parsed.RefType (map type_of (drop i ts))) ≡ whole → after ≡ before ++ variable (name_of x) (RefKind (kind_of t)) →
+    bound after (map name_of (drop (i + 1) xs)) (map parsed.RefType (map type_of (drop (i + 1) ts))) ≡ whole
+references_step before after whole xs ts i x t h e ht et so is =
+    ap (λ z. bound z (map name_of (drop (i + 1) xs)) (map parsed.RefType (map type_of (drop (i + 1) ts)))) is
+    ∙ sym (ap (λ ys. bound before (map name_of ys) (map parsed.RefType (map type_of (drop i ts)))) (here xs i x h e)
+    ∙ ap (λ us. bound before (name_of x ∷ map name_of (drop (i + 1) xs)) (map parsed.RefType (map type_of us))) (here ts i t ht et)) ∙ so
+
+pub references_end : (before whole : Context) (xs : List Name) (ts : List ValueType) (i : ℕ) → length xs ≤ i →
+    bound before (map name_of (drop i xs)) (map parsed.RefType (map type_of (drop i ts))) ≡ whole → before ≡ whole
+references_end before whole xs ts i h so =
+    sym (ap (λ ys. bound before (map name_of ys) (map parsed.RefType (map type_of (drop i ts)))) (drop_end xs i h)
+    ∙ nothing before (map parsed.RefType (map type_of (drop i ts)))) ∙ so
+  where
+    nothing : (c : Context) (us : List parsed.Kind) → bound c [] us ≡ c
+    nothing c [] = refl
+    nothing c (u ∷ us) = refl
+
 -- A let over a call
 
 module _ (program : parsed.Program) (before : Context) (x : AName) (others : List AName) (g : AName) (args : parsed.Exprs) where
@@ -166,3 +184,35 @@ module _ (program : parsed.Program) (before : Context) (x : AName) (others : Lis
   let_call_gives k n f cs after e c new some given is =
       both (new_names before [] (x ∷ others)) tt _ _ new (both (callee program g (length others) (count args)) f _ _ (ap (λ z. callee program g z (count args)) e ∙ ap (callee program g k) c ∙ some)
       (both (infer_arguments program before args f.parameters) cs _ _ given (ap (λ z. Some (record { stmt = syntax.LetCall x others g cs; after = z })) (sym is))))
+
+-- A let over a remote call
+
+module _ (program : parsed.Program) (before : Context) (x : AName) (others : List AName) (written : Option ℕ) (g : AName) (args : parsed.Exprs) where
+  pub let_remote_old : new_names before [] (x ∷ others) ≡ None → let_remote_step program before x others written g args ≡ None
+  let_remote_old none = neither (new_names before [] (x ∷ others)) _ none
+
+  pub let_remote_overmuch : new_names before [] (x ∷ others) ≡ Some tt → retries_within written ≡ None → let_remote_step program before x others written g args ≡ None
+  let_remote_overmuch new none = both (new_names before [] (x ∷ others)) tt _ None new (neither (retries_within written) _ none)
+
+  module _ (retries k n : ℕ) (e : length others ≡ k) (c : count args ≡ n) (new : new_names before [] (x ∷ others) ≡ Some tt) (few : retries_within written ≡ Some retries) where
+    as_called : (f : Option parsed.Function) → callee program g k n ≡ f → callee program g (length others) (count args) ≡ f
+    as_called f is = ap (λ z. callee program g z (count args)) e ∙ ap (callee program g k) c ∙ is
+
+    pub let_remote_uncalled : callee program g k n ≡ None → let_remote_step program before x others written g args ≡ None
+    let_remote_uncalled none =
+        both (new_names before [] (x ∷ others)) tt _ None new (both (retries_within written) retries _ None few
+        (neither (callee program g (length others) (count args)) _ (as_called None none)))
+
+    pub let_remote_misfits : (f : parsed.Function) → callee program g k n ≡ Some f → infer_marked program before args f.parameters ≡ None →
+        let_remote_step program before x others written g args ≡ None
+    let_remote_misfits f some none =
+        both (new_names before [] (x ∷ others)) tt _ None new (both (retries_within written) retries _ None few
+        (both (callee program g (length others) (count args)) f _ None (as_called (Some f) some) (neither (infer_marked program before args f.parameters) _ none)))
+
+    pub let_remote_gives : (f : parsed.Function) (m : Marked) (after : Context) → callee program g k n ≡ Some f → infer_marked program before args f.parameters ≡ Some m →
+        after ≡ bound before (x ∷ others) (map parsed.RefType (f.result ∷ f.others)) →
+        let_remote_step program before x others written g args ≡ Some (record { stmt = syntax.LetRemote x others retries g m.marks m.exprs; after = after })
+    let_remote_gives f m after some given is =
+        both (new_names before [] (x ∷ others)) tt _ _ new (both (retries_within written) retries _ _ few
+        (both (callee program g (length others) (count args)) f _ _ (as_called (Some f) some) (both (infer_marked program before args f.parameters) m _ _ given
+        (ap (λ z. Some (record { stmt = syntax.LetRemote x others retries g m.marks m.exprs; after = z })) (sym is)))))

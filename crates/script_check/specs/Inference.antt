@@ -208,6 +208,13 @@ let_call_step program before x others g args = new_names before [] (x ∷ others
       after = bound before (x ∷ others) (f.result ∷ f.others);
     })
 
+abbrev pub let_remote_step : parsed.Program → Context → Name → List Name → Option ℕ → Name → parsed.Exprs → Option Stepped
+let_remote_step program before x others r g args = new_names before [] (x ∷ others) >>= λ _. retries_within r
+    >>= λ k. callee program g (length others) (count args) >>= λ f. infer_marked program before args f.parameters >>= λ m. Some (record {
+      stmt = syntax.LetRemote x others k g m.marks m.exprs;
+      after = bound before (x ∷ others) (map parsed.RefType (f.result ∷ f.others));
+    })
+
 abbrev pub set_step : parsed.Program → Context → Name → parsed.Expr → Option Stepped
 set_step program before x e = kind_in before x >>= λ t. infer program before e >>= of_kind t >>= λ d. Some (record { stmt = syntax.Set x d; after = before })
 
@@ -227,7 +234,7 @@ module _ (program : parsed.Program) (function : parsed.Function) where
     pub step_of : parsed.Stmt → Context → Option Stepped
     step_of (parsed.Let x e) before = let_step program before x e
     step_of (parsed.LetCall x others g args) before = let_call_step program before x others g args
-    step_of (parsed.LetRemote x others r g args) before = None
+    step_of (parsed.LetRemote x others r g args) before = let_remote_step program before x others r g args
     step_of (parsed.Set x e) before = set_step program before x e
     step_of (parsed.If e a) before = infer program before e >>= of_kind Number >>= λ c. steps_of a before >>= block_alone
         >>= λ x. Some (record { stmt = syntax.If c x done; after = before })

@@ -134,8 +134,9 @@ module _ (program : parsed.Program) (function : parsed.Function) where
     StatementChecked (parsed.LetCall x others g args) before s after = (f : parsed.Function) × (cs : Exprs) × IsCallee program g (length others) f
         × ArgumentsChecked program before args cs f.parameters × NamesChecked (x ∷ others) (f.result ∷ f.others) before after
         × (s ≡ syntax.LetCall x others g cs)
-    -- remote calls of several results are not run yet
-    StatementChecked (parsed.LetRemote x others r g args) before s after = ⊥
+    StatementChecked (parsed.LetRemote x others r g args) before s after = (f : parsed.Function) × (ms : List Bool) × (cs : Exprs) × (retries_of r ≤ 10)
+        × IsCallee program g (length others) f × MarkedChecked program before args ms cs f.parameters
+        × NamesChecked (x ∷ others) (map parsed.RefType (f.result ∷ f.others)) before after × (s ≡ syntax.LetRemote x others (retries_of r) g ms cs)
     StatementChecked (parsed.Set x e) before s after = (c : Expr) × (t : Kind) × (kind_in before x ≡ Some t) × IsChecked program before e c t
         × (s ≡ syntax.Set x c) × (after ≡ before)
     StatementChecked (parsed.If e a) before s after = (c : Expr) × (x : Block) × IsChecked program before e c Number × BlockChecked a before x

@@ -53,7 +53,7 @@ abbrev mutual
   pub stmt_size : Stmt → ℕ
   stmt_size (Let x e) = 6
   stmt_size (LetCall x others g args) = 6
-  stmt_size (LetRemote x others r g args) = 6
+  stmt_size (LetRemote x others r g args) = 8
   stmt_size (Set x e) = 6
   stmt_size (If e a) = block_size a + 6
   stmt_size (IfElse e a b) = block_size a + block_size b + 6

@@ -68,6 +68,8 @@ abbrev mutual
   pub statement_of : CheckedStatement → Stmt
   statement_of (statements.Let x e) = syntax.Let (string_bytes x) (expr_of e)
   statement_of (statements.LetCall x xs g args) = syntax.LetCall (string_bytes x) (map string_bytes xs.items) (string_bytes g) (exprs_of args.items)
+  statement_of (statements.LetRemote x xs retries g marks args) =
+      syntax.LetRemote (string_bytes x) (map string_bytes xs.items) retries (string_bytes g) marks.items (exprs_of args.items)
   statement_of (statements.Set x e) = syntax.Set (string_bytes x) (expr_of e)
   statement_of (statements.Print e) = syntax.Print (expr_of e)
   statement_of (statements.Return es) = syntax.Return (exprs_of es.items)

@@ -1,6 +1,7 @@
 // Copies of checked trees.
 
 ghost use Rattle.std.specs.Prelude.{◌≡◌, IfOk, map, string_bytes};
+ghost use Rattle.meaning.specs.Syntax.{LetRemote};
 ghost use Rattle.script_check.specs.Trees.{expr_of, exprs_of, statement_of, statements_of, block_of, parameter_of, function_of, script_of};
 
 use crate::tree::{CheckedBlock, CheckedExpr, CheckedFunction, CheckedParameter, CheckedStatement};
@@ -70,6 +71,27 @@ fn copy_names(alloc: Global, names: &[String]) -> Result<Vec<String>, AllocError
     Ok(copies)
 }
 
+/// An equal `let` of several names over a remote call.
+fn copy_let_remote(
+    alloc: Global,
+    name: &String,
+    others: &[String],
+    retries: u8,
+    function: &String,
+    marks: &[bool],
+    arguments: &[CheckedExpr],
+) -> Result<CheckedStatement, AllocError>
+    ensures { IfOk result (λ c. statement_of c ≡ LetRemote (string_bytes name.now) (map string_bytes others.now) retries (string_bytes function.now) marks.now
+        (exprs_of arguments.now)) }
+{
+    let name = name.clone()?;
+    let others = copy_names(alloc, others)?;
+    let function = function.clone()?;
+    let marks = Vec::from_slice(alloc, marks)?;
+    let arguments = copy_exprs(alloc, arguments)?;
+    Ok(CheckedStatement::LetRemote(name, others, retries, function, marks, arguments))
+}
+
 /// An equal statement.
 #[cycle(block_copies)]
 fn copy_statement(
@@ -88,6 +110,9 @@ fn copy_statement(
             let arguments = copy_exprs(alloc, arguments)?;
             let function = function.clone()?;
             Ok(CheckedStatement::LetCall(name.clone()?, others, function, arguments))
+        }
+        CheckedStatement::LetRemote(name, others, retries, function, marks, arguments) => {
+            copy_let_remote(alloc, name, others, *retries, function, marks, arguments)
         }
         CheckedStatement::Set(name, expr) => {
             let expr = copy_expr(alloc, expr)?;

@@ -36,7 +36,7 @@ pub enum CheckError {
     #[error("refused 17 at {}..{}: a name that is in scope already", .0.start, .0.end)]
     Duplicate(Span),
     /// 18: a wrong number of results: of a return's values, at `return`; of a `let`'s names, or of a function that is called for one result,
-    /// at the function's name in the call. Remote calls of several results are not run yet: a `let` over one is refused, at the function's name.
+    /// at the function's name in the call.
     #[error("refused 18 at {}..{}: a wrong number of results", .0.start, .0.end)]
     WrongReturns(Span),
     /// 39: want of memory.

@@ -22,9 +22,9 @@ use std::alloc::Global;
 
 /// The arguments of a remote call, with their marks.
 #[derive(Drop)]
-struct MarkedArguments {
-    marks: Vec<bool>,
-    exprs: Vec<CheckedExpr>,
+pub(crate) struct MarkedArguments {
+    pub(crate) marks: Vec<bool>,
+    pub(crate) exprs: Vec<CheckedExpr>,
 }
 
 /// An expression, and its type.
@@ -234,7 +234,7 @@ fn check_remote(
 
 /// Arguments of a remote call, each of its parameter's type or a reference to that.
 #[cycle(expressions)]
-fn check_marked(
+pub(crate) fn check_marked(
     alloc: Global,
     functions: &[Function],
     scope: &[Variable],

@@ -1,19 +1,20 @@
 // The checking of statements on several results.
 
 ghost use Rattle.std.specs.Prelude.{◌≡◌, [], ◌∷◌, IfOk, IfErr, IsTrue, None, Some, OnOk, length, map, string_bytes};
-ghost use Rattle.script_syntax.specs.Views.{program_of, tree_of, trees_of, type_of, name_of};
+ghost use Rattle.script_syntax.specs.Trees.{RefType};
+ghost use Rattle.script_syntax.specs.Views.{program_of, tree_of, trees_of, type_of, name_of, retries_of as parsed_retries};
 ghost use Rattle.script_check.specs.Refusals.{is_refusal};
 ghost use Rattle.script_check.specs.Trees.{exprs_of, statement_of};
 ghost use Rattle.script_check.specs.Scopes.{context_of};
 ghost use Rattle.script_check.specs.Typings.{onto};
-ghost use Rattle.script_check.specs.Inference.{infer_results, is_among, new_name, new_names, bound, let_call_step, return_step};
+ghost use Rattle.script_check.specs.Inference.{infer_results, is_among, new_name, new_names, bound, let_call_step, let_remote_step, return_step};
 
 use crate::error::CheckError;
-use crate::expressions::{check_arguments, check_expr};
-use crate::scope::{Variable, callee, check_fresh, declare};
+use crate::expressions::{check_arguments, check_expr, check_marked};
+use crate::scope::{Variable, callee, check_fresh, declare, retries};
 use crate::tree::{CheckedExpr, CheckedStatement};
-use crate::types::copy_type;
-use script_syntax::{Expr, Function, Name, Span, ValueType};
+use crate::types::{copy_type, reference_to};
+use script_syntax::{Expr, Function, Name, Retries, Span, ValueType};
 use std::alloc::{AllocError, Global};
 
 /// Values of further results, each of its type, put at the end of those checked before.
@@ -129,6 +130,24 @@ fn declare_all(
     Ok(())
 }
 
+/// Puts variables into scope, each a reference to a value of its type.
+fn declare_references(
+    alloc: Global,
+    scope: &mut Vec<Variable>,
+    names: &[Name],
+    kinds: &[ValueType],
+) -> Result<(), CheckError>
+    requires { length kinds.now ≡ length names.now }
+    ensures value { OnOk result (context_of scope.new.items ≡ bound (context_of scope.old.items) (map name_of names.now)
+        (map RefType (map type_of kinds.now))) }
+    ensures refused { IfErr result (λ e. e ≡ CheckError.NoMemory) }
+{
+    for (i, name) in names.iter().enumerate() {
+        declare(scope, name, reference_to(alloc, &kinds[i])?)?;
+    }
+    Ok(())
+}
+
 /// The texts of names.
 fn texts_of(alloc: Global, names: &[Name]) -> Result<Vec<String>, AllocError>
     ensures { IfOk result (λ xs. map string_bytes xs.items ≡ map name_of names.now) }
@@ -165,4 +184,34 @@ pub(crate) fn check_let_call(
     let others = texts_of(alloc, others)?;
     let called = called.text.clone()?;
     Ok(CheckedStatement::LetCall(name.text.clone()?, others, called, checked))
+}
+
+/// A reference for each result of a call as a task; all go into scope behind it.
+pub(crate) fn check_let_remote(
+    alloc: Global,
+    functions: &[Function],
+    scope: &mut Vec<Variable>,
+    name: &Name,
+    others: &[Name],
+    written: Option<Retries>,
+    called: &Name,
+    arguments: &[Expr],
+) -> Result<CheckedStatement, CheckError>
+    ensures value { IfOk result (λ s.
+        let_remote_step (program_of functions.now) (context_of scope.old.items) (name_of name.now) (map name_of others.now) (parsed_retries written)
+        (name_of called.now) (trees_of arguments.now) ≡ Some (record { stmt = statement_of s; after = context_of scope.new.items })) }
+    ensures refused { IfErr result (λ e. IsTrue (is_refusal e) →
+        let_remote_step (program_of functions.now) (context_of scope.old.items) (name_of name.now) (map name_of others.now) (parsed_retries written)
+        (name_of called.now) (trees_of arguments.now) ≡ None) }
+{
+    check_names(scope, name, others)?;
+    let retries = retries(written)?;
+    let function = callee(functions, called, others.len(), arguments.len())?;
+    let marked = check_marked(alloc, functions, scope, &function.parameters, arguments)?;
+    declare(scope, name, reference_to(alloc, &function.result)?)?;
+    declare_references(alloc, scope, others, &function.others)?;
+    let others = texts_of(alloc, others)?;
+    let called = called.text.clone()?;
+    let name = name.text.clone()?;
+    Ok(CheckedStatement::LetRemote(name, others, retries, called, marked.marks, marked.exprs))
 }

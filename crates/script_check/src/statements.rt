@@ -29,7 +29,7 @@ ghost use Rattle.script_check.specs.Branches.{other_of};
 
 use crate::error::CheckError;
 use crate::expressions::{check_expr, check_number};
-use crate::results::{check_let_call, check_return};
+use crate::results::{check_let_call, check_let_remote, check_return};
 use crate::scope::{Variable, check_fresh, declare, look_up};
 use crate::tree::{CheckedBlock, CheckedStatement};
 use crate::types::has_reference;
@@ -120,7 +120,11 @@ fn check_statement(
         Statement::LetCall(name, others, called, arguments) => {
             check_let_call(alloc, functions, scope, name, others, called, arguments)
         }
-        Statement::LetRemote(_, _, _, called, _) => Err(CheckError::WrongReturns(called.span)),
+        Statement::LetRemote(name, others, retries, called, arguments) => {
+            check_let_remote(
+                alloc, functions, scope, name, others, *retries, called, arguments,
+            )
+        }
         Statement::Set(name, expr) => check_set(alloc, functions, scope, name, expr),
         Statement::If(condition, first, second) => {
             let condition = check_number(alloc, functions, scope, condition)?;

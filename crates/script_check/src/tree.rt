@@ -53,6 +53,9 @@ pub enum CheckedStatement {
     Let(String, CheckedExpr),
     /// Two names or more, the first apart, for the results of a plain call: the function's name, and what it is called with.
     LetCall(String, Vec<String>, String, Vec<CheckedExpr>),
+    /// The same of a remote call, which gives a reference for each result: the new runs that it allows, the function's name, which arguments are
+    /// dereferenced before the body, and the arguments.
+    LetRemote(String, Vec<String>, u8, String, Vec<bool>, Vec<CheckedExpr>),
     Set(String, CheckedExpr),
     Print(CheckedExpr),
     /// A value for each result.

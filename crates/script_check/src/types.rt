@@ -1,6 +1,7 @@
 // Types: whether two are the same, copies, and what they are made of.
 
 ghost use Rattle.std.specs.Prelude.{◌≡◌, IfOk, MatchOption, None, Some, map};
+ghost use Rattle.meaning.specs.Syntax.{RefKind};
 ghost use Rattle.script_check.specs.Trees.{kind_of};
 ghost use Rattle.meaning.specs.Kinds.{has_reference};
 ghost use Rattle.script_check.specs.Inference.{same_kind, mark_for};
@@ -40,6 +41,13 @@ pub(crate) fn copy_types(alloc: Global, kinds: &[ValueType]) -> Result<Vec<Value
         copies.push(copy_type(alloc, kind)?)?;
     }
     Ok(copies)
+}
+
+/// The type of references to values of that type.
+pub(crate) fn reference_to(alloc: Global, kind: &ValueType) -> Result<ValueType, AllocError>
+    ensures { IfOk result (λ t. kind_of t ≡ RefKind (kind_of kind.now)) }
+{
+    Ok(ValueType::Ref(Box::new(alloc, copy_type(alloc, kind)?)?))
 }
 
 /// Whether a reference stands in a type.

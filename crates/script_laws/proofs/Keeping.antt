@@ -7,13 +7,12 @@ use Rattle.meaning.specs.Values.{Name, Broken, Value, Int, Items, Named, Known, 
 use Rattle.meaning.specs.Values.{Completion, Returned, Aborted, first_outcome, without_first, outcomes, values_of, count, item_at, push_onto}
 use Rattle.meaning.specs.Syntax.{Kind, Operator, Add, Sub, Mul, Div, Rem, Equal, Unequal, Less, LessEqual, ItemAt, Push, Prefix, Negate, Len}
 use Rattle.meaning.specs.Syntax.{Expr, Num, Var, Unary, Binary, ListOf, Empty, Call, Remote, PutOf, GetOf, Exprs, end, also}
-use Rattle.meaning.specs.Syntax.{Stmt, Let, LetCall, Set, Print, Return, If, For, Block, done, step, Parameter, Function, Script}
+use Rattle.meaning.specs.Syntax.{Stmt, Let, LetCall, LetRemote, Set, Print, Return, If, For, Block, done, step, Parameter, Function, Script}
 use Rattle.meaning.specs.Runs.{Run, Ends, Prints, Bears, Gets}
 use Rattle.meaning.specs.Meaning.{broken, Variable, Scope, same_name, value_in, set_in, bind, bind_each, bind_all, as_number, as_items, fits, in_range, quotient}
 use Rattle.meaning.specs.Meaning.{remainder, found, index, push, on_numbers, apply, apply_one, is_zero, turn_count, proceed, mark, get_from, dereference, only}
 use Rattle.meaning.specs.Meaning.{Calls, evaluate, evaluate_all, turns, turns_within, leave, execute, execute_all, find, parameters_of, enter, task_by}
 use Rattle.meaning.specs.Meaning.{calls_below, call_at, run_birth}
-use Rattle.meaning.specs.Singles.{IsSingle}
 
 -- whichever way a test goes
 pub either : {A : Type 0} (T : A → Type 0) (b : Bool) (x y : A) → T x → T y → T (if b then x else y)
@@ -72,7 +71,7 @@ module _ (P : Id → Type 0) (Q : Outcome → Type 0) where
   abbrev pub KeepsWith : Run → Type 0
   KeepsWith (Ends e) = CompletionWith e
   KeepsWith (Prints v next) = ValueWith v × KeepsWith next
-  KeepsWith (Bears b made_by next) = BirthWith b × ((rs : List Value) → ValuesWith rs → KeepsWith (next rs)) × IsSingle b
+  KeepsWith (Bears b made_by next) = BirthWith b × ((rs : List Value) → ValuesWith rs → KeepsWith (next rs))
   KeepsWith (Gets t r next) = ReferenceWith r × ((v : Value) → ValueWith v → KeepsWith (next v))
 
   first_with : (e : Completion) → CompletionWith e → OutcomeWith (first_outcome e)
@@ -242,8 +241,8 @@ module _ (P : Id → Type 0) (Q : Outcome → Type 0) where
       evaluates (Empty k) scope next so l = l (Items none) tt
       evaluates (Call g args) scope next so l = evaluates_all args scope _ so (λ vs hvs. keep g vs _ hvs (λ ws hws. only_in ws next hws l))
       evaluates (Remote k g marks args) scope next so l =
-          evaluates_all args scope _ so (λ vs hvs. (marked_in vs marks hvs, λ rs hrs. only_in rs next hrs l, refl))
-      evaluates (PutOf a) scope next so l = evaluates a scope _ so (λ v hv. (hv, λ rs hrs. only_in rs next hrs l, refl))
+          evaluates_all args scope _ so (λ vs hvs. (marked_in vs marks hvs, λ rs hrs. only_in rs next hrs l))
+      evaluates (PutOf a) scope next so l = evaluates a scope _ so (λ v hv. (hv, λ rs hrs. only_in rs next hrs l))
       evaluates (GetOf k a) scope next so l = evaluates a scope _ so (λ r hr. gets k r next hr l)
 
       evaluates_all : (es : Exprs) (scope : Scope) (next : List Value → Run) → ScopeWith scope → AllKeep next → KeepsWith (evaluate_all calls es scope next)
@@ -274,6 +273,8 @@ module _ (P : Id → Type 0) (Q : Outcome → Type 0) where
       executes (Let x e) scope next return so l r = evaluates e scope _ so (λ v hv. l _ (bound_in scope x v so hv))
       executes (LetCall x xs g args) scope next return so l r =
           evaluates_all args scope _ so (λ vs hvs. keep g vs _ hvs (λ ws hws. binds_in (x ∷ xs) ws scope next hws so l))
+      executes (LetRemote x xs k g marks args) scope next return so l r =
+          evaluates_all args scope _ so (λ vs hvs. (marked_in vs marks hvs, λ rs hrs. binds_in (x ∷ xs) rs scope next hrs so l))
       executes (Set x e) scope next return so l r = evaluates e scope _ so (λ v hv. l _ (set_scope scope x v so hv))
       executes (Print e) scope next return so l r = evaluates e scope _ so (λ v hv. (hv, l scope so))
       executes (Return es) scope next return so l r = evaluates_all es scope return so r

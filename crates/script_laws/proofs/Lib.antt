@@ -7,4 +7,3 @@ pub mod Mains
 pub mod Given
 pub mod Agreeing
 pub mod Dens
-pub mod Singles

@@ -3,7 +3,7 @@ use Rattle.std.proofs.Common.{◌≡◌, ℕ, zero, suc, ◌-◌, Bool, true, fa
 use Rattle.std.specs.Prelude.{ℤ, pos, nat_lt, if◌then◌else◌, ◌+ℤ◌, ◌-ℤ◌}
 use Rattle.std.specs.List.{AllByRecursion}
 use Rattle.meaning.specs.Values.{Name, Value, Int, Items, Named, Known, Outcome, Val, Trapped, Argument, Birth, Put, Task, results_of, Id, main_name}
-use Rattle.meaning.specs.Syntax.{Kind, Expr, Num, Var, Unary, Binary, ListOf, Empty, Call, Remote, PutOf, GetOf, Exprs, end, also, Stmt, Let, LetCall, Set, Print, Return, If, For, Block, done, step, Parameter, Script}
+use Rattle.meaning.specs.Syntax.{Kind, Expr, Num, Var, Unary, Binary, ListOf, Empty, Call, Remote, PutOf, GetOf, Exprs, end, also, Stmt, Let, LetCall, LetRemote, Set, Print, Return, If, For, Block, done, step, Parameter, Script}
 use Rattle.meaning.specs.Runs.{Run, Ends, Prints, Bears, Gets, piece, named, behind}
 use Rattle.meaning.specs.Meaning.{broken, Scope, same_name, value_in, bind, bind_each, bind_all, apply, apply_one, is_zero, turn_count, proceed, get_from, dereference, only, Calls, evaluate, evaluate_all, turns, turns_within, leave, execute, execute_all, find, parameters_of, enter, task_by, calls_below, call_at, run_birth}
 use Rattle.meaning.proofs.BirthLaws.{at_test}
@@ -116,6 +116,8 @@ module _ (prints : Bool) where
         executes (Let x e) scope next return h l r = evaluates e scope _ h (λ v. l _)
         executes (LetCall x xs g args) scope next return h l r =
             evaluates_all args scope _ h.1 (λ vs. quiet g (λ e. absurd (h.0 e)) vs _ (λ ws. binds (x ∷ xs) ws scope next l))
+        executes (LetRemote x xs k g marks args) scope next return h l r =
+            evaluates_all args scope _ h.1 (λ vs. (h.0, λ rs. binds (x ∷ xs) rs scope next l))
         executes (Set x e) scope next return h l r = evaluates e scope _ h (λ v. l _)
         executes (Print e) scope next return h l r = evaluates e scope _ h.1 (λ v. (may h.0, l scope))
         executes (Return es) scope next return h l r = evaluates_all es scope return h r

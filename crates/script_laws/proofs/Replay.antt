@@ -7,7 +7,7 @@ use Rattle.std.specs.Prelude.{ℤ, pos, negsuc, nat_lt, if◌then◌else◌, ◌
 use Rattle.std.specs.Prelude.{int_rem, int_lt, int_le, not, neg_ℤ, ◌*ℤ◌}
 use Rattle.std.specs.Ordering.{int_eq}
 use Rattle.meaning.specs.Values.{Name, Overflow, TooLong, Loop, TooDeep, Broken, Value, Int, Items, Named, Known, Values, none, more, Outcome, Val, Trapped, Completion, Returned, Aborted, outcomes, Argument, Birth, Put, Task, results_of, Id, values_of, count, item_at, push_onto}
-use Rattle.meaning.specs.Syntax.{Kind, Number, ListKind, RefKind, Operator, Add, Sub, Mul, Div, Rem, Equal, Unequal, Less, LessEqual, ItemAt, Push, Prefix, Negate, Len, Expr, Num, Var, Unary, Binary, ListOf, Empty, Call, Remote, PutOf, GetOf, Exprs, end, also, Stmt, Let, LetCall, Set, Print, Return, If, For, Block, done, step, Parameter, Function, Script}
+use Rattle.meaning.specs.Syntax.{Kind, Number, ListKind, RefKind, Operator, Add, Sub, Mul, Div, Rem, Equal, Unequal, Less, LessEqual, ItemAt, Push, Prefix, Negate, Len, Expr, Num, Var, Unary, Binary, ListOf, Empty, Call, Remote, PutOf, GetOf, Exprs, end, also, Stmt, Let, LetCall, LetRemote, Set, Print, Return, If, For, Block, done, step, Parameter, Function, Script}
 use Rattle.meaning.specs.Runs.{Run, Ends, Prints, Bears, Gets, outcome_of, serial_end, serial_trace, go_on, known, Needs, Piece, over, piece, ids_from, named, behind}
 use Rattle.meaning.specs.Meaning.{broken, Variable, Scope, same_name, value_in, set_in, bind, bind_each, bind_all, as_number, as_items, fits, in_range, quotient, remainder, truth, found, index, push, on_numbers, apply, apply_one, is_zero, turn_count, proceed, mark, get_from, dereference, only, Calls, evaluate, evaluate_all, turns, turns_within, leave, execute, execute_all, find, parameters_of, enter, task_by, no_level, calls_below, call_at, run_task, run_birth}
 use Rattle.meaning.specs.Lists.{IsFirst}
@@ -409,6 +409,8 @@ module _ (script : Script) (reading : Reading) (results : ℕ) where
       executes (Let x e) scope next next' return return' l r = evaluates e scope _ _ (λ v. in_scope _ _ next next' (bind-read scope x v) l)
       executes (LetCall x xs g args) scope next next' return return' l r =
           evaluates_all args scope _ _ (λ vs. follow.plain g vs _ _ (λ ws. binds (x ∷ xs) ws scope next next' l))
+      executes (LetRemote x xs retries g marks args) scope next next' return return' l r =
+          evaluates_all args scope _ _ (λ vs. remote retries (length xs) g marks vs _ _ (λ rs. binds (x ∷ xs) rs scope next next' l))
       executes (Set x e) scope next next' return return' l r = evaluates e scope _ _ (λ v. in_scope _ _ next next' (set_in-read scope x v) l)
       executes (Print e) scope next next' return return' l r = evaluates e scope _ _ (λ v. prints v _ _ (l scope))
       executes (Return es) scope next next' return return' l r = evaluates_all es scope _ _ r

@@ -2,7 +2,7 @@
 use Rattle.std.proofs.Common.{◌≡◌, ℕ, zero, suc, ◌-◌, Bool, true, false, List, [], ◌∷◌, ◌++◌, length, map, take, Option, Some, refl, sym, ap, ◌∙◌, subst, inl, inr, append_assoc, append-nil}
 use Rattle.std.specs.Prelude.{ℤ, pos, negsuc, nat_lt, if◌then◌else◌, ◌+ℤ◌, ◌-ℤ◌, ◌*ℤ◌, neg_ℤ, int_div, int_rem}
 use Rattle.meaning.specs.Values.{Name, Overflow, TooLong, Loop, Broken, Value, Int, Items, Named, Known, Values, none, more, Outcome, Val, Trapped, Returned, Aborted, Argument, Id, values_of, count, item_at, push_onto}
-use Rattle.meaning.specs.Syntax.{Kind, Number, ListKind, RefKind, Operator, Add, Sub, Mul, Div, Rem, Equal, Unequal, Less, LessEqual, ItemAt, Push, Prefix, Negate, Len, Expr, Num, Var, Unary, Binary, ListOf, Empty, Call, Remote, PutOf, GetOf, Exprs, end, also, Stmt, Let, LetCall, Set, Print, Return, If, For, Block, done, step, Parameter, Function, results, Script}
+use Rattle.meaning.specs.Syntax.{Kind, Number, ListKind, RefKind, Operator, Add, Sub, Mul, Div, Rem, Equal, Unequal, Less, LessEqual, ItemAt, Push, Prefix, Negate, Len, Expr, Num, Var, Unary, Binary, ListOf, Empty, Call, Remote, PutOf, GetOf, Exprs, end, also, Stmt, Let, LetCall, LetRemote, Set, Print, Return, If, For, Block, done, step, Parameter, Function, results, Script}
 use Rattle.meaning.specs.Runs.{Run, Ends, Prints, Bears, Gets, serial_end, serial_trace, known, piece, named, behind}
 use Rattle.meaning.specs.Law.{prints_of}
 use Rattle.meaning.specs.Meaning.{broken, Variable, Scope, same_name, value_in, set_in, bind, bind_each, bind_all, as_number, as_items, fits, in_range, quotient, remainder, found, index, push, on_numbers, apply, apply_one, is_zero, turn_count, proceed, mark, get_from, dereference, only, Calls, evaluate, evaluate_all, turns, turns_within, leave, execute, execute_all, find, parameters_of, enter, task_by, no_level, calls_below, call_at, run_task}
@@ -181,6 +181,7 @@ module _ (script : Script) where
   stmt_extends : (s : Stmt) (result : List Kind) (context after : Context) → StmtChecks s script result context after → Extends context after
   stmt_extends (Let x e) result context after h = (record { name = x; kind = h.0 } ∷ [], h.2)
   stmt_extends (LetCall x xs g args) result context after h = binding_extends (x ∷ xs) (results h.0) context after h.3
+  stmt_extends (LetRemote x xs k g marks args) result context after h = binding_extends (x ∷ xs) (map RefKind (results h.0)) context after h.3
   stmt_extends (Set x e) result context after h = subst (λ a. Extends context a) (sym h.3) (extends_itself context)
   stmt_extends (Print e) result context after h = subst (λ a. Extends context a) (sym h.3) (extends_itself context)
   stmt_extends (Return es) result context after h = subst (λ a. Extends context a) (sym h.1) (extends_itself context)
@@ -305,6 +306,12 @@ module _ (script : Script) where
         let run = turn n from body context t scope next f so l in
         elim (nat_lt 10000 n) as (λ b. IsSafe script (if b then Ends (Aborted Loop) else turns calls n from body scope next) t) [ true ↦ tt | false ↦ run ]
 
+    as_many_names : (xs : List Name) (ts : List Kind) (context after : Context) → Binds xs (map RefKind ts) context after → length ts ≡ length xs
+    as_many_names [] [] context after h = refl
+    as_many_names [] (t ∷ ts) context after h = absurd h
+    as_many_names (x ∷ xs) [] context after h = absurd h
+    as_many_names (x ∷ xs) (t ∷ ts) context after h = ap (λ n. suc n) (as_many_names xs ts (context ++ record { name = x; kind = RefKind t } ∷ []) after h)
+
     mutual
       executes : (s : Stmt) (result t : List Kind) (context after : Context) (scope : Scope) (next : Scope → Run) (return : List Value → Run) → StmtChecks s script result context after → ScopeOf scope context → ScopeSafe after t next → AllSafe result t return → IsSafe script (execute calls s scope next return) t
       executes (Let x e) result t context after scope next return h so l r =
@@ -312,6 +319,13 @@ module _ (script : Script) where
       executes (LetCall x xs g args) result t context after scope next return h so l r =
           evaluates_args args h.0.parameters t context scope _ h.2 so (λ vs hvs.
           safe.plain g h.0 h.1 vs t _ hvs (λ ws hws. binds (x ∷ xs) (results h.0) ws t context after scope next h.3 hws so l))
+      executes (LetRemote x xs k g marks args) result t context after scope next return h so l r =
+          evaluates_marked args marks h.0.parameters t context scope _ h.2 so (λ vs hvs. (
+            results h.0,
+            (h.0, h.1, hvs, refl, as_many_names xs h.0.others (context ++ record { name = x; kind = RefKind h.0.result } ∷ []) after h.3),
+            safe.task g h.0 h.1 (mark vs marks) hvs,
+            λ rs hrs. binds (x ∷ xs) (map RefKind (results h.0)) rs t context after scope next h.3 hrs so l,
+          ))
       executes (Set x e) result t context after scope next return h so l r =
           evaluates e h.0 t context scope _ h.2 so (λ v hv. l _ (subst (λ a. ScopeOf (set_in scope x v) a) (sym h.3) (set_scope scope context x v h.0 so h.1 hv)))
       executes (Print e) result t context after scope next return h so l r =
@@ -342,6 +356,7 @@ module _ (script : Script) where
       returns : (s : Stmt) (result t : List Kind) (context after : Context) (scope : Scope) (next : Scope → Run) (return : List Value → Run) → Returns s → StmtChecks s script result context after → ScopeOf scope context → AllSafe result t return → IsSafe script (execute calls s scope next return) t
       returns (Let x e) result t context after scope next return m h so r = absurd m
       returns (LetCall x xs g args) result t context after scope next return m h so r = absurd m
+      returns (LetRemote x xs k g marks args) result t context after scope next return m h so r = absurd m
       returns (Set x e) result t context after scope next return m h so r = absurd m
       returns (Print e) result t context after scope next return m h so r = absurd m
       returns (Return es) result t context after scope next return m h so r = evaluates_results es result t context scope return h.0 so r

@@ -6,7 +6,6 @@ ghost use Rattle.meaning.specs.Kinds.{AreSafe};
 ghost use Rattle.meaning.specs.KindLaw.{LawOfKinds};
 ghost use Rattle.meaning.specs.Mains.{MainStaysApart};
 ghost use Rattle.meaning.specs.Readings.{DenIsTheReading};
-ghost use Rattle.meaning.specs.Singles.{BirthsAreOfOneResult};
 
 /// Under every reading of ids under which births hold, what a task does on answers that begin what its run gets is a
 /// beginning of what the run does with every remote call a plain call, and where it ends, the whole.
@@ -40,9 +39,4 @@ pub fn main_stays_apart()
 /// Where births are of new objects and name only earlier ones, exactly one reading has all of them hold and 0 elsewhere.
 pub fn births_have_one_reading()
     ensures { DenIsTheReading }
-{}
-
-/// Whatever the script, what makes a birth's objects bears births of one result alone.
-pub fn births_are_of_one_result()
-    ensures { BirthsAreOfOneResult }
 {}

@@ -78,6 +78,55 @@ fn gives_several_results_and_their_copy(rt: HostRuntime) -> Result<(), Fail> {
     Ok(())
 }
 
+/// That main binds two names to references of a task, with 2 new runs and a marked argument.
+fn assert_task_of_several(rt: &impl Abort, script: &Checked) {
+    let functions = script.functions();
+    assert_eq!(rt; functions.len(), 2);
+    let statement = &functions[1].body.statements[0];
+    let CheckedStatement::LetRemote(name, others, retries, function, marks, arguments) = statement
+    else {
+        panic!(rt; "no let");
+    };
+    assert_eq!(rt; name.as_str(), "a");
+    assert_eq!(rt; others.len(), 1);
+    assert_eq!(rt; others[0].as_str(), "b");
+    assert_eq!(rt; *retries, 2);
+    assert_eq!(rt; function.as_str(), "p");
+    assert_eq!(rt; marks.as_slice(), [true].as_slice());
+    assert_eq!(rt; arguments.len(), 1);
+}
+
+#[test]
+fn gives_a_task_of_several_results_and_its_copy(rt: HostRuntime) -> Result<(), Fail> {
+    let text =
+        "fn p(x: int) -> (int, [int]) { return x, [x]; } fn main() -> int { let a, b = remote(2) p(put 1); return (get b)[0] + get a; }";
+    let script = check(rt.alloc(), parse(rt.alloc(), text.as_bytes())?)?;
+    assert_task_of_several(&rt, &script);
+    assert_task_of_several(&rt, &script.copy(rt.alloc())?);
+    Ok(())
+}
+
+#[test]
+fn refuses_a_task_of_several_results_at_its_first_fault(rt: HostRuntime) -> Result<(), Fail> {
+    let cases = [
+        ("let a, a = remote(11) g();", 17),
+        ("let a, b = remote(11) g();", 16),
+        ("let a, b = remote g();", 10),
+        ("let a, b, c = remote p();", 18),
+        ("let a, b = remote p();", 12),
+        ("let a, b = remote p([1]);", 11),
+        ("let a, b = remote p(1); return a;", 11),
+    ];
+    for (statement, number) in cases {
+        let text = format!(in rt.alloc();
+            "fn p(x: int) -> (int, int) {{ return x, x; }} fn main() -> int {{ {statement} return 1; }}"
+        )?;
+        let refused = check(rt.alloc(), parse(rt.alloc(), text.as_bytes())?);
+        assert!(rt; matches!(refused, Err(error) if error.number() == number));
+    }
+    Ok(())
+}
+
 /// A script whose main returns an expression.
 fn returning(alloc: Global, kind: ExprKind) -> Result<Program, AllocError> {
     let span = Span { start: 26, end: 31 };

@@ -40,11 +40,11 @@ whole_of d =
       stop = stop_of d.stop;
     }
 
--- a task of one of the script's functions that have one result, with arguments of its parameters' kinds
+-- a task of one of the script's functions, with its results and with arguments of its parameters' kinds
 abbrev pub IsTaskOf : Script → AnyBirth → Type 0
 IsTaskOf script (Put v) = ⊥
 IsTaskOf script (Task g args depth retries others) =
-    (f : Function) × (find script g ≡ Some f) × MarkedOf args f.parameters × (length f.others ≡ others) × (others ≡ 0)
+    (f : Function) × (find script g ≡ Some f) × MarkedOf args f.parameters × (length f.others ≡ others)
 
 -- what is kept of each job of the script
 pub record IsBegun (script : Script) (j : JobParts) : Type 0 where

@@ -1,10 +1,9 @@
 // How a job is run.
 
-ghost use Rattle.std.specs.Prelude.{◌≡◌, ◌∷◌, [], IfOk, IfErr, IfSome, drop};
-ghost use Rattle.meaning.specs.Values.{Trapped, Broken};
-ghost use Rattle.meaning.specs.Runs.{Over};
+ghost use Rattle.std.specs.Prelude.{◌≡◌, IfOk, IfErr, IfSome, drop};
+ghost use Rattle.meaning.specs.Values.{others_of};
 ghost use Rattle.script_check.specs.Trees.{script_of};
-ghost use Rattle.evaluation.specs.Pieces.{piece_of};
+ghost use Rattle.evaluation.specs.Pieces.{IsBrokenStop, piece_of};
 ghost use Rattle.evaluation.specs.TaskValues.{IsTaskBirth};
 ghost use Rattle.segment.specs.Jobs.{replay_of, beyond, HasStepsOf, IsBegun, IsTrueOf};
 ghost use Rattle.segment.specs.Frames.{Fits, WaitsAfter};
@@ -13,6 +12,7 @@ ghost use Rattle.segment.specs.Pieces.{done_of};
 use evaluation::{Compiled, Frame, Piece, PieceError, go_on, run_piece};
 use held::{JobParts, Origin};
 use std::alloc::{AllocError, Global};
+use task_spec::Birth;
 
 /// The items after the first `count`, moved.
 fn items_after<T: Drop>(items: Vec<T>, count: usize) -> Result<Vec<T>, AllocError>
@@ -27,7 +27,7 @@ fn items_after<T: Drop>(items: Vec<T>, count: usize) -> Result<Vec<T>, AllocErro
 /// run makes again is dropped.
 fn run_again(alloc: Global, script: &Compiled, job: &JobParts) -> Result<Piece, PieceError>
     ensures beyond { IfOk result (λ p. piece_of p ≡ beyond job.now (replay_of (script_of script.now) job.now)) }
-    ensures broken { IfErr result (λ e. e ≡ PieceError.Broken → (replay_of (script_of script.now) job.now).stop ≡ Over (Trapped Broken ∷ [])) }
+    ensures broken { IfErr result (λ e. e ≡ PieceError.Broken → IsBrokenStop (replay_of (script_of script.now) job.now).stop) }
     ensures waits { IfOk result (λ p. IsTrueOf (script_of script.now) (done_of job.now p) →
         IfSome p.frame (WaitsAfter (script_of script.now) (done_of job.now p))) }
     ensures counts { IfOk result (λ p. HasStepsOf (script_of script.now) job.now p.steps) }
@@ -51,6 +51,22 @@ fn attest_spec(spec: &Origin)
     let _ = &spec.inner;
 }
 
+/// How many results a job's task has beside the first.
+fn others(spec: &Origin) -> u8
+    ensures { result ≡ others_of spec.now }
+{
+    match &spec.inner {
+        Birth::Put(_) => 0,
+        Birth::Task {
+            function: _,
+            arguments: _,
+            depth: _,
+            retries: _,
+            others,
+        } => *others,
+    }
+}
+
 /// Goes on from where the task waits for the last of the answers; with no frame it is run again from its start.
 pub(crate) fn run_on(
     alloc: Global,
@@ -61,7 +77,7 @@ pub(crate) fn run_on(
     requires begun { IsBegun (script_of script.now) job.now }
     requires fits { IfSome frame (Fits (script_of script.now) job.now) }
     ensures whole { IfOk result (λ p. IsTrueOf (script_of script.now) (done_of job.now p)) }
-    ensures broken { IfErr result (λ e. e ≡ PieceError.Broken → (replay_of (script_of script.now) job.now).stop ≡ Over (Trapped Broken ∷ [])) }
+    ensures broken { IfErr result (λ e. e ≡ PieceError.Broken → IsBrokenStop (replay_of (script_of script.now) job.now).stop) }
     ensures waits { IfOk result (λ p. IfSome p.frame (WaitsAfter (script_of script.now) (done_of job.now p))) }
     ensures counts { IfOk result (λ p. HasStepsOf (script_of script.now) job.now p.steps) }
 {
@@ -72,5 +88,5 @@ pub(crate) fn run_on(
     let Some((answer, _)) = job.answers.inner.split_last() else {
         return run_again(alloc, script, job);
     };
-    go_on(alloc, script, frame, answer)
+    go_on(alloc, script, frame, others(&job.spec), answer)
 }

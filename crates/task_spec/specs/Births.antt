@@ -11,5 +11,4 @@ argument_of a = record { value = value_of a.value; marked = a.is_dereferenced }
 
 abbrev pub birth_of : Birth → meant.Birth
 birth_of (births.Put v) = meant.Put (value_of v)
--- a task of one result
-birth_of (births.Task g args d k) = meant.Task (string_bytes g) (map argument_of args.items) d k 0
+birth_of (births.Task g args d k n) = meant.Task (string_bytes g) (map argument_of args.items) d k n

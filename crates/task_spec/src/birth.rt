@@ -20,13 +20,14 @@ pub struct Argument {
 #[derive(Drop)]
 pub enum Birth {
     Put(RunValue),
-    /// A remote call: its function, its arguments, the depth at which its body runs (main's is 0), and how many new
-    /// runs it allows after a failure of the system.
+    /// A remote call: its function, its arguments, the depth at which its body runs (main's is 0), how many new runs it
+    /// allows after a failure of the system, and how many results it has beside the first.
     Task {
         function: String,
         arguments: Vec<Argument>,
         depth: u32,
         retries: u8,
+        others: u8,
     },
 }
 
@@ -66,6 +67,7 @@ impl Birth {
                 arguments,
                 depth,
                 retries,
+                others,
             } => {
                 let function = function.clone()?;
                 let arguments = copy_arguments(alloc, arguments)?;
@@ -74,6 +76,7 @@ impl Birth {
                     arguments,
                     depth: *depth,
                     retries: *retries,
+                    others: *others,
                 })
             }
         }

@@ -47,6 +47,7 @@ impl Birth {
                 arguments,
                 depth,
                 retries,
+                others,
             } => match other {
                 Birth::Put(_) => false,
                 Birth::Task {
@@ -54,10 +55,12 @@ impl Birth {
                     arguments: other_arguments,
                     depth: other_depth,
                     retries: other_retries,
+                    others: other_others,
                 } => {
                     function.as_str() == other_function.as_str()
                         && *depth == *other_depth
                         && *retries == *other_retries
+                        && *others == *other_others
                         && are_same_arguments(arguments, other_arguments)
                 }
             },

@@ -1,36 +1,34 @@
-use Rattle.std.proofs.Common.{◌≡◌, [], ◌∷◌, ◌++◌, sym, ap, subst, ◌∙◌, map}
-use Rattle.meaning.specs.Values.{Trapped, Broken as ABroken}
-use Rattle.meaning.specs.Runs.{Over}
+use Rattle.std.proofs.Common.{◌≡◌, ◌++◌, sym, ap, subst, ◌∙◌, map}
 use Rattle.meaning.specs.Runs as runs
 use Rattle.frames.specs.Values.{value_of}
 use Rattle.frames.specs.Machines.{made_of}
 use Rattle.frames.specs.Courses.{Past}
 use Rattle.evaluation.specs.TaskValues.{IsTaskPiece, AreTaskBirths, EachTaskValue}
-use Rattle.evaluation.specs.Pieces.{stop_of, Stands}
+use Rattle.evaluation.specs.Pieces.{stop_of, IsBrokenStop, Stands}
 use Rattle.evaluation.specs.declared.convert.ConversionError.{ConversionError}
 use Rattle.evaluation.specs.declared.convert.ConversionError.TheVariants.{Broken, HasOutcome}
-use Rattle.evaluation.proofs.Standing.{births_behind, handed_on, stop_stands, not_task, values_behind}
+use Rattle.evaluation.proofs.Standing.{births_behind, handed_on, broken_stop, not_task, values_behind}
 use Rattle.evaluation.proofs.piece.to_piece.Goals as goal
 
 pub returns-in_err-stop-clause-broken : goal.returns-in_err-stop-clause-broken
 returns-in_err-stop-clause-broken c =
     let a = c.args.attempt.now in
-    handed_on (λ (e : ConversionError). e ≡ Broken → (past : Past) (q : runs.Piece) → Stands past a q → q.stop ≡ Over (Trapped ABroken ∷ []))
+    handed_on (λ (e : ConversionError). e ≡ Broken → (past : Past) (q : runs.Piece) → Stands c.args.count past a q → IsBrokenStop q.stop)
     c.from_residual.result
     c.in_err-stop.field-0.0 c.from_residual.ensures.1
-    (λ e past q stands. stop_stands past a q (Over (Trapped ABroken ∷ [])) stands (c.in_err-stop.ensures.broken e))
+    (λ e past q stands. broken_stop c.args.count past a q (c.in_err-stop.ensures.broken e) stands)
 
 pub returns-in_err-stop-clause-plain : goal.returns-in_err-stop-clause-plain
 returns-in_err-stop-clause-plain c =
     let a = c.args.attempt.now in
-    handed_on (λ (e : ConversionError). e ≡ HasOutcome → (past : Past) (q : runs.Piece) → Stands past a q → IsTaskPiece q → ⊥) c.from_residual.result c.in_err-stop.field-0.0
+    handed_on (λ (e : ConversionError). e ≡ HasOutcome → (past : Past) (q : runs.Piece) → Stands c.args.count past a q → IsTaskPiece q → ⊥) c.from_residual.result c.in_err-stop.field-0.0
     c.from_residual.ensures.1
-    (λ e past q stands plain. not_task past a q (c.in_err-stop.ensures.plain e) stands plain)
+    (λ e past q stands plain. not_task c.args.count past a q (c.in_err-stop.ensures.plain e) stands plain)
 
 pub returns-in_err-births-clause-broken : goal.returns-in_err-births-clause-broken
 returns-in_err-births-clause-broken c =
     let a = c.args.attempt.now in
-    handed_on (λ (e : ConversionError). e ≡ Broken → (past : Past) (q : runs.Piece) → Stands past a q → q.stop ≡ Over (Trapped ABroken ∷ []))
+    handed_on (λ (e : ConversionError). e ≡ Broken → (past : Past) (q : runs.Piece) → Stands c.args.count past a q → IsBrokenStop q.stop)
     c.from_residual-in_err-births.result
     c.in_err-births.field-0.0 c.from_residual-in_err-births.ensures.1
     (λ e past q stands. absurd (c.in_err-births.ensures.kind e))
@@ -38,7 +36,7 @@ returns-in_err-births-clause-broken c =
 pub returns-in_err-births-clause-plain : goal.returns-in_err-births-clause-plain
 returns-in_err-births-clause-plain c =
     let a = c.args.attempt.now in
-    handed_on (λ (e : ConversionError). e ≡ HasOutcome → (past : Past) (q : runs.Piece) → Stands past a q → IsTaskPiece q → ⊥) c.from_residual-in_err-births.result
+    handed_on (λ (e : ConversionError). e ≡ HasOutcome → (past : Past) (q : runs.Piece) → Stands c.args.count past a q → IsTaskPiece q → ⊥) c.from_residual-in_err-births.result
     c.in_err-births.field-0.0 c.from_residual-in_err-births.ensures.1
     (λ e past q stands plain. c.in_err-births.ensures.plain e (births_behind past.births _ (subst AreTaskBirths
     (ap (λ (p : runs.Piece). p.births) (stands (stop_of c.in_ok-stop.stop) c.in_ok-stop.ensures.value)
@@ -48,7 +46,7 @@ returns-in_err-births-clause-plain c =
 pub returns-in_err-prints-clause-broken : goal.returns-in_err-prints-clause-broken
 returns-in_err-prints-clause-broken c =
     let a = c.args.attempt.now in
-    handed_on (λ (e : ConversionError). e ≡ Broken → (past : Past) (q : runs.Piece) → Stands past a q → q.stop ≡ Over (Trapped ABroken ∷ []))
+    handed_on (λ (e : ConversionError). e ≡ Broken → (past : Past) (q : runs.Piece) → Stands c.args.count past a q → IsBrokenStop q.stop)
     c.from_residual-in_err-prints.result
     c.in_err-prints.field-0.0 c.from_residual-in_err-prints.ensures.1
     (λ e past q stands. absurd (c.in_err-prints.ensures.kind e))
@@ -56,7 +54,7 @@ returns-in_err-prints-clause-broken c =
 pub returns-in_err-prints-clause-plain : goal.returns-in_err-prints-clause-plain
 returns-in_err-prints-clause-plain c =
     let a = c.args.attempt.now in
-    handed_on (λ (e : ConversionError). e ≡ HasOutcome → (past : Past) (q : runs.Piece) → Stands past a q → IsTaskPiece q → ⊥) c.from_residual-in_err-prints.result
+    handed_on (λ (e : ConversionError). e ≡ HasOutcome → (past : Past) (q : runs.Piece) → Stands c.args.count past a q → IsTaskPiece q → ⊥) c.from_residual-in_err-prints.result
     c.in_err-prints.field-0.0 c.from_residual-in_err-prints.ensures.1
     (λ e past q stands plain. c.in_err-prints.ensures.plain e (values_behind past.prints _ (subst EachTaskValue
     (ap (λ (p : runs.Piece). p.prints) (stands (stop_of c.in_ok-stop.stop) c.in_ok-stop.ensures.value)

@@ -8,7 +8,7 @@ use Rattle.frame_code.specs.Views.{given_of, codes, names_of}
 use Rattle.frame_code.proofs.Sizes.{stmt_within}
 use Rattle.frame_code.proofs.Rows.{on_ok}
 use Rattle.frame_code.proofs.Patches.{patch_choice, patch_loop, count_codes}
-use Rattle.frame_code.proofs.Blocks.{if_size, for_size, choice_code, loop_is, results_code, names_cut, loop_cut, count_names}
+use Rattle.frame_code.proofs.Blocks.{if_size, for_size, choice_code, loop_is, results_code, references_code, names_cut, loop_cut, count_names}
 use Rattle.frame_code.proofs.statements.+statements.Goals as goal
 
 pub emit_block-emit_statement-requires : goal.emit_block-emit_statement-requires
@@ -126,3 +126,15 @@ emit_statement-returns-in_ok-push-in-LetCall-clause-code t c =
     (c.in_ok-free.ensures.value ∙ c.len.ensures ∙ c.args.names.now.ok.0 ∙ count_names names) (c.len-in-LetCall.ensures ∙ c.in-LetCall.others.ok.0)
     c.in_ok-emit_results-in-LetCall.ensures)
     c.push_names.ensures
+
+pub emit_statement-returns-in_ok-push-in-LetRemote-clause-code : goal.emit_statement-returns-in_ok-push-in-LetRemote-clause-code
+emit_statement-returns-in_ok-push-in-LetRemote-clause-code t c =
+    let names = c.args.names.now.items in
+    on_ok _ _ c.push_names-in-LetRemote.result
+    (λ _. references_code (script_of c.args.script.now) (names_of names) c.args.statement.now c.in-LetRemote.name c.in-LetRemote.others c.in-LetRemote.retries
+    c.in-LetRemote.function c.in-LetRemote.marks c.in-LetRemote.arguments (names_of c.deref-in-LetRemote.result.now) c.deref-in-LetRemote-2.result.now
+    c.deref-in-LetRemote-3.result.now (codes c.args.code.now.items) (codes c.emit_references.new.code.items) c.in_ok-free.free c.len-in-LetRemote.result
+    c.in-LetRemote.is (ap names_of c.deref-in-LetRemote.ensures.value) c.deref-in-LetRemote-2.ensures.value c.deref-in-LetRemote-3.ensures.value
+    (c.in_ok-free.ensures.value ∙ c.len.ensures ∙ c.args.names.now.ok.0 ∙ count_names names) (c.len-in-LetRemote.ensures ∙ c.in-LetRemote.others.ok.0)
+    c.in_ok-emit_references-in-LetRemote.ensures)
+    c.push_names-in-LetRemote.ensures

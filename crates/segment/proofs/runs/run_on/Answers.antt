@@ -1,4 +1,5 @@
 use Rattle.std.proofs.Common.{◌≡◌, IfSome, [], ◌∷◌, ◌++◌, map, sym, ap, ◌∙◌, subst}
+use Rattle.meaning.specs.Values.{others_of}
 use Rattle.meaning.specs.Meaning.{replay}
 use Rattle.script_check.specs.Trees.{script_of}
 use Rattle.values.specs.Values.{content_of}
@@ -6,6 +7,7 @@ use Rattle.frame_laws.specs.Steps.{HasSteps}
 use Rattle.frames.specs.Frames.{IsWaiting}
 use Rattle.frames.proofs.Doing.{if_ok, on_err}
 use Rattle.evaluation.specs.TaskValues.{IsTaskBirth}
+use Rattle.evaluation.specs.Pieces.{IsBrokenStop}
 use Rattle.evaluation.proofs.Standing.{both_ok}
 use Rattle.evaluation.proofs.TaskRuns.{plain_contents}
 use Rattle.segment.specs.Jobs.{JobParts, replay_of, whole_of}
@@ -13,7 +15,6 @@ use Rattle.segment.specs.Frames.{Fits, before_of}
 use Rattle.segment.specs.Pieces.{done_of}
 use Rattle.segment.proofs.Beyond.{whole_made}
 use Rattle.segment.proofs.Lasts.{map_last, waits_last}
-use Rattle.segment.proofs.Safe.{task_single}
 use Rattle.segment.proofs.runs.run_on.Goals as goal
 
 pub returns-in_default-clause-whole : goal.returns-in_default-clause-whole
@@ -43,7 +44,7 @@ returns-clause-whole c =
     let waits = waits_last script j c.in-Some.frame rest answer last fits in
     if_ok _ _ c.go_on.result
     (λ p replayed. ap (replay script j.spec j.base) last
-    ∙ sym (replayed j.spec j.base (before_of j rest) (task_single script j.spec c.requires.begun.task) waits))
+    ∙ sym (replayed j.spec j.base (before_of j rest) (sym (c.others.ensures ∙ ap (λ (x : JobParts). others_of x.spec) c.job.view_is)) waits))
     c.go_on.ensures.replayed
 
 pub returns-clause-broken : goal.returns-clause-broken
@@ -59,10 +60,10 @@ returns-clause-broken c =
     let fits : Fits script j c.in-Some.frame = subst (λ f. IfSome f (Fits script j)) c.in-Some.is c.requires.fits in
     let waits = waits_last script j c.in-Some.frame rest answer last fits in
     on_err _ _ c.go_on.result
-    (λ e broken is. ap (λ cs. (replay script j.spec j.base cs).stop) last
-    ∙ broken is j.spec j.base (before_of j rest) (task_single script j.spec c.requires.begun.task)
+    (λ e broken is. subst (λ cs. IsBrokenStop (replay script j.spec j.base cs).stop) (sym last)
+    (broken is j.spec j.base (before_of j rest) (sym (c.others.ensures ∙ ap (λ (x : JobParts). others_of x.spec) c.job.view_is))
     (subst IsTaskBirth (ap (λ (x : JobParts). x.spec) c.job.view_is) c.attest_spec.ensures)
-    (plain_contents c.in-Some-split_last.field-0-1.now) waits)
+    (plain_contents c.in-Some-split_last.field-0-1.now) waits))
     c.go_on.ensures.broken
 
 pub returns-clause-waits : goal.returns-clause-waits
@@ -97,5 +98,5 @@ returns-clause-counts c =
     let waits = waits_last script j c.in-Some.frame rest answer last fits in
     if_ok _ _ c.go_on.result
     (λ p counts. subst (λ cs. HasSteps script j.spec j.base cs p.steps) (sym last)
-    (counts j.spec j.base (before_of j rest) (task_single script j.spec c.requires.begun.task) waits))
+    (counts j.spec j.base (before_of j rest) (sym (c.others.ensures ∙ ap (λ (x : JobParts). others_of x.spec) c.job.view_is)) waits))
     c.go_on.ensures.counts

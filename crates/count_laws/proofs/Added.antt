@@ -1,19 +1,23 @@
 -- What a step logs of births and openings: none of births but a commit's own, and of openings one for each worker that its node opened.
-use Rattle.std.proofs.Common.{◌≡◌, ℕ, suc, ◌+◌, List, [], ◌∷◌, ◌++◌, length, Some, refl, sym, ap, ◌∙◌, subst, arith, length-append}
+use Rattle.std.proofs.Common.{◌≡◌, ℕ, ◌+◌, List, [], ◌∷◌, ◌++◌, length, Some, refl, sym, ap, ◌∙◌, subst, arith, length-append}
 use Rattle.std.specs.Prelude.{true}
 use Rattle.std.specs.List.{flat_map}
 use Rattle.std.proofs.lemmas.List.Concat.{flat_map-append}
 use Rattle.sequence.proofs.Places.{and_left, and_right}
-use Rattle.meaning.specs.Runs.{Needs, Over, Stop, next_id}
-use Rattle.meaning.specs.Values.{Birth, Id, Value}
+use Rattle.meaning.specs.Runs.{Needs, Over, Stop, behind}
+use Rattle.meaning.specs.Births.{Bearing}
+use Rattle.meaning.specs.Values.{Birth, Id, Value, results_of}
+use Rattle.event_log.specs.Commits.{commit_entries}
 use Rattle.event_log.specs.Entries.{Accepted, Attempt, Begun, Born, Ended, Entry, Faulted, Got, In, Opened, Printed, Refused, Released, Resolved}
 use Rattle.event_log.specs.Words.{born_in, opened, opened_in}
-use Rattle.protocol.specs.Commits.{bears_all, commit_by, commit_step, next_id_here, single_entries, with_outcomes}
+use Rattle.protocol.specs.Commits.{bears_all, commit_by, commit_step, next_id_here, with_outcomes}
+use Rattle.protocol.specs.Events.{objects_made}
 use Rattle.protocol.specs.Jobs.{Outcomes, stop_of}
 use Rattle.protocol.specs.Nodes.{There, no_out}
 use Rattle.protocol.specs.Steps.{Here, logs_all, with_run}
 use Rattle.protocol.specs.Tables.{Run}
 use Rattle.smallest_steps.proofs.SlotMoves as S
+use Rattle.count_laws.specs.Counts.{objects_born}
 use Rattle.owed_laws.proofs.StoreMoves as M
 use Rattle.owed_laws.proofs.StoreMoves.{IsKept, is_mute, is_quiet}
 
@@ -21,14 +25,25 @@ use Rattle.owed_laws.proofs.StoreMoves.{IsKept, is_mute, is_quiet}
 pub many : {X : Type 0} (f : Entry → List X) (es fs : List Entry) → length (flat_map f (es ++ fs)) ≡ length (flat_map f es) + length (flat_map f fs)
 many f es fs = ap length (flat_map-append f es fs) ∙ length-append (flat_map f es) (flat_map f fs)
 
--- so many births were logged, and an opening for each worker that was opened
+born_more : (bs ds : List Bearing) → objects_born (bs ++ ds) ≡ objects_born bs + objects_born ds
+born_more [] ds = omega arith
+born_more (b ∷ bs) ds = regrouped (results_of b.birth) (objects_born bs) (objects_born ds) _ (born_more bs ds)
+  where
+    regrouped : (n i k l : ℕ) → l ≡ i + k → n + l ≡ (n + i) + k
+    regrouped n i k l e = omega (arith, e)
+
+-- as many objects of the one as of the other
+pub many_born : (es fs : List Entry) → objects_born (flat_map born_in (es ++ fs)) ≡ objects_born (flat_map born_in es) + objects_born (flat_map born_in fs)
+many_born es fs = ap objects_born (flat_map-append born_in es fs) ∙ born_more (flat_map born_in es) (flat_map born_in fs)
+
+-- births of so many objects were logged, and an opening for each worker that was opened
 pub record Adds (k : ℕ) (t : There) : Type 0 where
-  pub born : length (flat_map born_in t.out.entries) ≡ k
+  pub born : objects_born (flat_map born_in t.out.entries) ≡ k
   pub opens : length (opened t.out.entries) ≡ t.opened
 
 -- neither a birth nor an opening
 record IsNeither (es : List Entry) : Type 0 where
-  born : length (flat_map born_in es) ≡ 0
+  born : objects_born (flat_map born_in es) ≡ 0
   opens : length (opened es) ≡ 0
 
 mute_neither : (x : Entry) (es : List Entry) → is_mute x ≡ true → IsNeither es → IsNeither (x ∷ es)
@@ -53,11 +68,11 @@ module _ (k : ℕ) where
   pub there_adds : S.KeepsSlots (Adds k)
   there_adds = record {
     opens = λ t w p.
-        let e = many born_in t.out.entries (Opened w t.number ∷ []) in
+        let e = many_born t.out.entries (Opened w t.number ∷ []) in
         let f = many opened_in t.out.entries (Opened w t.number ∷ []) in
         let b = p.born in
         let o = p.opens in
-        record { born = more (length (flat_map born_in t.out.entries)) k _ b e; opens = one_more (length (opened t.out.entries)) t.opened _ o f };
+        record { born = more (objects_born (flat_map born_in t.out.entries)) k _ b e; opens = one_more (length (opened t.out.entries)) t.opened _ o f };
     replies = λ t j x p. record { born = p.born; opens = p.opens };
     scheduler = λ t s p. record { born = p.born; opens = p.opens };
   }
@@ -73,7 +88,7 @@ module _ (k : ℕ) where
     logs = λ h es q p.
         let n = quiet_neither es q in
         record {
-          born = none_more (length (flat_map born_in h.there.out.entries)) k (length (flat_map born_in es)) _ p.born n.born (many born_in h.there.out.entries es);
+          born = none_more (objects_born (flat_map born_in h.there.out.entries)) k (objects_born (flat_map born_in es)) _ p.born n.born (many_born h.there.out.entries es);
           opens = none_more (length (opened h.there.out.entries)) h.there.opened (length (opened es)) _ p.opens n.opens (many opened_in h.there.out.entries es);
         };
     says = λ h w m p. record { born = p.born; opens = p.opens };
@@ -89,27 +104,27 @@ module _ (k : ℕ) where
 
 -- ---- a commit
 
-commit_bears : (a : Attempt) (o : Id) (bs : List Birth) (vs : List Value) (stop : Stop) → length (flat_map born_in (single_entries a o bs vs stop)) ≡ length bs
-commit_bears a o (b ∷ bs) vs stop = ap suc (commit_bears a (next_id o) bs vs stop)
+commit_bears : (a : Attempt) (o : Id) (bs : List Birth) (vs : List Value) (stop : Stop) → objects_born (flat_map born_in (commit_entries a o bs vs stop)) ≡ objects_made bs
+commit_bears a o (b ∷ bs) vs stop = ap (λ n. results_of b + n) (commit_bears a (behind o b) bs vs stop)
 commit_bears a o [] (v ∷ vs) stop = commit_bears a o [] vs stop
 commit_bears a o [] [] (Over c) = refl
 commit_bears a o [] [] (Needs y) = refl
 
-commit_opens : (a : Attempt) (o : Id) (bs : List Birth) (vs : List Value) (stop : Stop) → length (opened (single_entries a o bs vs stop)) ≡ 0
-commit_opens a o (b ∷ bs) vs stop = commit_opens a (next_id o) bs vs stop
+commit_opens : (a : Attempt) (o : Id) (bs : List Birth) (vs : List Value) (stop : Stop) → length (opened (commit_entries a o bs vs stop)) ≡ 0
+commit_opens a o (b ∷ bs) vs stop = commit_opens a (behind o b) bs vs stop
 commit_opens a o [] (v ∷ vs) stop = commit_opens a o [] vs stop
 commit_opens a o [] [] (Over c) = refl
 commit_opens a o [] [] (Needs y) = refl
 
-pub commit_adds : (h : Here) (d : Outcomes) (run : Run) → h.worker.run ≡ Some run → h.there.out ≡ no_out → h.there.opened ≡ 0 → Adds (length d.births) (commit_step h d).there
+pub commit_adds : (h : Here) (d : Outcomes) (run : Run) → h.worker.run ≡ Some run → h.there.out ≡ no_out → h.there.opened ≡ 0 → Adds (objects_made d.births) (commit_step h d).there
 commit_adds h d run at silent closed =
-    let es : List Entry = single_entries run.attempt (next_id_here h) d.births d.prints (stop_of d.stop) in
+    let es : List Entry = commit_entries run.attempt (next_id_here h) d.births d.prints (stop_of d.stop) in
     let g : Here = logs_all (with_run h (with_outcomes run d)) es in
-    let begun : Adds (length d.births) g.there = record {
-      born = ap (λ o. length (flat_map born_in (o.entries ++ es))) silent ∙ commit_bears run.attempt (next_id_here h) d.births d.prints (stop_of d.stop);
+    let begun : Adds (objects_made d.births) g.there = record {
+      born = ap (λ o. objects_born (flat_map born_in (o.entries ++ es))) silent ∙ commit_bears run.attempt (next_id_here h) d.births d.prints (stop_of d.stop);
       opens = ap (λ o. length (opened (o.entries ++ es))) silent ∙ commit_opens run.attempt (next_id_here h) d.births d.prints (stop_of d.stop) ∙ sym closed;
     } in
     let b : Here = bears_all g run.attempt d.births in
-    let kept = here_adds (length d.births) in
-    subst (λ r. Adds (length d.births) (commit_by h d r).there) (sym at)
-    (M.stops_by-kept (λ x. Adds (length d.births) x.there) kept b d.stop b.worker.run (M.bears_all-kept (λ x. Adds (length d.births) x.there) kept g run.attempt d.births begun))
+    let kept = here_adds (objects_made d.births) in
+    subst (λ r. Adds (objects_made d.births) (commit_by h d r).there) (sym at)
+    (M.stops_by-kept (λ x. Adds (objects_made d.births) x.there) kept b d.stop b.worker.run (M.bears_all-kept (λ x. Adds (objects_made d.births) x.there) kept g run.attempt d.births begun))

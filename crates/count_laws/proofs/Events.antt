@@ -17,7 +17,7 @@ use Rattle.opening_laws.proofs.Releasing.{release_opens_none}
 use Rattle.protocol.specs.Commits.{claim_by, claim_step, commit_step}
 use Rattle.protocol.specs.Deliveries.{reached}
 use Rattle.protocol.specs.Events.{committed_by, dead, delivered_by, delivered_to, dies_with, happens, is_live_node, is_live_worker, killed_by, with_committed}
-use Rattle.protocol.specs.Events.{with_delivered}
+use Rattle.protocol.specs.Events.{objects_made, with_delivered}
 use Rattle.protocol.specs.Jobs.{Given, Handed, Nothing, OfAnother, OfJob}
 use Rattle.protocol.specs.Messages.{Ask, At, Back, CopyOf, Elsewhere, Failed, Fetch, Finished, FinishedAck, Give, Gone, Hold, HoldAck, Letter, Message, Missing}
 use Rattle.protocol.specs.Messages.{Party, Push, TheNode, TheWorker, Unhold, Wait, Where}
@@ -40,14 +40,14 @@ use Rattle.protocol_owed.proofs.CourseRuns.{OutOf, out_of}
 use Rattle.smallest_steps.proofs.SlotMoves as S
 use Rattle.owed_laws.proofs.StoreMoves as M
 use Rattle.owed_laws.proofs.StoreMoves.{IsKept}
-use Rattle.count_laws.specs.Counts.{borne}
+use Rattle.count_laws.specs.Counts.{borne, objects_born}
 use Rattle.count_laws.proofs.Added.{Adds, commit_adds, here_adds, there_adds}
 
 -- so many objects more, each of them logged, and as many workers more as are logged, one at most
 pub record Grows (c : Whole) (k : ℕ) (m : Moved) : Type 0 where
   pub workers : length m.whole.workers ≡ length c.workers + length (opened m.out.entries)
   pub made : m.whole.made ≡ c.made + k
-  pub born : length (flat_map born_in m.out.entries) ≡ k
+  pub born : objects_born (flat_map born_in m.out.entries) ≡ k
   pub few : length (opened m.out.entries) ≤ 1
 
 long_repeated : (n : ℕ) (z : Worker) → length (repeated n z) ≡ n
@@ -141,7 +141,7 @@ module _ (c : Whole) where
     by_message w (Elsewhere a k m) = start
     by_message w (Wait a k) = start
     by_message w (Push a spec) = start
-    by_message w (Finished a m ids kept) = start
+    by_message w (Finished a m rs) = start
     by_message w (FinishedAck a) = start
     by_message w (Failed a g) = start
     by_message w (Where o) = start
@@ -203,11 +203,11 @@ module _ (s : Setting) (log : List Entry) (c : Whole) (sound : IsSound s log c) 
       let x : LiveOne (worker_at c g.worker) = live_one (worker_at c g.worker) (passed (is_live_worker (worker_at c g.worker)) Stale both.1) in
       let n = sound.between.knows.housed g.worker x.worker x.at x.lives in
       let run : OutOf x.worker.run j = out_of x.worker.run j (ap (λ y. is_out_by y j) (sym x.at) ∙ out) in
-      let d : Whole = with_committed c j (length o.births) in
+      let d : Whole = with_committed c j (objects_made o.births) in
       let h : Here = here d g.worker x.worker n.0 in
       let same : worker_does d g.worker (λ i. commit_step i o) ≡ after_worker d g.worker x.worker.node (release_step (commit_step h o)) =
       ap (worker_does_by d g.worker (λ i. commit_step i o)) x.at ∙ ap (worker_does_at d g.worker x.worker (λ i. commit_step i o)) n.1 in
-      let k : ℕ = length o.births in
+      let k : ℕ = objects_made o.births in
       subst (Grows c k) (sym same)
       (after_grows c d g.worker x.worker.node k (release_step (commit_step h o)) refl refl
       (M.release_step-kept (λ i. Adds k i.there) (here_adds k) (commit_step h o) (commit_adds h o run.run run.at refl refl))

@@ -31,9 +31,9 @@ use Rattle.lease_discipline.specs.Slots.{AreRight}
 use Rattle.lease_discipline.specs.Told.{IsInStep}
 use Rattle.lease_discipline.proofs.Told.{events_stay_in_step, opening_is_in_step}
 use Rattle.owed_laws.specs.Law.{IsReached}
-use Rattle.count_laws.specs.Counts.{Counts, behind, borne, counted, is_within, would_open}
+use Rattle.count_laws.specs.Counts.{Counts, behind, borne, counted, is_within, objects_born, would_open}
 use Rattle.count_laws.specs.Law.{AreCounted, EventsAreLimited, IsFull, IsLimited, PassesLimit, RunsAreCounted, RunsAreWithin}
-use Rattle.count_laws.proofs.Added.{many}
+use Rattle.count_laws.proofs.Added.{many, many_born}
 use Rattle.count_laws.proofs.Events.{claim_grows_none, event_grows}
 use Rattle.count_laws.proofs.Numbers.{refusal_is_no_limit, shown_is_no_limit}
 
@@ -66,11 +66,11 @@ refused_counts : (s : Setting) (log : List Entry) (e : Event) (seat : ℕ) (code
 refused_counts s log e seat code =
     let es : List Entry = In e seat ∷ Refused code ∷ [] in
     same_counts (ap (λ xs. s.nodes + length (flat_map join_in xs)) (accepted-refused log e seat code))
-    (many opened_in log es ∙ no_more (length (opened log))) (ap suc (many born_in log es ∙ no_more (length (flat_map born_in log))))
+    (many opened_in log es ∙ no_more (length (opened log))) (ap (λ n. 1 + n) (many_born log es ∙ no_more (objects_born (flat_map born_in log))))
 
 -- ---- one event of a sound run whose objects are counted
 
-module _ (s : Setting) (log : List Entry) (c : Whole) (sound : IsSound s log c) (made : c.made ≡ length (births log)) where
+module _ (s : Setting) (log : List Entry) (c : Whole) (sound : IsSound s log c) (made : c.made ≡ objects_born (births log)) where
   workers_long : length c.workers ≡ length (opened log)
   workers_long = sym (ap length sound.between.knows.opened ∙ long c.workers)
 
@@ -89,15 +89,15 @@ module _ (s : Setting) (log : List Entry) (c : Whole) (sound : IsSound s log c) 
         let i = happens-counted c e handed in
         let g = event_grows s log c sound e handed r in
         let j = joins_then log e seat m.out.entries i.quiet in
-        let b = many born_in log (In e seat ∷ m.out.entries) in
+        let b = many_born log (In e seat ∷ m.out.entries) in
         let k = g.born in
         same_counts (nodes_more s.nodes (length (joins log)) (length (join_in e)) _ j) (many opened_in log (In e seat ∷ m.out.entries))
-        (objects_more (length (flat_map born_in log)) (length (flat_map born_in m.out.entries)) (borne e handed) _ b k)
+        (objects_more (objects_born (flat_map born_in log)) (objects_born (flat_map born_in m.out.entries)) (borne e handed) _ b k)
       where
         nodes_more : (a n k l : ℕ) → l ≡ n + k → a + l ≡ (a + n) + k
         nodes_more a n k l f = omega (arith, f)
 
-        objects_more : (n i k l : ℕ) → l ≡ n + i → i ≡ k → suc l ≡ suc n + k
+        objects_more : (n i k l : ℕ) → l ≡ n + i → i ≡ k → 1 + l ≡ (1 + n) + k
         objects_more n i k l f g = omega (arith, f, g)
 
     -- the tables after it have as many as the log would have
@@ -114,7 +114,7 @@ module _ (s : Setting) (log : List Entry) (c : Whole) (sound : IsSound s log c) 
       pub accepted : (step : Step) → a ≡ Takes step → counted s (log ++ logged e seat a) ≡ next
       pub otherwise : (code : Refusal) → a ≡ Refuses code → counted s (log ++ logged e seat a) ≡ counted s log
       pub within : is_within (counted s log) ≡ true → is_within (counted s (log ++ logged e seat a)) ≡ true
-      pub objects : (whole_after c a).made ≡ length (births (log ++ logged e seat a))
+      pub objects : (whole_after c a).made ≡ objects_born (births (log ++ logged e seat a))
       pub few : (step : Step) → a ≡ Takes step → would_open c e handed ≤ 1
 
     refused_comes : (code : Refusal) → Comes (Refuses code)
@@ -210,7 +210,7 @@ only_limit : (code : Refusal) → Among code (Limit ∷ []) → code ≡ Limit
 only_limit code (zero, e) = cc
 only_limit code (suc k, e) = absurd (cc)
 
-module _ (s : Setting) (log : List Entry) (c : Whole) (sound : IsSound s log c) (made : c.made ≡ length (births log)) (w : is_within (counted s log) ≡ true) where
+module _ (s : Setting) (log : List Entry) (c : Whole) (sound : IsSound s log c) (made : c.made ≡ objects_born (births log)) (w : is_within (counted s log) ≡ true) where
   hidden_limit : (e : Event) (seat : ℕ) (handed : Handed) → is_within (behind (counted s log) c e handed) ≡ false → (code : Refusal) → Among code (hidden e) → code ≡ Limit
   hidden_limit (Claim v) seat handed b code h = differ s log c sound made (Claim v) seat handed _ (adds_nothing s log c sound made (Claim v) seat handed w refl (claim_grows_none c v handed) refl) b
   hidden_limit (Evict n o) seat handed b code h = differ s log c sound made (Evict n o) seat handed _ (adds_nothing s log c sound made (Evict n o) seat handed w refl refl refl) b
@@ -344,7 +344,7 @@ module _ (s : Setting) (log : List Entry) (c : Whole) (sound : IsSound s log c) 
 -- ---- runs
 
 abbrev Objects : Running → Type 0
-Objects r = r.whole.made ≡ length (births r.log)
+Objects r = r.whole.made ≡ objects_born (births r.log)
 
 -- what is true of each run that was reached
 record Counted (s : Setting) (r : Running) : Type 0 where

@@ -1,12 +1,11 @@
 -- A message that was delivered stays so, whatever event comes.
 use Rattle.std.proofs.Common.{◌≡◌, ℕ, zero, suc, ◌+◌, ◌≤◌, Bool, true, false, List, [], ◌∷◌, ◌++◌, length, drop, Option, Some, None, refl, ap, sym, ◌∙◌, ◌<◌, arith}
 use Rattle.std.specs.Prelude.{if◌then◌else◌, slice_get, slice_set}
-use Rattle.event_log.specs.Entries.{Claim, Commit, Deliver, Event, Evict, Join, Kill, KillNode, Lose, Notice, NoticeNode, Tick}
-use Rattle.event_log.specs.Entries.{Refusal, Limit}
+use Rattle.event_log.specs.Entries.{Claim, Commit, Deliver, Event, Evict, Join, Kill, KillNode, Limit, Lose, Notice, NoticeNode, Refusal, Tick}
 use Rattle.protocol.specs.Answers.{Refuses, answer, decided, given_out, takes, whole_after}
 use Rattle.protocol.specs.Commits.{claim_step, commit_step}
 use Rattle.protocol.specs.Deliveries.{reached}
-use Rattle.protocol.specs.Events.{committed_by, dead, delivered_by, delivered_to, happens, is_live_node, is_live_worker, killed_by, with_committed, with_delivered}
+use Rattle.protocol.specs.Events.{committed_by, dead, delivered_by, delivered_to, happens, is_live_node, is_live_worker, killed_by, with_committed, with_delivered, objects_made}
 use Rattle.protocol.specs.Jobs.{Given, Handed, Job, Nothing, OfAnother, OfJob}
 use Rattle.protocol.specs.Messages.{Letter, Party, TheNode, TheWorker}
 use Rattle.protocol.specs.Nodes.{Node, There}
@@ -62,7 +61,7 @@ worker_keeps : (c : Whole) (w i : ℕ) (f : Here → Here) → Was c i → Was (
 worker_keeps c w i f e = worker_by c w i f (worker_at c w) e
 
 committed_keeps : (c : Whole) (j i : ℕ) (handed : Handed) (o : Option Given) → Was c i → Was (committed_by c j handed o).whole i
-committed_keeps c j i (OfJob d) (Some g) e = worker_keeps (with_committed c j (length d.births)) g.worker i (λ h. commit_step h d) e
+committed_keeps c j i (OfJob d) (Some g) e = worker_keeps (with_committed c j (objects_made d.births)) g.worker i (λ h. commit_step h d) e
 committed_keeps c j i (OfJob d) None e = e
 committed_keeps c j i Nothing o e = e
 committed_keeps c j i OfAnother o e = e

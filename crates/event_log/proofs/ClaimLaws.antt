@@ -10,7 +10,7 @@ use Rattle.event_log.specs.Claims.{CanGet, CanAccept, LawOfClaims}
 use Rattle.event_log.proofs.EventLaws.{word-more}
 use Rattle.event_log.proofs.Extending.{births-more, parts-more}
 use Rattle.event_log.proofs.OwnLaws.{own_claim, own-plain, told-in, told-plain}
-use Rattle.event_log.proofs.LeftLaws.{unchanged, unresolved_on}
+use Rattle.event_log.proofs.LeftLaws.{unchanged, unresolved_on, unspent_on}
 use Rattle.event_log.proofs.Stopping.{stops_on}
 
 -- an object's content stays its content
@@ -49,11 +49,12 @@ can_accept-in log w seat b h =
       ended = (h.ended.0, word-more (ended_in b) log (i ∷ []) h.ended.0 h.contents h.ended.1);
       last = ap (λ ws. length ws) (unchanged (run_in b.object) log i refl) ∙ h.last;
       unresolved = unresolved_on log b.object i refl (λ _. refl) h.unresolved;
+      unspent = unspent_on log b.object i refl (λ _. refl) h.unspent;
       once = unchanged (accepted_in b) log i refl ∙ h.once;
     }
 
 pub may_accept : (s : Setting) (before : List Entry) (w : ℕ) (b : Attempt) → IsOwn s before w → CanAccept before w b → MayAccept s before b
-may_accept s before w b o h = record { own = subst (λ v. IsOwn s before v) (sym h.owner) o; not_main = h.not_main; contents = h.contents; ended = h.ended; last = h.last; unresolved = h.unresolved; once = h.once }
+may_accept s before w b o h = record { own = subst (λ v. IsOwn s before v) (sym h.owner) o; not_main = h.not_main; contents = h.contents; ended = h.ended; last = h.last; unresolved = h.unresolved; unspent = h.unspent; once = h.once }
 
 pub law_of_claims : LawOfClaims
 law_of_claims s log w seat h none =

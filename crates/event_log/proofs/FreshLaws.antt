@@ -34,7 +34,7 @@ or_main : (t : Bool) (m : Part) (p : Option Part) → ((d : Part) × (p ≡ Some
 or_main true m p h = (m, refl)
 or_main false m p h = h
 
-borne_is_born : (o : Id) (log : List Entry) (k : ℕ) (c : Attempt) → slice_get (bearers_of o log) k ≡ Some c → IsBorn (births log) o
+pub borne_is_born : (o : Id) (log : List Entry) (k : ℕ) (c : Attempt) → slice_get (bearers_of o log) k ≡ Some c → IsBorn (births log) o
 borne_is_born o log k c e = or_main (is_made_by main_bearing o) (part_of main_bearing o) (part_at (flat_map born_in log) o) (born_if_borne o log k c e)
 
 -- the first of a birth is one of its objects

@@ -1,5 +1,5 @@
 -- What is left to log of an attempt may stand in a commit of its job.
-use Rattle.std.proofs.Common.{◌≡◌, ℕ, ◌+◌, true, List, [], ◌∷◌, ◌++◌, ◌⊎◌, inl, inr, refl, sym, ap, ◌∙◌, subst, arith, append-nil, append_assoc}
+use Rattle.std.proofs.Common.{◌≡◌, ℕ, ◌+◌, true, List, [], ◌∷◌, ◌++◌, ◌⊎◌, inl, inr, refl, sym, ap, ◌∙◌, subst, arith, append-nil, append_assoc, Some}
 use Rattle.std.specs.Prelude.{if◌then◌else◌, ◌==◌}
 use Rattle.std.specs.List.{flat_map, AllByRecursion}
 use Rattle.std.proofs.lemmas.Bool.Decides.{nat_tests}
@@ -7,11 +7,11 @@ use Rattle.meaning.specs.Lists.{IsFirst}
 use Rattle.meaning.specs.Values.{Value, Birth, results_of, Id}
 use Rattle.meaning.specs.Runs.{Stop, Needs, Over, Piece, behind}
 use Rattle.meaning.specs.Meaning.{replay}
-use Rattle.meaning.specs.Births.{Bearing, numbered, objects_at}
-use Rattle.event_log.specs.Entries.{Attempt, Entry, Born, Printed, main_attempt}
+use Rattle.meaning.specs.Births.{Bearing, numbered, objects_at, part_at}
+use Rattle.event_log.specs.Entries.{Attempt, Entry, Born, Printed, RetriesUsed, main_attempt}
 use Rattle.event_log.specs.Words.{births, born_in, next_serial, own_in, own_births, got_in, printed_in, printed_by, ended_in, faulted_in, resolved_in, released_in, releases_of}
 use Rattle.event_log.specs.Breaks.{Among}
-use Rattle.event_log.specs.Rules.{Setting, Replays, IsOwnCommit, IsUnresolved, AreUnreleased, MayBear, MayPrint}
+use Rattle.event_log.specs.Rules.{Setting, Replays, IsOwnCommit, IsUnresolved, AreUnspent, AreUnreleased, MayBear, MayPrint}
 use Rattle.event_log.specs.Legal.{EachAllowed}
 use Rattle.event_log.specs.Commits.{commit_entries, IsLeft}
 use Rattle.event_log.proofs.WordLaws.{word_push, births_push, next_serial-push, same_attempt-refl}
@@ -37,6 +37,10 @@ births_kept before e h = births_push before e ∙ (ap (λ xs. births before ++ x
 pub unresolved_on : (before : List Entry) (o : Id) (e : Entry) → born_in e ≡ [] → ((p : Id) → resolved_in p e ≡ []) → IsUnresolved before o → IsUnresolved (before ++ e ∷ []) o
 unresolved_on before o e hb hr h =
     (h.0, subst (λ bs. Among h.0 (objects_at bs o)) (sym (births_kept before e hb)) h.1, unchanged (resolved_in h.0) before e (hr h.0) ∙ h.2)
+
+pub unspent_on : (before : List Entry) (o : Id) (e : Entry) → born_in e ≡ [] → ((p : Id) → resolved_in p e ≡ []) → AreUnspent before o → AreUnspent (before ++ e ∷ []) o
+unspent_on before o e hb hr h p q i same r =
+    h p q (subst (λ bs. part_at bs p ≡ Some q) (births_kept before e hb) i) same (subst (Among (record { kind = RetriesUsed; object = p })) (unchanged (resolved_in p) before e (hr p)) r)
 
 all_unreleased : (before : List Entry) (e : Entry) → ((p : Id) → released_in p e ≡ []) → (os : List Id) → AllByRecursion (λ p. releases_of p before ≡ []) os → AllByRecursion (λ p. releases_of p (before ++ e ∷ []) ≡ []) os
 all_unreleased before e hr [] h = tt

@@ -12,7 +12,7 @@ pub mod CommitLaws
 pub mod Networks
 pub mod ClaimLaws
 pub mod FreshLaws
+pub mod Together
 pub mod Beginning
 pub mod CauseLaws
-pub mod SingleLaws
-pub mod OneResult
+pub mod Finishing

@@ -74,7 +74,7 @@ module _ (s : Setting) (receiver : ℕ → Option Receiver) (larger : (m : ℕ) 
   allowed before (Got a y c) h = record { worker = h.worker; runs = h.runs; own = own before h.worker h.own; needs = stops before a _ h.needs; content = h.content; untold = h.untold }
   allowed before (Printed v) h = record { worker = h.worker; job = h.job; base = h.base; p = h.p; replays = replays before _ h.base h.p h.replays; own = h.own; prints = h.prints }
   allowed before (Ended a c) h = record { worker = h.worker; job = h.job; stops = stops before a _ h.stops }
-  allowed before (Accepted a) h = record { own = own before a.object.owner h.own; not_main = h.not_main; contents = h.contents; ended = h.ended; last = h.last; unresolved = h.unresolved; once = h.once }
+  allowed before (Accepted a) h = record { own = own before a.object.owner h.own; not_main = h.not_main; contents = h.contents; ended = h.ended; last = h.last; unresolved = h.unresolved; unspent = h.unspent; once = h.once }
   allowed before (Faulted a y f) h = record { worker = h.worker; runs = h.runs; own = own before h.worker h.own; needs = stops before a _ h.needs; reason = h.reason; cause = h.cause }
   allowed before (Resolved o f) h = record { own = own before o.owner h.own; not_main = h.not_main; once = h.once; reason = h.reason; cause = h.cause }
   allowed before (Released o) h = record { own = own before o.owner h.own; once = h.once; settled = h.settled; bearer = h.bearer; bore = h.bore; over = h.over; unheld = h.unheld }

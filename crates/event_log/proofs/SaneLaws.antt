@@ -223,7 +223,7 @@ bound_push : (bs : List Bearing) (x : Bearing) → x.object.serial ≡ next_seri
 bound_push bs x next h o b = bound_by bs x o b.0 (part_at bs o) next (λ c e. h o (c, e)) (sym (part_at-push bs x o) ∙ b.1)
 
 -- so its objects are new
-new_by : (bs : List Bearing) (x : Bearing) → x.object.serial ≡ next_serial x.object.owner bs → Bound bs → (o : Id) (p : Option Part) → is_made_by x o ≡ true → part_at bs o ≡ p → p ≡ None
+pub new_by : (bs : List Bearing) (x : Bearing) → x.object.serial ≡ next_serial x.object.owner bs → Bound bs → (o : Id) (p : Option Part) → is_made_by x o ≡ true → part_at bs o ≡ p → p ≡ None
 new_by bs x next bound o None m e = refl
 new_by bs x next bound o (Some p) m e =
     let h = bound o (p, e) in
@@ -238,20 +238,20 @@ Ordered bs = Bound bs × AreGrouped bs
 ordered_push : (bs : List Bearing) (x : Bearing) → x.object.serial ≡ next_serial x.object.owner bs → Ordered bs → Ordered (bs ++ x ∷ [])
 ordered_push bs x next h = (bound_push bs x next h.0, grouped_push bs x (λ o m. new_by bs x next h.0 o (part_at bs o) m refl) h.1)
 
-abbrev SerialsBound : List Entry → Type 0
+abbrev pub SerialsBound : List Entry → Type 0
 SerialsBound log = Ordered (births log)
 
 bound_same : (before : List Entry) (x : Entry) → born_in x ≡ [] → SerialsBound before → SerialsBound (before ++ x ∷ [])
 bound_same before x e h = subst (λ bs. Ordered bs) (sym (births_push before x ∙ (ap (λ xs. births before ++ xs) e ∙ append-nil (births before)))) h
 
-bound_step : (s : Setting) (before : List Entry) (x : Entry) → SerialsBound before → Allowed s before x → SerialsBound (before ++ x ∷ [])
+pub bound_step : (s : Setting) (before : List Entry) (x : Entry) → SerialsBound before → Allowed s before x → SerialsBound (before ++ x ∷ [])
 bound_step s before (Born o a b) p h = subst (λ bs. Ordered bs) (sym (births_push before (Born o a b))) (ordered_push (births before) (record { object = o; birth = b }) h.next p)
 bound_step s before x p h = bound_same before x refl p
 
 bound_nothing : Bound []
 bound_nothing o b = let e = b.1 in absurd (cc)
 
-bound_first : SerialsBound opening
+pub bound_first : SerialsBound opening
 bound_first = ordered_push [] main_bearing refl (bound_nothing, none_grouped)
 
 -- ---- the opening

@@ -86,7 +86,7 @@ pub record RetriesAreUsed (log : List Entry) (z : Id) : Type 0 where
   pub depth : ℕ
   pub retries : ℕ
   pub others : ℕ
-  pub task : part.born.birth ≡ Task function args depth retries others
+  pub task : birth_at (births log) part.born.object ≡ Some (Task function args depth retries others)
   pub begun : length (runs_of part.born.object log) ≡ retries + 1
   pub places : List ℕ
   pub all : length places ≡ retries + 1

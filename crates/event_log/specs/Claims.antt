@@ -7,7 +7,7 @@ use Rattle.event_log.specs.Entries.{Attempt, Claim, Entry, Got, Accepted, main_o
 use Rattle.event_log.specs.Words.{worker_of, ends_of, accepts_of}
 use Rattle.event_log.specs.Events.{has_job_out, is_live, was_told}
 use Rattle.event_log.specs.Breaks.{Among}
-use Rattle.event_log.specs.Rules.{Setting, Stops, HasContent, IsLast, IsUnresolved}
+use Rattle.event_log.specs.Rules.{Setting, Stops, HasContent, IsLast, IsUnresolved, AreUnspent}
 use Rattle.event_log.specs.Laws.{MayAdd}
 
 -- the worker lives and runs the attempt, which needs the object, whose content this is; it wasn't told that its owner is dead
@@ -25,6 +25,7 @@ pub record CanAccept (log : List Entry) (w : ℕ) (b : Attempt) : Type 0 where
   pub ended : Among contents (ends_of b log)
   pub last : IsLast log b
   pub unresolved : IsUnresolved log b.object
+  pub unspent : AreUnspent log b.object
   pub once : accepts_of b log ≡ []
 
 -- the claim of a live worker of which no job is out may stand alone, with an answer, or with what is accepted and an answer

@@ -15,4 +15,3 @@ pub mod Commits
 pub mod Claims
 pub mod Sane
 pub mod Fresh
-pub mod Singles

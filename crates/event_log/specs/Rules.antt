@@ -94,6 +94,11 @@ AreSteps before o (p ∷ ps) x =
 abbrev pub IsUnresolved : List Entry → Id → Type 0
 IsUnresolved before o = (p : Id) × Among p (objects_at (births before) o) × (resolves_of p before ≡ [])
 
+-- none of them is resolved because its retries are used up: of such a task nothing is accepted any more
+abbrev pub AreUnspent : List Entry → Id → Type 0
+AreUnspent before o =
+    (p : Id) (q : Part) → part_at (births before) p ≡ Some q → q.born.object ≡ o → Among (record { kind = RetriesUsed; object = p }) (resolves_of p before) → ⊥
+
 -- none of them is released
 abbrev pub AreUnreleased : List Entry → Id → Type 0
 AreUnreleased before o = AllByRecursion (λ p. releases_of p before ≡ []) (objects_at (births before) o)
@@ -164,7 +169,8 @@ pub record MayGet (s : Setting) (before : List Entry) (a : Attempt) (y : Id) (c 
   pub content : HasContent before y c
   pub untold : was_told worker y.owner before ≡ false
 
--- in an own event of the owner, once: the attempt, which isn't main's, ended and is the last one begun, and one of its objects isn't resolved
+-- in an own event of the owner, once: the attempt, which isn't main's, ended and is the last one begun; one of its objects isn't resolved, and
+-- none is because its retries are used up
 pub record MayAccept (s : Setting) (before : List Entry) (a : Attempt) : Type 0 where
   pub own : IsOwn s before a.object.owner
   pub not_main : same_id a.object main_object ≡ false
@@ -172,6 +178,7 @@ pub record MayAccept (s : Setting) (before : List Entry) (a : Attempt) : Type 0 
   pub ended : Among contents (ends_of a before)
   pub last : IsLast before a
   pub unresolved : IsUnresolved before a.object
+  pub unspent : AreUnspent before a.object
   pub once : accepts_of a before ≡ []
 
 -- the object was released, and the fault is OwnerDied of an object of a dead owner that had its id

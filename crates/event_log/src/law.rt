@@ -7,7 +7,6 @@ ghost use Rattle.event_log.specs.Commits.{LawOfCommits};
 ghost use Rattle.event_log.specs.Extends.{LogsExtend};
 ghost use Rattle.event_log.specs.Fresh.{FreshObjectsAreUnknown};
 ghost use Rattle.event_log.specs.Sane.{LegalLogsAreSane};
-ghost use Rattle.event_log.specs.Singles.{LegalLogsAreOfSingles};
 
 /// What stands before an event of a legal log is legal.
 pub fn beginnings_are_legal()
@@ -43,11 +42,6 @@ pub fn logs_extend()
 /// comes once comes at most once.
 pub fn legal_logs_are_sane()
     ensures { LegalLogsAreSane }
-{}
-
-/// Each birth of a legal log makes one object, and each attempt that ended has one content: a script bears no other tasks.
-pub fn legal_logs_are_of_singles()
-    ensures { LegalLogsAreOfSingles }
 {}
 
 /// Of the objects that a worker makes next, a legal log says nothing yet.

@@ -4,10 +4,11 @@ use Rattle.std.specs.Prelude.{◌&&◌, if◌then◌else◌, not}
 use Rattle.std.specs.List.{filter, list_any}
 use Rattle.std.proofs.lemmas.Option.{same_Some}
 use Rattle.std.proofs.lemmas.Bool.{false≢true}
-use Rattle.meaning.specs.Values.{Birth, Id}
+use Rattle.meaning.specs.Values.{Birth, Id, results_of}
 use Rattle.event_log.specs.Entries.{Attempt}
 use Rattle.event_log.specs.Words.{same_attempt}
 use Rattle.protocol.specs.Answers.{job_of}
+use Rattle.protocol.specs.Asking.{rests}
 use Rattle.protocol.specs.Commits.{claim_by, claim_step}
 use Rattle.protocol.specs.Deliveries.{reached}
 use Rattle.protocol.specs.Jobs.{Job}
@@ -17,11 +18,12 @@ use Rattle.protocol.specs.Notices.{notice_node_step, notice_step}
 use Rattle.protocol.specs.Releases.{release_step}
 use Rattle.protocol.specs.Runs.{begins_run, is_free, leaves, leaves_if_free, push_reached}
 use Rattle.protocol.specs.Sets.{is_empty}
-use Rattle.protocol.specs.Steps.{Here, with_run}
+use Rattle.protocol.specs.Steps.{Here, with_run, with_task_of}
 use Rattle.protocol.specs.Tables.{Fetching, Out, Run, Waits, Worker, has_stopped}
 use Rattle.protocol.specs.Ticks.{tick_step}
-use Rattle.owed_replies.proofs.Committing.{finished_reached-kept}
-use Rattle.owed_replies.proofs.Moves.{IsHeard, IsHeardFrom, IsKept, notice_node_step-kept, notice_step-kept, reached-kept, release_step-kept, tick_step-kept}
+use Rattle.smallest_steps.proofs.Over.{settles-kept}
+use Rattle.smallest_steps.proofs.Smallest.{AnyTold, KeepsAccepted}
+use Rattle.owed_replies.proofs.Moves.{finished_reached-kept, IsHeard, IsHeardFrom, IsKept, notice_node_step-kept, notice_step-kept, reached-kept, release_step-kept, tick_step-kept}
 
 waits_apart : (j : ℕ) (y : Id) (f : Option Fetching) → Out j ≡ Waits y f → ⊥
 waits_apart j y f e = cc
@@ -106,10 +108,16 @@ module _ (j : ℕ) (job : Job) where
       busy : is_free h.worker.run ≡ false
       busy = ap is_free p.there ∙ going p.run.is_over refl
 
+  -- an accepted end changes objects only
+  accepted : KeepsAccepted AnyTold Stays
+  accepted h a task n rs w e _ _ p =
+      settles-kept Stays (λ g o number m r q. record { run = q.run; there = q.there; out = q.out; same = q.same })
+      (results_of task.spec) (with_task_of h a.object (rests task)) a.object a.number n rs
+      (record { run = p.run; there = p.there; out = p.out; same = p.same })
+
   heard : (h : Here) (w : ℕ) (m : Message) → StopsFirst h.worker → Stays h → IsHeard Stays kept h w m
   heard h w (Push a spec) over p = pushed h a spec over p
-  heard h w (Finished a n ids content) over p = finished_reached-kept Stays kept h w a n ids content
-      (λ task. record { run = p.run; there = p.there; out = p.out; same = p.same }) p
+  heard h w (Finished a n rs) over p = finished_reached-kept Stays kept AnyTold accepted h w a n rs tt p
   heard h w (Failed a f) over p = tt
   heard h w (FinishedAck a) over p = tt
   heard h w (Ask a t) over p = tt

@@ -10,7 +10,7 @@ use Rattle.protocol.specs.Answers.{Answer, Refuses, Step, Takes, answer, decided
 use Rattle.protocol.specs.Answers as answers
 use Rattle.protocol.specs.Commits.{claim_step, commit_step}
 use Rattle.protocol.specs.Deliveries.{reached}
-use Rattle.protocol.specs.Events.{as_committed, committed_by, dead, delivered_by, delivered_to, dies_with, happens, is_live_node, is_live_worker}
+use Rattle.protocol.specs.Events.{as_committed, committed_by, dead, delivered_by, delivered_to, dies_with, happens, is_live_node, is_live_worker, objects_made}
 use Rattle.protocol.specs.Events.{killed_by, with_committed, with_delivered}
 use Rattle.protocol.specs.Jobs.{Given, Handed, Job, Nothing, OfAnother, OfJob}
 use Rattle.protocol.specs.Messages.{Letter, Party, TheNode, TheWorker}
@@ -187,7 +187,7 @@ module _ (j : ℕ) (job : Job) where
             (unless (is_live_worker (worker_at c g.worker)) Stale) h in
             let a = and_parts (not g.is_committed && true) (is_out_by (worker_at c g.worker) i)
             (unless_none (not g.is_committed && true && is_out_by (worker_at c g.worker) i) NoJob parts.0) in
-            let d : Whole = with_committed c i (length o.births) in
+            let d : Whole = with_committed c i (objects_made o.births) in
             let left : StandsIn d j job = record {
               given = out.given;
               was_given = changed_elsewhere c.jobs i j as_committed out.given (λ e. apart (sym e)) out.was_given;

@@ -5,7 +5,8 @@ use Rattle.std.specs.Prelude.{Bool, true, false, if◌then◌else◌, ◌||◌, 
 use Rattle.std.specs.List.{list_any}
 use Rattle.sequence.proofs.Places.{or_left}
 use Rattle.meaning.proofs.BirthLaws.{at_test}
-use Rattle.meaning.specs.Values.{Id, Outcome}
+use Rattle.meaning.specs.Values.{Outcome}
+use Rattle.event_log.specs.Commits.{commit_entries}
 use Rattle.event_log.specs.Entries.{Attempt}
 use Rattle.event_log.specs.Breaks.{Among}
 use Rattle.protocol.specs.Numbered.{item_at, changed_at}
@@ -30,25 +31,22 @@ use Rattle.protocol_owed.specs.Turns.{IsAnswer}
 use Rattle.protocol_owed.proofs.Asks.{QueueIsRight, Stands, has_key, reply_in, reply-other, same_key-refl, same_key-true, with_reply_in}
 use Rattle.protocol_owed.proofs.Nodes.{NodesAreRight}
 use Rattle.lease_discipline.specs.Asks as A
-use Rattle.values.specs.Listed.{each_once, ids_in_outcome}
 use Rattle.meaning.specs.Values.{Birth}
 use Rattle.std.specs.Prelude.{◌&&◌}
 use Rattle.event_log.specs.Entries.{Entry}
 use Rattle.event_log.specs.Words.{same_attempt}
-use Rattle.protocol.specs.Commits.{bears_all, claim_by, claim_step, commit_by, commit_step, ends, next_id_here, stops_by, with_outcomes, single_entries}
+use Rattle.protocol.specs.Commits.{keeps_contents, bears_all, claim_by, claim_step, commit_by, commit_step, ends, next_id_here, stops_by, with_outcomes}
 use Rattle.protocol.specs.Deliveries.{reached}
-use Rattle.protocol.specs.Holders.{holds_ids, passes_on}
 use Rattle.protocol.specs.Jobs.{AtEnd, AtGet, Stopped, stop_of}
 use Rattle.protocol.specs.Releases.{release_step}
 use Rattle.protocol.specs.Runs.{begins_run, is_free, leaves_if_free, push_reached}
-use Rattle.protocol.specs.Steps.{logs_all, store_here, with_phase, with_run, with_store}
-use Rattle.protocol.specs.Stores.{with_ended}
+use Rattle.protocol.specs.Steps.{logs_all, with_phase, with_run}
 use Rattle.protocol.specs.Tables.{HasEnded, Out, Run, Waits}
 use Rattle.protocol.specs.Whole.{worker_does, worker_does_at, worker_does_by}
 use Rattle.protocol_owed.proofs.Moves as M
 use Rattle.protocol_owed.proofs.Nodes as N
 use Rattle.protocol_owed.proofs.NodeMoves.{IsKeptThere, asks_slot-kept, frees-kept}
-use Rattle.lease_discipline.proofs.Moves.{IsHeardFrom, IsKept, bears_all-kept, holds_ids-kept, leaves_if_free-kept, needs-kept, reached-kept, release_step-kept}
+use Rattle.lease_discipline.proofs.Moves.{IsHeardFrom, IsKept, bears_all-kept, keeps_contents-kept, leaves_if_free-kept, needs-kept, reached-kept, release_step-kept}
 use Rattle.lease_discipline.proofs.Asking.{Asks, AsksOf, GivenOf, OverBy, PassedBy, ToldOf, asks_kept, frees_asks, own_task, same_asks}
 use Rattle.lease_discipline.specs.Asks.{IsDeadNode, IsLast, IsPassed, KeepsAsks, OwnsAsks}
 use Rattle.lease_discipline.specs.Discipline.{IsDone, KeepsLeases, Pushed}
@@ -352,18 +350,15 @@ module _ (c : Whole) (me : ℕ) (x : Worker) (at : worker_at c me ≡ Some x) wh
   T : Kept c me x at R
   T = q_kept c me x at
 
-  ends_asks : (h : Here) (run : Run) (content : Outcome) → R h → R (ends h run content)
-  ends_asks h run content q =
-      let g : Here = with_phase h run (HasEnded content) in
-      let o : Id = run.attempt.object in
-      let ids : List Id = each_once (ids_in_outcome content) in
-      let stored : Here = passes_on (with_store g (with_ended (store_here h) o run.attempt.number content)) o ids in
-      let held : Here = holds_ids stored o ids in
+  ends_asks : (h : Here) (run : Run) (cs : List Outcome) → R h → R (ends h run cs)
+  ends_asks h run cs q =
+      let g : Here = with_phase h run (HasEnded cs) in
+      let held : Here = keeps_contents g run.attempt.object run.attempt.number cs in
       frees_asks c me x at (IsDeadNode c) (leaves_if_free held)
       (leaves_if_free-kept (ToldOf c me x at (IsDeadNode c)) (OverBy c me x at (IsDeadNode c)) (GivenOf c me x at (IsDeadNode c))
       (PassedBy c me x at (IsDeadNode c)) R T held
-      (holds_ids-kept (ToldOf c me x at (IsDeadNode c)) (OverBy c me x at (IsDeadNode c)) (GivenOf c me x at (IsDeadNode c))
-      (PassedBy c me x at (IsDeadNode c)) R T stored o ids (same h (passes_on g o ids).worker refl q)))
+      (keeps_contents-kept (ToldOf c me x at (IsDeadNode c)) (OverBy c me x at (IsDeadNode c)) (GivenOf c me x at (IsDeadNode c))
+      (PassedBy c me x at (IsDeadNode c)) R T g run.attempt.object run.attempt.number cs (same h g.worker refl q)))
 
   stops_asks : (h : Here) (stop : Stopped) (r : Option Run) → R h → R (stops_by h stop r)
   stops_asks h stop None q = q
@@ -379,7 +374,7 @@ module _ (c : Whole) (me : ℕ) (x : Worker) (at : worker_at c me ≡ Some x) wh
       by_run : (r : Option Run) → R (commit_by h o r)
       by_run None = q
       by_run (Some run) =
-          let es : List Entry = single_entries run.attempt (next_id_here h) o.births o.prints (stop_of o.stop) in
+          let es : List Entry = commit_entries run.attempt (next_id_here h) o.births o.prints (stop_of o.stop) in
           let g : Here = logs_all (with_run h (with_outcomes run o)) es in
           let borne : Here = bears_all g run.attempt o.births in
           stops_asks borne o.stop borne.worker.run
@@ -402,7 +397,7 @@ module _ (c : Whole) (me : ℕ) (x : Worker) (at : worker_at c me ≡ Some x) wh
 
     heard_worker : (u : ℕ) (m : Message) → Among (letter (TheWorker u) (TheWorker me) m) c.network → R first → Heard (TheWorker u) m
     heard_worker u (Push a spec) came q = push_step first a spec q
-    heard_worker u (Finished a n ids kept) came q = told u a (leases.workers.letters _ came)
+    heard_worker u (Finished a n rs) came q = told u a (leases.workers.letters _ came)
     heard_worker u (Failed a f) came q = told u a (leases.workers.letters _ came)
     heard_worker u (FinishedAck a) came q = tt
     heard_worker u (Ask a t) came q = tt
@@ -444,7 +439,7 @@ module _ (c : Whole) (me : ℕ) (x : Worker) (at : worker_at c me ≡ Some x) wh
     heard_node n (Elsewhere a t m) came = λ own i mine there progress number.
         passed n t m a (subst (λ u. Among (letter (TheNode n) (TheWorker u) (Elsewhere a t m)) c.network) (sym mine) came) own i mine there progress number
     heard_node n (Push a spec) came = tt
-    heard_node n (Finished a m ids kept) came = tt
+    heard_node n (Finished a m rs) came = tt
     heard_node n (Failed a f) came = tt
     heard_node n (FinishedAck a) came = tt
     heard_node n (Ask a t) came = tt

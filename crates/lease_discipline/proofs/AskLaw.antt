@@ -23,7 +23,7 @@ use Rattle.protocol.specs.Commits.{claim_step, commit_step}
 use Rattle.protocol.specs.Notices.{notice_step, notice_node_step}
 use Rattle.protocol.specs.Ticks.{tick_step}
 use Rattle.protocol.specs.Deliveries.{reached}
-use Rattle.protocol.specs.Events.{committed_by, with_committed, delivered_by, delivered_to, with_delivered, is_live_worker, is_live_node, killed_by}
+use Rattle.protocol.specs.Events.{committed_by, with_committed, delivered_by, delivered_to, with_delivered, is_live_worker, is_live_node, killed_by, objects_made}
 use Rattle.protocol.specs.Events.{dead, dies_with, happens}
 use Rattle.protocol.specs.Answers.{Refuses, decided, takes, given_out, whole_after}
 use Rattle.protocol.specs.Refusals.{is_dead_node, is_within_limits, no_worker, refusal, unless}
@@ -132,7 +132,7 @@ reached_keys d n node (TheWorker u) (Give a i v) at keeps came k x e = keeps.nod
 reached_keys d n node (TheWorker u) (Elsewhere a i v) at keeps came k x e = keeps.nodes n node k x at e
 reached_keys d n node (TheWorker u) (Wait a i) at keeps came k x e = keeps.nodes n node k x at e
 reached_keys d n node (TheWorker u) (Push a i) at keeps came k x e = keeps.nodes n node k x at e
-reached_keys d n node (TheWorker u) (Finished a i v kept) at keeps came k x e = keeps.nodes n node k x at e
+reached_keys d n node (TheWorker u) (Finished a i rs) at keeps came k x e = keeps.nodes n node k x at e
 reached_keys d n node (TheWorker u) (FinishedAck a) at keeps came k x e = keeps.nodes n node k x at e
 reached_keys d n node (TheWorker u) (Failed a i) at keeps came k x e = keeps.nodes n node k x at e
 reached_keys d n node (TheWorker u) (Where o) at keeps came k x e = keeps.nodes n node k x at e
@@ -255,7 +255,7 @@ commit_event c j Nothing g right k = k
 commit_event c j OfAnother g right k = k
 commit_event c j (OfJob o) None right k = k
 commit_event c j (OfJob o) (Some g) right k =
-    let d : Whole = with_committed c j (length o.births) in
+    let d : Whole = with_committed c j (objects_made o.births) in
     worker_event d g.worker (λ h. commit_step h o) (λ P kept h p. M.commit_step-kept P kept h o p)
     (λ x at node home q. commit_asks d g.worker x at (here d g.worker x node) o q)
     (record { each = right.each; senders = right.senders }) (record { nodes = k.nodes; owners = k.owners; closed = k.closed; owned = k.owned })

@@ -1,6 +1,6 @@
 -- A worker in its event keeps asks in order.
 use Rattle.std.proofs.Common.{◌≡◌, ◌≢◌, ℕ, ◌+◌, ◌<◌, ◌≤◌, List, [], ◌∷◌, ◌++◌, Some, None, Option, refl, ap, sym, subst, ◌∙◌, ◌⊎◌, inl, inr, arith}
-use Rattle.std.specs.Prelude.{Bool, true, false, if◌then◌else◌}
+use Rattle.std.specs.Prelude.{length, Bool, true, false, if◌then◌else◌}
 use Rattle.std.proofs.lemmas.Bool.{both_ways}
 use Rattle.meaning.proofs.BirthLaws.{at_test}
 use Rattle.meaning.specs.Values.{Birth, Id}
@@ -13,17 +13,17 @@ use Rattle.protocol.specs.Messages.{Letter, letter, Message, Party, TheWorker, T
 use Rattle.protocol.specs.Messages.{Where, At, Gone, Fetch, CopyOf, Missing, Hold, HoldAck, Unhold}
 use Rattle.protocol.specs.Nodes.{There}
 use Rattle.protocol.specs.Slots.{asks_slot, frees}
-use Rattle.protocol.specs.Tables.{AskedAt, AtRest, ByTask, Object, OwnTask, Progress, RunsOn, Worker, new_task, task_in, task_of, with_task}
+use Rattle.protocol.specs.Tables.{AskedAt, AtRest, Object, OwnTask, Progress, RunsOn, Worker, new_task, task_of, with_task}
 use Rattle.protocol.specs.Steps.{Here, is_own, logs, object_at, own_id, own_object, with_phase, with_run, with_task_of}
 use Rattle.protocol.specs.Asking.{asks_at, pushes, rests, with_begun}
-use Rattle.protocol.specs.Commits.{with_object}
+use Rattle.protocol.specs.Commits.{task_objects, with_objects}
+use Rattle.smallest_steps.proofs.Known.{new_tasks}
 use Rattle.protocol.specs.Runs.{with_answer}
 use Rattle.protocol.specs.Tables.{HasFaulted}
-use Rattle.protocol_owed.proofs.Nodes as N
 use Rattle.protocol.specs.Whole.{Whole, worker_at}
 use Rattle.protocol_owed.proofs.CourseEvents.{changed_none}
 use Rattle.protocol_owed.proofs.NodeMoves.{IsKeptThere, asks_slot-kept, frees-kept}
-use Rattle.protocol_owed.proofs.Nodes.{changed_cases, there_more}
+use Rattle.protocol_owed.proofs.Nodes.{changed_cases}
 use Rattle.protocol_owed.proofs.Letters.{among-append_cases, among-behind, among-more, among-push_cases}
 use Rattle.lease_discipline.specs.Asks.{Asked, IsClosed, IsLast, IsPassed, OwnsAsks, Touched}
 use Rattle.lease_discipline.specs.Discipline.{Pushed}
@@ -45,7 +45,7 @@ plain_quiet : (m : Message) → is_plain m ≡ true → is_touch m ≡ false
 plain_quiet (Give a t w) e = absurd (cc)
 plain_quiet (Push a spec) e = absurd (cc)
 plain_quiet (Ask a t) e = absurd (cc)
-plain_quiet (Finished a n ids kept) e = refl
+plain_quiet (Finished a n rs) e = refl
 plain_quiet (Failed a f) e = refl
 plain_quiet (FinishedAck a) e = refl
 plain_quiet (Back a) e = refl
@@ -757,18 +757,9 @@ module _ (c : Whole) (me : ℕ) (old : Worker) (there : item_at c.workers me ≡
       (asked_asks h h.worker k task task t n (same_put h.worker k task at) (omega arith) progress (λ w e. q.mine.unpushed k task t n w at progress e)
       (q.mine.stands k task t n at progress) q)
 
-  born : (h : Here) (x : Object) (spec : Birth) → x.maker ≡ ByTask (new_task spec) → IsBornOf h.worker (with_object h x).worker spec
-  born h x spec is k = by_item (item_at h.worker.objects k) refl (item_at (h.worker.objects ++ x ∷ []) k) refl
-    where
-      by_item : (o : Option Object) → item_at h.worker.objects k ≡ o → (p : Option Object) → item_at (h.worker.objects ++ x ∷ []) k ≡ p →
-          (task_of (item_at (h.worker.objects ++ x ∷ []) k) ≡ task_of (item_at h.worker.objects k)) ⊎
-          ((task_of (item_at h.worker.objects k) ≡ None) × (task_of (item_at (h.worker.objects ++ x ∷ []) k) ≡ Some (new_task spec)))
-      by_item (Some u) e p f = inl (ap task_of (there_more h.worker.objects (x ∷ []) k u e) ∙ ap task_of (sym e))
-      by_item None e None f = inl (ap task_of f ∙ ap task_of (sym e))
-      by_item None e (Some z) f = elim (N.push_cases h.worker.objects k x z f) [
-        | inl at ↦ inl (ap task_of f ∙ ap task_of (sym at))
-        | inr (_, same) ↦ inr (ap task_of e, ap task_of f ∙ ap (λ (u : Object). task_in u.maker) (sym same) ∙ ap task_in is)
-      ]
+  born : (h : Here) (a : Attempt) (spec : Birth) (others : ℕ) (ids : List Id) →
+      IsBornOf h.worker (with_objects h (task_objects a (length h.worker.objects + 1) spec others ids)).worker spec
+  born h a spec others ids k = new_tasks h.worker.objects a (length h.worker.objects + 1) spec others ids k
 
   pub asks_kept : IsKept ToldOf OverBy GivenOf PassedBy Asks
   asks_kept = record {
@@ -778,9 +769,9 @@ module _ (c : Whole) (me : ℕ) (old : Worker) (there : item_at c.workers me ≡
     objects = λ h x t q. same_asks h.me h.worker x (sent_so h) t.tasks q;
     store = λ h s q. q;
     begins = begin;
-    bears_new = λ h x spec is q. record {
+    bears_new = λ h a spec others ids q. record {
       who = q.who;
-      mine = owns_born dead (sent_so h) me h.worker _ spec (born h x spec is) q.mine;
+      mine = owns_born dead (sent_so h) me h.worker _ spec (born h a spec others ids) q.mine;
       others = q.others;
       closed = q.closed;
       owned = q.owned;
@@ -797,7 +788,7 @@ module _ (c : Whole) (me : ℕ) (old : Worker) (there : item_at c.workers me ≡
     faults = λ h run fault y f e w q. frees_asks (logs (with_phase h run (HasFaulted fault)) (Faulted run.attempt y fault))
         (same_asks h.me h.worker _ (sent_so h) (λ i. refl) q);
     frees = λ h run y f e w q. frees_asks h q;
-    tells_end = λ h run n ids kept _ _ q. says_asks h _ _ refl q;
+    tells_end = λ h run n rs _ _ q. says_asks h _ _ refl q;
     tells_fault = λ h run f _ _ q. says_asks h _ _ refl q;
     back = λ h run _ _ q. says_asks h _ _ refl q;
     hears = λ h w a _ q. says_asks h _ _ refl q;

@@ -24,7 +24,7 @@ use Rattle.protocol.specs.Commits.{claim_step, commit_step}
 use Rattle.protocol.specs.Notices.{notice_step, notice_node_step}
 use Rattle.protocol.specs.Ticks.{tick_step}
 use Rattle.protocol.specs.Deliveries.{reached}
-use Rattle.protocol.specs.Events.{as_committed, claimed, committed_by, with_committed, delivered_by, delivered_to, with_delivered, is_live_worker}
+use Rattle.protocol.specs.Events.{as_committed, claimed, committed_by, with_committed, delivered_by, delivered_to, with_delivered, is_live_worker, objects_made}
 use Rattle.protocol.specs.Events.{is_live_node, killed_by, dead, dies_with, happens}
 use Rattle.protocol.specs.Answers.{Refuses, answer, decided, takes, given_out, whole_after}
 use Rattle.protocol.specs.Refusals.{commit_refusal, has_slot, is_of_job, is_out_by, is_ready, is_ready_on, is_ready_run, is_within_limits}
@@ -277,14 +277,14 @@ commit_event c j (OfJob o) (Some g) e k =
     let both = both_passed (unless (open_job && is_out_by (worker_at c g.worker) j) NoJob) (unless (is_live_worker (worker_at c g.worker)) Stale) e in
     let out : is_out_by (worker_at c g.worker) j ≡ true =
     and_right open_job (is_out_by (worker_at c g.worker) j) (passed (open_job && is_out_by (worker_at c g.worker) j) NoJob both.0) in
-    let d : Whole = with_committed c j (length o.births) in
+    let d : Whole = with_committed c j (objects_made o.births) in
     worker_event d g.worker (λ h. commit_step h o)
     (λ x at node does.
     let run : OutOf x.run j = out_of x.run j (ap (λ y. is_out_by y j) (sym at) ∙ out) in
     let over : run.run.is_over ≡ false = false_from_ne_true _ (λ i. let s = (mine d g.worker x.node x at (here d g.worker x node) does).stopped run.run run.at i in
     let f : has_stopped (Out j) ≡ true = ap has_stopped (sym run.out) ∙ s in absurd (cc)) in
     commit_does d g.worker x.node x at (here d g.worker x node) o run.run run.at over does)
-    (with_jobs c (changed_at c.jobs j as_committed) (c.made + length o.births) (committed_stay c.jobs j) k)
+    (with_jobs c (changed_at c.jobs j as_committed) (c.made + objects_made o.births) (committed_stay c.jobs j) k)
 
 -- ---- deliveries
 
@@ -300,7 +300,7 @@ module _ (c : Whole) (w : ℕ) (x : Worker) (at : worker_at c w ≡ Some x) (nod
 
   heard_worker : (u : ℕ) (m : Message) → Among (letter (TheWorker u) (TheWorker w) m) c.network → P start → Heard (TheWorker u) m
   heard_worker u (Push a spec) came d = push_does c w x.node x at start a spec live u came d
-  heard_worker u (Finished a n ids kept) came d = record { to = TheWorker w; message = Finished a n ids kept; came = came; tells = λ look sent i. i }
+  heard_worker u (Finished a n rs) came d = record { to = TheWorker w; message = Finished a n rs; came = came; tells = λ look sent i. i }
   heard_worker u (Failed a f) came d = record { to = TheWorker w; message = Failed a f; came = came; tells = λ look sent i. i }
   heard_worker u (FinishedAck a) came d = record { from = TheWorker u; came = came }
   heard_worker u (Ask a t) came d = tt
@@ -321,7 +321,7 @@ module _ (c : Whole) (w : ℕ) (x : Worker) (at : worker_at c w ≡ Some x) (nod
   heard_node : (n : ℕ) (m : Message) → Among (letter (TheNode n) (TheWorker w) m) c.network → Heard (TheNode n) m
   heard_node n (Give a t v) came = λ own. (t, subst (λ u. Among (letter (TheNode n) (TheWorker u) (Give a t v)) c.network) (sym own) came)
   heard_node n (Push a spec) came = tt
-  heard_node n (Finished a m ids kept) came = tt
+  heard_node n (Finished a m rs) came = tt
   heard_node n (Failed a f) came = tt
   heard_node n (FinishedAck a) came = tt
   heard_node n (Ask a t) came = tt

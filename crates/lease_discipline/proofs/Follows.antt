@@ -107,7 +107,7 @@ module _ (look next : Look) (s t : List Letter) (grows : Grows look next) (more 
   pushed_more from (TheWorker w) a d = record { owner = d.owner; from_worker = d.from_worker; node = d.node; given = gave_more s t d.node a w more d.given }
 
   between_more : (from to : Party) (m : Message) → IsTrueBetween look s from to m → IsTrueBetween next t from to m
-  between_more from to (Finished a n ids kept) d = done_more from a d
+  between_more from to (Finished a n rs) d = done_more from a d
   between_more from to (Failed a f) d = done_more from a d
   between_more from to (Back a) d = back_more from to a d
   between_more from to (FinishedAck a) d = done_more to a d

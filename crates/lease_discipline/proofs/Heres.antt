@@ -1,6 +1,6 @@
 -- A worker in its event keeps the leases of its node in order.
 use Rattle.std.proofs.Common.{◌≡◌, ◌≢◌, ℕ, ◌+◌, List, [], ◌∷◌, ◌++◌, Some, None, Option, refl, ap, sym, subst, ◌∙◌, ◌⊎◌, inl, inr}
-use Rattle.std.specs.Prelude.{true, false, if◌then◌else◌, ◌==◌}
+use Rattle.std.specs.Prelude.{length, true, false, if◌then◌else◌, ◌==◌}
 use Rattle.std.proofs.lemmas.Bool.{both_ways, eqb-false, eqb-true, false_from_ne_true}
 use Rattle.meaning.proofs.BirthLaws.{at_test}
 use Rattle.meaning.specs.Values.{Birth, Id}
@@ -33,7 +33,7 @@ use Rattle.lease_discipline.proofs.Follows.{AllFollow, Follows, More, follow_gro
 use Rattle.lease_discipline.proofs.Moves.{IsKept, is_plain}
 use Rattle.protocol.specs.Asking.{asks_at, rests}
 use Rattle.protocol.specs.Tables.{AskedAt}
-use Rattle.lease_discipline.proofs.Tame.{asked_not_run, new_not_run, new_tame, rest_not_run, task_tame}
+use Rattle.lease_discipline.proofs.Tame.{asked_not_run, born_tame, rest_not_run, task_tame}
 use Rattle.lease_discipline.proofs.Nodes.{IsUnwanted}
 use Rattle.lease_discipline.proofs.Theres.{Goes, asks_slot_goes, frees_goes, logs_goes, look_in, store_goes, worker_says_goes}
 
@@ -86,7 +86,7 @@ out_pace (HasFaulted f) j e = absurd (cc)
 plain_true : (look : Look) (sent : List Letter) (from to : Party) (m : Message) → is_plain m ≡ true → IsTrueBetween look sent from to m
 plain_true look sent from to (Give a t w) e = absurd (cc)
 plain_true look sent from to (Push a spec) e = absurd (cc)
-plain_true look sent from to (Finished a n ids kept) e = absurd (cc)
+plain_true look sent from to (Finished a n rs) e = absurd (cc)
 plain_true look sent from to (Failed a f) e = absurd (cc)
 plain_true look sent from to (FinishedAck a) e = absurd (cc)
 plain_true look sent from to (Back a) e = absurd (cc)
@@ -355,7 +355,7 @@ module _ (c : Whole) (me n : ℕ) (old : Worker) (there : item_at c.workers me �
     pushes_again = λ h k task w m e q d.
         pushes_does h (attempt (own_id h k) task.number) task.spec w m
         (subst (λ u. Gave (sent_here h) m (attempt (object_id u k) task.number) w) (sym d.who) ((mine h d).runs k task w m e q)) d;
-    bears_new = λ h x spec is d. tame_does h _ (new_tame h.worker x (λ task v k e q. new_not_run spec task v k (ap task_in (sym is) ∙ e) q)) d;
+    bears_new = λ h a spec others ids d. tame_does h _ (born_tame h.worker a (length h.worker.objects + 1) spec others ids) d;
     comes_to_rest = λ h o task _ _ d. tame_does h (with_task_of h o (rests task)).worker (task_tame h.worker o.serial (rests task) rest_not_run) d;
     asks_anew = λ h o old task _ _ d. asked_does h o task 0 h.worker.node d;
     asks_on = λ h o task t m k _ _ _ d. asked_does h o task (t + 1) k d;
@@ -380,7 +380,7 @@ module _ (c : Whole) (me n : ℕ) (old : Worker) (there : item_at c.workers me �
         (run_does h run next e refl (λ o. o) (λ _. refl) (λ j o. absurd (cc)) d) in
         frees_does g (busy_unwanted g next refl over faulted) faulted;
     frees = λ h run y f e q d. frees_does h (busy_unwanted h run e (waits_on h run y f e q d) d) d;
-    tells_end = λ h run m ids kept e o d. says_does h (TheWorker (owner_of run)) (Finished run.attempt m ids kept) (by_me h run.attempt d (done_here h run e o d)) d;
+    tells_end = λ h run m rs e o d. says_does h (TheWorker (owner_of run)) (Finished run.attempt m rs) (by_me h run.attempt d (done_here h run e o d)) d;
     tells_fault = λ h run f e o d. says_does h (TheWorker (owner_of run)) (Failed run.attempt f) (by_me h run.attempt d (done_here h run e o d)) d;
     back = λ h run e o d.
         let done : IsDone (look_here h) h.me run.attempt = by_me h run.attempt d (done_here h run e o d) in

@@ -98,14 +98,14 @@ tick_owes_nothing s = record {
   elsewhere = λ n w a t m b last unbegun. absurd (no_delivery b.0 b.1);
   gives = λ n w a t v spec b unbegun born. absurd (no_delivery b.0 b.1);
   requests = λ w y m number n b is known kept. absurd (no_delivery b.0 b.1);
-  accepted = λ y number n w m logged at came is. absurd (among-nothing _ logged);
-  owner = λ y number a logged waits. absurd (among-nothing _ logged);
+  accepted = λ y number n w m at logged came is. absurd (among-nothing _ logged);
+  owner = λ y part number a born logged waits. absurd (among-nothing _ logged);
   places = λ w a y number nodes content foreign b waits. absurd (no_delivery b.0 b.1);
   copies = λ n w a y number c b waits. absurd (no_delivery b.0 b.1);
   missing = λ n w y number m foreign b. absurd (no_delivery b.0 b.1);
   fetches = λ n w y number b. absurd (no_delivery b.0 b.1);
   holds = λ w e o b. absurd (no_delivery b.0 b.1);
-  finishes = λ w v a n ids content b. absurd (no_delivery b.0 b.1);
+  finishes = λ w v a n rs b. absurd (no_delivery b.0 b.1);
   acknowledged = λ v w a n b at. absurd (no_delivery b.0 b.1);
   ends = λ a c w ended other ran holds. absurd (no_end a c ended);
 }

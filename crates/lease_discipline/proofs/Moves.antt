@@ -1,20 +1,21 @@
 -- Whatever the smallest steps of a worker keep, each of its steps keeps. The smallest steps tell what comes of its attempt and of its slot, and
 -- which attempts of its own tasks begin, on which worker. How an attempt begins here, is given out and is committed stands apart.
 use Rattle.std.proofs.Common.{refl, ap, sym, inr, ◌⊎◌}
-use Rattle.std.specs.Prelude.{◌≡◌, ℕ, ◌+◌, Bool, true, false, filter, List, Option, Some, None}
-use Rattle.meaning.specs.Values.{Id, Outcome, Birth}
+use Rattle.std.specs.Prelude.{◌≡◌, ℕ, ◌+◌, Bool, true, false, filter, length, List, Option, Some, None}
+use Rattle.meaning.specs.Values.{Id, Outcome, Birth, results_of}
 use Rattle.event_log.specs.Entries.{Attempt, Entry, Got, Fault, Faulted}
 use Rattle.event_log.specs.Words.{attempt}
+use Rattle.protocol.specs.Messages.{EndedResult}
 use Rattle.protocol.specs.Messages.{Message, Party, TheWorker, TheNode, Ask, Give, Elsewhere, Back, Push, Finished, FinishedAck, Failed}
 use Rattle.protocol.specs.Stores.{Store}
-use Rattle.protocol.specs.Tables.{AskedAt, ByTask, Fetching, HasFaulted, Object, OwnTask, Run, RunsOn, Waits, Worker, has_stopped, new_task, owner_of}
-use Rattle.protocol.specs.Tables.{released, task_of, with_asker, with_content, with_fault, without_askers}
+use Rattle.protocol.specs.Tables.{AskedAt, Fetching, HasFaulted, OwnTask, Run, RunsOn, Waits, Worker, has_stopped, owner_of}
+use Rattle.protocol.specs.Tables.{task_of, with_asker, with_content, with_fault, without_askers}
 use Rattle.protocol.specs.Steps.{Here, with_task_of, with_phase, with_run, logs_all, logs, says, says_to_node, with_worker, with_store, own_id, own_object}
 use Rattle.protocol.specs.Steps.{object_at}
 use Rattle.protocol.specs.Runs.{with_answer, gives_slot_back, asks_for_slot, leaves_if_free, push_reached}
 use Rattle.protocol.specs.Asking.{asks_at, pushes, requests, rests, with_begun}
-use Rattle.protocol.specs.Holders.{holds_ids}
-use Rattle.protocol.specs.Commits.{asks_where, bears_all, needs, with_object}
+use Rattle.protocol.specs.Holders.{holds_ids, passes_on}
+use Rattle.protocol.specs.Commits.{asks_where, bears_all, keeps_contents, needs, task_objects, with_objects}
 use Rattle.protocol.specs.Notices.{notice_step, notice_node_step, with_dead_node, with_dead_worker}
 use Rattle.protocol.specs.Ticks.{tick_step}
 use Rattle.protocol.specs.Releases.{release_step}
@@ -31,7 +32,7 @@ abbrev pub is_plain : Message → Bool
 is_plain (Ask a t) = false
 is_plain (Give a t w) = false
 is_plain (Push a spec) = false
-is_plain (Finished a n ids kept) = false
+is_plain (Finished a n rs) = false
 is_plain (Failed a f) = false
 is_plain (FinishedAck a) = false
 is_plain (Back a) = false
@@ -52,7 +53,8 @@ pub record IsKept (IsToldBy : ℕ → Attempt → Type 0) (IsOverOf : Attempt �
   pub begins : (h : Here) (o : Id) (task : OwnTask) (w n t m : ℕ) → o.owner ≡ h.me → task_of (object_at h o) ≡ Some task → task.progress ≡ AskedAt t m →
       IsGivenBy n t (attempt o task.number) w → P h → P (pushes h o (with_begun task w n) w)
   -- a task is borne; its attempt comes to rest, that was running, or of which the worker told that it is over
-  pub bears_new : (h : Here) (x : Object) (spec : Birth) → x.maker ≡ ByTask (new_task spec) → P h → P (with_object h x)
+  pub bears_new : (h : Here) (a : Attempt) (spec : Birth) (others : ℕ) (ids : List Id) → P h →
+      P (with_objects h (task_objects a (length h.worker.objects + 1) spec others ids))
   pub comes_to_rest : (h : Here) (o : Id) (task : OwnTask) → task_of (object_at h o) ≡ Some task →
       IsRunning task ⊎ ((w : ℕ) × IsToldBy w (attempt o task.number)) →
       P h → P (with_task_of h o (rests task))
@@ -74,8 +76,8 @@ pub record IsKept (IsToldBy : ℕ → Attempt → Type 0) (IsOverOf : Attempt �
       P h → P (gives_slot_back (logs (with_phase h run (HasFaulted f)) (Faulted run.attempt y f)))
   pub frees : (h : Here) (run : Run) (y : Id) (f : Option Fetching) → h.worker.run ≡ Some run → run.phase ≡ Waits y f → P h → P (gives_slot_back h)
   -- what is said of an attempt that is over
-  pub tells_end : (h : Here) (run : Run) (n : ℕ) (ids : List Id) (c : Option Outcome) → h.worker.run ≡ Some run → run.is_over ≡ true → P h →
-      P (says h (owner_of run) (Finished run.attempt n ids c))
+  pub tells_end : (h : Here) (run : Run) (n : ℕ) (rs : List EndedResult) → h.worker.run ≡ Some run → run.is_over ≡ true → P h →
+      P (says h (owner_of run) (Finished run.attempt n rs))
   pub tells_fault : (h : Here) (run : Run) (f : Fault) → h.worker.run ≡ Some run → run.is_over ≡ true → P h → P (says h (owner_of run) (Failed run.attempt f))
   pub back : (h : Here) (run : Run) → h.worker.run ≡ Some run → run.is_over ≡ true → P h → P (says_to_node h h.worker.node (Back run.attempt))
   pub hears : (h : Here) (w : ℕ) (a : Attempt) → IsToldBy w a → P h → P (says h w (FinishedAck a))
@@ -100,7 +102,7 @@ module _ (IsToldBy : ℕ → Attempt → Type 0) (IsOverOf : Attempt → Type 0)
     asker = λ h o w p. kept.objects h _ (untouched_left h.worker o.serial (with_asker w) (λ y. refl)) p;
     answered = λ h o x _ _ p. kept.objects h _ (untouched_left h.worker o.serial without_askers (λ y. refl)) p;
     resolved = λ h o f p. kept.writes _ _ (kept.objects h _ (untouched_left h.worker o.serial (with_fault f) (λ y. refl)) p);
-    freed = λ h o p. kept.writes _ _ (kept.objects h _ (untouched_left h.worker o.serial released (λ y. refl)) p);
+    freed = λ h o p. kept.writes h _ p;
     places_lost = λ h m p. kept.objects h _ (places_left h.worker m) p;
     worker_dead = λ h v p. kept.objects h _ (same_left h.worker (with_dead_worker h v).worker refl refl refl refl refl) p;
     node_dead = λ h m p. kept.objects h _ (same_left h.worker (with_dead_node h m).worker refl refl refl refl refl) p;
@@ -137,6 +139,8 @@ module _ (IsToldBy : ℕ → Attempt → Type 0) (IsOverOf : Attempt → Type 0)
     put = λ h x e p. kept.objects h _ (put_left h.worker x e) p;
     primary = λ h o v p. kept.store h _ p;
     task = kept.bears_new;
+    ended = λ h o number c p. kept.store h _ p;
+    passed = λ h o ids p. kept.objects h _ (same_left h.worker (passes_on h o ids).worker refl refl refl refl refl) p;
     awaited = λ h run k e p. kept.run h run _ e (record { attempt = refl; over = refl; pace = refl }) p;
     hold_sent = λ h e o p. kept.says_plain h _ _ refl p;
   }
@@ -145,10 +149,10 @@ module _ (IsToldBy : ℕ → Attempt → Type 0) (IsOverOf : Attempt → Type 0)
   replies = record { acked = kept.hears; back_of = kept.back_of; begun = kept.begins }
 
   accepted : KeepsAccepted IsToldBy P
-  accepted h a task n ids c w e s p =
-      let g : Here = with_task_of h a.object (rests task) in
-      kept.writes _ _ (kept.objects g _ (untouched_left g.worker a.object.serial (with_content a.number n ids c) (λ y. refl))
-      (kept.comes_to_rest h a.object task e (inr (w, s)) p))
+  accepted h a task n rs w e _ s p =
+      kept.writes _ _ (S.settles-kept P
+      (λ g o number m r q. kept.objects g _ (untouched_left g.worker o.serial (with_content number m r.ids r.kept) (λ y. refl)) q)
+      (results_of task.spec) (with_task_of h a.object (rests task)) a.object a.number n rs (kept.comes_to_rest h a.object task e (inr (w, s)) p))
 
   -- ---- each step
 
@@ -157,6 +161,9 @@ module _ (IsToldBy : ℕ → Attempt → Type 0) (IsOverOf : Attempt → Type 0)
 
   pub holds_ids-kept : (h : Here) (e : Id) (os : List Id) → P h → P (holds_ids h e os)
   holds_ids-kept h e os p = S.holds_ids-kept P keeps births h e os p
+
+  pub keeps_contents-kept : (h : Here) (o : Id) (number : ℕ) (cs : List Outcome) → P h → P (keeps_contents h o number cs)
+  keeps_contents-kept h o number cs p = S.keeps_contents-kept P keeps births h o number cs p
 
   pub bears_all-kept : (h : Here) (a : Attempt) (bs : List Birth) → P h → P (bears_all h a bs)
   bears_all-kept h a bs p = S.bears_all-kept P keeps births h a bs p
@@ -184,7 +191,7 @@ module _ (IsToldBy : ℕ → Attempt → Type 0) (IsOverOf : Attempt → Type 0)
   -- what is known of a message from a worker
   abbrev pub IsHeard : Here → ℕ → Message → Type 0
   IsHeard h w (Push a spec) = P (push_reached h a spec)
-  IsHeard h w (Finished a n ids kept) = IsToldBy w a
+  IsHeard h w (Finished a n rs) = IsToldBy w a
   IsHeard h w (Failed a f) = IsToldBy w a
   IsHeard h w (FinishedAck a) = IsOverOf a
   IsHeard h w m = Unit {0}
@@ -204,7 +211,7 @@ module _ (IsToldBy : ℕ → Attempt → Type 0) (IsOverOf : Attempt → Type 0)
   heard : KeepsHeard IsHeardFrom P
   heard = record {
     push = λ h w a spec s _. s;
-    finished = λ h w a n ids c s p. S.finished_reached-kept P keeps replies accepted h w a n ids c s p;
+    finished = λ h w a n rs s p. S.finished_reached-kept P keeps replies accepted h w a n rs s p;
     finished_ack = λ h w a s p. S.finished_ack_reached-kept P keeps replies h a s p;
     failed = λ h w a f s p. S.failed_reached-kept P keeps replies h w a f s p;
     given = λ h n a t w s p. S.given_reached-kept P keeps replies h n a t w s p;

@@ -5,7 +5,7 @@ use Rattle.std.proofs.lemmas.Bool.{both_ways, false_from_ne_true}
 use Rattle.sequence.proofs.Places.{and_right, list_any-push_cases, list_any-push_left, list_any-push_right}
 use Rattle.meaning.proofs.BirthLaws.{at_test}
 use Rattle.meaning.specs.Values.{Birth, Id, Outcome}
-use Rattle.values.specs.Listed.{each_once, ids_in_outcome}
+use Rattle.event_log.specs.Commits.{commit_entries}
 use Rattle.event_log.specs.Entries.{Attempt, Entry}
 use Rattle.event_log.specs.Words.{same_attempt}
 use Rattle.event_log.specs.Breaks.{Among}
@@ -14,13 +14,11 @@ use Rattle.protocol.specs.Numbered.{item_at}
 use Rattle.protocol.specs.Sets.{has}
 use Rattle.protocol.specs.Messages.{Letter, letter, Message, Party, TheWorker, TheNode, Push}
 use Rattle.protocol.specs.Jobs.{AtEnd, AtGet, Outcomes, Stopped, stop_of}
-use Rattle.protocol.specs.Stores.{with_ended}
 use Rattle.protocol.specs.Nodes.{posts}
 use Rattle.protocol.specs.Tables.{Fetching, HasEnded, HasFaulted, Out, Phase, Ready, Run, Waits, Worker, has_stopped, new_run}
-use Rattle.protocol.specs.Steps.{Here, logs_all, own_id, store_here, with_phase, with_run, with_store}
+use Rattle.protocol.specs.Steps.{Here, logs_all, own_id, with_phase, with_run}
 use Rattle.protocol.specs.Runs.{begins_run, is_free, leaves_if_free, push_reached}
-use Rattle.protocol.specs.Holders.{holds_ids, passes_on}
-use Rattle.protocol.specs.Commits.{bears_all, claim_by, claim_step, commit_by, commit_step, ends, next_id_here, stops_by, with_outcomes, single_entries}
+use Rattle.protocol.specs.Commits.{keeps_contents, bears_all, claim_by, claim_step, commit_by, commit_step, ends, next_id_here, stops_by, with_outcomes}
 use Rattle.protocol.specs.Refusals.{is_ready_phase, is_ready_run}
 use Rattle.protocol.specs.Whole.{Whole}
 use Rattle.protocol_owed.specs.Courses.{GoesOn, HasStopped, Rests, has_begun}
@@ -29,8 +27,7 @@ use Rattle.protocol_owed.proofs.TellingMore.{stopped_pace, stopped_not, rests_no
 use Rattle.smallest_steps.proofs.Smallest.{AnyPassed}
 use Rattle.lease_discipline.specs.Discipline.{Look, Gave, IsBegunBy, IsDoneAt, IsJobOf, IsLeasedFor, IsOfNode, IsPromised, IsPushed, NodeKeeps, WorkerKeeps}
 use Rattle.lease_discipline.proofs.Follows.{Grows, true_more}
-use Rattle.lease_discipline.proofs.Tame.{same_left}
-use Rattle.lease_discipline.proofs.Moves.{IsKept, bears_all-kept, holds_ids-kept, leaves_if_free-kept, needs-kept}
+use Rattle.lease_discipline.proofs.Moves.{IsKept, bears_all-kept, keeps_contents-kept, leaves_if_free-kept, needs-kept}
 use Rattle.lease_discipline.proofs.Nodes.{IsUnwanted}
 use Rattle.lease_discipline.proofs.Theres.{letter_cases}
 use Rattle.lease_discipline.proofs.Heres.{Does, IsToldBy, IsOverOf, IsGivenBy, at_me, at_other, busy_unwanted, by_number, does_kept, frees_does, logs_does}
@@ -47,8 +44,8 @@ ready_out j e = absurd (cc)
 waits_out : (y : Id) (f : Option Fetching) (j : ℕ) → Waits y f ≡ Out j → ⊥
 waits_out y f j e = absurd (cc)
 
-ended_out : (c : Outcome) (j : ℕ) → HasEnded c ≡ Out j → ⊥
-ended_out c j e = absurd (cc)
+ended_out : (cs : List Outcome) (j : ℕ) → HasEnded cs ≡ Out j → ⊥
+ended_out cs j e = absurd (cc)
 
 pub ready_goes : (p : Phase) → is_ready_phase p ≡ true → has_stopped p ≡ true → ⊥
 ready_goes Ready e f = absurd (cc)
@@ -271,7 +268,7 @@ module _ (c : Whole) (me n : ℕ) (old : Worker) (there : item_at c.workers me �
     says_plain = λ h w m _ p. p;
     says_plain_to_node = λ h k m _ p. p;
     objects = λ h x t p. ap pace_by t.tame.run ∙ p;
-    bears_new = λ h x spec _ p. p;
+    bears_new = λ h a spec others ids p. p;
     comes_to_rest = λ h o task _ _ p. p;
     store = λ h s p. p;
     begins = λ h o task w m _ _ _ _ _ _ p. p;
@@ -284,7 +281,7 @@ module _ (c : Whole) (me n : ℕ) (old : Worker) (there : item_at c.workers me �
     gets = λ h run content y f e q p. absurd (not_waiting run h.worker.run y f e q p);
     faults = λ h run fault y f e q p. absurd (not_waiting run h.worker.run y f e q p);
     frees = λ h run y f e q p. absurd (not_waiting run h.worker.run y f e q p);
-    tells_end = λ h run m ids kept _ _ p. p;
+    tells_end = λ h run m rs _ _ p. p;
     tells_fault = λ h run f _ _ p. p;
     back = λ h run _ _ p. p;
     hears = λ h w a _ p. p;
@@ -321,7 +318,7 @@ module _ (c : Whole) (me n : ℕ) (old : Worker) (there : item_at c.workers me �
       pace = ap pace_by t.tame.run ∙ p.pace;
       unwanted = λ a live gave unbegun. p.unwanted a (sym t.tame.live ∙ live) gave (ap (has_begun a) (sym t.tame.began) ∙ unbegun);
     };
-    bears_new = λ h x spec _ p. record { pace = p.pace; unwanted = p.unwanted };
+    bears_new = λ h a spec others ids p. record { pace = p.pace; unwanted = p.unwanted };
     comes_to_rest = λ h o task _ _ p. record { pace = p.pace; unwanted = p.unwanted };
     store = λ h s p. record { pace = p.pace; unwanted = p.unwanted };
     begins = λ h o task w m _ _ _ _ _ _ p. says_stops _ (TheWorker w) _ (record { pace = p.pace; unwanted = p.unwanted });
@@ -334,7 +331,7 @@ module _ (c : Whole) (me n : ℕ) (old : Worker) (there : item_at c.workers me �
     gets = λ h run content y f e q p. absurd (stopped_not_waiting run h.worker.run y f e q p.pace);
     faults = λ h run fault y f e q p. absurd (stopped_not_waiting run h.worker.run y f e q p.pace);
     frees = λ h run y f e q p. absurd (stopped_not_waiting run h.worker.run y f e q p.pace);
-    tells_end = λ h run m ids kept _ _ p. says_stops h _ _ p;
+    tells_end = λ h run m rs _ _ p. says_stops h _ _ p;
     tells_fault = λ h run f _ _ p. says_stops h _ _ p;
     back = λ h run _ _ p. says_stops h _ _ p;
     hears = λ h w a _ p. says_stops h _ _ p;
@@ -346,12 +343,12 @@ module _ (c : Whole) (me n : ℕ) (old : Worker) (there : item_at c.workers me �
   going_on h run e p d = false_from_ne_true run.is_over (λ o. stopped_not
       (sym (ap pace_by e ∙ stopped_pace run.phase ((mine c me n old there h d).stopped run e o)) ∙ p))
 
-  ends_does : (h : Here) (run : Run) (content : Outcome) → h.worker.run ≡ Some run → GoesOnHere h → Here_does h → Here_does (ends h run content)
-  ends_does h run content e p d =
-      let next : Run = record run { phase = HasEnded content } in
+  ends_does : (h : Here) (run : Run) (cs : List Outcome) → h.worker.run ≡ Some run → GoesOnHere h → Here_does h → Here_does (ends h run cs)
+  ends_does h run cs e p d =
+      let next : Run = record run { phase = HasEnded cs } in
       let over : run.is_over ≡ false = going_on h run e p d in
-      let g : Here = with_phase h run (HasEnded content) in
-      let ended : Here_does g = run_does c me n old there h run next e refl (λ o. o) (λ _. refl) (λ j o. absurd (ended_out content j o)) d in
+      let g : Here = with_phase h run (HasEnded cs) in
+      let ended : Here_does g = run_does c me n old there h run next e refl (λ o. o) (λ _. refl) (λ j o. absurd (ended_out cs j o)) d in
       let unwanted : IsUnwanted (look_here c me n old there g) (sent_here c me n old there g) n me = busy_unwanted c me n old there g next refl over ended in
       let stops : StopsHere g = record {
         pace = refl;
@@ -363,22 +360,17 @@ module _ (c : Whole) (me n : ℕ) (old : Worker) (there : item_at c.workers me �
           unbegun = unbegun;
         });
       } in
-      let o : Id = run.attempt.object in
-      let ids : List Id = each_once (ids_in_outcome content) in
-      let kept_there : Here = with_store g (with_ended (store_here h) o run.attempt.number content) in
-      let stored : Here = passes_on kept_there o ids in
-      let held : Here = holds_ids stored o ids in
-      let left : Here = leaves_if_free held in
-      let left_does : Here_does left = both stored held Here_does kept o ids
-      (kept.objects kept_there stored.worker (same_left kept_there.worker stored.worker refl refl refl refl refl) (kept.store g (with_ended (store_here h) o run.attempt.number content) ended)) in
-      let left_stops : StopsHere left = both stored held StopsHere stops_kept o ids
-      (stops_kept.objects kept_there stored.worker (same_left kept_there.worker stored.worker refl refl refl refl refl) (stops_kept.store g (with_ended (store_here h) o run.attempt.number content) stops)) in
+      let left : Here = leaves_if_free (keeps_contents g run.attempt.object run.attempt.number cs) in
+      let left_does : Here_does left = both Here_does kept ended in
+      let left_stops : StopsHere left = both StopsHere stops_kept stops in
       frees_does c me n old there left (still_unwanted left left_stops) left_does
     where
-      both : (stored held : Here) (P : Here → Type 0) (k : Kept P) (o : Id) (ids : List Id) → P stored → P (leaves_if_free (holds_ids stored o ids))
-      both stored held P k o ids p =
-          leaves_if_free-kept (IsToldBy c me n old there) (IsOverOf c me n old there) (IsGivenBy c me n old there) AnyPassed P k (holds_ids stored o ids)
-          (holds_ids-kept (IsToldBy c me n old there) (IsOverOf c me n old there) (IsGivenBy c me n old there) AnyPassed P k stored o ids p)
+      both : (P : Here → Type 0) (k : Kept P) → P (with_phase h run (HasEnded cs)) →
+          P (leaves_if_free (keeps_contents (with_phase h run (HasEnded cs)) run.attempt.object run.attempt.number cs))
+      both P k p =
+          leaves_if_free-kept (IsToldBy c me n old there) (IsOverOf c me n old there) (IsGivenBy c me n old there) AnyPassed P k _
+          (keeps_contents-kept (IsToldBy c me n old there) (IsOverOf c me n old there) (IsGivenBy c me n old there) AnyPassed P k
+          (with_phase h run (HasEnded cs)) run.attempt.object run.attempt.number cs p)
 
       still_unwanted : (g : Here) → StopsHere g → IsUnwanted (look_here c me n old there g) (sent_here c me n old there g) n me
       still_unwanted g s a wanted =
@@ -392,14 +384,14 @@ module _ (c : Whole) (me n : ℕ) (old : Worker) (there : item_at c.workers me �
       needs-kept (IsToldBy c me n old there) (IsOverOf c me n old there) (IsGivenBy c me n old there) AnyPassed Here_does kept h run y
       (run_does c me n old there h run (record run { phase = Waits y None }) e refl (λ o. o)
       (λ o. absurd (both_ways run.is_over (going_on h run e p d) o)) (λ j o. absurd (waits_out y None j o)) d)
-  stops_does h (AtEnd content) (Some run) e p d = ends_does h run content e p d
+  stops_does h (AtEnd cs) (Some run) e p d = ends_does h run cs e p d
 
   pub commit_does : (h : Here) (o : Outcomes) (run : Run) → h.worker.run ≡ Some run → run.is_over ≡ false → Here_does h → Here_does (commit_step h o)
   commit_does h o run e over d = subst (λ r. Here_does (commit_by h o r)) (sym e) by_run
     where
       by_run : Here_does (commit_by h o (Some run))
       by_run =
-          let es : List Entry = single_entries run.attempt (next_id_here h) o.births o.prints (stop_of o.stop) in
+          let es : List Entry = commit_entries run.attempt (next_id_here h) o.births o.prints (stop_of o.stop) in
           let next : Run = with_outcomes run o in
           let g : Here = logs_all (with_run h next) es in
           let started : Here_does g = logs_does c me n old there (with_run h next) es

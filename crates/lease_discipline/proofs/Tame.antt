@@ -1,12 +1,14 @@
 -- Changes of a worker's objects in which no attempt comes to run, and what tests tell of them.
 use Rattle.std.proofs.Common.{◌≡◌, ℕ, zero, suc, List, [], ◌∷◌, ◌++◌, map, Some, None, Option, refl, ap, sym, ◌∙◌, inl, inr}
 use Rattle.std.specs.Prelude.{slice_get}
-use Rattle.meaning.specs.Values.{Birth}
+use Rattle.meaning.specs.Values.{Birth, Id}
+use Rattle.event_log.specs.Entries.{Attempt}
+use Rattle.protocol.specs.Commits.{task_objects}
 use Rattle.protocol.specs.Numbered.{item_at, changed_at}
 use Rattle.protocol.specs.Tables.{ByTask, Object, OwnTask, AtRest, AskedAt, RunsOn, WasPut}
 use Rattle.protocol.specs.Tables.{Worker}
 use Rattle.protocol.specs.Tables.{new_task, task_in, task_of, with_task, without_place}
-use Rattle.smallest_steps.proofs.Known.{same_tasks}
+use Rattle.smallest_steps.proofs.Known.{new_tasks, same_tasks}
 use Rattle.protocol_owed.proofs.CourseEvents.{append_none}
 use Rattle.protocol_owed.proofs.Nodes.{changed_cases, push_cases, there_more}
 
@@ -101,6 +103,20 @@ new_tame x y rests = record {
       | inl at ↦ record { task = task; at = ap task_of at ∙ e; progress = q; numbered = refl }
       | inr (last, is) ↦ absurd (rests task v n (ap (λ (u : Object). task_in u.maker) is ∙ e) q)
     ]
+
+-- the objects of a new task
+pub born_tame : (x : Worker) (a : Attempt) (serial : ℕ) (spec : Birth) (others : ℕ) (ids : List Id) →
+    IsTame x (record x { objects = x.objects ++ task_objects a serial spec others ids })
+born_tame x a serial spec others ids = record {
+  node = refl;
+  live = refl;
+  run = refl;
+  began = refl;
+  runs = λ i task v n e q. elim (new_tasks x.objects a serial spec others ids i) [
+    | inl same ↦ record { task = task; at = sym same ∙ e; progress = q; numbered = refl }
+    | inr (none, new) ↦ absurd (new_not_run spec task v n (sym new ∙ e) q)
+  ];
+}
 
 get_mapped : {X Y : Type 0} (f : X → Y) (xs : List X) (i : ℕ) (y : Y) → slice_get (map f xs) i ≡ Some y → (x : X) × (slice_get xs i ≡ Some x) × (y ≡ f x)
 get_mapped f [] i y e = absurd (cc)

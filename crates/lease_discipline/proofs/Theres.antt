@@ -334,7 +334,7 @@ module _ (jobs : List Given) (ws : List Worker) (net : List Letter) (n : ℕ) wh
   reached_from_goes t w (Elsewhere a i m) is g = g
   reached_from_goes t w (Wait a i) is g = g
   reached_from_goes t w (Push a spec) is g = g
-  reached_from_goes t w (Finished a m ids kept) is g = g
+  reached_from_goes t w (Finished a m rs) is g = g
   reached_from_goes t w (FinishedAck a) is g = g
   reached_from_goes t w (Failed a f) is g = g
   reached_from_goes t w (Where o) is g = g

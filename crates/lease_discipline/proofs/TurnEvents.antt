@@ -25,7 +25,7 @@ use Rattle.protocol.specs.Commits.{claim_step, commit_step}
 use Rattle.protocol.specs.Notices.{notice_step, notice_node_step}
 use Rattle.protocol.specs.Ticks.{tick_step}
 use Rattle.protocol.specs.Deliveries.{reached}
-use Rattle.protocol.specs.Events.{claimed, committed_by, with_committed, delivered_by, delivered_to, with_delivered, is_live_worker, is_live_node, killed_by}
+use Rattle.protocol.specs.Events.{claimed, committed_by, with_committed, delivered_by, delivered_to, with_delivered, is_live_worker, is_live_node, killed_by, objects_made}
 use Rattle.protocol.specs.Events.{dead, dies_with, happens}
 use Rattle.protocol.specs.Answers.{Refuses, answer, decided, takes, given_out, whole_after}
 use Rattle.protocol.specs.Refusals.{commit_refusal, has_slot, is_of_job, is_out_by, is_ready, is_ready_on, is_ready_run, is_within_limits, no_worker}
@@ -170,7 +170,7 @@ commit_event c j (OfJob o) (Some g) e k =
     let out : is_out_by (worker_at c g.worker) j ≡ true =
     and_right open_job (is_out_by (worker_at c g.worker) j) (passed (open_job && is_out_by (worker_at c g.worker) j) NoJob both.0) in
     let live : is_live_worker (worker_at c g.worker) ≡ true = passed (is_live_worker (worker_at c g.worker)) Stale both.1 in
-    let d : Whole = with_committed c j (length o.births) in
+    let d : Whole = with_committed c j (objects_made o.births) in
     worker_turns d g.worker (λ h. commit_step h o)
     (λ x at node home t.
     let run : OutOf x.run j = out_of x.run j (ap (λ y. is_out_by y j) (sym at) ∙ out) in
@@ -204,7 +204,7 @@ module _ (c : Whole) (i w : ℕ) (from : Party) (x : Worker) (at : worker_at c w
   heard_worker : (u : ℕ) → from ≡ TheWorker u → (m : Message) → item_at c.network i ≡ Some (letter from (TheWorker w) m) → Q start →
       IsHeardFrom AnyTold AnyOver GivenBy AnyPassed Q q_kept start (TheWorker u) m
   heard_worker u e (Push a spec) sent t = push_heard a spec sent t
-  heard_worker u e (Finished a n ids content) sent t = tt
+  heard_worker u e (Finished a n rs) sent t = tt
   heard_worker u e (Failed a f) sent t = tt
   heard_worker u e (FinishedAck a) sent t = tt
   heard_worker u e (Ask a j) sent t = tt
@@ -225,7 +225,7 @@ module _ (c : Whole) (i w : ℕ) (from : Party) (x : Worker) (at : worker_at c w
   heard_node : (n : ℕ) (m : Message) → IsHeardFrom AnyTold AnyOver GivenBy AnyPassed Q q_kept start (TheNode n) m
   heard_node n (Give a j v) = λ _. tt
   heard_node n (Push a spec) = tt
-  heard_node n (Finished a m ids content) = tt
+  heard_node n (Finished a m rs) = tt
   heard_node n (Failed a f) = tt
   heard_node n (FinishedAck a) = tt
   heard_node n (Ask a j) = tt

@@ -1,30 +1,29 @@
 -- No step takes its slot from a worker whose turn it is.
 use Rattle.std.proofs.Common.{◌≡◌, ◌≢◌, ℕ, ◌+◌, List, [], ◌∷◌, ◌++◌, Some, None, Option, refl, ap, sym, subst, ◌∙◌, ◌⊎◌, inl, inr}
-use Rattle.std.specs.Prelude.{true, if◌then◌else◌, ◌||◌, ◌==◌, nat_lt}
+use Rattle.std.specs.Prelude.{length, true, if◌then◌else◌, ◌||◌, ◌==◌, nat_lt}
 use Rattle.std.proofs.lemmas.Bool.{eqb-true}
 use Rattle.sequence.proofs.Places.{list_any-push_left, or_cases}
 use Rattle.meaning.proofs.BirthLaws.{at_test}
 use Rattle.meaning.specs.Values.{Birth, Id, Outcome}
-use Rattle.values.specs.Listed.{each_once, ids_in_outcome}
+use Rattle.event_log.specs.Commits.{commit_entries}
 use Rattle.event_log.specs.Entries.{Attempt, Entry, Faulted, Got}
 use Rattle.protocol.specs.Numbered.{item_at}
 use Rattle.protocol.specs.Sets.{first_item, has, least, repeated, rest_of}
 use Rattle.protocol.specs.Jobs.{AtEnd, AtGet, Outcomes, Stopped, stop_of}
 use Rattle.protocol.specs.Messages.{Message, Party, TheWorker, TheNode, Ask, Give, Elsewhere, Wait, Back, Push, Finished, FinishedAck, Failed}
 use Rattle.protocol.specs.Messages.{Where, At, Gone, Fetch, CopyOf, Missing, Hold, HoldAck, Unhold}
-use Rattle.protocol.specs.Stores.{copy_in, with_ended}
+use Rattle.protocol.specs.Stores.{copy_in}
 use Rattle.protocol.specs.Nodes.{AskKey, AskReply, Scheduler, SentOn, There, with_scheduler}
 use Rattle.protocol.specs.Slots.{ask_key, asked_by, asks_slot, fetched, forgets, frees, gives_worker, grants, grants_next, grants_queued, has_free_slot}
 use Rattle.protocol.specs.Slots.{has_no_slot_for, leases_idle, may_be_idle}
 use Rattle.protocol.specs.Slots.{next_in_circle, node_reached, node_reached_from, queues, replies_anew, reply_to, with_answered, with_idle, without_slot}
 use Rattle.protocol.specs.Slots.{without_worker}
 use Rattle.protocol.specs.Tables.{Fetching, HasEnded, HasFaulted, Out, OwnTask, Run, Waits, Worker, new_worker}
-use Rattle.protocol.specs.Steps.{Here, logs, logs_all, store_here, with_phase, with_run, with_store, with_task_of, with_worker}
+use Rattle.protocol.specs.Steps.{Here, logs, logs_all, with_phase, with_run, with_task_of, with_worker}
 use Rattle.protocol.specs.Runs.{asks_for_slot, begins_run, gives_slot_back, leaves_if_free, with_answer}
 use Rattle.protocol.specs.Asking.{asks_at, rests, with_begun}
 use Rattle.protocol.specs.Tables.{AskedAt}
-use Rattle.protocol.specs.Holders.{holds_ids, passes_on}
-use Rattle.protocol.specs.Commits.{bears_all, with_object, claim_by, claim_step, commit_by, commit_step, ends, next_id_here, stops_by, with_outcomes, single_entries}
+use Rattle.protocol.specs.Commits.{bears_all, keeps_contents, task_objects, with_objects, claim_by, claim_step, commit_by, commit_step, ends, next_id_here, stops_by, with_outcomes}
 use Rattle.protocol.specs.Whole.{Whole}
 use Rattle.protocol_owed.specs.Courses.{GoesOn, HasStopped, IsOut, Rests}
 use Rattle.protocol_owed.proofs.CourseEvents.{append_split, one_of}
@@ -35,7 +34,7 @@ use Rattle.protocol_owed.proofs.TellingMore.{stopped_not, rests_not}
 use Rattle.smallest_steps.proofs.Smallest.{AnyPassed}
 use Rattle.lease_discipline.specs.Discipline.{Look}
 use Rattle.lease_discipline.specs.Slots.{HasTurn}
-use Rattle.lease_discipline.proofs.Moves.{IsKept, bears_all-kept, holds_ids-kept, leaves_if_free-kept, needs-kept}
+use Rattle.lease_discipline.proofs.Moves.{IsKept, bears_all-kept, keeps_contents-kept, leaves_if_free-kept, needs-kept}
 use Rattle.lease_discipline.proofs.Heres.{at_me, at_other, by_number, look_here, look_with, workers_with}
 
 -- ---- a node
@@ -158,7 +157,7 @@ reached_from_lose t w (Give a i v) = none_lost (sch t)
 reached_from_lose t w (Elsewhere a i m) = none_lost (sch t)
 reached_from_lose t w (Wait a i) = none_lost (sch t)
 reached_from_lose t w (Push a spec) = none_lost (sch t)
-reached_from_lose t w (Finished a m ids kept) = none_lost (sch t)
+reached_from_lose t w (Finished a m rs) = none_lost (sch t)
 reached_from_lose t w (FinishedAck a) = none_lost (sch t)
 reached_from_lose t w (Failed a f) = none_lost (sch t)
 reached_from_lose t w (Where o) = none_lost (sch t)
@@ -343,7 +342,7 @@ module _ (c : Whole) (me n : ℕ) (old : Worker) (there : item_at c.workers me �
     says_plain = λ h w m _ t. record { who = t.who; home = t.home; turns = t.turns };
     says_plain_to_node = λ h k m _ t. record { who = t.who; home = t.home; turns = t.turns };
     objects = λ h x tame t. worker_turns h x tame.tame.node (λ i. sym tame.tame.live ∙ i) (inl (ap pace_by tame.tame.run)) t;
-    bears_new = λ h x spec _ t. worker_turns h (with_object h x).worker refl (λ i. i) (inl refl) t;
+    bears_new = λ h a spec others ids t. worker_turns h (with_objects h (task_objects a (length h.worker.objects + 1) spec others ids)).worker refl (λ i. i) (inl refl) t;
     comes_to_rest = λ h o task _ _ t. worker_turns h (with_task_of h o (rests task)).worker refl (λ i. i) (inl refl) t;
     store = λ h s t. record { who = t.who; home = t.home; turns = t.turns };
     begins = λ h o task w m _ _ _ _ _ _ t.
@@ -366,7 +365,7 @@ module _ (c : Whole) (me n : ℕ) (old : Worker) (there : item_at c.workers me �
         let turned : Turns (with_run h next) = worker_turns h (record h.worker { run = Some next }) refl (λ i. i) (inr (inr none)) t in
         frees_turns g none (record { who = turned.who; home = turned.home; turns = turned.turns });
     frees = λ h run y f e q t. frees_turns h (waits_pace h run y f e q) t;
-    tells_end = λ h run m ids kept _ _ t. record { who = t.who; home = t.home; turns = t.turns };
+    tells_end = λ h run m rs _ _ t. record { who = t.who; home = t.home; turns = t.turns };
     tells_fault = λ h run f _ _ t. record { who = t.who; home = t.home; turns = t.turns };
     back = λ h run _ _ t. record { who = t.who; home = t.home; turns = t.turns };
     hears = λ h w a _ t. record { who = t.who; home = t.home; turns = t.turns };
@@ -415,7 +414,7 @@ module _ (c : Whole) (me n : ℕ) (old : Worker) (there : item_at c.workers me �
     says_plain = λ h w m _ p. p;
     says_plain_to_node = λ h k m _ p. p;
     objects = λ h x t p. ap pace_by t.tame.run ∙ p;
-    bears_new = λ h x spec _ p. p;
+    bears_new = λ h a spec others ids p. p;
     comes_to_rest = λ h o task _ _ p. p;
     store = λ h s p. p;
     begins = λ h o task w m _ _ _ _ _ _ p. p;
@@ -428,29 +427,24 @@ module _ (c : Whole) (me n : ℕ) (old : Worker) (there : item_at c.workers me �
     gets = λ h run content y f e q p. absurd (waits_on h.worker.run run y f e q p);
     faults = λ h run fault y f e q p. absurd (waits_on h.worker.run run y f e q p);
     frees = λ h run y f e q p. absurd (waits_on h.worker.run run y f e q p);
-    tells_end = λ h run m ids kept _ _ p. p;
+    tells_end = λ h run m rs _ _ p. p;
     tells_fault = λ h run f _ _ p. p;
     back = λ h run _ _ p. p;
     hears = λ h w a _ p. p;
     back_of = λ h m a _ _ p. p;
   }
 
-  ends_turns : (h : Here) (run : Run) (content : Outcome) → Turns h → Turns (ends h run content)
-  ends_turns h run content t =
-      let g : Here = with_phase h run (HasEnded content) in
-      let o : Id = run.attempt.object in
-      let ids : List Id = each_once (ids_in_outcome content) in
-      let kept_there : Here = with_store g (with_ended (store_here h) o run.attempt.number content) in
-      let stored : Here = passes_on kept_there o ids in
+  ends_turns : (h : Here) (run : Run) (cs : List Outcome) → Turns h → Turns (ends h run cs)
+  ends_turns h run cs t =
+      let g : Here = with_phase h run (HasEnded cs) in
+      let held : Here = keeps_contents g run.attempt.object run.attempt.number cs in
       let ended : Turns g = worker_turns h g.worker refl (λ i. i) (inr (inr (stopped_no_turn g.worker refl))) t in
-      let left : Turns (leaves_if_free (holds_ids stored o ids)) =
-      both stored Turns kept o ids
-      (worker_turns kept_there stored.worker refl (λ i. i) (inr (inr (stopped_no_turn stored.worker refl))) (record { who = ended.who; home = ended.home; turns = ended.turns })) in
-      let stopped : StoppedHere (leaves_if_free (holds_ids stored o ids)) = both stored StoppedHere stopped_kept o ids refl in
-      frees_turns (leaves_if_free (holds_ids stored o ids)) (stopped_no_turn _ stopped) left
+      frees_turns (leaves_if_free held) (stopped_no_turn _ (both StoppedHere stopped_kept refl)) (both Turns kept ended)
     where
-      both : (stored : Here) (P : Here → Type 0) (k : IsKept T O V AnyPassed P) (o : Id) (ids : List Id) → P stored → P (leaves_if_free (holds_ids stored o ids))
-      both stored P k o ids p = leaves_if_free-kept T O V AnyPassed P k (holds_ids stored o ids) (holds_ids-kept T O V AnyPassed P k stored o ids p)
+      both : (P : Here → Type 0) (k : IsKept T O V AnyPassed P) → P (with_phase h run (HasEnded cs)) →
+          P (leaves_if_free (keeps_contents (with_phase h run (HasEnded cs)) run.attempt.object run.attempt.number cs))
+      both P k p =
+          leaves_if_free-kept T O V AnyPassed P k _ (keeps_contents-kept T O V AnyPassed P k (with_phase h run (HasEnded cs)) run.attempt.object run.attempt.number cs p)
 
   stops_turns : (h : Here) (stop : Stopped) (r : Option Run) → h.worker.run ≡ r → Turns h → Turns (stops_by h stop r)
   stops_turns h stop None e t = t
@@ -469,7 +463,7 @@ module _ (c : Whole) (me n : ℕ) (old : Worker) (there : item_at c.workers me �
 
       by_run : Turns (commit_by h o (Some run))
       by_run =
-          let es : List Entry = single_entries run.attempt (next_id_here h) o.births o.prints (stop_of o.stop) in
+          let es : List Entry = commit_entries run.attempt (next_id_here h) o.births o.prints (stop_of o.stop) in
           let next : Run = with_outcomes run o in
           let g : Here = logs_all (with_run h next) es in
           let started : Turns (with_run h next) = worker_turns h (record h.worker { run = Some next }) refl (λ i. i) (inr (inl slot)) t in

@@ -111,7 +111,7 @@ SaysPushed sent from (TheNode n) a = Unit {0}
 
 -- that an attempt stopped is said only once it is done at its worker; a worker is given by its node, and pushed to only once it was given
 abbrev pub IsTrueBetween : Look → List Letter → Party → Party → Message → Type 0
-IsTrueBetween look sent from to (Finished a n ids kept) = SaysDone look from a
+IsTrueBetween look sent from to (Finished a n rs) = SaysDone look from a
 IsTrueBetween look sent from to (Failed a f) = SaysDone look from a
 IsTrueBetween look sent from to (Back a) = SaysBack look from to a
 IsTrueBetween look sent from to (FinishedAck a) = SaysDone look to a

@@ -6,7 +6,7 @@ use Rattle.limit_laws.specs.Later.{counted}
 use Rattle.limit_laws.specs.Limits.{entries_limited, entries_within, is_within, whole_limited, whole_within}
 use Rattle.limit_laws.proofs.Later.{counted_later, jobs_kept, made_kept}
 use Rattle.protocol.specs.Commits.{claim_step, commit_step}
-use Rattle.protocol.specs.Events.{as_committed, claimed, committed, committed_by}
+use Rattle.protocol.specs.Events.{as_committed, claimed, committed, committed_by, objects_made}
 use Rattle.protocol.specs.Jobs.{Given, OfJob, Outcomes}
 use Rattle.protocol.specs.Numbered.{changed_at, item_at}
 use Rattle.protocol.specs.Steps.{Here}
@@ -77,7 +77,7 @@ claimed_entries c w = entries_as c c.made w (c.jobs ++ next_job c w) (claims c)
 
 -- ---- commits
 
-pub committed_noted : (c mid : Whole) (j made : ℕ) (d : Outcomes) (g : Given) (es : List Entry) → item_at c.jobs j ≡ Some g → made ≡ c.made + length d.births
+pub committed_noted : (c mid : Whole) (j made : ℕ) (d : Outcomes) (g : Given) (es : List Entry) → item_at c.jobs j ≡ Some g → made ≡ c.made + objects_made d.births
     → mid ≡ whole_within made c (worker_does c g.worker (λ h. commit_step h d)) → entries_within made (worker_does c g.worker (λ h. commit_step h d)) ≡ Some es
     → record mid { jobs = changed_at mid.jobs j as_committed; made = made } ≡ whole_limited c (committed c j (OfJob d))
 committed_noted c mid j made d g es i m e t =
@@ -87,7 +87,7 @@ committed_noted c mid j made d g es i m e t =
     ∙ ap (λ k. whole_limited c (worker_does (counted k (changed_at c.jobs j as_committed) c) g.worker (λ h. commit_step h d))) m
     ∙ sym (ap (λ o. whole_limited c (committed_by c j (OfJob d) o)) i)
 
-pub committed_not_noted : (c mid : Whole) (j made : ℕ) (d : Outcomes) (g : Given) → item_at c.jobs j ≡ Some g → made ≡ c.made + length d.births
+pub committed_not_noted : (c mid : Whole) (j made : ℕ) (d : Outcomes) (g : Given) → item_at c.jobs j ≡ Some g → made ≡ c.made + objects_made d.births
     → mid ≡ whole_within made c (worker_does c g.worker (λ h. commit_step h d)) → entries_within made (worker_does c g.worker (λ h. commit_step h d)) ≡ None
     → mid ≡ whole_limited c (committed c j (OfJob d))
 committed_not_noted c mid j made d g i m e t =
@@ -95,7 +95,7 @@ committed_not_noted c mid j made d g i m e t =
     ∙ ap (λ k. whole_limited c (worker_does (counted k (changed_at c.jobs j as_committed) c) g.worker (λ h. commit_step h d))) m
     ∙ sym (ap (λ o. whole_limited c (committed_by c j (OfJob d) o)) i)
 
-pub committed_entries : (c : Whole) (j made : ℕ) (d : Outcomes) (g : Given) → item_at c.jobs j ≡ Some g → made ≡ c.made + length d.births
+pub committed_entries : (c : Whole) (j made : ℕ) (d : Outcomes) (g : Given) → item_at c.jobs j ≡ Some g → made ≡ c.made + objects_made d.births
     → entries_limited (committed c j (OfJob d)) ≡ entries_within made (worker_does c g.worker (λ h. commit_step h d))
 committed_entries c j made d g i m =
     ap (λ o. entries_limited (committed_by c j (OfJob d) o)) i

@@ -58,7 +58,7 @@ owner_died_13 = record { event = Deliver 4; now = refl; heard = inl (1, refl); n
 
 owner_died_15 : Allowed owner_died_setting (opening ++ take 15 owner_died_rest) (Accepted (first_of (object 1 1)))
 unfolding call_at same_id is_made_by same_attempt accepted_events under_way_from ends_with_in is_committed has_job_out node_is_killed node_lives is_killed is_live was_told was_lost breaks_from breaks_of is_one_of anchored may_be_held
-owner_died_15 = record { own = record { event = Deliver 5; now = refl; own = refl; lives = refl }; not_main = refl; contents = (reference_to (object 2 1)) ∷ []; ended = (0, refl); last = refl; unresolved = (object 1 1, (0, refl), refl); once = refl }
+owner_died_15 = record { own = record { event = Deliver 5; now = refl; own = refl; lives = refl }; not_main = refl; contents = (reference_to (object 2 1)) ∷ []; ended = (0, refl); last = refl; unresolved = (object 1 1, (0, refl), refl); unspent = λ p q b s a. let e = a.1 in absurd (cc); once = refl }
 
 owner_died_16 : Allowed owner_died_setting (opening ++ take 16 owner_died_rest) (Got main_attempt (object 1 1) (reference_to (object 2 1)))
 unfolding call_at same_id is_made_by same_attempt accepted_events under_way_from ends_with_in is_committed has_job_out node_is_killed node_lives is_killed is_live was_told was_lost breaks_from breaks_of is_one_of anchored may_be_held
@@ -82,7 +82,7 @@ owner_died_24 = record { worker = 3; job = record { job = 3; now = refl; own = r
 
 owner_died_26 : Allowed owner_died_setting (opening ++ take 26 owner_died_rest) (Accepted (first_of (object 2 1)))
 unfolding call_at same_id is_made_by same_attempt accepted_events under_way_from ends_with_in is_committed has_job_out node_is_killed node_lives is_killed is_live was_told was_lost breaks_from breaks_of is_one_of anchored may_be_held
-owner_died_26 = record { own = record { event = Deliver 10; now = refl; own = refl; lives = refl }; not_main = refl; contents = (value 4) ∷ []; ended = (0, refl); last = refl; unresolved = (object 2 1, (0, refl), refl); once = refl }
+owner_died_26 = record { own = record { event = Deliver 10; now = refl; own = refl; lives = refl }; not_main = refl; contents = (value 4) ∷ []; ended = (0, refl); last = refl; unresolved = (object 2 1, (0, refl), refl); unspent = λ p q b s a. let e = a.1 in absurd (cc); once = refl }
 
 owner_died_30 : Answered owner_died_setting (opening ++ take 30 owner_died_rest) (In (Notice 1 2) 0) (drop 31 owner_died_rest)
 unfolding call_at same_id is_made_by same_attempt accepted_events under_way_from ends_with_in is_committed has_job_out node_is_killed node_lives is_killed is_live was_told was_lost breaks_from breaks_of is_one_of anchored may_be_held

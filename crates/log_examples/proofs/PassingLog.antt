@@ -88,7 +88,7 @@ passing_25 = record { worker = 3; job = record { job = 4; now = refl; own = refl
 
 passing_27 : Allowed passing_setting (opening ++ take 27 passing_rest) (Accepted (first_of (object 2 1)))
 unfolding call_at same_id is_made_by same_attempt accepted_events under_way_from ends_with_in is_committed has_job_out node_is_killed node_lives is_killed is_live was_told was_lost breaks_from breaks_of is_one_of anchored
-passing_27 = record { own = record { event = Deliver 10; now = refl; own = refl; lives = refl }; not_main = refl; contents = (value 7) ∷ []; ended = (0, refl); last = refl; unresolved = (object 2 1, (0, refl), refl); once = refl }
+passing_27 = record { own = record { event = Deliver 10; now = refl; own = refl; lives = refl }; not_main = refl; contents = (value 7) ∷ []; ended = (0, refl); last = refl; unresolved = (object 2 1, (0, refl), refl); unspent = λ p q b s a. let e = a.1 in absurd (cc); once = refl }
 
 pub passing_is_legal : Legal passing_setting passing_log
 unfolding call_at same_id is_made_by same_attempt accepted_events under_way_from ends_with_in is_committed has_job_out node_is_killed node_lives is_killed is_live was_told was_lost breaks_from breaks_of is_one_of anchored

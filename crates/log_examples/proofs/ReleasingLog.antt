@@ -90,7 +90,7 @@ releasing_25 = record { worker = 3; job = record { job = 4; now = refl; own = re
 
 releasing_27 : Allowed releasing_setting (opening ++ take 27 releasing_rest) (Accepted (first_of (object 2 1)))
 unfolding call_at same_id is_made_by same_attempt accepted_events under_way_from ends_with_in is_committed has_job_out node_is_killed node_lives is_killed is_live was_told was_lost breaks_from breaks_of is_one_of anchored may_be_held
-releasing_27 = record { own = record { event = Deliver 10; now = refl; own = refl; lives = refl }; not_main = refl; contents = (value 7) ∷ []; ended = (0, refl); last = refl; unresolved = (object 2 1, (0, refl), refl); once = refl }
+releasing_27 = record { own = record { event = Deliver 10; now = refl; own = refl; lives = refl }; not_main = refl; contents = (value 7) ∷ []; ended = (0, refl); last = refl; unresolved = (object 2 1, (0, refl), refl); unspent = λ p q b s a. let e = a.1 in absurd (cc); once = refl }
 
 releasing_31 : Allowed releasing_setting (opening ++ take 31 releasing_rest) (Released (object 2 1))
 unfolding call_at same_id is_made_by same_attempt accepted_events under_way_from ends_with_in is_committed has_job_out node_is_killed node_lives is_killed is_live was_told was_lost breaks_from breaks_of is_one_of anchored may_be_held
@@ -98,7 +98,7 @@ releasing_31 = record { own = record { event = Deliver 12; now = refl; own = ref
 
 releasing_37 : Allowed releasing_setting (opening ++ take 37 releasing_rest) (Accepted (first_of (object 1 2)))
 unfolding call_at same_id is_made_by same_attempt accepted_events under_way_from ends_with_in is_committed has_job_out node_is_killed node_lives is_killed is_live was_told was_lost breaks_from breaks_of is_one_of anchored may_be_held
-releasing_37 = record { own = record { event = Deliver 14; now = refl; own = refl; lives = refl }; not_main = refl; contents = (value 0) ∷ []; ended = (0, refl); last = refl; unresolved = (object 1 2, (0, refl), refl); once = refl }
+releasing_37 = record { own = record { event = Deliver 14; now = refl; own = refl; lives = refl }; not_main = refl; contents = (value 0) ∷ []; ended = (0, refl); last = refl; unresolved = (object 1 2, (0, refl), refl); unspent = λ p q b s a. let e = a.1 in absurd (cc); once = refl }
 
 releasing_38 : Allowed releasing_setting (opening ++ take 38 releasing_rest) (Got main_attempt (object 1 2) (value 0))
 unfolding call_at same_id is_made_by same_attempt accepted_events under_way_from ends_with_in is_committed has_job_out node_is_killed node_lives is_killed is_live was_told was_lost breaks_from breaks_of is_one_of anchored may_be_held

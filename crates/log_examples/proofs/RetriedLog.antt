@@ -62,7 +62,7 @@ retried_17 = record { worker = 3; job = record { job = 2; now = refl; own = refl
 
 retried_19 : Allowed retried_setting (opening ++ take 19 retried_rest) (Accepted (second_of (object 1 1)))
 unfolding call_at same_id is_made_by same_attempt accepted_events under_way_from ends_with_in is_committed has_job_out node_is_killed node_lives is_killed is_live was_told was_lost breaks_from breaks_of is_one_of anchored may_be_held
-retried_19 = record { own = record { event = Deliver 7; now = refl; own = refl; lives = refl }; not_main = refl; contents = (value 1) ∷ []; ended = (0, refl); last = refl; unresolved = (object 1 1, (0, refl), refl); once = refl }
+retried_19 = record { own = record { event = Deliver 7; now = refl; own = refl; lives = refl }; not_main = refl; contents = (value 1) ∷ []; ended = (0, refl); last = refl; unresolved = (object 1 1, (0, refl), refl); unspent = λ p q b s a. let e = a.1 in absurd (cc); once = refl }
 
 retried_20 : Allowed retried_setting (opening ++ take 20 retried_rest) (Got main_attempt (object 1 1) (value 1))
 unfolding call_at same_id is_made_by same_attempt accepted_events under_way_from ends_with_in is_committed has_job_out node_is_killed node_lives is_killed is_live was_told was_lost breaks_from breaks_of is_one_of anchored may_be_held

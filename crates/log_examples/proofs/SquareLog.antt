@@ -49,7 +49,7 @@ square_10 = record { worker = 2; job = record { job = 2; now = refl; own = refl;
 
 square_12 : Allowed square_setting (opening ++ take 12 square_rest) (Accepted (first_of (object 1 1)))
 unfolding call_at same_id is_made_by same_attempt accepted_events under_way_from ends_with_in is_committed has_job_out node_is_killed node_lives is_killed is_live was_told was_lost breaks_from breaks_of is_one_of anchored may_be_held
-square_12 = record { own = record { event = Deliver 4; now = refl; own = refl; lives = refl }; not_main = refl; contents = (value 49) ∷ []; ended = (0, refl); last = refl; unresolved = (object 1 1, (0, refl), refl); once = refl }
+square_12 = record { own = record { event = Deliver 4; now = refl; own = refl; lives = refl }; not_main = refl; contents = (value 49) ∷ []; ended = (0, refl); last = refl; unresolved = (object 1 1, (0, refl), refl); unspent = λ p q b s a. let e = a.1 in absurd (cc); once = refl }
 
 square_13 : Allowed square_setting (opening ++ take 13 square_rest) (Got main_attempt (object 1 1) (value 49))
 unfolding call_at same_id is_made_by same_attempt accepted_events under_way_from ends_with_in is_committed has_job_out node_is_killed node_lives is_killed is_live was_told was_lost breaks_from breaks_of is_one_of anchored may_be_held

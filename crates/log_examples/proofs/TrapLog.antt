@@ -53,7 +53,7 @@ trap_11 = record { worker = 2; job = record { job = 2; now = refl; own = refl; r
 
 trap_13 : Allowed trap_setting (opening ++ take 13 trap_rest) (Accepted (first_of (object 1 1)))
 unfolding call_at same_id is_made_by same_attempt accepted_events under_way_from ends_with_in is_committed has_job_out node_is_killed node_lives is_killed is_live was_told was_lost breaks_from breaks_of is_one_of anchored may_be_held
-trap_13 = record { own = record { event = Deliver 4; now = refl; own = refl; lives = refl }; not_main = refl; contents = (Trapped DivZero) ∷ []; ended = (0, refl); last = refl; unresolved = (object 1 1, (0, refl), refl); once = refl }
+trap_13 = record { own = record { event = Deliver 4; now = refl; own = refl; lives = refl }; not_main = refl; contents = (Trapped DivZero) ∷ []; ended = (0, refl); last = refl; unresolved = (object 1 1, (0, refl), refl); unspent = λ p q b s a. let e = a.1 in absurd (cc); once = refl }
 
 trap_14 : Allowed trap_setting (opening ++ take 14 trap_rest) (Released (object 1 1))
 unfolding call_at same_id is_made_by same_attempt accepted_events under_way_from ends_with_in is_committed has_job_out node_is_killed node_lives is_killed is_live was_told was_lost breaks_from breaks_of is_one_of anchored may_be_held

@@ -19,7 +19,7 @@ use Rattle.event_log.specs.Causes.{IsRefusal}
 use Rattle.event_log.specs.Serial.{MainBegins}
 use Rattle.event_log.specs.Legal.{Happens, CommitsAll, opening}
 use Rattle.event_log.proofs.Growing.{entries_have_their_needs}
-use Rattle.event_log.proofs.OneResult.{bore-first}
+use Rattle.event_log.proofs.Finishing.{bore-first}
 use Rattle.log_examples.specs.Logs.{first_of, number, square_setting, calling_mid}
 use Rattle.log_examples.specs.FaultLogs.{making_one, used_up, retried_setting, owner_died_setting}
 use Rattle.log_examples.specs.ReleaseLogs.{releasing_setting}
@@ -201,11 +201,9 @@ not_lost h =
 pub lost_before_its_birth_is_wrong : IsWrong two_puts_setting lost_before_its_birth
 lost_before_its_birth_is_wrong = wrong_by two_puts_setting (take 5 lost_before_its_birth) (Resolved (object 1 1) (record { kind = PutLost; object = object 1 1 })) [] (λ h. not_lost h.cause)
 
-that_task : (p : Part) (g : Name) (args : List Argument) (d k others : ℕ) →
-    ◌≡◌ {A = Option Part} (Some (part_of (record { object = object 1 1; birth = making_one 1 }) (object 1 1))) (Some p) → p.born.birth ≡ Task g args d k others → ◌≡◌ {A = ℕ} k 1
-that_task p g args d k others e f =
-    let same : part_of (record { object = object 1 1; birth = making_one 1 }) (object 1 1) ≡ p = cc in
-    let task : making_one 1 ≡ Task g args d k others = ap (λ (q : Part). q.born.birth) same ∙ f in
+that_task : (g : Name) (args : List Argument) (d k others : ℕ) → ◌≡◌ {A = Option Birth} (Some (making_one 1)) (Some (Task g args d k others)) → ◌≡◌ {A = ℕ} k 1
+that_task g args d k others e =
+    let task : making_one 1 ≡ Task g args d k others = cc in
     cc
 
 that_first : (p : Part) → ◌≡◌ {A = Option Part} (Some (part_of (record { object = object 1 1; birth = making_one 1 }) (object 1 1))) (Some p) → p.born.object ≡ object 1 1
@@ -220,7 +218,9 @@ pub used_up_too_soon_is_wrong : IsWrong retried_setting used_up_too_soon
 unfolding same_id is_made_by
 used_up_too_soon_is_wrong = wrong_by retried_setting (take 10 used_up_too_soon) (Resolved (object 1 1) (used_up (object 1 1))) [] (λ h.
     let c = h.cause in
-    one_of_two c.retries (that_task c.part c.function c.args c.depth c.retries c.others c.born c.task)
+    one_of_two c.retries
+    (that_task c.function c.args c.depth c.retries c.others
+    (subst (λ o. birth_at (births (opening ++ take 10 used_up_too_soon)) o ≡ Some (Task c.function c.args c.depth c.retries c.others)) (that_first c.part c.born) c.task))
     (subst (λ o. length (runs_of o (opening ++ take 10 used_up_too_soon)) ≡ c.retries + 1) (that_first c.part c.born) c.begun))
 
 first_worker : (w : ℕ) → ◌≡◌ {A = Option ℕ} (Some 1) (Some w) → ◌≡◌ {A = ℕ} w 1

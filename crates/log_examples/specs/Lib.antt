@@ -3,3 +3,4 @@ pub mod WrongLogs
 pub mod FaultLogs
 pub mod ReleaseLogs
 pub mod SeveralResults
+pub mod SeveralScripts

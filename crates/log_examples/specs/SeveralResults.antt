@@ -1,5 +1,5 @@
--- A task of two results: a run that bears one, and what logs with one say. These logs need be none of a script, as no script
--- bears such a task yet; what is said of them was worked out by hand from the rules.
+-- A task of two results: a run that bears one, and what logs with one say. These logs need be none of a script; what is said of
+-- them was worked out by hand from the rules.
 use Rattle.std.specs.Prelude.{ℕ, List, [], ◌∷◌, ◌++◌, codes}
 use Rattle.meaning.specs.Values.{Value, Items, Named, Outcome, Val, Broken, Birth, Put, Task, Id, Completion, Returned, Aborted, values_of}
 use Rattle.meaning.specs.Syntax.{Number}

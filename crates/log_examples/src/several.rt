@@ -1,13 +1,12 @@
-// What the definitions say of tasks of several results, by a task of two. No script bears such a task yet, so the runs and
-// logs are made by hand.
+// What the definitions say of tasks of several results, by a task of two: of a script's, and of runs and logs that are made by hand.
 
 ghost use Rattle.std.specs.Prelude.{◌≡◌, true, false, [], ◌∷◌, Some, None};
-ghost use Rattle.meaning.specs.Values.{Outcome, Val, Trapped, Named, Known, DivZero, Broken, Put, Aborted, outcomes, outcome_at, results_of};
+ghost use Rattle.meaning.specs.Values.{Outcome, Val, Trapped, Named, Known, DivZero, Broken, Put, Aborted, main_birth, outcomes, outcome_at, results_of};
 ghost use Rattle.meaning.specs.Runs.{Needs, Over, TraceBirth, TraceGet, serial_end, serial_trace, known, ids_from, named, behind, piece};
-ghost use Rattle.meaning.specs.Meaning.{run_birth};
+ghost use Rattle.meaning.specs.Meaning.{replay, run_birth};
 ghost use Rattle.meaning.specs.Births.{numbered, birth_at, part_at, objects_in, objects_at};
 ghost use Rattle.meaning.specs.Readings.{den, BirthsHold};
-ghost use Rattle.meaning.specs.Examples.{value, object, parts_called, parting, this_piece};
+ghost use Rattle.meaning.specs.Examples.{MainGives, value, object, parts_called, parting, this_piece};
 ghost use Rattle.event_log.specs.Entries.{main_attempt};
 ghost use Rattle.event_log.specs.Words.{births, own_births, bearers_of, next_serial, answered_of};
 ghost use Rattle.event_log.specs.Breaks.{breaks_of, RetriesAreUsed};
@@ -15,9 +14,26 @@ ghost use Rattle.event_log.specs.Holding.{are_released, ids_of_outcomes, HasId, 
 ghost use Rattle.event_log.specs.Rules.{HasContent, IsUnresolved, IsSettled, AreSteps, AreUnreleased};
 ghost use Rattle.event_log.specs.Serial.{reading_of, AnswersBegin, IsWhole};
 ghost use Rattle.log_examples.specs.Logs.{first_of, number};
+ghost use Rattle.log_examples.specs.SeveralScripts.{parts_asked};
 ghost use Rattle.log_examples.specs.SeveralResults.{dividing_apart, giving, asking, birth_of_two, birth_of_six, part_in};
 ghost use Rattle.log_examples.specs.SeveralResults.{until_the_end, two_log, lost_log, one_resolved, both_resolved};
 ghost use Rattle.log_examples.specs.SeveralResults.{references, pair_log, one_released, both_released};
+
+/// A script's main that calls a function of two results remotely, and gets the second result first.
+pub fn script_examples()
+    // it bears one task, and stops at its second object
+    ensures stops_at_second { replay (parts_asked 17 5) main_birth (object 1 1) [] ≡ this_piece (dividing_apart ∷ []) [] (Needs (Named (object 1 2))) }
+    // then at the first
+    ensures stops_at_first { replay (parts_asked 17 5) main_birth (object 1 1) (value 2 ∷ []) ≡
+        this_piece (dividing_apart ∷ []) [] (Needs (Named (object 1 1))) }
+    // with both it ends
+    ensures ends { replay (parts_asked 17 5) main_birth (object 1 1) (value 2 ∷ value 3 ∷ []) ≡
+        this_piece (dividing_apart ∷ []) [] (Over (value 32 ∷ [])) }
+    // as the serial run does
+    ensures serial { MainGives (parts_asked 17 5) [] (value 32) }
+    // where the call traps, each get does
+    ensures serial_trap { MainGives (parts_asked 17 0) [] (Trapped DivZero) }
+{}
 
 /// Outcomes of a call of two results, the ids of its objects, and a run that bears it and gets its second result.
 pub fn run_examples()

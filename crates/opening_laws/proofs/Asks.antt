@@ -1,18 +1,18 @@
 -- Holders, asks, faults, and objects that are made again.
-use Rattle.std.proofs.Common.{List, None, Option, Some, [], ap, refl, sym, ℕ, ◌∷◌, ◌≡◌}
+use Rattle.std.proofs.Common.{List, None, Option, Some, [], ap, refl, suc, sym, zero, ℕ, ◌+◌, ◌∷◌, ◌≡◌}
 use Rattle.event_log.specs.Entries.{Fault, RetriesUsed}
 use Rattle.meaning.specs.Births.{same_id}
-use Rattle.meaning.specs.Values.{Id}
-use Rattle.protocol.specs.Asking.{answers_faulted, answers_faulted_by, answers_gone, breaks, faults_if_waiting, next_attempt, requests, resolves, rests}
-use Rattle.protocol.specs.Asking.{tells_gone}
-use Rattle.protocol.specs.Holders.{awaits_hold_by, hold_ack_by, hold_ack_reached, hold_reached, hold_reached_by, holding, holds_id, holds_ids, sends_hold}
-use Rattle.protocol.specs.Holders.{adds_holder, unheld_by, unhold_reached, with_holding, without_holding}
+use Rattle.meaning.specs.Values.{Id, results_of}
+use Rattle.protocol.specs.Asking.{answers_faulted, answers_faulted_by, answers_gone, breaks, faults_if_waiting, next_attempt, requests, resolves, resolves_used}
+use Rattle.protocol.specs.Asking.{resolves_used_by, rests, tells_gone}
+use Rattle.protocol.specs.Holders.{adds_holder, awaits_hold_by, hold_ack_by, hold_ack_reached, hold_reached, hold_reached_by, holding, holds_id, holds_ids}
+use Rattle.protocol.specs.Holders.{sends_hold, unheld_by, unhold_reached, with_holding, without_holding}
 use Rattle.protocol.specs.Messages.{Gone, Hold, HoldAck, Reason}
-use Rattle.protocol.specs.Recovery.{first_stop, gives_up, members, recovers, recovers_by, remakes, remakes_by}
+use Rattle.protocol.specs.Recovery.{first_stop, gives_up, is_lost_here, members, recovers, recovers_by, recovers_if_lost, remakes, remakes_by, remakes_one}
 use Rattle.protocol.specs.Sets.{fault}
-use Rattle.protocol.specs.Steps.{Here, changes, is_own, object_at, own_object, says, with_run, with_task_of}
-use Rattle.protocol.specs.Tables.{Holding, Object, OwnTask, Run, is_waiting_for, knows_dead, may_try_again, task_of, with_holder, without_askers}
-use Rattle.protocol.specs.Tables.{with_dead_holder}
+use Rattle.protocol.specs.Steps.{Here, changes, each_from, each_result, is_own, own_id, object_at, own_object, says, with_run, with_task_of}
+use Rattle.protocol.specs.Tables.{first_by, Holding, is_pending_task, is_waiting_for, is_wanted, knows_dead, may_try_again, Object, OwnTask, Run, task_by}
+use Rattle.protocol.specs.Tables.{with_dead_holder, with_holder, without_askers}
 use Rattle.opening_laws.specs.Spending.{Spends, waits_of}
 use Rattle.opening_laws.proofs.Spends.{faults_spends, leaves_if_free_spends, spends_if, spends_none, spends_same, spends_then, with_run_spends}
 
@@ -85,22 +85,42 @@ answers_faulted_spends h o = answers_faulted_by_spends h o (object_at h o)
 pub resolves_spends : (h : Here) (o : Id) (f : Fault) → Spends h (resolves h o f)
 resolves_spends h o f = spends_same {g = resolves h o f} refl refl
 
+-- ---- the objects of a task, one after the other
+
+pub each_from_spends : (f : Here → ℕ → Here) → ((h : Here) (k : ℕ) → Spends h (f h k)) → (n : ℕ) (h : Here) (k : ℕ) → Spends h (each_from f h k n)
+each_from_spends f each zero h k = spends_none
+each_from_spends f each (suc n) h k = spends_then (each h k) (each_from_spends f each n (f h k) (k + 1))
+
+pub each_result_spends : (f : Here → Id → Here) → ((h : Here) (o : Id) → Spends h (f h o)) → (h : Here) (o : Id) (task : OwnTask) →
+    Spends h (each_result f h o task)
+each_result_spends f each h o task = each_from_spends (λ g k. f g (own_id g k)) (λ g k. each g (own_id g k)) (results_of task.spec) h o.serial
+
+resolves_used_by_spends : (h : Here) (o : Id) (x : Option Object) → Spends h (resolves_used_by h o x)
+resolves_used_by_spends h o None = spends_none
+resolves_used_by_spends h o (Some x) = spends_if (is_wanted x) (resolves_spends h o (fault RetriesUsed o)) spends_none
+
 pub breaks_spends : (h : Here) (o : Id) (task : OwnTask) → Spends h (breaks h o task)
 breaks_spends h o task =
     let k : Here = with_task_of h o (rests task) in
-    let g : Here = resolves k o (fault RetriesUsed o) in
+    let g : Here = each_result resolves_used k o task in
     spends_if (may_try_again task) (spends_same {g = requests h o (next_attempt task)} refl refl)
-    (spends_then {g = g} (spends_then {g = k} (spends_same refl refl) (resolves_spends k o (fault RetriesUsed o))) (answers_faulted_spends g o))
+    (spends_then {g = g} (spends_then {g = k} (spends_same refl refl)
+    (each_result_spends resolves_used (λ x p. resolves_used_by_spends x p (object_at x p)) k o task))
+    (each_result_spends answers_faulted answers_faulted_spends g o task))
 
 -- ---- objects that are made again
 
 remakes_by_spends : (h : Here) (k : ℕ) (r : Option OwnTask) → Spends h (remakes_by h k r)
 remakes_by_spends h k None = spends_none
-remakes_by_spends h k (Some task) = spends_same refl refl
+remakes_by_spends h k (Some task) = spends_if (is_pending_task task) spends_none (spends_same {g = requests h (own_id h k) (next_attempt task)} refl refl)
+
+remakes_one_spends : (h : Here) (k : ℕ) (x : Option Object) → Spends h (remakes_one h k x)
+remakes_one_spends h k None = spends_none
+remakes_one_spends h k (Some x) = remakes_by_spends h (first_by k x.maker) (task_by h.worker.objects x.maker)
 
 remakes_spends : (ks : List ℕ) (h : Here) → Spends h (remakes h ks)
 remakes_spends [] h = spends_none
-remakes_spends (k ∷ ks) h = spends_then (remakes_by_spends h k (task_of (own_object h k))) (remakes_spends ks (remakes_by h k (task_of (own_object h k))))
+remakes_spends (k ∷ ks) h = spends_then (remakes_one_spends h k (own_object h k)) (remakes_spends ks (remakes_one h k (own_object h k)))
 
 gives_up_spends : (h : Here) (o : Id) (f : Fault) → Spends h (gives_up h o f)
 gives_up_spends h o f =
@@ -116,3 +136,6 @@ recovers_by_spends h o ks (Some f) = gives_up_spends h o f
 
 pub recovers_spends : (h : Here) (o : Id) → Spends h (recovers h o)
 recovers_spends h o = recovers_by_spends h o (members h o.serial) (first_stop h (members h o.serial))
+
+pub recovers_if_lost_spends : (h : Here) (o : Id) → Spends h (recovers_if_lost h o)
+recovers_if_lost_spends h o = spends_if (is_lost_here h o) (recovers_spends h o) spends_none

@@ -1,11 +1,13 @@
 -- A commit opens one worker at most.
 use Rattle.std.proofs.Common.{Bool, List, None, Option, Some, [], arith, false, refl, true, ℕ, ◌+◌, ◌∷◌, ◌≡◌, ◌≤◌}
 use Rattle.std.specs.Prelude.{if◌then◌else◌}
+use Rattle.event_log.specs.Commits.{commit_entries}
 use Rattle.event_log.specs.Entries.{Attempt, OwnerDied}
 use Rattle.event_log.specs.Holding.{ids_of_birth}
+use Rattle.meaning.specs.Runs.{next_id}
 use Rattle.meaning.specs.Values.{Birth, Id, Outcome, Put, Task, Val}
-use Rattle.protocol.specs.Commits.{asks_where, bears, bears_all, bears_as, commit_by, commit_step, ends, needs, next_id_here, single_entries, stops_by, with_object}
-use Rattle.protocol.specs.Commits.{with_outcomes}
+use Rattle.protocol.specs.Commits.{asks_where, bears, bears_all, bears_as, commit_by, commit_step, ends, keeps_content, keeps_contents, needs, next_id_here}
+use Rattle.protocol.specs.Commits.{stops_by, task_objects, with_objects, with_outcomes}
 use Rattle.protocol.specs.Holders.{holds_ids, passes_on}
 use Rattle.protocol.specs.Jobs.{AtEnd, AtGet, Outcomes, Stopped, stop_of}
 use Rattle.protocol.specs.Messages.{Where}
@@ -14,12 +16,12 @@ use Rattle.protocol.specs.Sets.{fault}
 use Rattle.protocol.specs.Slots.{frees}
 use Rattle.protocol.specs.Steps.{Here, is_own, logs_all, says, store_here, with_phase, with_run, with_store}
 use Rattle.protocol.specs.Stores.{with_ended, with_primary}
-use Rattle.protocol.specs.Tables.{ByTask, HasEnded, HasFaulted, Out, Phase, Ready, Run, Waits, is_same_id, is_waiting_for, knows_dead, needed_by, new_object}
-use Rattle.protocol.specs.Tables.{new_task, object_needed, put_object}
+use Rattle.protocol.specs.Tables.{HasEnded, HasFaulted, is_same_id, is_waiting_for, knows_dead, needed_by, new_task, object_needed, Out, Phase, put_object}
+use Rattle.protocol.specs.Tables.{Ready, Run, Waits}
 use Rattle.values.specs.Listed.{each_once, ids_in_outcome}
 use Rattle.opening_laws.specs.Spending.{Spends, may_open, waits_in, waits_of}
 use Rattle.opening_laws.proofs.Spends.{faults_spends, frees_most, leaves_if_free_spends, spends_if, spends_none, spends_same, spends_then}
-use Rattle.opening_laws.proofs.Asks.{holds_ids_spends}
+use Rattle.opening_laws.proofs.Asks.{each_result_spends, holds_ids_spends}
 use Rattle.opening_laws.proofs.Places.{needs_own_spends}
 
 without_one : (a b n : ℕ) → a + b ≤ n + 1 → b ≡ 1 → a ≤ n
@@ -41,11 +43,13 @@ one_after k n m l u = omega (arith, l, u)
 
 bears_as_spends : (h : Here) (a : Attempt) (o : Id) (b : Birth) (ids : List Id) → Spends h (bears_as h a o b ids)
 bears_as_spends h a o (Put v) ids =
-    let g : Here = with_store (with_object h (put_object a ids h.worker.node)) (with_primary (store_here h) o 0 (Val v)) in
+    let g : Here = with_store (with_objects h (put_object a ids h.worker.node ∷ [])) (with_primary (store_here h) o 0 (Val v)) in
     spends_then {g = g} (spends_same refl refl) (holds_ids_spends ids g o)
 bears_as_spends h a o (Task g args depth retries others) ids =
-    let x : Here = with_object h (new_object (ByTask (new_task (Task g args depth retries others))) a ids) in
-    spends_then {g = x} (spends_same refl refl) (spends_then (holds_ids_spends ids x o) (spends_same refl refl))
+    let spec : Birth = Task g args depth retries others in
+    let x : Here = with_objects h (task_objects a o.serial spec others ids) in
+    spends_then {g = x} (spends_same refl refl)
+    (spends_then (each_result_spends (λ y e. holds_ids y e ids) (λ y e. holds_ids_spends ids y e) x o (new_task spec)) (spends_same refl refl))
 
 bears_all_spends : (bs : List Birth) (h : Here) (a : Attempt) → Spends h (bears_all h a bs)
 bears_all_spends [] h a = spends_none
@@ -87,24 +91,30 @@ needs_opens h run y =
     let a : Here = asks_where g y in
     rests_by a h.there.opened (is_waiting_for a.worker y) (asks_where_spends g y).least (λ e. waiting_by a.worker.run y e)
 
-ends_opens : (h : Here) (run : Run) (c : Outcome) → (ends h run c).there.opened ≤ h.there.opened + 1
-ends_opens h run c =
-    let o : Id = run.attempt.object in
-    let g : Here = passes_on (with_store (with_phase h run (HasEnded c)) (with_ended (store_here h) o run.attempt.number c)) o (each_once (ids_in_outcome c)) in
-    let k : Here = holds_ids g o (each_once (ids_in_outcome c)) in
+keeps_contents_spends : (cs : List Outcome) (h : Here) (o : Id) (number : ℕ) → Spends h (keeps_contents h o number cs)
+keeps_contents_spends [] h o number = spends_none
+keeps_contents_spends (c ∷ cs) h o number =
+    let ids : List Id = each_once (ids_in_outcome c) in
+    let g : Here = passes_on (with_store h (with_ended (store_here h) o number c)) o ids in
+    spends_then (spends_then {g = g} (spends_same refl refl) (holds_ids_spends ids g o)) (keeps_contents_spends cs (keeps_content h o number c) (next_id o) number)
+
+ends_opens : (h : Here) (run : Run) (cs : List Outcome) → (ends h run cs).there.opened ≤ h.there.opened + 1
+ends_opens h run cs =
+    let g : Here = with_phase h run (HasEnded cs) in
+    let k : Here = keeps_contents g run.attempt.object run.attempt.number cs in
     let l : Here = leaves_if_free k in
-    let s : Spends g l = spends_then {g = k} (holds_ids_spends (each_once (ids_in_outcome c)) g o) (leaves_if_free_spends k) in
+    let s : Spends g l = spends_then {g = k} (keeps_contents_spends cs g run.attempt.object run.attempt.number) (leaves_if_free_spends k) in
     back_opens l h.there.opened (no_more l.there.opened (waits_of l.worker.run) h.there.opened s.least)
 
 stops_by_opens : (h : Here) (stop : Stopped) (r : Option Run) → (stops_by h stop r).there.opened ≤ h.there.opened + 1
 stops_by_opens h stop None = one_over h.there.opened
 stops_by_opens h (AtGet y) (Some run) = needs_opens h run y
-stops_by_opens h (AtEnd c) (Some run) = ends_opens h run c
+stops_by_opens h (AtEnd cs) (Some run) = ends_opens h run cs
 
 -- ---- the commit
 
 abbrev logged_here : Here → Run → Outcomes → Here
-logged_here h run d = logs_all (with_run h (with_outcomes run d)) (single_entries run.attempt (next_id_here h) d.births d.prints (stop_of d.stop))
+logged_here h run d = logs_all (with_run h (with_outcomes run d)) (commit_entries run.attempt (next_id_here h) d.births d.prints (stop_of d.stop))
 
 commit_by_opens : (h : Here) (d : Outcomes) (r : Option Run) → (commit_by h d r).there.opened ≤ h.there.opened + 1
 commit_by_opens h d None = one_over h.there.opened

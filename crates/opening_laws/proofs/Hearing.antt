@@ -33,7 +33,7 @@ finished_ack_spends h a =
 
 from_worker_spends : (h : Here) (w : ℕ) (m : Message) → Spends h (reached_from_worker h w m)
 from_worker_spends h w (Push a spec) = push_spends h a spec
-from_worker_spends h w (Finished a n ids kept) = finished_spends h w a n ids kept
+from_worker_spends h w (Finished a n rs) = finished_spends h w a n rs
 from_worker_spends h w (FinishedAck a) = finished_ack_spends h a
 from_worker_spends h w (Failed a f) = failed_spends h w a f
 from_worker_spends h w (Where o) = where_spends h w o

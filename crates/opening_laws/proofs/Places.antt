@@ -1,31 +1,33 @@
 -- Where contents are, and how whoever waits for one is answered.
-use Rattle.std.proofs.Common.{List, None, Option, Some, [], refl, ℕ, ◌∷◌}
-use Rattle.std.specs.Prelude.{◌==◌}
+use Rattle.std.proofs.Common.{List, None, Option, Some, [], refl, suc, zero, ℕ, ◌∷◌}
+use Rattle.std.specs.Prelude.{is_none, ◌&&◌, ◌==◌}
 use Rattle.event_log.specs.Entries.{Attempt, Fault, OwnerDied}
-use Rattle.meaning.specs.Values.{Id, Outcome}
-use Rattle.protocol.specs.Asking.{resolves, rests}
-use Rattle.protocol.specs.Ends.{accepts, failed_by, failed_reached, finished_by, finished_reached, hears_of_end, if_present}
-use Rattle.protocol.specs.Messages.{At, Gone, Party, TheNode, TheWorker}
+use Rattle.meaning.specs.Values.{Id, Outcome, results_of}
+use Rattle.protocol.specs.Asking.{answers_faulted, rests}
+use Rattle.meaning.specs.Runs.{next_id}
+use Rattle.protocol.specs.Sets.{fault, has, rest_of}
+use Rattle.protocol.specs.Ends.{accepts, failed_by, failed_reached, fails, first_result, resolves_open, resolves_open_by, settles, finished_by, finished_reached, hears_of_end, if_present}
+use Rattle.protocol.specs.Messages.{At, EndedResult, Gone, Party, TheNode, TheWorker}
 use Rattle.protocol.specs.Places.{adds_place, adds_place_by, adds_places, answered_here, answers_asker, answers_settled, answers_settled_by, asker_by}
-use Rattle.protocol.specs.Places.{at_answers, at_reached, copy_reached, finds_none, goes_to, gone_reached, is_present}
-use Rattle.protocol.specs.Places.{looks_at_places, looks_elsewhere_by, looks_for, looks_for_by, looks_here_by, makes_copy_known, missing_from, missing_reached, needs_at, needs_by}
+use Rattle.protocol.specs.Places.{at_answers, at_reached, copy_reached, finds_none, goes_to, gone_reached, is_present, looks_at_places, looks_elsewhere_by}
+use Rattle.protocol.specs.Places.{looks_for, looks_for_by, looks_here_by, makes_copy_known, may_gain_place, missing_from, missing_reached, needs_at, needs_by}
 use Rattle.protocol.specs.Places.{needs_own, needs_own_if_waiting, needs_released, reports_missing, takes_place, takes_place_by, tells_places, tells_released}
 use Rattle.protocol.specs.Places.{where_reached}
 use Rattle.protocol.specs.Runs.{fetches, with_fetching}
-use Rattle.protocol.specs.Sets.{fault, has}
 use Rattle.protocol.specs.Steps.{Here, changes, is_own, object_at, says, store_here, with_store, with_task_of}
 use Rattle.protocol.specs.Stores.{copy_in, looked_up, with_secondary}
-use Rattle.protocol.specs.Tables.{Object, OwnTask, chosen_place, has_content, is_lost, is_waiting_for, live_place, settled_number, task_of, with_asker}
-use Rattle.protocol.specs.Tables.{with_place, without_askers, without_place, without_places}
+use Rattle.protocol.specs.Tables.{chosen_place, has_content, is_lost, is_waiting_for, live_place, Object, OwnTask, settled_number, task_of, with_asker}
+use Rattle.protocol.specs.Tables.{with_content, with_place, without_askers, without_place, without_places}
 use Rattle.opening_laws.specs.Spending.{Spends}
 use Rattle.opening_laws.proofs.Spends.{faults_spends, fetching_spends, gets_spends, spends_if, spends_none, spends_same, spends_then}
-use Rattle.opening_laws.proofs.Asks.{answers_faulted_spends, faults_if_waiting_spends, recovers_spends}
+use Rattle.opening_laws.proofs.Asks.{answers_faulted_spends, each_result_spends, faults_if_waiting_spends, recovers_if_lost_spends, recovers_spends, resolves_spends}
 
 pub fetches_spends : (h : Here) (o : Id) (number n : ℕ) → Spends h (fetches h o number n)
 fetches_spends h o number n = spends_then (fetching_spends h (Some (record { number = number; node = n }))) (spends_same refl refl)
 
 looks_elsewhere_spends : (h : Here) (o : Id) (x : Object) (r : Option ℕ) → Spends h (looks_elsewhere_by h o x r)
-looks_elsewhere_spends h o x None = spends_then {g = changes h o without_places} (spends_same refl refl) (recovers_spends (changes h o without_places) o)
+looks_elsewhere_spends h o x None =
+    spends_then {g = changes h o without_places} (spends_same refl refl) (recovers_if_lost_spends (changes h o without_places) o)
 looks_elsewhere_spends h o x (Some n) = fetches_spends h o (settled_number x) n
 
 looks_here_spends : (h : Here) (o : Id) (x : Object) (c : Option Outcome) → Spends h (looks_here_by h o x c)
@@ -53,7 +55,7 @@ needs_released_spends h None = spends_none
 needs_released_spends h (Some e) = faults_spends h (fault OwnerDied e)
 
 needs_by_spends : (h : Here) (o : Id) (x : Object) (f : Option Fault) → Spends h (needs_by h o x f)
-needs_by_spends h o x None = spends_if (has_content x) (looks_for_spends h o x) (spends_if (is_lost x) (recovers_spends h o) (spends_if x.is_released (needs_released_spends h x.dead_holder) spends_none))
+needs_by_spends h o x None = spends_if (has_content x) (looks_for_spends h o x) (spends_if (is_lost h.worker.objects x) (recovers_spends h o) (spends_if x.is_released (needs_released_spends h x.dead_holder) spends_none))
 needs_by_spends h o x (Some f) = faults_spends h f
 
 needs_at_spends : (h : Here) (o : Id) (x : Option Object) → Spends h (needs_at h o x)
@@ -89,7 +91,7 @@ answers_asker_spends h o w x None =
     let g : Here = changes h o (with_asker w) in
     spends_if (has_content x) (spends_same {g = says h w (At o (settled_number x) x.places x.kept)} refl refl)
     (spends_if x.is_released (tells_released_spends h o w x.dead_holder)
-    (spends_if (is_lost x) (spends_then {g = g} (spends_same refl refl) (recovers_spends g o)) (spends_same {g = g} refl refl)))
+    (spends_if (is_lost h.worker.objects x) (spends_then {g = g} (spends_same refl refl) (recovers_spends g o)) (spends_same {g = g} refl refl)))
 answers_asker_spends h o w x (Some f) = spends_same refl refl
 
 asker_by_spends : (h : Here) (o : Id) (w : ℕ) (x : Option Object) → Spends h (asker_by h o w x)
@@ -115,7 +117,8 @@ goes_to_spends h o number (Some n) =
 
 adds_place_by_spends : (h : Here) (o : Id) (number n : ℕ) (x : Option Object) → Spends h (adds_place_by h o number n x)
 adds_place_by_spends h o number n None = spends_none
-adds_place_by_spends h o number n (Some x) = spends_if (is_present number x) (spends_same {g = changes h o (with_place n)} refl refl) spends_none
+adds_place_by_spends h o number n (Some x) =
+    spends_if (is_present number x && may_gain_place h.worker.objects x) (spends_same {g = changes h o (with_place n)} refl refl) spends_none
 
 adds_places_spends : (ns : List ℕ) (h : Here) (o : Id) (number : ℕ) → Spends h (adds_places h o number ns)
 adds_places_spends [] h o number = spends_none
@@ -161,21 +164,45 @@ copy_spends h o number c =
 
 -- ---- ends
 
-finished_by_spends : (h : Here) (w : ℕ) (a : Attempt) (n : ℕ) (ids : List Id) (kept : Option Outcome) (r : Option OwnTask) → Spends h (finished_by h w a n ids kept r)
-finished_by_spends h w a n ids kept None = spends_same refl refl
-finished_by_spends h w a n ids kept (Some task) =
-    let g : Here = hears_of_end (accepts h a task n ids kept) w a in
-    spends_if (if_present a task) (spends_then {g = g} (spends_same {g = g} refl refl) (answers_settled_spends g a.object))
+settles_spends : (count : ℕ) (h : Here) (o : Id) (number n : ℕ) (rs : List EndedResult) → Spends h (settles h o number n count rs)
+settles_spends zero h o number n rs = spends_none
+settles_spends (suc count) h o number n rs =
+    let g : Here = changes h o (with_content number n (first_result rs).ids (first_result rs).kept) in
+    spends_then {g = g} (spends_same refl refl) (settles_spends count g (next_id o) number n (rest_of rs))
+
+accepts_spends : (h : Here) (a : Attempt) (task : OwnTask) (n : ℕ) (rs : List EndedResult) → Spends h (accepts h a task n rs)
+accepts_spends h a task n rs =
+    let k : Here = with_task_of h a.object (rests task) in
+    let g : Here = settles k a.object a.number n (results_of task.spec) rs in
+    spends_then {g = g} (spends_then {g = k} (spends_same refl refl) (settles_spends (results_of task.spec) k a.object a.number n rs)) (spends_same refl refl)
+
+finished_by_spends : (h : Here) (w : ℕ) (a : Attempt) (n : ℕ) (rs : List EndedResult) (r : Option OwnTask) → Spends h (finished_by h w a n rs r)
+finished_by_spends h w a n rs None = spends_same refl refl
+finished_by_spends h w a n rs (Some task) =
+    let k : Here = accepts h a task n rs in
+    let g : Here = hears_of_end k w a in
+    spends_if (if_present a task)
+    (spends_then {g = g} (spends_then {g = k} (accepts_spends h a task n rs) (spends_same {g = g} refl refl))
+    (each_result_spends answers_settled answers_settled_spends g a.object task))
     (spends_same {g = hears_of_end h w a} refl refl)
 
-pub finished_spends : (h : Here) (w : ℕ) (a : Attempt) (n : ℕ) (ids : List Id) (kept : Option Outcome) → Spends h (finished_reached h w a n ids kept)
-finished_spends h w a n ids kept = finished_by_spends h w a n ids kept (task_of (object_at h a.object))
+pub finished_spends : (h : Here) (w : ℕ) (a : Attempt) (n : ℕ) (rs : List EndedResult) → Spends h (finished_reached h w a n rs)
+finished_spends h w a n rs = finished_by_spends h w a n rs (task_of (object_at h a.object))
+
+resolves_open_by_spends : (h : Here) (o : Id) (f : Fault) (x : Option Object) → Spends h (resolves_open_by h o f x)
+resolves_open_by_spends h o f None = spends_none
+resolves_open_by_spends h o f (Some x) = spends_if (is_none x.fault) (resolves_spends h o f) spends_none
 
 failed_by_spends : (h : Here) (w : ℕ) (a : Attempt) (f : Fault) (r : Option OwnTask) → Spends h (failed_by h w a f r)
 failed_by_spends h w a f None = spends_same refl refl
 failed_by_spends h w a f (Some task) =
-    let g : Here = hears_of_end (resolves (with_task_of h a.object (rests task)) a.object f) w a in
-    spends_if (if_present a task) (spends_then {g = g} (spends_same {g = g} refl refl) (answers_faulted_spends g a.object))
+    let k : Here = with_task_of h a.object (rests task) in
+    let l : Here = fails h a task f in
+    let g : Here = hears_of_end l w a in
+    spends_if (if_present a task)
+    (spends_then {g = g} (spends_then {g = l} (spends_then {g = k} (spends_same refl refl)
+    (each_result_spends (resolves_open f) (λ x p. resolves_open_by_spends x p f (object_at x p)) k a.object task)) (spends_same {g = g} refl refl))
+    (each_result_spends answers_faulted answers_faulted_spends g a.object task))
     (spends_same {g = hears_of_end h w a} refl refl)
 
 pub failed_spends : (h : Here) (w : ℕ) (a : Attempt) (f : Fault) → Spends h (failed_reached h w a f)

@@ -1,13 +1,14 @@
 -- What is released opens no worker.
 use Rattle.std.proofs.Common.{Bool, List, None, Option, Some, [], false, length, refl, suc, true, zero, ℕ, ◌+◌, ◌∙◌, ◌∷◌, ◌≡◌}
-use Rattle.std.specs.Prelude.{if◌then◌else◌, ◌==◌}
+use Rattle.std.specs.Prelude.{if◌then◌else◌, map, ◌==◌}
 use Rattle.event_log.specs.Entries.{Released}
+use Rattle.meaning.specs.Runs.{ids_from}
 use Rattle.meaning.specs.Values.{Id}
 use Rattle.protocol.specs.Holders.{unhold_reached}
 use Rattle.protocol.specs.Messages.{Reason, Unhold, WasReleased}
-use Rattle.protocol.specs.Releases.{drops_copies, entries_made, lets_go, lets_go_of, may_release, release_pass, release_passes, release_step, releases}
-use Rattle.protocol.specs.Releases.{releases_by}
-use Rattle.protocol.specs.Steps.{Here, changes, each_from, is_own, logs, own_id, own_object, says_to_node}
+use Rattle.protocol.specs.Releases.{drops_copies, entries_made, going_with, lets_all_go, lets_go, lets_go_of, marks_released, may_release, release_pass}
+use Rattle.protocol.specs.Releases.{release_passes, release_step, releases_all, releases_by}
+use Rattle.protocol.specs.Steps.{Here, changes, each_from, is_own, logs_all, own_id, own_object, says_to_node}
 use Rattle.protocol.specs.Tables.{Object, released}
 
 -- a step that opens none
@@ -42,14 +43,23 @@ drops_none : (ns : List ℕ) (h : Here) (e : Id) → OpensNone h (drops_copies h
 drops_none [] h e = opens_none
 drops_none (n ∷ ns) h e = let g : Here = says_to_node h n (Unhold e e WasReleased) in none_then {g = g} (record { same = refl }) (drops_none ns g e)
 
-releases_none : (h : Here) (e : Id) (x : Object) → OpensNone h (releases h e x)
-releases_none h e x =
-    let g : Here = logs (changes h e released) (Released e) in
-    none_then {g = g} (record { same = refl }) (none_then (lets_go_none x.ids g e) (drops_none x.ever (lets_go g e x.ids) e))
+lets_all_go_none : (h : Here) (e : Id) (x : Option Object) → OpensNone h (lets_all_go h e x)
+lets_all_go_none h e None = opens_none
+lets_all_go_none h e (Some x) = none_then (lets_go_none x.ids h e) (drops_none x.ever (lets_go h e x.ids) e)
+
+marks_none : (h : Here) (k n : ℕ) → OpensNone h (marks_released h k n)
+marks_none h k n = each_none (λ g i. changes g (own_id g i) released) (λ g i. record { same = refl }) n h k
+
+releases_all_none : (h : Here) (k n : ℕ) → OpensNone h (releases_all h k n)
+releases_all_none h k n =
+    let m : Here = marks_released h k n in
+    let g : Here = logs_all m (map Released (ids_from (own_id h k) n)) in
+    none_then {g = g} (none_then {g = m} (marks_none h k n) (record { same = refl }))
+    (each_none (λ x i. lets_all_go x (own_id x i) (own_object x i)) (λ x i. lets_all_go_none x (own_id x i) (own_object x i)) n g k)
 
 releases_by_none : (h : Here) (k : ℕ) (x : Option Object) → OpensNone h (releases_by h k x)
 releases_by_none h k None = opens_none
-releases_by_none h k (Some x) = none_if (may_release h.worker x) (releases_none h (own_id h k) x) opens_none
+releases_by_none h k (Some x) = none_if (may_release h.worker k x) (releases_all_none h k (going_with x.maker)) opens_none
 
 release_pass_none : (h : Here) → OpensNone h (release_pass h)
 release_pass_none h = each_none (λ g k. releases_by g k (own_object g k)) (λ g k. releases_by_none g k (own_object g k)) (length h.worker.objects) h 1

@@ -5,7 +5,8 @@ use Rattle.std.specs.Prelude.{Bool, true, false, if◌then◌else◌, not, ◌==
 use Rattle.std.proofs.lemmas.Bool.{eq-eqb}
 use Rattle.meaning.specs.Mains.{KeepsMainApart}
 use Rattle.meaning.specs.Values.{Argument, Birth, Id, Name, Put, Task, Value}
-use Rattle.meaning.specs.Births.{birth_at}
+use Rattle.meaning.proofs.BirthLaws.{first_is_made}
+use Rattle.meaning.specs.Births.{Part, part_of, birth_at}
 use Rattle.event_log.specs.Entries.{Attempt, Begun, Born, Claim, Commit, Deliver, Entry, Event, Evict, In, Join, Kill, KillNode, Lose, Notice, NoticeNode}
 use Rattle.event_log.specs.Entries.{Tick}
 use Rattle.event_log.specs.Entries.{Refusal, Limit}
@@ -23,7 +24,7 @@ use Rattle.protocol.specs.Messages.{Ask, Elsewhere, Give, Letter, Message, Party
 use Rattle.protocol.specs.Jobs.{Given, Handed, Nothing, OfAnother, OfJob}
 use Rattle.protocol.specs.Nodes.{AskReply, Leased, Node, Outbox, Queued, SentOn, There}
 use Rattle.protocol.specs.Slots.{ask_key, forgets, node_reached}
-use Rattle.protocol.specs.Tables.{AskedAt, AtRest, ByTask, Maker, Object, OwnTask, Progress, RunsOn, WasPut, Worker, task_in, task_of}
+use Rattle.protocol.specs.Tables.{AskedAt, AtRest, Beside, ByTask, Maker, Object, OwnTask, Progress, RunsOn, WasPut, Worker, task_in, task_of}
 use Rattle.protocol.specs.Steps.{Here, object_at, own_object}
 use Rattle.protocol.specs.Asking.{if_asked, stands_at}
 use Rattle.protocol.specs.Releases.{release_step}
@@ -32,7 +33,7 @@ use Rattle.protocol.specs.Whole.{Moved, Whole, here, moved, node_at, node_does, 
 use Rattle.protocol.specs.Commits.{claim_step, commit_step}
 use Rattle.protocol.specs.Notices.{notice_node_step, notice_step}
 use Rattle.protocol.specs.Ticks.{tick_step}
-use Rattle.protocol.specs.Events.{committed_by, dead, delivered_by, delivered_to, happens, is_live_node, is_live_worker, killed_by, with_committed}
+use Rattle.protocol.specs.Events.{committed_by, dead, delivered_by, delivered_to, happens, is_live_node, is_live_worker, killed_by, with_committed, objects_made}
 use Rattle.protocol.specs.Events.{with_delivered}
 use Rattle.protocol.specs.Answers.{Answer, Refuses, Step, Takes, answer, decided, given_out, logged, takes, whole_after}
 use Rattle.protocol.specs.Refusals.{is_within_limits, refusal}
@@ -140,7 +141,7 @@ delivered_network c k (Some l) = by_party l.receiver
 
 committed_network : (c : Whole) (j : ℕ) (handed : Handed) (g : Option Given) →
     (committed_by c j handed g).whole.network ≡ c.network ++ (committed_by c j handed g).out.letters
-committed_network c j (OfJob d) (Some g) = worker_network (with_committed c j (length d.births)) g.worker (λ h. commit_step h d)
+committed_network c j (OfJob d) (Some g) = worker_network (with_committed c j (objects_made d.births)) g.worker (λ h. commit_step h d)
 committed_network c j (OfJob d) None = none_sent c.network
 committed_network c j Nothing g = none_sent c.network
 committed_network c j OfAnother g = none_sent c.network
@@ -255,18 +256,19 @@ module _ (s : Setting) (r : Running) (keeps : RunKeeps s r) (calm : IsCalm r.log
   pub record IsOwned (w k : ℕ) (x : Worker) (task : OwnTask) : Type 0 where
     pub object : Object
     pub at : item_at x.objects k ≡ Some object
-    pub knows : KnowsTask (past r.log b.asked) (object_id w k) object task
+    pub knows : KnowsTask (past r.log b.asked) (object_id w k) x.objects task
 
   pub owned_task : (w k : ℕ) (x : Worker) (task : OwnTask) → worker_at c w ≡ Some x → task_of (item_at x.objects k) ≡ Some task → IsOwned w k x task
   owned_task w k x task there e = by_object (item_at x.objects k) refl e
     where
       by_maker : (object : Object) → item_at x.objects k ≡ Some object → (maker : Maker) →
-          KnowsMaker (past r.log b.asked) x.node (object_id w k) object maker →
+          KnowsMaker (past r.log b.asked) x.node x.objects (object_id w k) object maker →
           task_in maker ≡ Some task → IsOwned w k x task
       by_maker object at WasPut q f = absurd (cc)
       by_maker object at (ByTask other) q f =
           let same : other ≡ task = cc in
-          record { object = object; at = at; knows = subst (KnowsTask (past r.log b.asked) (object_id w k) object) same q }
+          record { object = object; at = at; knows = subst (KnowsTask (past r.log b.asked) (object_id w k) x.objects) same q.0 }
+      by_maker object at (Beside j) q f = absurd (cc)
 
       by_object : (o : Option Object) → item_at x.objects k ≡ o → task_of o ≡ Some task → IsOwned w k x task
       by_object None at f = absurd (cc)
@@ -296,18 +298,18 @@ module _ (s : Setting) (r : Running) (keeps : RunKeeps s r) (calm : IsCalm r.log
       by_task x.0 x.1 (task_of (item_at x.0.objects a.object.serial)) refl
     where
       by_progress : (x : Worker) → worker_at c a.object.owner ≡ Some x → (task : OwnTask) → task_of (item_at x.objects a.object.serial) ≡ Some task →
-          (object : Object) → runs_of a.object r.log ≡ task.begun → birth_at (births r.log) a.object ≡ Some task.spec → a.number ≤ task.number →
-          (p : Progress) → task.progress ≡ p → KnowsProgress (past r.log b.asked) a.object object task p → IsAskedFor a
-      by_progress x there task own object begun spec most AtRest e q =
+          runs_of a.object r.log ≡ task.begun → birth_at (births r.log) a.object ≡ Some task.spec → a.number ≤ task.number →
+          (p : Progress) → task.progress ≡ p → KnowsProgress (past r.log b.asked) a.object task p → IsAskedFor a
+      by_progress x there task own begun spec most AtRest e q =
           let count : length task.begun ≡ task.number + 1 = q.2.count in
           let same : length (runs_of a.object r.log) ≡ length task.begun = ap (λ ws. length ws) begun in
           absurd (not_begun a unbegun (omega (arith, count, same, most)))
-      by_progress x there task own object begun spec most (RunsOn w n) e q =
-          let count : length task.begun ≡ task.number + 1 = q.2.count in
+      by_progress x there task own begun spec most (RunsOn w n) e q =
+          let count : length task.begun ≡ task.number + 1 = q.0.count in
           let same : length (runs_of a.object r.log) ≡ length task.begun = ap (λ ws. length ws) begun in
           absurd (not_begun a unbegun (omega (arith, count, same, most)))
-      by_progress x there task own object begun spec most (AskedAt t n) e q =
-          let count : length task.begun ≡ task.number = q.2 in
+      by_progress x there task own begun spec most (AskedAt t n) e q =
+          let count : length task.begun ≡ task.number = q.0 in
           let same : length (runs_of a.object r.log) ≡ length task.begun = ap (λ ws. length ws) begun in
           elim (at_most_or_more task.number a.number) [
             | inl le ↦ record {
@@ -329,7 +331,7 @@ module _ (s : Setting) (r : Running) (keeps : RunKeeps s r) (calm : IsCalm r.log
       by_task x there (Some task) e = elim (at_most_or_more a.number task.number) [
         | inl le ↦
             let owned : IsOwned a.object.owner a.object.serial x task = owned_task a.object.owner a.object.serial x task there e in
-            by_progress x there task e owned.object owned.knows.begun owned.knows.spec le task.progress refl owned.knows.progress
+            by_progress x there task e owned.knows.begun owned.knows.spec le task.progress refl owned.knows.progress
         | inr less ↦ absurd ((keeps.asks.owners a.object.owner x there).later a.object.serial a.number task e less touched)
       ]
 
@@ -504,9 +506,8 @@ module _ (s : Setting) (r : Running) (keeps : RunKeeps s r) (calm : IsCalm r.log
       (k : KnowsWorker (setting_of s next) (past log d.asked) o.owner x) → Sends next.network (TheWorker o.owner) (TheNode x.node) (Ask (attempt o 0) 0)
   asked_first o x at task own k = by_object (item_at x.objects o.serial) refl own
     where
-      by_progress : (object : Object) (p : Progress) → task.progress ≡ p → KnowsProgress (past log d.asked) o object task p → (task.number ≡ 0) ×
-          (is_new task ≡ false)
-      by_progress object AtRest e q =
+      by_progress : (p : Progress) → task.progress ≡ p → KnowsProgress (past log d.asked) o task p → (task.number ≡ 0) × (is_new task ≡ false)
+      by_progress AtRest e q =
           let begun : IsBegun (past log d.asked) o task q.0 q.1 = q.2 in
           (no_break o task.number begun.place begun.rising, some_begun begun.count)
         where
@@ -517,12 +518,12 @@ module _ (s : Setting) (r : Running) (keeps : RunKeeps s r) (calm : IsCalm r.log
               by_list [] f = let g : length task.begun ≡ 0 = ap (λ us. length us) f in absurd (omega (arith, count, g))
               by_list (w ∷ ws) f = ap (λ pr. rests_now pr && is_empty task.begun) e ∙
                   ap (λ us. true && is_empty us) f
-      by_progress object (RunsOn w n) e q =
-          let begun : IsBegun (past log d.asked) o task w n = q.2 in
+      by_progress (RunsOn w n) e q =
+          let begun : IsBegun (past log d.asked) o task w n = q.0 in
           (no_break o task.number begun.place begun.rising, ap (λ pr. rests_now pr && is_empty task.begun) e)
-      by_progress object (AskedAt t n) e q =
-          let was = q.3 in
-          (no_break o task.number was.0 (q.4 was.0 was.1), ap (λ pr. rests_now pr && is_empty task.begun) e)
+      by_progress (AskedAt t n) e q =
+          let was = q.1 in
+          (no_break o task.number was.0 (q.2 was.0 was.1), ap (λ pr. rests_now pr && is_empty task.begun) e)
 
       letter_of : (task.number ≡ 0) × (is_new task ≡ false) → Sends next.network (TheWorker o.owner) (TheNode x.node) (Ask (attempt o 0) 0)
       letter_of old =
@@ -533,13 +534,14 @@ module _ (s : Setting) (r : Running) (keeps : RunKeeps s r) (calm : IsCalm r.log
           same_party : (v w : ℕ) → ◌≡◌ {A = Party} (TheWorker v) (TheWorker w) → v ≡ w
           same_party v w e = cc
 
-      by_maker : (object : Object) (maker : Maker) → KnowsMaker (past log d.asked) x.node o object maker → task_in maker ≡ Some task →
+      by_maker : (object : Object) (maker : Maker) → KnowsMaker (past log d.asked) x.node x.objects o object maker → task_in maker ≡ Some task →
           Sends next.network (TheWorker o.owner) (TheNode x.node) (Ask (attempt o 0) 0)
       by_maker object WasPut q f = absurd (cc)
       by_maker object (ByTask other) q f =
           let same : other ≡ task = cc in
-          let t : KnowsTask (past log d.asked) o object task = subst (KnowsTask (past log d.asked) o object) same q in
-          letter_of (by_progress object task.progress refl t.progress)
+          let t : KnowsTask (past log d.asked) o x.objects task = subst (KnowsTask (past log d.asked) o x.objects) same q.0 in
+          letter_of (by_progress task.progress refl t.progress)
+      by_maker object (Beside j) q f = absurd (cc)
 
       by_object : (p : Option Object) → item_at x.objects o.serial ≡ p → task_of p ≡ Some task →
           Sends next.network (TheWorker o.owner) (TheNode x.node) (Ask (attempt o 0) 0)
@@ -583,9 +585,23 @@ module _ (s : Setting) (r : Running) (keeps : RunKeeps s r) (calm : IsCalm r.log
       by_task x at k stands node (Some task) e = new_letter x node (asked_first o x at task e k)
       by_task x at k stands node None e = absurd (by_object (item_at x.objects o.serial) refl e)
         where
-          by_maker : (object : Object) (maker : Maker) → KnowsMaker (past log d.asked) x.node o object maker → task_in maker ≡ None → ⊥
+          same_first : (u v : Part) → ◌≡◌ {A = Option Part} (Some u) (Some v) → u.born.object ≡ v.born.object
+          same_first u v h = cc
+
+          no_task : (t : OwnTask) → ◌≡◌ {A = Option OwnTask} None (Some t) → ⊥
+          no_task t h = cc
+
+          -- an object beside the first of its task is first in no birth
+          by_maker : (object : Object) (maker : Maker) → KnowsMaker (past log d.asked) x.node x.objects o object maker → task_in maker ≡ None → ⊥
           by_maker object WasPut q g = is_task q.value stands q.born
           by_maker object (ByTask other) q g = absurd (cc)
+          by_maker object (Beside j) q g =
+              let sane : Sane log = legal_logs_are_sane (setting_of s next) log legal in
+              let first : o ≡ object_id o.owner j = same_first (part_of (record { object = o; birth = Task f args depth retries others }) o) _
+              (sym (sane.grouped.whole o o (Task f args depth retries others) stands (first_is_made (record { object = o; birth = Task f args depth retries others })))
+              ∙ q.2.3) in
+              let row : task_of (item_at x.objects o.serial) ≡ Some q.0 = ap (λ (i : Id). task_of (item_at x.objects i.serial)) first ∙ q.1 in
+              no_task q.0 (sym e ∙ row)
 
           by_object : (p : Option Object) → item_at x.objects o.serial ≡ p → task_of p ≡ None → ⊥
           by_object (Some object) i g = by_maker object object.maker (k.objects o.serial object i).maker g

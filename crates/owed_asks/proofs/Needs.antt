@@ -1,12 +1,12 @@
 -- A copy that is waited for is got, and another worker's object is asked for as soon as an attempt waits for it.
-use Rattle.std.proofs.Common.{◌≡◌, ◌≢◌, ℕ, zero, suc, List, length, map, Some, None, Option, refl, ap, sym, subst, ◌∙◌}
+use Rattle.std.proofs.Common.{◌≡◌, ◌≢◌, ℕ, zero, suc, List, map, Some, None, Option, refl, ap, sym, subst, ◌∙◌}
 use Rattle.std.specs.Prelude.{true, false, if◌then◌else◌, not, ◌&&◌, ◌==◌}
 use Rattle.std.proofs.lemmas.Bool.Decides.{nat_tests}
 use Rattle.std.proofs.Common.{arith}
 use Rattle.sequence.proofs.Places.{and_left, and_right}
 use Rattle.meaning.proofs.BirthLaws.{at_test}
 use Rattle.meaning.specs.Values.{Id, Outcome}
-use Rattle.values.specs.Listed.{each_once, ids_in_outcome}
+use Rattle.event_log.specs.Commits.{commit_entries}
 use Rattle.event_log.specs.Entries.{Attempt, Commit, Deliver, Entry, Event, Faulted, Got, OwnerDied}
 use Rattle.event_log.specs.Entries.{Refusal, NoJob, Stale}
 use Rattle.event_log.specs.Events.{from_one}
@@ -16,17 +16,15 @@ use Rattle.protocol.specs.Sets.{fault, repeated}
 use Rattle.protocol.specs.Messages.{CopyOf, TheNode, TheWorker, Where}
 use Rattle.protocol.specs.Jobs.{AtEnd, AtGet, Given, Handed, Nothing, OfAnother, OfJob, Outcomes, Stopped, stop_of}
 use Rattle.protocol.specs.Nodes.{Node, Outbox}
-use Rattle.protocol.specs.Stores.{with_ended}
 use Rattle.protocol.specs.Tables.{Fetching, HasEnded, HasFaulted, Run, Waits, Worker, is_waiting_for, knows_dead, new_worker}
 use Rattle.protocol.specs.Tables.{needed_by, object_needed}
-use Rattle.protocol.specs.Steps.{Here, is_own, logs, logs_all, says, store_here, with_phase, with_run, with_store}
+use Rattle.protocol.specs.Steps.{Here, is_own, logs, logs_all, says, with_phase, with_run}
 use Rattle.protocol.specs.Runs.{faults, gives_slot_back, leaves_if_free}
-use Rattle.protocol.specs.Holders.{holds_ids, passes_on}
-use Rattle.protocol.specs.Commits.{asks_where, bears_all, commit_by, commit_step, ends, needs, next_id_here, rests_if_waiting, stops_by, with_outcomes, single_entries}
+use Rattle.protocol.specs.Commits.{keeps_contents, asks_where, bears_all, commit_by, commit_step, ends, needs, next_id_here, rests_if_waiting, stops_by, with_outcomes}
 use Rattle.protocol.specs.Releases.{release_step}
 use Rattle.protocol.specs.Deliveries.{reached}
 use Rattle.protocol.specs.Whole.{Whole, after_worker, here, node_at, worker_at, worker_does_at, worker_does_by}
-use Rattle.protocol.specs.Events.{committed_by, happens, is_live_worker, with_committed}
+use Rattle.protocol.specs.Events.{committed_by, happens, is_live_worker, with_committed, objects_made}
 use Rattle.protocol.specs.Answers.{Step, Takes, decided}
 use Rattle.protocol.specs.Places.{needs_own}
 use Rattle.protocol.specs.Refusals.{commit_refusal, is_of_job, is_out_by, refusal, unless}
@@ -43,7 +41,7 @@ use Rattle.protocol_owed.proofs.CourseRuns.{OutOf, out_of}
 use Rattle.protocol_owed.proofs.TellingMore.{stopped_not}
 use Rattle.smallest_steps.proofs.Smallest.{AnyOver, AnyPassed, AnyTold}
 use Rattle.lease_discipline.proofs.Heres.{changed_now}
-use Rattle.lease_discipline.proofs.Moves.{IsKept, bears_all-kept, holds_ids-kept, leaves_if_free-kept, release_step-kept}
+use Rattle.lease_discipline.proofs.Moves.{IsKept, bears_all-kept, keeps_contents-kept, leaves_if_free-kept, release_step-kept}
 use Rattle.lease_discipline.proofs.Tame.{item_mapped}
 use Rattle.lease_discipline.proofs.TurnEvents.{GivenBy}
 use Rattle.owed_asks.specs.Law.{CopiesAreGot, NewForeignWaitsAreAsked}
@@ -85,7 +83,7 @@ module _ (T : ℕ → Attempt → Type 0) (O : Attempt → Type 0) (V : ℕ → 
     objects = λ h x t u. ap pace_by t.tame.run ∙ u;
     store = λ h s u. u;
     begins = λ h o task w m _ _ _ _ _ _ u. u;
-    bears_new = λ h x spec _ u. u;
+    bears_new = λ h a spec others ids u. u;
     comes_to_rest = λ h o task _ _ u. u;
     pushes_again = λ h i task w m _ _ u. u;
     asks_anew = λ h o before task _ _ u. u;
@@ -96,7 +94,7 @@ module _ (T : ℕ → Attempt → Type 0) (O : Attempt → Type 0) (V : ℕ → 
     gets = λ h run content y f e q u. absurd (waits_no h run y f e q u);
     faults = λ h run fault y f e q u. absurd (waits_no h run y f e q u);
     frees = λ h run y f e q u. absurd (waits_no h run y f e q u);
-    tells_end = λ h run m ids kept _ _ u. u;
+    tells_end = λ h run m rs _ _ u. u;
     tells_fault = λ h run f _ _ u. u;
     back = λ h run _ _ u. u;
     hears = λ h w a _ u. u;
@@ -170,29 +168,25 @@ needs_asks b run z last y f at waits apart =
         (λ _. asked) (λ _. asked) in
         release_step-kept AnyTold AnyOver GivenBy AnyPassed HasStoppedHere stopped_kept (needs b run z) rested
 
-ends_asks : (b : Here) (run : Run) (content : Outcome) → AsksOwner b.me (release_step (ends b run content))
-ends_asks b run content =
-    let g : Here = with_phase b run (HasEnded content) in
-    let o : Id = run.attempt.object in
-    let ids : List Id = each_once (ids_in_outcome content) in
-    let stored : Here = passes_on (with_store g (with_ended (store_here b) o run.attempt.number content)) o ids in
-    let held : HasStoppedHere (leaves_if_free (holds_ids stored o ids)) =
-    leaves_if_free-kept AnyTold AnyOver GivenBy AnyPassed HasStoppedHere stopped_kept (holds_ids stored o ids)
-    (holds_ids-kept AnyTold AnyOver GivenBy AnyPassed HasStoppedHere stopped_kept stored o ids refl) in
-    stopped_asks b.me (release_step (ends b run content)) (release_step-kept AnyTold AnyOver GivenBy AnyPassed HasStoppedHere stopped_kept
-    (ends b run content) held)
+ends_asks : (b : Here) (run : Run) (cs : List Outcome) → AsksOwner b.me (release_step (ends b run cs))
+ends_asks b run cs =
+    let g : Here = with_phase b run (HasEnded cs) in
+    let held : HasStoppedHere (leaves_if_free (keeps_contents g run.attempt.object run.attempt.number cs)) =
+    leaves_if_free-kept AnyTold AnyOver GivenBy AnyPassed HasStoppedHere stopped_kept (keeps_contents g run.attempt.object run.attempt.number cs)
+    (keeps_contents-kept AnyTold AnyOver GivenBy AnyPassed HasStoppedHere stopped_kept g run.attempt.object run.attempt.number cs refl) in
+    stopped_asks b.me (release_step (ends b run cs)) (release_step-kept AnyTold AnyOver GivenBy AnyPassed HasStoppedHere stopped_kept (ends b run cs) held)
 
 stops_ask : (b : Here) (stop : Stopped) (r : Option Run) → pace_by r ≡ GoesOn → AsksOwner b.me (release_step (stops_by b stop r))
 stops_ask b stop None e = absurd (stopped_not e)
 stops_ask b (AtGet z) (Some run) e = needs_asks b run z
-stops_ask b (AtEnd content) (Some run) e = ends_asks b run content
+stops_ask b (AtEnd cs) (Some run) e = ends_asks b run cs
 
 commit_asks : (h : Here) (o : Outcomes) (run : Run) → h.worker.run ≡ Some run → AsksOwner h.me (release_step (commit_step h o))
 commit_asks h o run e = subst (λ r. AsksOwner h.me (release_step (commit_by h o r))) (sym e) by_run
   where
     by_run : AsksOwner h.me (release_step (commit_by h o (Some run)))
     by_run =
-        let es : List Entry = single_entries run.attempt (next_id_here h) o.births o.prints (stop_of o.stop) in
+        let es : List Entry = commit_entries run.attempt (next_id_here h) o.births o.prints (stop_of o.stop) in
         let g : Here = logs_all (with_run h (with_outcomes run o)) es in
         let borne : Here = bears_all g run.attempt o.births in
         let goes : pace_by borne.worker.run ≡ GoesOn =
@@ -249,7 +243,7 @@ module _ (c : Whole) (j w : ℕ) (handed : Handed) (g : Given) (at : item_at c.j
       (commit_asks start done.0 out.run out.at last y f (ap (λ (z : Worker). z.run) same ∙ run) waits (λ e. apart (e ∙ worker_is))))
     where
       d : Whole
-      d = with_committed c j (length done.0.births)
+      d = with_committed c j (objects_made done.0.births)
 
       node : (node : Node) × (node_at c who.0.node ≡ Some node)
       node = homes g.worker who.0 who.1

@@ -3,8 +3,8 @@ use Rattle.std.proofs.Common.{◌≡◌, ℕ, zero, suc, ◌+◌, List, [], ◌�
 use Rattle.std.specs.Prelude.{Bool, true, false, if◌then◌else◌, not, ◌&&◌, ◌==◌}
 use Rattle.std.specs.List.{list_any}
 use Rattle.meaning.proofs.BirthLaws.{at_test}
-use Rattle.meaning.specs.Values.{Birth, Id, Outcome}
-use Rattle.values.specs.Listed.{each_once, ids_in_outcome}
+use Rattle.meaning.specs.Values.{Birth, Outcome}
+use Rattle.event_log.specs.Commits.{commit_entries}
 use Rattle.event_log.specs.Entries.{Attempt, Entry, Event, Claim, Commit, Deliver, Tick, Notice, NoticeNode, Evict, Lose, Kill, KillNode, Join}
 use Rattle.event_log.specs.Entries.{Refusal, Limit}
 use Rattle.event_log.specs.Words.{same_attempt}
@@ -15,20 +15,18 @@ use Rattle.protocol.specs.Messages.{Letter, letter, Message, Party, TheWorker, T
 use Rattle.protocol.specs.Messages.{Where, At, Gone, Fetch, CopyOf, Missing, Hold, HoldAck, Unhold}
 use Rattle.protocol.specs.Jobs.{AtEnd, AtGet, Given, Handed, Job, Nothing, OfAnother, OfJob, Outcomes, Stopped, stop_of}
 use Rattle.protocol.specs.Nodes.{Node, There}
-use Rattle.protocol.specs.Stores.{with_ended}
 use Rattle.protocol.specs.Slots.{forgets, node_reached}
 use Rattle.protocol.specs.Tables.{HasEnded, Out, OwnTask, Run, Waits, Worker, new_worker, task_of}
-use Rattle.protocol.specs.Steps.{Here, logs_all, store_here, with_phase, with_run, with_store}
+use Rattle.protocol.specs.Steps.{Here, logs_all, with_phase, with_run}
 use Rattle.protocol.specs.Runs.{begins_run, is_free, leaves_if_free, push_reached}
-use Rattle.protocol.specs.Holders.{holds_ids, passes_on}
-use Rattle.protocol.specs.Commits.{bears_all, claim_by, claim_step, commit_by, commit_step, ends, next_id_here, stops_by, with_outcomes, single_entries}
+use Rattle.protocol.specs.Commits.{keeps_contents, bears_all, claim_by, claim_step, commit_by, commit_step, ends, next_id_here, stops_by, with_outcomes}
 use Rattle.protocol.specs.Notices.{notice_step, notice_node_step}
 use Rattle.protocol.specs.Ticks.{tick_step}
 use Rattle.protocol.specs.Releases.{release_step}
 use Rattle.protocol.specs.Deliveries.{reached}
 use Rattle.protocol.specs.Whole.{Whole, Moved, first_whole, here, moved, node_at, node_does, node_does_by, there, worker_at, worker_does, after_node}
 use Rattle.protocol.specs.Whole.{worker_does_at, worker_does_by}
-use Rattle.protocol.specs.Events.{committed_by, dead, delivered_by, delivered_to, dies_with, happens, is_live_node, is_live_worker, killed_by, with_committed}
+use Rattle.protocol.specs.Events.{committed_by, dead, delivered_by, delivered_to, dies_with, happens, is_live_node, is_live_worker, killed_by, with_committed, objects_made}
 use Rattle.protocol.specs.Events.{with_delivered}
 use Rattle.protocol.specs.Answers.{Refuses, answer, decided, given_out, takes, whole_after}
 use Rattle.protocol.specs.Refusals.{is_within_limits, refusal}
@@ -37,7 +35,7 @@ use Rattle.protocol_owed.proofs.CourseEvents.{append_split, one_of}
 use Rattle.protocol_owed.proofs.Letters.{among-more, among-nothing}
 use Rattle.smallest_steps.proofs.Smallest.{AnyOver, AnyPassed, AnyTold}
 use Rattle.lease_discipline.proofs.Tame.{item_mapped}
-use Rattle.lease_discipline.proofs.Moves.{IsHeardFrom, IsKept, bears_all-kept, holds_ids-kept, leaves_if_free-kept, needs-kept, notice_node_step-kept}
+use Rattle.lease_discipline.proofs.Moves.{IsHeardFrom, IsKept, bears_all-kept, keeps_contents-kept, leaves_if_free-kept, needs-kept, notice_node_step-kept}
 use Rattle.lease_discipline.proofs.Moves.{notice_step-kept, reached-kept, release_step-kept, tick_step-kept}
 use Rattle.lease_discipline.proofs.Opening.{only_driver}
 use Rattle.lease_discipline.proofs.TurnEvents.{GivenBy}
@@ -139,22 +137,19 @@ module _ (c : Whole) (me n : ℕ) where
       by_run None = q
       by_run (Some run) = same h (with_phase h run (Out j)).worker refl refl q
 
-  ends_routes : (h : Here) (run : Run) (content : Outcome) → R h → R (ends h run content)
-  ends_routes h run content q =
-      let g : Here = with_phase h run (HasEnded content) in
-      let o : Id = run.attempt.object in
-      let ids : List Id = each_once (ids_in_outcome content) in
-      let stored : Here = passes_on (with_store g (with_ended (store_here h) o run.attempt.number content)) o ids in
-      let held : Here = holds_ids stored o ids in
+  ends_routes : (h : Here) (run : Run) (cs : List Outcome) → R h → R (ends h run cs)
+  ends_routes h run cs q =
+      let g : Here = with_phase h run (HasEnded cs) in
+      let held : Here = keeps_contents g run.attempt.object run.attempt.number cs in
       slot_back_routes c me n (leaves_if_free held)
       (leaves_if_free-kept AnyTold AnyOver GivenBy AnyPassed R R_kept held
-      (holds_ids-kept AnyTold AnyOver GivenBy AnyPassed R R_kept stored o ids (same h (passes_on g o ids).worker refl refl q)))
+      (keeps_contents-kept AnyTold AnyOver GivenBy AnyPassed R R_kept g run.attempt.object run.attempt.number cs (same h g.worker refl refl q)))
 
   stops_routes : (h : Here) (stop : Stopped) (r : Option Run) → R h → R (stops_by h stop r)
   stops_routes h stop None q = q
   stops_routes h (AtGet y) (Some run) q = needs-kept AnyTold AnyOver GivenBy AnyPassed R R_kept h run y (same h (with_phase h run
       (Waits y None)).worker refl refl q)
-  stops_routes h (AtEnd content) (Some run) q = ends_routes h run content q
+  stops_routes h (AtEnd cs) (Some run) q = ends_routes h run cs q
 
   commit_routes : (h : Here) (o : Outcomes) → R h → R (commit_step h o)
   commit_routes h o q = by_run h.worker.run
@@ -162,7 +157,7 @@ module _ (c : Whole) (me n : ℕ) where
       by_run : (r : Option Run) → R (commit_by h o r)
       by_run None = q
       by_run (Some run) =
-          let es : List Entry = single_entries run.attempt (next_id_here h) o.births o.prints (stop_of o.stop) in
+          let es : List Entry = commit_entries run.attempt (next_id_here h) o.births o.prints (stop_of o.stop) in
           let g : Here = logs_all (with_run h (with_outcomes run o)) es in
           let borne : Here = bears_all g run.attempt o.births in
           stops_routes borne o.stop borne.worker.run
@@ -170,7 +165,7 @@ module _ (c : Whole) (me n : ℕ) where
 
   heard_worker : (h : Here) (u : ℕ) (m : Message) → R h → IsHeardFrom AnyTold AnyOver GivenBy AnyPassed R R_kept h (TheWorker u) m
   heard_worker h u (Push a spec) q = push_routes h a spec q
-  heard_worker h u (Finished a k ids kept) q = tt
+  heard_worker h u (Finished a k rs) q = tt
   heard_worker h u (Failed a f) q = tt
   heard_worker h u (FinishedAck a) q = tt
   heard_worker h u (Ask a j) q = tt
@@ -191,7 +186,7 @@ module _ (c : Whole) (me n : ℕ) where
   heard_node : (h : Here) (k : ℕ) (m : Message) → IsHeardFrom AnyTold AnyOver GivenBy AnyPassed R R_kept h (TheNode k) m
   heard_node h k (Give a j v) = λ _. tt
   heard_node h k (Push a spec) = tt
-  heard_node h k (Finished a m ids kept) = tt
+  heard_node h k (Finished a m rs) = tt
   heard_node h k (Failed a f) = tt
   heard_node h k (FinishedAck a) = tt
   heard_node h k (Ask a j) = tt
@@ -232,7 +227,7 @@ commit_event c j Nothing g k = k
 commit_event c j OfAnother g k = k
 commit_event c j (OfJob o) None k = k
 commit_event c j (OfJob o) (Some g) k =
-    let d : Whole = with_committed c j (length o.births) in
+    let d : Whole = with_committed c j (objects_made o.births) in
     worker_routes d g.worker (λ h. commit_step h o) (λ x node q. commit_routes d g.worker x.node (here d g.worker x node) o q)
     (record { letters = k.letters; follow = k.follow; owners = k.owners })
 

@@ -1,6 +1,6 @@
 -- A worker in its event sends asks as it should.
-use Rattle.std.proofs.Common.{◌≡◌, ℕ, ◌+◌, List, [], ◌∷◌, ◌++◌, Some, None, Option, refl, ap, sym, subst, ◌∙◌, ◌⊎◌, inl, inr, arith}
-use Rattle.std.specs.Prelude.{Bool, true, false, ◌&&◌}
+use Rattle.std.proofs.Common.{◌≡◌, ℕ, ◌+◌, List, [], ◌∷◌, ◌++◌, Some, None, refl, ap, sym, subst, ◌∙◌, ◌⊎◌, inl, inr, arith}
+use Rattle.std.specs.Prelude.{length, Bool, true, false, ◌&&◌}
 use Rattle.std.proofs.lemmas.Bool.{both_ways}
 use Rattle.meaning.specs.Values.{Birth, Id}
 use Rattle.event_log.specs.Entries.{Attempt, Faulted, Got}
@@ -12,13 +12,13 @@ use Rattle.protocol.specs.Messages.{Letter, letter, Message, Party, TheWorker, T
 use Rattle.protocol.specs.Messages.{Where, At, Gone, Fetch, CopyOf, Missing, Hold, HoldAck, Unhold}
 use Rattle.protocol.specs.Nodes.{AskKey, AskReply, Leased, Queued, SentOn, There}
 use Rattle.protocol.specs.Slots.{asks_slot, frees, reply_message}
-use Rattle.protocol.specs.Tables.{AskedAt, AtRest, ByTask, HasFaulted, Object, OwnTask, Progress, RunsOn, Worker, new_task, task_in, task_of, with_task}
+use Rattle.protocol.specs.Tables.{AskedAt, AtRest, HasFaulted, OwnTask, Progress, RunsOn, Worker, new_task, task_of, with_task}
 use Rattle.protocol.specs.Steps.{Here, logs, object_at, own_id, own_object, with_phase, with_run, with_task_of}
 use Rattle.protocol.specs.Asking.{asks_at, rests, with_begun}
-use Rattle.protocol.specs.Commits.{with_object}
+use Rattle.protocol.specs.Commits.{task_objects, with_objects}
+use Rattle.smallest_steps.proofs.Known.{new_tasks}
 use Rattle.protocol.specs.Runs.{gives_slot_back, with_answer}
 use Rattle.protocol.specs.Whole.{Whole}
-use Rattle.protocol_owed.proofs.Nodes.{push_cases}
 use Rattle.protocol_owed.proofs.Letters.{among-append_cases, among-behind, among-more, among-push_cases}
 use Rattle.smallest_steps.proofs.Smallest.{AnyPassed}
 use Rattle.lease_discipline.specs.Asks.{Asked}
@@ -41,7 +41,7 @@ plain_unasked : (m : Message) → is_plain m ≡ true → is_ask m ≡ false
 plain_unasked (Ask a t) e = absurd (cc)
 plain_unasked (Give a t w) e = refl
 plain_unasked (Push a spec) e = refl
-plain_unasked (Finished a n ids kept) e = refl
+plain_unasked (Finished a n rs) e = refl
 plain_unasked (Failed a f) e = refl
 plain_unasked (FinishedAck a) e = refl
 plain_unasked (Back a) e = refl
@@ -62,7 +62,7 @@ unasked_routed : (u : ℕ) (to : Party) (m : Message) → is_ask m ≡ false →
 unasked_routed u to (Ask a t) e = absurd (cc)
 unasked_routed u to (Give a t w) e = tt
 unasked_routed u to (Push a spec) e = tt
-unasked_routed u to (Finished a n ids kept) e = tt
+unasked_routed u to (Finished a n rs) e = tt
 unasked_routed u to (Failed a f) e = tt
 unasked_routed u to (FinishedAck a) e = tt
 unasked_routed u to (Back a) e = tt
@@ -413,34 +413,24 @@ module _ (c : Whole) (me n : ℕ) where
       (owner_more (sent_so h) _ me h.worker (letter_more c.network h.there.out.letters _) q.mine) q
 
   -- a task is borne
-  born : (h : Here) (x : Object) (spec : Birth) → x.maker ≡ ByTask (new_task spec) → Routes h → OwnerAsks (sent_so h) me (with_object h x).worker
-  born h x spec is q = record {
-    standing = λ k task t m at p. by_item k task t m p (item_at (h.worker.objects ++ x ∷ []) k) refl at;
-    first = λ k task at zero old. first_by k task zero old (item_at (h.worker.objects ++ x ∷ []) k) refl at;
+  born : (h : Here) (a : Attempt) (spec : Birth) (others : ℕ) (ids : List Id) → Routes h →
+      OwnerAsks (sent_so h) me (with_objects h (task_objects a (length h.worker.objects + 1) spec others ids)).worker
+  born h a spec others ids q = record {
+    standing = λ k task t m at p. elim (now k) [
+      | inl same ↦ q.mine.standing k task t m (sym same ∙ at) p
+      | inr (_, new) ↦ absurd (rests_not_asked t m (ap (λ (u : OwnTask). u.progress) (same_task _ _ (sym new ∙ at)) ∙ p))
+    ];
+    first = λ k task at zero old. elim (now k) [
+      | inl same ↦ q.mine.first k task (sym same ∙ at) zero old
+      | inr (_, new) ↦ absurd (both_ways (is_new task) old (sym (ap is_new (same_task _ _ (sym new ∙ at)))))
+    ];
   }
     where
-      new_is : (task : OwnTask) → task_in x.maker ≡ Some task → new_task spec ≡ task
-      new_is task e = same_task _ _ (sym (ap task_in is) ∙ e)
-
-      by_item : (k : ℕ) (task : OwnTask) (t m : ℕ) → task.progress ≡ AskedAt t m → (p : Option Object) → item_at (h.worker.objects ++ x ∷ []) k ≡ p →
-          task_of p ≡ Some task → Asked (sent_so h) (attempt (object_id me k) task.number) t m
-      by_item k task t m p None e f = absurd (cc)
-      by_item k task t m p (Some z) e f = elim (push_cases h.worker.objects k x z e) [
-        | inl at ↦ q.mine.standing k task t m (ap task_of at ∙ f) p
-        | inr (_, same) ↦
-            let g : new_task spec ≡ task = new_is task (ap (λ (u : Object). task_in u.maker) same ∙ f) in
-            absurd (rests_not_asked t m (ap (λ (u : OwnTask). u.progress) g ∙ p))
-      ]
-
-      first_by : (k : ℕ) (task : OwnTask) → task.number ≡ 0 → is_new task ≡ false → (p : Option Object) → item_at (h.worker.objects ++ x ∷ []) k ≡ p →
-          task_of p ≡ Some task → Asked (sent_so h) (attempt (object_id me k) 0) 0 h.worker.node
-      first_by k task zero old None e f = absurd (cc)
-      first_by k task zero old (Some z) e f = elim (push_cases h.worker.objects k x z e) [
-        | inl at ↦ q.mine.first k task (ap task_of at ∙ f) zero old
-        | inr (_, same) ↦
-            let g : new_task spec ≡ task = new_is task (ap (λ (u : Object). task_in u.maker) same ∙ f) in
-            absurd (both_ways (is_new task) old (sym (ap is_new g)))
-      ]
+      now : (k : ℕ) → (task_of (item_at (h.worker.objects ++ task_objects a (length h.worker.objects + 1) spec others ids) k) ≡
+          task_of (item_at h.worker.objects k)) ⊎
+          ((task_of (item_at h.worker.objects k) ≡ None) ×
+          (task_of (item_at (h.worker.objects ++ task_objects a (length h.worker.objects + 1) spec others ids) k) ≡ Some (new_task spec)))
+      now k = new_tasks h.worker.objects a (length h.worker.objects + 1) spec others ids k
 
   -- ---- all the smallest steps
 
@@ -456,7 +446,8 @@ module _ (c : Whole) (me n : ℕ) where
         let begun : OwnTask = with_begun task w k in
         says_routes (with_task_of h o begun) (with_task_of h o begun).worker (TheWorker w) (Push (attempt o task.number) task.spec) refl
         (put_routes h o task begun at (λ i j e. runs_not_asked w k i j e) (λ zero _. (zero, asked_not_new task t m progress)) q);
-    bears_new = λ h x spec is q. record { who = q.who; home = q.home; letters = q.letters; follow = q.follow; mine = born h x spec is q };
+    bears_new = λ h a spec others ids q.
+        record { who = q.who; home = q.home; letters = q.letters; follow = q.follow; mine = born h a spec others ids q };
     comes_to_rest = λ h o task at _ q. put_routes h o task (rests task) at rests_not_asked (λ zero old. (zero, rested_not_new task old)) q;
     pushes_again = λ h k task w m _ _ q. says_routes h h.worker (TheWorker w) _ refl q;
     asks_anew = λ h o before task at next q.
@@ -470,7 +461,7 @@ module _ (c : Whole) (me n : ℕ) where
     faults = λ h run fault y f e w q. frees_routes (logs (with_phase h run (HasFaulted fault)) (Faulted run.attempt y fault))
         (same_routes h.me h.worker _ (sent_so h) refl (λ i. refl) q);
     frees = λ h run y f e w q. frees_routes h q;
-    tells_end = λ h run m ids kept _ _ q. says_routes h h.worker _ _ refl q;
+    tells_end = λ h run m rs _ _ q. says_routes h h.worker _ _ refl q;
     tells_fault = λ h run f _ _ q. says_routes h h.worker _ _ refl q;
     back = λ h run _ _ q. says_routes h h.worker _ _ refl q;
     hears = λ h w a _ q. says_routes h h.worker _ _ refl q;

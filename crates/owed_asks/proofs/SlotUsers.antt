@@ -423,7 +423,7 @@ module _ (ws : List Worker) (net : List Letter) (n : ℕ) where
   reached_from_used t w (Elsewhere a i m) c fresh u = u
   reached_from_used t w (Wait a i) c fresh u = u
   reached_from_used t w (Push a spec) c fresh u = u
-  reached_from_used t w (Finished a m ids kept) c fresh u = u
+  reached_from_used t w (Finished a m rs) c fresh u = u
   reached_from_used t w (FinishedAck a) c fresh u = u
   reached_from_used t w (Failed a f) c fresh u = u
   reached_from_used t w (Where o) c fresh u = u

@@ -6,7 +6,7 @@ use Rattle.std.proofs.lemmas.Bool.{both_ways, eqb-true, false_from_ne_true}
 use Rattle.sequence.proofs.Places.{and_right, or_cases}
 use Rattle.meaning.proofs.BirthLaws.{at_test}
 use Rattle.meaning.specs.Values.{Birth, Id, Outcome}
-use Rattle.values.specs.Listed.{each_once, ids_in_outcome}
+use Rattle.event_log.specs.Commits.{commit_entries}
 use Rattle.event_log.specs.Entries.{Attempt, Entry, Event, Claim, Commit, Deliver, Tick, Notice, NoticeNode, Evict, Lose, Kill, KillNode, Join, main_attempt}
 use Rattle.event_log.specs.Entries.{Refusal, NoWorker, NotReady, NoJob, Stale, NotDead, Limit}
 use Rattle.event_log.specs.Breaks.{Among}
@@ -16,20 +16,18 @@ use Rattle.protocol.specs.Messages.{Letter, letter, Message, Party, TheWorker, T
 use Rattle.protocol.specs.Messages.{Where, At, Gone, Fetch, CopyOf, Missing, Hold, HoldAck, Unhold}
 use Rattle.protocol.specs.Jobs.{AtEnd, AtGet, Given, Handed, Job, Nothing, OfAnother, OfJob, Outcomes, Stopped, stop_of}
 use Rattle.protocol.specs.Nodes.{AskReply, Leased, Node, Queued, SentOn, There, new_node}
-use Rattle.protocol.specs.Stores.{with_ended}
 use Rattle.protocol.specs.Slots.{ask_key, forgets, node_reached, reply_to}
 use Rattle.protocol.specs.Tables.{Fetching, HasEnded, Out, Run, has_stopped, Waits, Worker, is_waiting_for, new_worker}
-use Rattle.protocol.specs.Steps.{Here, logs_all, store_here, with_phase, with_run, with_store}
+use Rattle.protocol.specs.Steps.{Here, logs_all, with_phase, with_run}
 use Rattle.protocol.specs.Runs.{begins_run, gives_slot_back, is_free, leaves_if_free, push_reached}
-use Rattle.protocol.specs.Holders.{holds_ids, passes_on}
-use Rattle.protocol.specs.Commits.{asks_where, bears_all, claim_by, claim_step, commit_by, commit_step, ends, needs, next_id_here, stops_by, with_outcomes, single_entries}
+use Rattle.protocol.specs.Commits.{keeps_contents, asks_where, bears_all, claim_by, claim_step, commit_by, commit_step, ends, needs, next_id_here, stops_by, with_outcomes}
 use Rattle.protocol.specs.Notices.{notice_step, notice_node_step}
 use Rattle.protocol.specs.Ticks.{tick_step}
 use Rattle.protocol.specs.Releases.{release_step}
 use Rattle.protocol.specs.Deliveries.{reached}
 use Rattle.protocol.specs.Whole.{Whole, Moved, driver, first_whole, here, moved, node_at, node_does, node_does_by, there, worker_at, worker_does, after_node}
 use Rattle.protocol.specs.Whole.{worker_does_at, worker_does_by}
-use Rattle.protocol.specs.Events.{committed_by, dead, dead_node, delivered_by, delivered_to, dies_with, happens, is_live_node, is_live_worker, killed_by}
+use Rattle.protocol.specs.Events.{committed_by, dead, dead_node, delivered_by, delivered_to, dies_with, happens, is_live_node, is_live_worker, killed_by, objects_made}
 use Rattle.protocol.specs.Events.{with_committed, with_delivered}
 use Rattle.protocol.specs.Answers.{Refuses, answer, decided, given_out, takes, whole_after}
 use Rattle.protocol.specs.Refusals.{commit_refusal, has_slot, is_dead_node, is_dead_worker, is_of_job, is_out_by, is_ready, is_ready_on, is_ready_run}
@@ -49,10 +47,9 @@ use Rattle.smallest_steps.proofs.Smallest.{AnyOver, AnyPassed, AnyTold}
 use Rattle.lease_discipline.specs.Asks.{Asked, IsDeadNode, IsPassed, KeepsAsks, Touched}
 use Rattle.lease_discipline.specs.Discipline.{IsOfNode, KeepsLeases}
 use Rattle.numbered.proofs.Places.{counted}
-use Rattle.lease_discipline.proofs.Tame.{same_left}
 use Rattle.lease_discipline.proofs.Heres.{by_number, changed_elsewhere}
 use Rattle.lease_discipline.proofs.Laws.{promise}
-use Rattle.lease_discipline.proofs.Moves.{IsHeardFrom, IsKept, asks_where-kept, bears_all-kept, holds_ids-kept, leaves_if_free-kept}
+use Rattle.lease_discipline.proofs.Moves.{IsHeardFrom, IsKept, asks_where-kept, bears_all-kept, keeps_contents-kept, leaves_if_free-kept}
 use Rattle.lease_discipline.proofs.Moves.{notice_node_step-kept}
 use Rattle.lease_discipline.proofs.Moves.{notice_step-kept, reached-kept, release_step-kept, tick_step-kept}
 use Rattle.lease_discipline.proofs.Events.{among_at, changed_same, item_map}
@@ -174,7 +171,7 @@ module _ (c : Whole) (me n : ℕ) (old : Worker) (at : item_at c.workers me ≡ 
     objects = λ h x t u. (ap pace_by t.tame.run ∙ u.0, u.1);
     store = λ h s u. u;
     begins = λ h o task w m _ _ _ _ _ _ u. u;
-    bears_new = λ h x spec _ u. u;
+    bears_new = λ h a spec others ids u. u;
     comes_to_rest = λ h o task _ _ u. u;
     pushes_again = λ h i task w m _ _ u. u;
     asks_anew = λ h o before task _ _ u. u;
@@ -186,7 +183,7 @@ module _ (c : Whole) (me n : ℕ) (old : Worker) (at : item_at c.workers me ≡ 
     gets = λ h run content y f e q u. absurd (waits_no h run y f e q u);
     faults = λ h run fault y f e q u. absurd (waits_no h run y f e q u);
     frees = λ h run y f e q u. absurd (waits_no h run y f e q u);
-    tells_end = λ h run m ids kept _ _ u. u;
+    tells_end = λ h run m rs _ _ u. u;
     tells_fault = λ h run f _ _ u. u;
     back = λ h run _ _ u. u;
     hears = λ h w a _ u. u;
@@ -229,25 +226,21 @@ module _ (c : Whole) (me n : ℕ) (old : Worker) (at : item_at c.workers me ≡ 
       same_id_of : (y z : Id) → ◌≡◌ {A = Option Id} (Some y) (Some z) → z ≡ y
       same_id_of y z e = cc
 
-  ends_uses : (h : Here) (run : Run) (content : Outcome) → Unasking h → U None h → U None (ends h run content)
-  ends_uses h run content unasking u =
-      let ended : Run = record run { phase = HasEnded content } in
-      let g : Here = with_phase h run (HasEnded content) in
-      let o : Id = run.attempt.object in
-      let ids : List Id = each_once (ids_in_outcome content) in
-      let kept_there : Here = with_store g (with_ended (store_here h) o run.attempt.number content) in
-      let stored : Here = passes_on kept_there o ids in
+  ends_uses : (h : Here) (run : Run) (cs : List Outcome) → Unasking h → U None h → U None (ends h run cs)
+  ends_uses h run cs unasking u =
+      let ended : Run = record run { phase = HasEnded cs } in
+      let g : Here = with_phase h run (HasEnded cs) in
+      let held : Here = keeps_contents g run.attempt.object run.attempt.number cs in
       let v : U (Some HasStopped) g = stops_slot HasStopped h ended refl unasking u in
-      let held : U (Some HasStopped) (holds_ids stored o ids) = holds_ids-kept AnyTold AnyOver GivenBy AnyPassed (U (Some HasStopped)) (kept
-      (Some HasStopped)) stored o ids
-      ((kept (Some HasStopped)).objects kept_there stored.worker (same_left kept_there.worker stored.worker refl refl refl refl refl) (record { who = v.who; home = v.home; lives = v.lives; number = v.number; counted = v.counted; used = v.used; fresh = v.fresh })) in
-      frees_uses c me n old at (Some HasStopped) None (leaves_if_free (holds_ids stored o ids))
-      (leaves_if_free-kept AnyTold AnyOver GivenBy AnyPassed (U (Some HasStopped)) (kept (Some HasStopped)) (holds_ids stored o ids) held)
+      let w : U (Some HasStopped) held = keeps_contents-kept AnyTold AnyOver GivenBy AnyPassed (U (Some HasStopped)) (kept (Some HasStopped)) g
+      run.attempt.object run.attempt.number cs v in
+      frees_uses c me n old at (Some HasStopped) None (leaves_if_free held)
+      (leaves_if_free-kept AnyTold AnyOver GivenBy AnyPassed (U (Some HasStopped)) (kept (Some HasStopped)) held w)
 
   stops_uses : (h : Here) (stop : Stopped) (r : Option Run) → Unasking h → U None h → U None (stops_by h stop r)
   stops_uses h stop None unasking u = u
   stops_uses h (AtGet y) (Some run) unasking u = needs_uses h run y unasking u
-  stops_uses h (AtEnd content) (Some run) unasking u = ends_uses h run content unasking u
+  stops_uses h (AtEnd cs) (Some run) unasking u = ends_uses h run cs unasking u
 
   pub commit_uses : (h : Here) (o : Outcomes) (run : Run) (j : ℕ) → h.worker.run ≡ Some run → run.phase ≡ Out j → U None h → U None (commit_step h o)
   commit_uses h o run j e out u = subst (λ r. U None (commit_by h o r)) (sym e) by_run
@@ -261,7 +254,7 @@ module _ (c : Whole) (me n : ℕ) (old : Worker) (at : item_at c.workers me ≡ 
 
       by_run : U None (commit_by h o (Some run))
       by_run =
-          let es : List Entry = single_entries run.attempt (next_id_here h) o.births o.prints (stop_of o.stop) in
+          let es : List Entry = commit_entries run.attempt (next_id_here h) o.births o.prints (stop_of o.stop) in
           let next : Run = with_outcomes run o in
           let g : Here = logs_all (with_run h next) es in
           let v : U None (with_run h next) = worker_uses c me n old at None None h (record h.worker { run = Some next }) refl refl refl (λ _. inl
@@ -387,7 +380,7 @@ commit_event c j (OfJob o) (Some g) e knowing k =
     let out : is_out_by (worker_at c g.worker) j ≡ true =
     and_right open_job (is_out_by (worker_at c g.worker) j) (passed (open_job && is_out_by (worker_at c g.worker) j) NoJob both.0) in
     let live : is_live_worker (worker_at c g.worker) ≡ true = passed (is_live_worker (worker_at c g.worker)) Stale both.1 in
-    let d : Whole = with_committed c j (length o.births) in
+    let d : Whole = with_committed c j (objects_made o.births) in
     worker_uses_event c d.jobs d.made c.delivered g.worker (λ h. commit_step h o) live knowing
     (λ x at node home lives node_lives u.
     let run : OutOf x.run j = out_of x.run j (ap (λ y. is_out_by y j) (sym at) ∙ out) in
@@ -425,7 +418,7 @@ module _ (c d : Whole) (i w : ℕ) (from : Party) (x : Worker) (at : worker_at d
   heard_worker : (u : ℕ) → from ≡ TheWorker u → (m : Message) → item_at c.network i ≡ Some (letter from (TheWorker w) m) → Q start →
       IsHeardFrom AnyTold AnyOver GivenBy AnyPassed Q q_kept start (TheWorker u) m
   heard_worker u e (Push a spec) sent t = push_heard a spec sent refl t
-  heard_worker u e (Finished a n ids content) sent t = tt
+  heard_worker u e (Finished a n rs) sent t = tt
   heard_worker u e (Failed a f) sent t = tt
   heard_worker u e (FinishedAck a) sent t = tt
   heard_worker u e (Ask a j) sent t = tt
@@ -446,7 +439,7 @@ module _ (c d : Whole) (i w : ℕ) (from : Party) (x : Worker) (at : worker_at d
   heard_node : (n : ℕ) (m : Message) → IsHeardFrom AnyTold AnyOver GivenBy AnyPassed Q q_kept start (TheNode n) m
   heard_node n (Give a j v) = λ _. tt
   heard_node n (Push a spec) = tt
-  heard_node n (Finished a m ids content) = tt
+  heard_node n (Finished a m rs) = tt
   heard_node n (Failed a f) = tt
   heard_node n (FinishedAck a) = tt
   heard_node n (Ask a j) = tt

@@ -16,7 +16,7 @@ use Rattle.protocol.specs.Slots.{asks_slot, frees, grants, grants_next, grants_q
 use Rattle.protocol.specs.Tables.{AskedAt, Fetching, HasFaulted, Run, Waits, Worker, new_worker}
 use Rattle.protocol.specs.Steps.{Here, logs, logs_all, with_phase, with_run, with_task_of, with_there, with_worker}
 use Rattle.protocol.specs.Asking.{rests, with_begun}
-use Rattle.protocol.specs.Commits.{with_object}
+use Rattle.protocol.specs.Commits.{task_objects, with_objects}
 use Rattle.protocol.specs.Runs.{asks_for_slot, gives_slot_back, with_answer}
 use Rattle.protocol.specs.Whole.{Whole}
 use Rattle.protocol_owed.specs.Courses.{GoesOn, HasStopped, Pace, has_begun}
@@ -321,7 +321,7 @@ module _ (c : Whole) (me n : ℕ) (old : Worker) (there : item_at c.workers me �
         let g : Here = with_task_of h o (with_begun task w m) in
         says_uses p (logs g (Begun (attempt o task.number) w)) (TheWorker w) _
         (logs_uses p g (Begun (attempt o task.number) w ∷ []) (objects_uses p h g.worker refl refl refl refl u));
-    bears_new = λ h x spec _ u. objects_uses p h (with_object h x).worker refl refl refl refl u;
+    bears_new = λ h a spec others ids u. objects_uses p h (with_objects h (task_objects a (length h.worker.objects + 1) spec others ids)).worker refl refl refl refl u;
     comes_to_rest = λ h o task _ _ u. objects_uses p h (with_task_of h o (rests task)).worker refl refl refl refl u;
     pushes_again = λ h k task w m _ _ u. says_uses p h (TheWorker w) _ u;
     asks_anew = λ h o before task _ _ u.
@@ -343,7 +343,7 @@ module _ (c : Whole) (me n : ℕ) (old : Worker) (there : item_at c.workers me �
         frees_uses (Some HasStopped) p (logs g (Faulted run.attempt y fault)) (logs_uses (Some HasStopped) g (Faulted run.attempt y fault ∷ [])
         (worker_uses p (Some HasStopped) h g.worker refl refl refl (λ _. inr refl) (λ asks. absurd (waits_not p h run y f e q u asks)) u));
     frees = λ h run y f e q u. frees_uses p p h u;
-    tells_end = λ h run m ids kept _ _ u. says_uses p h _ _ u;
+    tells_end = λ h run m rs _ _ u. says_uses p h _ _ u;
     tells_fault = λ h run f _ _ u. says_uses p h _ _ u;
     back = λ h run _ _ u. says_uses p h _ _ u;
     hears = λ h w a _ u. says_uses p h _ _ u;

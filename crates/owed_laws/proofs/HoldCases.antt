@@ -1,39 +1,43 @@
 -- The events of a worker, one by one: claims, commits, deliveries, ticks and notices keep what is true of Pushes and Holds.
-use Rattle.std.proofs.Common.{◌≡◌, ℕ, zero, suc, ◌+◌, ◌<◌, List, [], ◌∷◌, ◌++◌, length, Some, None, Option, refl, ap, sym, subst, ◌∙◌, inl, inr, arith}
-use Rattle.std.proofs.Common.{append-nil}
-use Rattle.std.specs.Prelude.{Bool, true, false, if◌then◌else◌}
+use Rattle.protocol.specs.Steps.{Here, logs, with_phase, with_task_of, with_worker}
+use Rattle.meaning.specs.Births.{birth_at}
+use Rattle.meaning.specs.Values.{Birth, Id, main_birth, others_of, Outcome, results_of}
+use Rattle.meaning.proofs.BirthLaws.{at_test, is_made, same_id-refl}
+use Rattle.event_log.specs.Words.{births, born_in, next_serial, same_attempt}
+use Rattle.event_log.specs.Entries.{Accepted, Attempt, Deliver, Ended, Entry, Event, In, main_attempt, main_object}
+use Rattle.event_log.proofs.Extending.{births-more}
+use Rattle.protocol.specs.Asking.{rests}
+use Rattle.protocol.specs.Ends.{finished_reached, settles}
+use Rattle.protocol.specs.Sets.{object_id}
+use Rattle.protocol.specs.Tables.{has_stopped, Holding, new_run, Object, Out, Run, Worker}
+use Rattle.smallest_steps.proofs.Over.{settles-kept}
+use Rattle.std.proofs.Common.{[], ap, append-nil, arith, inl, inr, length, List, None, Option, refl, Some, subst, suc, sym, zero, ℕ, ◌++◌, ◌+◌, ◌<◌, ◌∙◌, ◌∷◌}
+use Rattle.std.proofs.Common.{◌≡◌, ◌≤◌}
+use Rattle.std.specs.List.{flat_map}
+use Rattle.std.specs.Prelude.{Bool, false, if◌then◌else◌, true}
 use Rattle.std.proofs.lemmas.Bool.{both_ways}
 use Rattle.sequence.proofs.Places.{list_any-push_cases}
-use Rattle.meaning.proofs.BirthLaws.{at_test}
 use Rattle.meaning.specs.Readings.{IsBorn}
-use Rattle.meaning.specs.Values.{Birth, Id, Outcome}
+use Rattle.event_log.specs.Commits.{commit_entries}
 use Rattle.event_log.specs.Breaks.{Among}
-use Rattle.event_log.specs.Entries.{Attempt, Deliver, Ended, Entry, Event, In, main_attempt}
 use Rattle.event_log.specs.Events.{accepted_events}
 use Rattle.event_log.specs.Holding.{HasId, InBirth, InContents}
 use Rattle.event_log.specs.Rules.{Setting}
 use Rattle.event_log.specs.Sane.{Sane}
-use Rattle.event_log.specs.Words.{births, next_serial, same_attempt}
-use Rattle.event_log.proofs.FreshLaws.{born_if_first}
 use Rattle.event_log.proofs.SaneLaws.{legal_logs_are_sane}
 use Rattle.event_log.proofs.WordLaws.{same_attempt-true}
-use Rattle.protocol.specs.Commits.{claim_by, claim_step, commit_step, next_id_here, single_entries}
+use Rattle.protocol.specs.Commits.{claim_by, claim_step, commit_step, next_id_here}
 use Rattle.protocol.specs.Deliveries.{reached}
-use Rattle.protocol.specs.Ends.{accepts, finished_reached}
 use Rattle.protocol.specs.Holders.{hold_ack_reached, holding}
 use Rattle.protocol.specs.Jobs.{AtEnd, Given, Outcomes, stop_of}
-use Rattle.protocol.specs.Messages.{Hold, HoldAck, Letter, Message, Party}
-use Rattle.protocol.specs.Messages.{Push, TheNode, TheWorker, letter}
+use Rattle.protocol.specs.Messages.{EndedResult, Hold, HoldAck, Letter, letter, Message, Party, Push, TheNode, TheWorker}
 use Rattle.protocol.specs.Nodes.{Node}
 use Rattle.protocol.specs.Numbered.{changed_at, item_at}
 use Rattle.protocol.specs.Releases.{release_step}
 use Rattle.protocol.specs.Runs.{begins_run, is_free, tells_stop}
-use Rattle.protocol.specs.Steps.{Here, with_phase}
-use Rattle.protocol.specs.Tables.{Holding, Out, OwnTask, Run, Worker, has_stopped, new_run}
 use Rattle.protocol.specs.Notices.{is_unheard}
 use Rattle.protocol.specs.Ticks.{asks_again, sends_holds, sends_run, sends_tasks, tick_step}
 use Rattle.protocol.specs.Whole.{Moved, Whole, here, node_at, worker_at}
-use Rattle.protocol.specs.Sets.{object_id}
 use Rattle.protocol_legal.specs.Knows.{GoesOn, KnowsPhase, KnowsRun, KnowsWorker}
 use Rattle.protocol_legal.specs.Past.{past}
 use Rattle.protocol_legal.specs.Says.{IsPushed, Says}
@@ -48,15 +52,15 @@ use Rattle.lease_discipline.proofs.Heres.{changed_now}
 use Rattle.lease_discipline.proofs.Laws.{pushes_find_free}
 use Rattle.owed_replies.specs.Kept.{KeepsReplies}
 use Rattle.owed_replies.proofs.Advancing.{all_among, end_among}
-use Rattle.owed_replies.proofs.Committing.{finished_reached-kept, release_step-run}
+use Rattle.owed_replies.proofs.Committing.{release_step-run}
 use Rattle.owed_replies.proofs.Happens.{committed_logged, end_logged}
 use Rattle.owed_replies.proofs.Moves as R
 use Rattle.owed_replies.proofs.Moves.{IsKeptWhere, release_step-kept}
 use Rattle.owed_replies.proofs.Quiet.{all_live}
 use Rattle.owed_laws.proofs.HoldCommits as C
 use Rattle.owed_laws.proofs.HoldEvents as E
-use Rattle.owed_laws.proofs.HoldEvents.{HasEnd, KeepsHolds, RunKeeps, push_by}
-use Rattle.owed_laws.proofs.HoldFacts.{IsFirst, first_behind, is_push, is_push_of, push_is}
+use Rattle.owed_laws.proofs.HoldEvents.{HasEnd, IsBelow, IsPartOfTask, KeepsHolds, RunKeeps, below_more, push_by}
+use Rattle.owed_laws.proofs.HoldFacts.{ends_with_all, IsFirst, first_behind, is_push, is_push_of, push_is}
 use Rattle.owed_laws.proofs.HoldHappens as V
 use Rattle.owed_laws.proofs.HoldHappens.{NotWaiting, acked_waits, waits_kept}
 use Rattle.owed_laws.proofs.HoldMoves as H
@@ -128,7 +132,7 @@ module _ (s : Setting) (log : List Entry) (c : Whole) (step : IsInStep s log c) 
         (λ r is. kept (Unit {0}) (RunsAs g r is) (H.holds_kept _ _ _ _ _ _ _ _ _ _) (V.start_runs s log c step replies k seat e jobs made delivered me x at live node home g r is))
         (λ is. kept (Unit {0}) (IdlesAs g) (H.holds_kept _ _ _ _ _ _ _ _ _ _) (V.start_idles s log c step replies k seat e jobs made delivered me x at live node home g is))
         unheard (kept (Unit {0}) (Speaks (Unit {0}) (Unit {0}) me) (speaks_kept (Unit {0}) (Unit {0}) me) (start_speaks (Unit {0}) (Unit {0})))
-        (λ u v d spec o i pushed unbegun. says_none g (kept ⊥ (Speaks ⊥ (Unit {0}) me) (speaks_kept ⊥ (Unit {0}) me) (start_speaks ⊥ (Unit {0}))) v d.object o i)
+        (λ u v d spec f o part i pushed unbegun. says_none g (kept ⊥ (Speaks ⊥ (Unit {0}) me) (speaks_kept ⊥ (Unit {0}) me) (start_speaks ⊥ (Unit {0}))) v f o i)
 
     -- ---- a tick
 
@@ -150,7 +154,7 @@ module _ (s : Setting) (log : List Entry) (c : Whole) (step : IsInStep s log c) 
         (V.start_idles s log c step replies k seat e jobs made delivered me x at live node home g is))
         (λ run i j there n is ack. no_letter n is)
         (R.tick_step-kept (Speaks (Unit {0}) (Unit {0}) me) (speaks_kept (Unit {0}) (Unit {0}) me) start tt tt (start_speaks (Unit {0}) (Unit {0})))
-        (λ u v d spec o i pushed unbegun. by_run v d o i (free a u d spec pushed unbegun) x.run refl)
+        (λ u v d spec f o part i pushed unbegun. by_run v f o i (free a u d spec pushed unbegun) x.run refl)
       where
         there_now : (a : After e (Done (tick_step start))) → worker_at (Done (tick_step start)).whole me ≡ Some (release_step (tick_step start)).worker
         there_now a = there_more (changed_at c.workers me (λ _. (release_step (tick_step start)).worker)) _ me (release_step (tick_step start)).worker
@@ -164,10 +168,10 @@ module _ (s : Setting) (log : List Entry) (c : Whole) (step : IsInStep s log c) 
             (all_live s (log ++ In e seat ∷ (Done (tick_step start)).out.entries) (Done (tick_step start)).whole a.after.sound.between a.calm me
             (release_step (tick_step start)).worker (there_now a)) unbegun
 
-        by_run : (v : ℕ) (d : Attempt) (o : Id) → Among (letter (TheWorker me) (TheWorker v) (Hold d.object o)) (release_step (tick_step start)).there.out.letters →
+        by_run : (v : ℕ) (d o : Id) → Among (letter (TheWorker me) (TheWorker v) (Hold d o)) (release_step (tick_step start)).there.out.letters →
             is_free x.run ≡ true → (r : Option Run) → x.run ≡ r → ⊥
-        by_run v d o i f None is = says_none (tick_step start) (P.idle_tick ⊥ (Unit {0}) me tt start is (start_speaks ⊥ (Unit {0}))) v d.object o i
-        by_run v d o i f (Some r) is = over_said r is (ap is_free (sym is) ∙ f) v d.object o i
+        by_run v d o i f None is = says_none (tick_step start) (P.idle_tick ⊥ (Unit {0}) me tt start is (start_speaks ⊥ (Unit {0}))) v d o i
+        by_run v d o i f (Some r) is = over_said r is (ap is_free (sym is) ∙ f) v d o i
 
     -- ---- a claim
 
@@ -180,7 +184,7 @@ module _ (s : Setting) (log : List Entry) (c : Whole) (step : IsInStep s log c) 
         (V.start_runs s log c step replies k seat e jobs made delivered me x at live node home g r is)))
         (λ is. subst (λ o. IdlesAs g (claim_by start j o)) (sym is) (V.start_idles s log c step replies k seat e jobs made delivered me x at live node home g is))
         (λ run i l there n is ack. no_letter n is) (by_run (Unit {0}) x.run)
-        (λ u v d spec o i pushed unbegun. says_none g (by_run ⊥ x.run) v d.object o i)
+        (λ u v d spec f o part i pushed unbegun. says_none g (by_run ⊥ x.run) v f o i)
       where
         by_run : (X : Type 0) (r : Option Run) → Speaks X (Unit {0}) me (claim_by start j r)
         by_run X None = start_speaks X (Unit {0})
@@ -238,26 +242,43 @@ module _ (s : Setting) (log : List Entry) (c : Whole) (step : IsInStep s log c) 
       no_end : HasEnd log r.attempt → ⊥
       no_end (content, i) = among-nothing content (subst (λ xs. Among content xs) goes.ended (end_among log r.attempt content i))
 
-      unsaid : same_attempt r.attempt main_attempt ≡ false → (o : Id) (i v : ℕ) → old.place < i →
-          item_at (c.network ++ []) i ≡ Some (letter (TheWorker me) (TheWorker v) (Hold r.attempt.object o)) → ⊥
-      unsaid other o i v far said =
+      same_birth : (p q : Birth) → ◌≡◌ {A = Option Birth} (Some p) (Some q) → p ≡ q
+      same_birth p q f = cc
+
+      pushed_spec : (p u : ℕ) (spec : Birth) → item_at c.network p ≡ Some (push_by u me r.attempt spec) → spec ≡ r.spec
+      pushed_spec p u spec pushed =
+          let says : IsPushed log r.attempt spec me = all_among (Says (past log b.asked)) c.network (push_by u me r.attempt spec) b.knows.told
+          (among_at c.network p (push_by u me r.attempt spec) pushed) in
+          same_birth spec r.spec (sym says.born ∙ knows_run.spec)
+
+      unsaid : same_attempt r.attempt main_attempt ≡ false → (f : Id) → IsPartOfTask r.attempt r.spec f → (o : Id) (i v : ℕ) → old.place < i →
+          item_at (c.network ++ []) i ≡ Some (letter (TheWorker me) (TheWorker v) (Hold f o)) → ⊥
+      unsaid other f part o i v far said =
           let q = old.pushed other in
-          no_end (k.behind old.place i r.attempt.object.owner me v r.attempt q.0 o far q.1 (ap (λ ls. item_at ls i) (sym (append-nil c.network)) ∙ said))
+          let same : q.0 ≡ r.spec = pushed_spec old.place r.attempt.object.owner q.0 q.1 in
+          no_end (k.behind old.place i r.attempt.object.owner me v r.attempt q.0 f o (subst (λ d. IsPartOfTask r.attempt d f) (sym same) part) far q.1
+          (ap (λ ls. item_at ls i) (sym (append-nil c.network)) ∙ said))
 
-      among_end : (content : Outcome) → d.stop ≡ AtEnd content → Among (Ended r.attempt (content ∷ [])) (single_entries r.attempt (next_id_here start) d.births d.prints (stop_of d.stop))
-      among_end content stop = subst (λ t. Among (Ended r.attempt (content ∷ [])) (single_entries r.attempt (next_id_here start) d.births d.prints (stop_of t))) (sym stop)
-          (end_logged r.attempt (content ∷ []) (next_id_here start) d.births d.prints)
+      among_end : (cs : List Outcome) → d.stop ≡ AtEnd cs → Among (Ended r.attempt cs) (commit_entries r.attempt (next_id_here start) d.births d.prints (stop_of d.stop))
+      among_end cs stop = subst (λ t. Among (Ended r.attempt cs) (commit_entries r.attempt (next_id_here start) d.births d.prints (stop_of t))) (sym stop)
+          (end_logged r.attempt cs (next_id_here start) d.births d.prints)
 
-      logged_later : (y : Entry) → Among y (single_entries r.attempt (next_id_here start) d.births d.prints (stop_of d.stop)) → Among y later
+      logged_later : (y : Entry) → Among y (commit_entries r.attempt (next_id_here start) d.births d.prints (stop_of d.stop)) → Among y later
       logged_later y i =
           let f = committed_logged start d r is y i in
           among-behind log (In e seat ∷ (release_step g).there.out.entries) y (suc f.0, f.1)
 
-      apart_from : r.attempt.object.owner ≡ me → r.attempt.object.serial < r.base.serial
-      apart_from = old.apart r.attempt ((step.leases.workers.each me x at).present r is)
+      spec_born : birth_at (births later) r.attempt.object ≡ Some r.spec
+      spec_born = births-more log (In e seat ∷ (release_step g).there.out.entries) r.attempt.object r.spec knows_run.spec
+
+      apart_from : r.attempt.object.owner ≡ me → r.attempt.object.serial + results_of r.spec ≤ r.base.serial
+      apart_from own =
+          let below = old.apart r.attempt ((step.leases.workers.each me x at).present r is) own in
+          let same : below.0 ≡ r.spec = same_birth below.0 r.spec (sym below.1 ∙ knows_run.spec) in
+          subst (λ d. r.attempt.object.serial + results_of d ≤ r.base.serial) same below.2
 
       started : C.Going later c.network (accepted_events log) (V.known s log c step replies k seat) me old.place x.began r.attempt r.base.serial (Unit {0}) tt old.within
-          apart_from start
+          r.spec spec_born apart_from start
       started = record {
         holds = V.start_runs s log c step replies k seat e jobs made delivered me x at live node home g r is;
         going = λ run i. subst (λ (y : Run). y.is_over ≡ false) (some_run r run (sym is ∙ i)) going_on;
@@ -266,21 +287,26 @@ module _ (s : Setting) (log : List Entry) (c : Whole) (step : IsInStep s log c) 
         unsaid = unsaid;
       }
 
-      held : RunsAs g r is g
-      held = C.commit_holds later c.network (accepted_events log) (V.known s log c step replies k seat) me old.place x.began r.attempt r.base.serial (Unit {0}) tt old.within
-          apart_from start d r is refl logged_later (λ content stop. logged_later (Ended r.attempt (content ∷ [])) (among_end content stop)) started
+      ended_so : After e (Done g) → (cs : List Outcome) → d.stop ≡ AtEnd cs → Among (Ended r.attempt cs) later × (length cs ≡ results_of r.spec)
+      ended_so a cs stop =
+          let there : Among (Ended r.attempt cs) later = logged_later (Ended r.attempt cs) (among_end cs stop) in
+          (there, ends_with_all (setting_of s (Done g).whole) later a.after.sound.between.legal r.attempt cs r.spec there spec_born)
 
-      began_so : (release_step g).worker.began ≡ x.began
-      began_so = (release_step-kept (RunsAs g r is) (H.holds_kept _ _ _ _ _ _ _ _ _ _) g held).kept_began
+      held : After e (Done g) → RunsAs g r is g
+      held a = C.commit_holds later c.network (accepted_events log) (V.known s log c step replies k seat) me old.place x.began r.attempt r.base.serial (Unit {0}) tt old.within
+          r.spec spec_born apart_from start d r is refl logged_later (ended_so a) started
+
+      began_so : After e (Done g) → (release_step g).worker.began ≡ x.began
+      began_so a = (release_step-kept (RunsAs g r is) (H.holds_kept _ _ _ _ _ _ _ _ _ _) g (held a)).kept_began
 
       says_no_push : Speaks (Unit {0}) ⊥ me (release_step g)
       says_no_push = release_step-kept (Speaks (Unit {0}) ⊥ me) (speaks_kept (Unit {0}) ⊥ me) g (P.commit_speaks (Unit {0}) ⊥ me tt start d (start_speaks (Unit {0}) ⊥))
 
-      begun_here : (u : ℕ) (q : Attempt) (spec : Birth) → Among (push_by u me q spec) (c.network ++ (release_step g).there.out.letters) →
+      begun_here : After e (Done g) → (u : ℕ) (q : Attempt) (spec : Birth) → Among (push_by u me q spec) (c.network ++ (release_step g).there.out.letters) →
           has_begun q (release_step g).worker.began ≡ false → ⊥
-      begun_here u q spec i unbegun = elim (among-append_cases c.network (release_step g).there.out.letters (push_by u me q spec) i) [
+      begun_here a u q spec i unbegun = elim (among-append_cases c.network (release_step g).there.out.letters (push_by u me q spec) i) [
         | inl was ↦ not_over (ap is_free (sym is) ∙ pushes_find_free c step.leases (suc was.0) me (TheWorker u) q spec x was.1 at live
-            (ap (λ bs. has_begun q bs) (sym began_so) ∙ unbegun))
+            (ap (λ bs. has_begun q bs) (sym (began_so a)) ∙ unbegun))
         | inr new ↦ (says_no_push.said me (Push q spec)
             (subst (λ w. Among (push_by w me q spec) (release_step g).there.out.letters) (says_no_push.own u (push_by u me q spec) new refl) new)).1
       ]
@@ -289,10 +315,10 @@ module _ (s : Setting) (log : List Entry) (c : Whole) (step : IsInStep s log c) 
         ((n : ℕ) → e ≡ Deliver n → ⊥) → Goes e (Done (commit_step start d)) a
     commit_goes d j r is out a to_me no_letter =
         V.goes_on s log c step replies k seat e jobs made delivered me x at live node home (commit_step start d) a to_me
-        (λ q f. held d j q f (ap (λ (y : Run). y.phase) (some_run q r (sym f ∙ is)) ∙ out)) (λ none. absurd (nobody (sym none ∙ is)))
+        (λ q f. held d j q f (ap (λ (y : Run). y.phase) (some_run q r (sym f ∙ is)) ∙ out) a) (λ none. absurd (nobody (sym none ∙ is)))
         (λ run i l there n it ack. no_letter n it)
         (P.commit_speaks (Unit {0}) (Unit {0}) me tt start d (start_speaks (Unit {0}) (Unit {0})))
-        (λ u v q spec o i pushed unbegun. begun_here d j r is out u q spec pushed unbegun)
+        (λ u v q spec f o part i pushed unbegun. begun_here d j r is out a u q spec pushed unbegun)
       where
         nobody : ◌≡◌ {A = Option Run} None (Some r) → ⊥
         nobody f = cc
@@ -343,26 +369,32 @@ module _ (s : Setting) (log : List Entry) (c : Whole) (step : IsInStep s log c) 
               (subst (λ h. NotWaiting j (hold_ack_reached start h.holder h.object)) (sym (same_parts j (sym says ∙ message_is j n is ack))) (acked_waits j start)) run r there
 
       -- an end that is told
-      finish_kept : {X Y : Type 0} (Q : Here → Type 0) → IsKeptWhere X Y Q → (w : ℕ) (q : Attempt) (n : ℕ) (ids : List Id) (content : Option Outcome) →
-          ((task : OwnTask) → Q (accepts start q task n ids content)) → Q start → Q (finished_reached start w q n ids content)
-      finish_kept Q kept w q n ids content accept p = finished_reached-kept Q kept start w q n ids content accept p
+      finish_kept : {X Y : Type 0} (Q : Here → Type 0) → IsKeptWhere X Y Q → ((h : Here) (ys : List Object) → Q h → Q (with_worker h (record h.worker { objects = ys }))) →
+          ((h : Here) (y : Entry) → Q h → Q (logs h y)) → (w : ℕ) (q : Attempt) (n : ℕ) (rs : List EndedResult) → Q start → Q (finished_reached start w q n rs)
+      finish_kept Q kept alike logged w q n rs p =
+          R.finished_reached-kept Q kept (λ _ _. Unit {0}) (λ h a task m ts u f t y z.
+          logged (settles (with_task_of h a.object (rests task)) a.object a.number m (results_of task.spec) ts) (Accepted a)
+          (settles-kept Q (λ g o number i r x. alike g _ x) (results_of task.spec) (with_task_of h a.object (rests task)) a.object a.number m ts (alike h _ z))) start w q n rs tt p
 
-      pub finished : is_ack l ≡ false → (w : ℕ) (q : Attempt) (n : ℕ) (ids : List Id) (content : Option Outcome) → (a : After e (Done (finished_reached start w q n ids content))) →
-          Goes e (Done (finished_reached start w q n ids content)) a
-      finished plain w q n ids content a =
-          let g : Here = finished_reached start w q n ids content in
+      pub finished : is_ack l ≡ false → (w : ℕ) (q : Attempt) (n : ℕ) (rs : List EndedResult) → (a : After e (Done (finished_reached start w q n rs))) →
+          Goes e (Done (finished_reached start w q n rs)) a
+      finished plain w q n rs a =
+          let g : Here = finished_reached start w q n rs in
           V.goes_on s log c step replies k seat e jobs made delivered me x at live node home g a here_alone
           (λ r is. let p = V.start_runs s log c step replies k seat e jobs made delivered me x at live node home g r is in
-          finish_kept (RunsAs g r is) (H.holds_kept _ _ _ _ _ _ _ _ _ _) w q n ids content
-          (λ task. record { who = p.who; kept_began = p.kept_began; same = p.same; run = p.run; said = p.said }) p)
+          finish_kept (RunsAs g r is) (H.holds_kept _ _ _ _ _ _ _ _ _ _)
+          (λ h ys z. record { who = z.who; kept_began = z.kept_began; same = z.same; run = z.run; said = z.said })
+          (λ h y z. record { who = z.who; kept_began = z.kept_began; same = z.same; run = z.run; said = z.said }) w q n rs p)
           (λ is. let p = V.start_idles s log c step replies k seat e jobs made delivered me x at live node home g is in
-          finish_kept (IdlesAs g) (H.holds_kept _ _ _ _ _ _ _ _ _ _) w q n ids content
-          (λ task. record { who = p.who; kept_began = p.kept_began; same = p.same; run = p.run; said = p.said }) p)
-          (no_ack g plain) (speaks (Unit {0})) (λ u v d spec o j pushed unbegun. says_none g (speaks ⊥) v d.object o j)
+          finish_kept (IdlesAs g) (H.holds_kept _ _ _ _ _ _ _ _ _ _)
+          (λ h ys z. record { who = z.who; kept_began = z.kept_began; same = z.same; run = z.run; said = z.said })
+          (λ h y z. record { who = z.who; kept_began = z.kept_began; same = z.same; run = z.run; said = z.said }) w q n rs p)
+          (no_ack g plain) (speaks (Unit {0})) (λ u v d spec f o part j pushed unbegun. says_none g (speaks ⊥) v f o j)
         where
-          speaks : (X : Type 0) → Speaks X (Unit {0}) me (finished_reached start w q n ids content)
-          speaks X = finish_kept (Speaks X (Unit {0}) me) (speaks_kept X (Unit {0}) me) w q n ids content
-              (λ task. P.quietly X (Unit {0}) me start (accepts start q task n ids content) refl refl (start_speaks X (Unit {0}))) (start_speaks X (Unit {0}))
+          speaks : (X : Type 0) → Speaks X (Unit {0}) me (finished_reached start w q n rs)
+          speaks X = finish_kept (Speaks X (Unit {0}) me) (speaks_kept X (Unit {0}) me)
+              (λ h ys z. P.quietly X (Unit {0}) me h (with_worker h (record h.worker { objects = ys })) refl refl z)
+              (λ h y z. P.quietly X (Unit {0}) me h (logs h y) refl refl z) w q n rs (start_speaks X (Unit {0}))
 
       -- a Push that begins nothing
       pub passed_over : is_ack l ≡ false → (a : After e (Done start)) → Goes e (Done start) a
@@ -432,20 +464,25 @@ module _ (s : Setting) (log : List Entry) (c : Whole) (step : IsInStep s log c) 
       sane_before : Sane log
       sane_before = legal_logs_are_sane (setting_of s c) log b.legal
 
-      born_low : (v : ℕ) (d : Attempt) (f : Birth) → Among (push_by v me d f) c.network → d.object.owner ≡ me → d.object.serial < low
+      born_low : (v : ℕ) (d : Attempt) (f : Birth) → Among (push_by v me d f) c.network → d.object.owner ≡ me → IsBelow log d low
       born_low v d f j own =
           let says : IsPushed log d f me = all_among (Says (past log b.asked)) c.network (push_by v me d f) b.knows.told j in
-          let below = sane_before.serials d.object (born_if_first (births log) d.object f says.born) in
+          let last : Id = object_id d.object.owner (d.object.serial + others_of f) in
+          let part = sane_before.grouped.whole d.object last f says.born (is_made (record { object = d.object; birth = f }) last refl (omega arith) (omega arith)) in
+          let below = sane_before.serials last (_, part) in
           let same : next_serial d.object.owner (births log) ≡ length x.objects + 1 = ap (λ w. next_serial w (births log)) own ∙ (b.knows.workers me x at live).serial in
-          omega (arith, below, same)
+          (f, says.born, omega (arith, below, same))
 
-      began_low : (d : Attempt) → has_begun d (x.began ++ q ∷ []) ≡ true → d.object.owner ≡ me → d.object.serial < low
+      main_low : IsBelow log main_attempt low
+      main_low = (main_birth, ap (λ t. if t then Some main_birth else birth_at (flat_map born_in log) main_object) (same_id-refl main_object), omega arith)
+
+      began_low : (d : Attempt) → has_begun d (x.began ++ q ∷ []) ≡ true → d.object.owner ≡ me → IsBelow log d low
       began_low d f own = elim (list_any-push_cases (λ z. same_attempt z d) x.began q f) [
         | inl old ↦ elim ((step.leases.workers.each me x at).began d old) [
-          | inl (main, _) ↦ let zero_it : d.object.serial ≡ 0 = ap (λ (z : Attempt). z.object.serial) main in omega (arith, zero_it)
+          | inl (main, _) ↦ subst (λ z. IsBelow log z low) (sym main) main_low
           | inr (v, f, j) ↦ born_low v d f j own
         ]
-        | inr same ↦ subst (λ (z : Attempt). z.object.owner ≡ me → z.object.serial < low) (same_attempt-true q d same)
+        | inr same ↦ subst (λ (z : Attempt). z.object.owner ≡ me → IsBelow log z low) (same_attempt-true q d same)
             (born_low u q spec (among_at c.network i (push_by u me q spec) sent)) own
       ]
 
@@ -467,7 +504,7 @@ module _ (s : Setting) (log : List Entry) (c : Whole) (step : IsInStep s log c) 
             runs = λ run f. my_run run f (begins_last.same run f);
             own = speaks.own;
             pushes = λ w d f j. (speaks.said w (Push d f) j).0;
-            says = λ v w d f o j pushed. absurd (says_none begun_so (speaks_then ⊥) w d.object o j);
+            says = λ v w d spec f o part j pushed. absurd (says_none begun_so (speaks_then ⊥) w f o j);
           })
         where
           my_run : (run : Run) → (release_step begun_so).worker.run ≡ Some run → (run.attempt ≡ q) × (run.base.serial ≡ low) × (Unit {0}) →
@@ -478,4 +515,5 @@ module _ (s : Setting) (log : List Entry) (c : Whole) (step : IsInStep s log c) 
               (λ other. subst (λ (d : Attempt). (g : Birth) × (item_at c.network first.number ≡ Some (push_by d.object.owner me d g)) × ((n : ℕ) (h : Birth) → n < first.number →
               item_at c.network n ≡ Some (push_by d.object.owner me d h) → ⊥)) (sym same.0) pushed_first)
               (begins_last.run run f) (no_ack i (TheWorker u) (Push q spec) is_it sent begun_so refl run f)
-              (λ d begun own. subst (λ n. d.object.serial < n) (sym same.1) (began_low d (ap (λ bs. has_begun d bs) (sym begins_last.kept_began) ∙ begun) own))
+              (λ d begun own. subst (IsBelow log_then d) (sym same.1)
+              (below_more log (In e seat ∷ (release_step begun_so).there.out.entries) d low (began_low d (ap (λ bs. has_begun d bs) (sym begins_last.kept_began) ∙ begun) own)))

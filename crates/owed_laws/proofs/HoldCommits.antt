@@ -1,32 +1,34 @@
 -- A commit keeps what is true of the Holds of its attempt: each that it sends names, for an object that it bore or for its own as it ends, what no
 -- Hold behind the attempt's Push named before.
-use Rattle.std.proofs.Common.{◌≡◌, ℕ, zero, suc, ◌+◌, ◌<◌, ◌≤◌, List, [], ◌∷◌, ◌++◌, length, Some, None, Option, refl, ap, sym, subst, ◌∙◌, ◌⊎◌, inl, inr, arith}
-use Rattle.std.proofs.Common.{append_assoc, length-append}
+use Rattle.std.proofs.Common.{[], ap, append_assoc, arith, inl, inr, length, length-append, List, None, Option, refl, Some, subst, suc, sym, zero, ℕ, ◌++◌, ◌+◌}
+use Rattle.std.proofs.Common.{◌<◌, ◌∙◌, ◌∷◌, ◌≡◌, ◌≤◌, ◌⊎◌}
 use Rattle.std.specs.Prelude.{Bool, true, false, if◌then◌else◌}
 use Rattle.std.proofs.lemmas.Bool.{both_ways}
-use Rattle.meaning.proofs.BirthLaws.{at_test, same_id-refl}
-use Rattle.meaning.specs.Births.{same_id}
+use Rattle.meaning.proofs.BirthLaws.{at_test, is_made, made_below, made_owner, same_id-refl}
+use Rattle.meaning.specs.Births.{birth_at, is_made_by, same_id}
 use Rattle.meaning.specs.Runs.{Stop}
-use Rattle.meaning.specs.Values.{Birth, Id, Outcome, Put, Task, Val, Value}
+use Rattle.meaning.specs.Values.{Birth, Id, Outcome, Put, results_of, Task, Val, Value}
 use Rattle.values.specs.Listed.{each_once, ids_in_outcome, without}
+use Rattle.event_log.specs.Commits.{commit_entries}
 use Rattle.event_log.specs.Breaks.{Among}
 use Rattle.event_log.specs.Entries.{Attempt, Born, Deliver, Ended, Entry, Event, main_attempt}
 use Rattle.event_log.specs.Holding.{ids_of_birth}
-use Rattle.event_log.specs.Words.{same_attempt}
+use Rattle.event_log.specs.Words.{births, same_attempt}
 use Rattle.numbered.proofs.Lists.{changed-length}
-use Rattle.protocol.specs.Commits.{bears, bears_all, commit_by, commit_step, next_id_here, stops, stops_by, with_object, with_outcomes, single_entries}
+use Rattle.protocol.specs.Commits.{bears, bears_all, commit_by, commit_step, next_id_here, stops, stops_by, each_holds, keeps_contents, task_objects, with_objects, with_outcomes}
 use Rattle.protocol.specs.Holders.{adds_holder, awaits_hold_by, holding, holds_id, holds_ids, passes_on, sends_hold, with_holding}
 use Rattle.protocol.specs.Jobs.{AtEnd, AtGet, Outcomes, Stopped, stop_of}
 use Rattle.protocol.specs.Messages.{Hold, Letter, Message, TheNode, TheWorker, letter}
 use Rattle.protocol.specs.Nodes.{There}
 use Rattle.protocol.specs.Numbered.{item_at}
 use Rattle.protocol.specs.Runs.{leaves_if_free}
-use Rattle.protocol.specs.Steps.{Here, is_own, logs_all, says, says_to_node, store_here, with_phase, with_run, with_store, with_worker}
+use Rattle.protocol.specs.Steps.{each_from, Here, is_own, logs_all, own_id, says, says_to_node, store_here, with_phase, with_run, with_store, with_worker}
 use Rattle.protocol.specs.Stores.{with_ended, with_primary}
-use Rattle.protocol.specs.Tables.{ByTask, HasEnded, Holding, Object, OwnTask, Run, Waits, knows_dead, new_object, new_task, put_object}
-use Rattle.owed_laws.proofs.CommitCopies.{next_birth}
+use Rattle.protocol.specs.Tables.{HasEnded, Holding, Object, Run, Waits, knows_dead, new_task, put_object}
+use Rattle.protocol_owed.proofs.Owing.{bears-same, next_birth}
+use Rattle.protocol.specs.Sets.{object_id}
+use Rattle.owed_laws.proofs.HoldMoves.{ack_of, held_more, hold_of, IsHeld, IsHolder, IsOfRun, item_cases, item_last, RunHolds}
 use Rattle.owed_laws.proofs.HoldMoves as H
-use Rattle.owed_laws.proofs.HoldMoves.{IsHeld, IsHolder, RunHolds, ack_of, held_more, hold_of, item_cases, item_last}
 use Rattle.owed_replies.proofs.Committing.{held_among}
 use Rattle.owed_replies.proofs.Moves.{needs-kept}
 
@@ -84,7 +86,8 @@ hold_said w v u e f o q (zero, h) = hold_parts w v u e f o q (sym h)
 hold_said w v u e f o q (suc k, h) = absurd (cc)
 
 module _ (log : List Entry) (net : List Letter) (acks : List Event) (known : (n : ℕ) → Among (Deliver n) acks → n < length net + 1)
-    (me p : ℕ) (began : List Attempt) (a : Attempt) (base : ℕ) (Present : Type 0) (present : Present) (behind : p < length net + 1) (apart : a.object.owner ≡ me → a.object.serial < base) where
+    (me p : ℕ) (began : List Attempt) (a : Attempt) (base : ℕ) (Present : Type 0) (present : Present) (behind : p < length net + 1)
+    (spec : Birth) (spec_born : birth_at (births log) a.object ≡ Some spec) (apart : a.object.owner ≡ me → a.object.serial + results_of spec ≤ base) where
   abbrev Q : Here → Type 0
   Q = H.Holds log net acks known me p began a base Present
 
@@ -92,7 +95,11 @@ module _ (log : List Entry) (net : List Letter) (acks : List Event) (known : (n 
   sent_by t = net ++ t.out.letters
 
   abbrev IsEntry : Id → Type 0
-  IsEntry e = (e ≡ a.object) ⊎ ((b : Birth) × Among (Born e a b) log)
+  IsEntry e = IsOfRun log a e
+
+  -- an object of the attempt's own task
+  abbrev IsMine : Id → Type 0
+  IsMine e = is_made_by (record { object = a.object; birth = spec }) e ≡ true
 
   -- no Hold of that holder and that object was sent behind that place
   abbrev IsUnsaid : Here → Id → Id → Type 0
@@ -268,33 +275,96 @@ module _ (log : List Entry) (net : List Letter) (acks : List Event) (known : (n 
     pub going : (run : Run) → h.worker.run ≡ Some run → run.is_over ≡ false
     pub room : base ≤ length h.worker.objects + 1
     pub young : (i v : ℕ) (e o : Id) → item_at (sent_by h.there) i ≡ Some (hold_by me v e o) → e.owner ≡ me → e.serial < length h.worker.objects + 1
-    pub unsaid : IsOther → (o : Id) → IsUnsaid h a.object o
+    pub unsaid : IsOther → (e : Id) → IsMine e → (o : Id) → IsUnsaid h e o
 
   starts : (g : Here) (e : Id) → Q g → ((run : Run) → g.worker.run ≡ Some run → run.is_over ≡ false) → Sends g e g
   starts g e q going = record { holds = q; going = going; count = refl; since = λ i v f o at. inl at }
 
-  -- the new object holds what it names
-  after_birth : (h g f : Here) → Going h → length g.worker.objects ≡ length h.worker.objects + 1 → sent_by g.there ≡ sent_by h.there → Sends g (next_id_here h) f →
-      Going f
-  after_birth h g f x count same s =
-      let number : length f.worker.objects ≡ length h.worker.objects + 1 = s.count ∙ count in
+  -- the Holds of so many objects that follow one another were sent
+  record Went (before : Here) (w from k : ℕ) (h : Here) : Type 0 where
+    holds : Q h
+    going : (run : Run) → h.worker.run ≡ Some run → run.is_over ≡ false
+    since : (i v : ℕ) (f o : Id) → item_at (sent_by h.there) i ≡ Some (hold_by me v f o) →
+        (item_at (sent_by before.there) i ≡ Some (hold_by me v f o)) ⊎ ((f.owner ≡ w) × (from ≤ f.serial) × (f.serial < from + k))
+
+  went_none : (g : Here) (w from : ℕ) → Q g → ((run : Run) → g.worker.run ≡ Some run → run.is_over ≡ false) → Went g w from 0 g
+  went_none g w from q going = record { holds = q; going = going; since = λ i v f o at. inl at }
+
+  -- the next object holds what it names
+  went_on : (before : Here) (w from k : ℕ) (h : Here) (ids : List Id) → AreOnce ids → Went before w from k h → IsHolder log me a base (object_id w (from + k)) →
+      IsEntry (object_id w (from + k)) → (IsOther → (o : Id) → IsUnsaid before (object_id w (from + k)) o) →
+      Went before w from (suc k) (holds_ids h (object_id w (from + k)) ids)
+  went_on before w from k h ids once x holder entry clear =
+      let e : Id = object_id w (from + k) in
+      let s : Sends h e (holds_ids h e ids) = sends_all h e holder entry h ids once (λ o i other. unsaid_yet o other) (starts h e x.holds x.going) in
       record {
         holds = s.holds;
         going = s.going;
-        room = let room = x.room in omega (arith, room, number);
-        young = λ i v e o at own. elim (s.since i v e o at) [
-          | inl old ↦ let below = x.young i v e o (ap (λ ls. item_at ls i) (sym same) ∙ old) own in omega (arith, below, number)
-          | inr new ↦ let serial : e.serial ≡ length h.worker.objects + 1 = ap (λ (z : Id). z.serial) new in omega (arith, serial, number)
-        ];
-        unsaid = λ other o i v far at. elim (s.since i v a.object o at) [
-          | inl old ↦ x.unsaid other o i v far (ap (λ ls. item_at ls i) (sym same) ∙ old)
+        since = λ i v f o at. elim (s.since i v f o at) [
+          | inl old ↦ elim (x.since i v f o old) [
+            | inl was ↦ inl was
+            | inr (owner, low, high) ↦ inr (owner, low, omega (arith, high))
+          ]
           | inr new ↦
-              let below = apart (ap (λ (z : Id). z.owner) new ∙ x.holds.who) in
-              let serial : a.object.serial ≡ length h.worker.objects + 1 = ap (λ (z : Id). z.serial) new in
-              let room = x.room in
-              omega (arith, below, serial, room)
+              let serial : f.serial ≡ from + k = ap (λ (z : Id). z.serial) new in
+              inr (ap (λ (z : Id). z.owner) new, omega (arith, serial), omega (arith, serial))
         ];
       }
+    where
+      unsaid_yet : (o : Id) → IsOther → IsUnsaid h (object_id w (from + k)) o
+      unsaid_yet o other i v far at = elim (x.since i v (object_id w (from + k)) o at) [
+        | inl old ↦ clear other o i v far old
+        | inr (owner, low, high) ↦ omega (arith, high)
+      ]
+
+  -- so each of them
+  went_each : (count : ℕ) (before : Here) (w from k : ℕ) (h : Here) (ids : List Id) → AreOnce ids → h.me ≡ w → Went before w from k h →
+      ((j : ℕ) → j < k + count → IsHolder log me a base (object_id w (from + j))) → ((j : ℕ) → j < k + count → IsEntry (object_id w (from + j))) →
+      ((j : ℕ) → j < k + count → IsOther → (o : Id) → IsUnsaid before (object_id w (from + j)) o) →
+      Went before w from (k + count) (each_from (λ g i. holds_ids g (own_id g i) ids) h (from + k) count)
+  went_each zero before w from k h ids once is x holder entry clear = subst (λ n. Went before w from n h) (no_more k) x
+    where
+      no_more : (m : ℕ) → m ≡ m + 0
+      no_more m = omega arith
+  went_each (suc count) before w from k h ids once is x holder entry clear =
+      let g : Here = holds_ids h (own_id h (from + k)) ids in
+      let now : Went before w from (suc k) g = subst (λ v. Went before w from (suc k) (holds_ids h (object_id v (from + k)) ids)) (sym is)
+      (went_on before w from k h ids once x (holder k (omega arith)) (entry k (omega arith)) (clear k (omega arith))) in
+      subst (λ n. Went before w from n (each_from (λ y i. holds_ids y (own_id y i) ids) g ((from + k) + 1) count)) (sym (one_more k count))
+      (subst (λ n. Went before w from (suc k + count) (each_from (λ y i. holds_ids y (own_id y i) ids) g n count)) (next_one from k)
+      (went_each count before w from (suc k) g ids once (now.holds.who ∙ sym here_me) now (λ j low. holder j (omega (arith, low))) (λ j low. entry j (omega (arith, low)))
+      (λ j low. clear j (omega (arith, low)))))
+    where
+      here_me : w ≡ me
+      here_me = sym is ∙ x.holds.who
+
+      one_more : (m n : ℕ) → m + suc n ≡ suc m + n
+      one_more m n = omega arith
+
+      next_one : (m n : ℕ) → m + suc n ≡ (m + n) + 1
+      next_one m n = omega arith
+
+  -- the new objects hold what they name
+  after_birth : (h g f : Here) (count : ℕ) → Going h → sent_by g.there ≡ sent_by h.there → length f.worker.objects ≡ length h.worker.objects + count →
+      Went g me (length h.worker.objects + 1) count f → Going f
+  after_birth h g f count x same number s = record {
+    holds = s.holds;
+    going = s.going;
+    room = let room = x.room in omega (arith, room, number);
+    young = λ i v e o at own. elim (s.since i v e o at) [
+      | inl old ↦ let below = x.young i v e o (ap (λ ls. item_at ls i) (sym same) ∙ old) own in omega (arith, below, number)
+      | inr (owner, low, high) ↦ omega (arith, high, number)
+    ];
+    unsaid = λ other e mine o i v far at. elim (s.since i v e o at) [
+      | inl old ↦ x.unsaid other e mine o i v far (ap (λ ls. item_at ls i) (sym same) ∙ old)
+      | inr (owner, low, high) ↦
+          let own : a.object.owner ≡ me = made_owner (record { object = a.object; birth = spec }) e mine ∙ owner in
+          let below = apart own in
+          let within = made_below (record { object = a.object; birth = spec }) e mine in
+          let room = x.room in
+          omega (arith, below, within, low, room)
+    ];
+  }
 
   same_objects : (h : Here) (ys : List Object) → Q h → Q (with_worker h (record h.worker { objects = ys }))
   same_objects h ys q = record { who = q.who; kept_began = q.kept_began; same = q.same; run = q.run; said = q.said }
@@ -314,77 +384,132 @@ module _ (log : List Entry) (net : List Letter) (acks : List Event) (known : (n 
       to_node (suc k, h) = absurd (cc)
 
   -- an own task is asked for
-  asks_going : (h : Here) (o : Id) (task : OwnTask) (n : ℕ) (ys : List Object) (m : Message) → length ys ≡ length h.worker.objects → Going h →
-      Going (says_to_node (with_worker h (record h.worker { objects = ys })) n m)
-  asks_going h o task n ys m count x =
+  went_asks : (before : Here) (w from k : ℕ) (h : Here) (n : ℕ) (ys : List Object) (m : Message) → Went before w from k h →
+      Went before w from k (says_to_node (with_worker h (record h.worker { objects = ys })) n m)
+  went_asks before w from k h n ys m x =
       let g : Here = with_worker h (record h.worker { objects = ys }) in
-      let old_at = λ (i v : ℕ) (e q : Id) (at : item_at (sent_by (says_to_node g n m).there) i ≡ Some (hold_by me v e q)).
-      not_to_node h.me v n i e q m (sent_by h.there) (ap (λ ls. item_at ls i) (append_assoc net h.there.out.letters (letter (TheWorker h.me) (TheNode n) m ∷ [])) ∙ at) in
       record {
         holds = H.says_to_node_holds log net acks known me p began a base Present g n m (same_objects h ys x.holds);
         going = x.going;
-        room = let room = x.room in omega (arith, room, count);
-        young = λ i v e q at own. let below = x.young i v e q (old_at i v e q at) own in omega (arith, below, count);
-        unsaid = λ other q i v far at. x.unsaid other q i v far (old_at i v a.object q at);
+        since = λ i v f o at. x.since i v f o
+            (not_to_node h.me v n i f o m (sent_by h.there) (ap (λ ls. item_at ls i) (append_assoc net h.there.out.letters (letter (TheWorker h.me) (TheNode n) m ∷ [])) ∙ at));
       }
 
   bears_going : (h : Here) (b : Birth) → Among (Born (next_id_here h) a b) log → Going h → Going (bears h a b)
-  bears_going h (Put v) born x =
-      let e : Id = next_id_here h in
-      let ids : List Id = each_once (ids_of_birth (Put v)) in
-      let g : Here = with_store (with_object h (put_object a ids h.worker.node)) (with_primary (store_here h) e 0 (Val v)) in
-      let q : Q g = record { who = x.holds.who; kept_began = x.holds.kept_began; same = x.holds.same; run = x.holds.run; said = x.holds.said } in
-      let count : length g.worker.objects ≡ length h.worker.objects + 1 = length-append h.worker.objects (put_object a ids h.worker.node ∷ []) in
-      after_birth h g (holds_ids g e ids) x count refl
-      (sends_all g e (inr (x.holds.who, x.room)) (inr (Put v, born)) g ids (are_once (ids_of_birth (Put v)))
-      (λ o i other j w far at. let below = x.young j w e o at x.holds.who in omega (arith, below)) (starts g e q x.going))
-  bears_going h (Task name args depth retries others) born x =
-      let spec : Birth = Task name args depth retries others in
-      let e : Id = next_id_here h in
-      let ids : List Id = each_once (ids_of_birth spec) in
-      let object : Object = new_object (ByTask (new_task spec)) a ids in
-      let g : Here = with_object h object in
-      let q : Q g = record { who = x.holds.who; kept_began = x.holds.kept_began; same = x.holds.same; run = x.holds.run; said = x.holds.said } in
-      let count : length g.worker.objects ≡ length h.worker.objects + 1 = length-append h.worker.objects (object ∷ []) in
-      let f : Here = holds_ids g e ids in
-      let held : Going f = after_birth h g f x count refl
-      (sends_all g e (inr (x.holds.who, x.room)) (inr (spec, born)) g ids (are_once (ids_of_birth spec))
-      (λ o i other j w far at. let below = x.young j w e o at x.holds.who in omega (arith, below)) (starts g e q x.going)) in
-      asks_going f e (new_task spec) f.worker.node _ _ (changed-length f.worker.objects e.serial _) held
+  bears_going h b born x = by_birth b born (bears-same h a b).objects
+    where
+      n : ℕ
+      n = length h.worker.objects + 1
 
-  bears_all_going : (bs : List Birth) (h : Here) (vs : List Value) (stop : Stop) → ((x : Entry) → Among x (single_entries a (next_id_here h) bs vs stop) → Among x log) →
+      holder : (k : ℕ) → IsHolder log me a base (object_id me (n + k))
+      holder k = let room = x.room in inr (refl, omega (arith, room))
+
+      entry : (d : Birth) → Among (Born (next_id_here h) a d) log → (k : ℕ) → k < results_of d → IsEntry (object_id me (n + k))
+      entry d i k low = inr (next_id_here h, d, i, is_made (record { object = next_id_here h; birth = d }) (object_id me (n + k)) x.holds.who (omega arith) (omega (arith, low)))
+
+      clear : (k : ℕ) → IsOther → (o : Id) → IsUnsaid h (object_id me (n + k)) o
+      clear k other o i v far at = let below = x.young i v (object_id me (n + k)) o at refl in omega (arith, below)
+
+      first_is : object_id me (n + 0) ≡ next_id_here h
+      first_is = ap (object_id me) (no_more n) ∙ ap (λ w. object_id w n) (sym x.holds.who)
+        where
+          no_more : (m : ℕ) → m + 0 ≡ m
+          no_more m = omega arith
+
+      by_birth : (d : Birth) → Among (Born (next_id_here h) a d) log → length (bears h a d).worker.objects ≡ length h.worker.objects + results_of d → Going (bears h a d)
+      by_birth (Put v) i count =
+          let ids : List Id = each_once (ids_of_birth (Put v)) in
+          let g : Here = with_store (with_objects h (put_object a ids h.worker.node ∷ [])) (with_primary (store_here h) (next_id_here h) 0 (Val v)) in
+          let q : Q g = record { who = x.holds.who; kept_began = x.holds.kept_began; same = x.holds.same; run = x.holds.run; said = x.holds.said } in
+          let went : Went g me n 1 (holds_ids g (object_id me (n + 0)) ids) =
+          went_on g me n 0 g ids (are_once (ids_of_birth (Put v))) (went_none g me n q x.going) (holder 0) (entry (Put v) i 0 (omega arith)) (clear 0) in
+          after_birth h g (bears h a (Put v)) 1 x refl count (subst (λ e. Went g me n 1 (holds_ids g e ids)) first_is went)
+      by_birth (Task name args depth retries others) i count =
+          let d : Birth = Task name args depth retries others in
+          let o : Id = next_id_here h in
+          let ids : List Id = each_once (ids_of_birth d) in
+          let g : Here = with_objects h (task_objects a o.serial d others ids) in
+          let q : Q g = record { who = x.holds.who; kept_began = x.holds.kept_began; same = x.holds.same; run = x.holds.run; said = x.holds.said } in
+          let f : Here = each_holds g o (new_task d) ids in
+          let held : Went g me n (0 + suc others) (each_from (λ y k. holds_ids y (own_id y k) ids) g (n + 0) (suc others)) =
+          went_each (suc others) g me n 0 g ids (are_once (ids_of_birth d)) x.holds.who (went_none g me n q x.going) (λ k _. holder k) (λ k low. entry d i k (omega (arith, low))) (λ k _. clear k) in
+          let there : Went g me n (suc others) f =
+          subst (λ k. Went g me n k f) (none_before (suc others))
+          (subst (λ k. Went g me n (0 + suc others) (each_from (λ y j. holds_ids y (own_id y j) ids) g k (suc others))) (no_more n) held) in
+          after_birth h g (bears h a d) (suc others) x refl count (went_asks g me n (suc others) f f.worker.node _ _ there)
+        where
+          no_more : (m : ℕ) → m + 0 ≡ m
+          no_more m = omega arith
+
+          none_before : (m : ℕ) → 0 + m ≡ m
+          none_before m = omega arith
+
+  bears_all_going : (bs : List Birth) (h : Here) (vs : List Value) (stop : Stop) → ((x : Entry) → Among x (commit_entries a (next_id_here h) bs vs stop) → Among x log) →
       Going h → Going (bears_all h a bs)
   bears_all_going [] h vs stop logged x = x
   bears_all_going (b ∷ bs) h vs stop logged x =
       bears_all_going bs (bears h a b) vs stop
-      (λ y i. let j = subst (λ n. Among y (single_entries a n bs vs stop)) (next_birth h a b) i in logged y (suc j.0, j.1))
+      (λ y i. let j = subst (λ n. Among y (commit_entries a n bs vs stop)) (next_birth h a b) i in logged y (suc j.0, j.1))
       (bears_going h b (logged (Born (next_id_here h) a b) (zero, refl)) x)
 
   -- ---- the stop
 
-  ends_holds : (h : Here) (run : Run) (c : Outcome) → h.worker.run ≡ Some run → Among (Ended a (c ∷ [])) log → Going h → Q (stops_by h (AtEnd c) (Some run))
-  ends_holds h run c at ended x =
-      let is : run.attempt ≡ a = (x.holds.same run at).0 in
-      let o : Id = run.attempt.object in
-      let same : o ≡ a.object = ap (λ (b : Attempt). b.object) is in
+  -- each content's object holds what is in it
+  contents_hold : (rest : List Outcome) (before : Here) (k : ℕ) (h : Here) (number : ℕ) → Went before a.object.owner a.object.serial k h →
+      ((j : ℕ) → j < k + length rest → IsHolder log me a base (object_id a.object.owner (a.object.serial + j))) →
+      ((j : ℕ) → j < k + length rest → IsEntry (object_id a.object.owner (a.object.serial + j))) →
+      ((j : ℕ) → j < k + length rest → IsOther → (o : Id) → IsUnsaid before (object_id a.object.owner (a.object.serial + j)) o) →
+      Q (keeps_contents h (object_id a.object.owner (a.object.serial + k)) number rest)
+  contents_hold [] before k h number x holder entry clear = x.holds
+  contents_hold (c ∷ rest) before k h number x holder entry clear =
+      let e : Id = object_id a.object.owner (a.object.serial + k) in
       let ids : List Id = each_once (ids_in_outcome c) in
-      let f : Here = with_phase h run (HasEnded c) in
-      let q : Q f = H.still_holds log net acks known me p began a base Present h run (record run { phase = HasEnded c }) at refl refl refl refl x.holds in
-      let g : Here = passes_on (with_store f (with_ended (store_here h) o run.attempt.number c)) o ids in
-      let r : Q g = record { who = q.who; kept_began = q.kept_began; same = q.same; run = q.run; said = q.said } in
-      let all : Sends g o (holds_ids g o ids) =
-      sends_all g o (inl (same, (c ∷ [], ended))) (inl same) g ids (are_once (ids_in_outcome c))
-      (λ z i other. subst (λ e. IsUnsaid h e z) (sym same) (x.unsaid other z))
-      (starts g o r (λ y i. subst (λ (z : Run). z.is_over ≡ false) (some_run (record run { phase = HasEnded c }) y i) (x.going run at))) in
-      H.frees_holds log net acks known me p began a base Present (leaves_if_free (holds_ids g o ids))
-      (H.leaves_holds log net acks known me p began a base Present (holds_ids g o ids) all.holds)
+      let g : Here = passes_on (with_store h (with_ended (store_here h) e number c)) e ids in
+      let q : Q g = record { who = x.holds.who; kept_began = x.holds.kept_began; same = x.holds.same; run = x.holds.run; said = x.holds.said } in
+      let here_too : Went before a.object.owner a.object.serial k g = record { holds = q; going = x.going; since = x.since } in
+      let now = went_on before a.object.owner a.object.serial k g ids (are_once (ids_in_outcome c)) here_too (holder k (omega arith)) (entry k (omega arith)) (clear k (omega arith)) in
+      subst (λ m. Q (keeps_contents (holds_ids g e ids) (object_id a.object.owner m) number rest)) (next_one a.object.serial k)
+      (contents_hold rest before (suc k) (holds_ids g e ids) number now (λ j low. holder j (omega (arith, low))) (λ j low. entry j (omega (arith, low)))
+      (λ j low. clear j (omega (arith, low))))
+    where
+      next_one : (m n : ℕ) → m + suc n ≡ (m + n) + 1
+      next_one m n = omega arith
+
+  ends_holds : (h : Here) (run : Run) (cs : List Outcome) → h.worker.run ≡ Some run → Among (Ended a cs) log → length cs ≡ results_of spec → Going h →
+      Q (stops_by h (AtEnd cs) (Some run))
+  ends_holds h run cs at ended all x =
+      let is : run.attempt ≡ a = (x.holds.same run at).0 in
+      let next : Run = record run { phase = HasEnded cs } in
+      let f : Here = with_phase h run (HasEnded cs) in
+      let q : Q f = H.still_holds log net acks known me p began a base Present h run next at refl refl refl refl x.holds in
+      let went : Went f a.object.owner a.object.serial 0 f = went_none f a.object.owner a.object.serial q
+      (λ y i. subst (λ (z : Run). z.is_over ≡ false) (some_run next y i) (x.going run at)) in
+      let held : Q (keeps_contents f (object_id a.object.owner (a.object.serial + 0)) run.attempt.number cs) = contents_hold cs f 0 f run.attempt.number went
+      (λ j low. inl (of j low, (cs, ended))) (λ j low. inl (of j low)) (λ j low other o. x.unsaid other (result j) (mine j low) o) in
+      let at_first : Q (keeps_contents f run.attempt.object run.attempt.number cs) =
+      subst (λ o. Q (keeps_contents f o run.attempt.number cs)) (ap (object_id a.object.owner) (no_more a.object.serial) ∙ ap (λ (b : Attempt). b.object) (sym is)) held in
+      H.frees_holds log net acks known me p began a base Present (leaves_if_free (keeps_contents f run.attempt.object run.attempt.number cs))
+      (H.leaves_holds log net acks known me p began a base Present (keeps_contents f run.attempt.object run.attempt.number cs) at_first)
+    where
+      no_more : (m : ℕ) → m + 0 ≡ m
+      no_more m = omega arith
+
+      result : ℕ → Id
+      result j = object_id a.object.owner (a.object.serial + j)
+
+      mine : (j : ℕ) → j < 0 + length cs → IsMine (object_id a.object.owner (a.object.serial + j))
+      mine j low =
+          is_made (record { object = a.object; birth = spec }) (object_id a.object.owner (a.object.serial + j)) refl (omega arith) (omega (arith, low, all))
+
+      of : (j : ℕ) → j < 0 + length cs → H.IsResultOf log a (object_id a.object.owner (a.object.serial + j))
+      of j low = (spec, spec_born, mine j low)
 
   pub commit_holds : (h : Here) (d : Outcomes) (run : Run) → h.worker.run ≡ Some run → run.attempt ≡ a →
-      ((x : Entry) → Among x (single_entries a (next_id_here h) d.births d.prints (stop_of d.stop)) → Among x log) →
-      ((c : Outcome) → d.stop ≡ AtEnd c → Among (Ended a (c ∷ [])) log) → Going h → Q (commit_step h d)
+      ((x : Entry) → Among x (commit_entries a (next_id_here h) d.births d.prints (stop_of d.stop)) → Among x log) →
+      ((cs : List Outcome) → d.stop ≡ AtEnd cs → Among (Ended a cs) log × (length cs ≡ results_of spec)) → Going h → Q (commit_step h d)
   commit_holds h d run at is logged ended x =
       let next : Run = with_outcomes run d in
-      let g : Here = logs_all (with_run h next) (single_entries run.attempt (next_id_here h) d.births d.prints (stop_of d.stop)) in
+      let g : Here = logs_all (with_run h next) (commit_entries run.attempt (next_id_here h) d.births d.prints (stop_of d.stop)) in
       let q : Q (with_run h next) = H.still_holds log net acks known me p began a base Present h run next at refl refl refl refl x.holds in
       let started : Going g = record {
         holds = record { who = q.who; kept_began = q.kept_began; same = q.same; run = q.run; said = q.said };
@@ -404,4 +529,4 @@ module _ (log : List Entry) (net : List Letter) (acks : List Event) (known : (n 
           by_run (Some z) i (AtGet need) e =
               needs-kept Q (H.holds_kept log net acks known me p began a base Present) f z need
               (H.still_holds log net acks known me p began a base Present f z (record z { phase = Waits need None }) i refl refl refl refl y.holds)
-          by_run (Some z) i (AtEnd c) e = ends_holds f z c i (ended c e) y
+          by_run (Some z) i (AtEnd cs) e = ends_holds f z cs i (ended cs e).0 (ended cs e).1 y

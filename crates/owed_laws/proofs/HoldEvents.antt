@@ -1,13 +1,20 @@
 -- As long as nothing was killed or lost, every event keeps what is true of Pushes and Holds.
-use Rattle.std.proofs.Common.{◌≡◌, ℕ, zero, suc, ◌+◌, ◌<◌, List, [], ◌∷◌, ◌++◌, length, Some, None, Option, refl, ap, sym, subst, ◌∙◌, ◌⊎◌, inl, inr, arith}
-use Rattle.std.proofs.Common.{length-append}
+use Rattle.meaning.specs.Births.{Part, birth_at, is_made_by}
+use Rattle.meaning.specs.Values.{Birth, Id, Outcome, results_of}
+use Rattle.meaning.proofs.BirthLaws.{made_below, made_owner}
+use Rattle.event_log.specs.Words.{births, same_attempt, worker_of}
+use Rattle.event_log.specs.Sane.{Sane}
+use Rattle.event_log.proofs.SaneLaws.{legal_logs_are_sane}
+use Rattle.event_log.proofs.Extending.{births-more}
+use Rattle.protocol_legal.specs.Whole.{Between, setting_of}
+use Rattle.owed_laws.proofs.HoldMoves.{ack_of, IsHolder, IsOfRun, item_cases, item_within, result_more, run_more, RunHolds}
+use Rattle.std.proofs.Common.{[], ap, arith, inl, inr, length, length-append, List, None, Option, refl, Some, subst, suc, sym, zero, ℕ, ◌++◌, ◌+◌, ◌<◌, ◌∙◌}
+use Rattle.std.proofs.Common.{◌∷◌, ◌≡◌, ◌≤◌, ◌⊎◌}
 use Rattle.std.specs.Prelude.{Bool, true, false}
-use Rattle.meaning.specs.Values.{Birth, Id, Outcome}
 use Rattle.event_log.specs.Breaks.{Among}
-use Rattle.event_log.specs.Entries.{Attempt, Born, Deliver, Ended, Entry, Event, In, main_attempt}
+use Rattle.event_log.specs.Entries.{Attempt, Deliver, Ended, Entry, Event, In, main_attempt}
 use Rattle.event_log.specs.Events.{accepted_events}
 use Rattle.event_log.specs.Rules.{Setting}
-use Rattle.event_log.specs.Words.{same_attempt, worker_of}
 use Rattle.numbered.specs.Counting.{item_of}
 use Rattle.protocol.specs.Messages.{Hold, HoldAck, Letter, Message, Party, Push, TheWorker, letter}
 use Rattle.protocol.specs.Numbered.{changed_at, item_at}
@@ -17,7 +24,6 @@ use Rattle.protocol.specs.Tables.{Holding, Run, Worker, new_worker}
 use Rattle.protocol.specs.Whole.{Moved, Whole, worker_at}
 use Rattle.protocol_legal.specs.Past.{past}
 use Rattle.protocol_legal.specs.Says.{IsPushed, Says}
-use Rattle.protocol_legal.specs.Whole.{Between}
 use Rattle.protocol_owed.specs.Courses.{has_begun}
 use Rattle.protocol_owed.specs.Seen.{IsCalm}
 use Rattle.protocol_owed.proofs.CourseEvents.{append_split, one_of}
@@ -29,7 +35,6 @@ use Rattle.lease_discipline.proofs.Events.{among_at}
 use Rattle.owed_replies.specs.Kept.{KeepsReplies}
 use Rattle.owed_replies.proofs.Advancing.{all_among}
 use Rattle.owed_laws.proofs.HoldFacts.{only_first}
-use Rattle.owed_laws.proofs.HoldMoves.{IsHolder, RunHolds, ack_of, item_cases, item_within, run_more}
 
 -- ---- between two events
 
@@ -40,6 +45,17 @@ push_by u w a spec = letter (TheWorker u) (TheWorker w) (Push a spec)
 abbrev pub HasEnd : List Entry → Attempt → Type 0
 HasEnd log a = (c : List Outcome) × Among (Ended a c) log
 
+-- all objects of the attempt's task were born before that serial
+abbrev pub IsBelow : List Entry → Attempt → ℕ → Type 0
+IsBelow log a base = (spec : Birth) × (birth_at (births log) a.object ≡ Some spec) × (a.object.serial + results_of spec ≤ base)
+
+pub below_more : (log es : List Entry) (a : Attempt) (base : ℕ) → IsBelow log a base → IsBelow (log ++ es) a base
+below_more log es a base (spec, born, below) = (spec, births-more log es a.object spec born, below)
+
+-- an object of a task with that birth
+abbrev pub IsPartOfTask : Attempt → Birth → Id → Type 0
+IsPartOfTask a spec e = is_made_by (record { object = a.object; birth = spec }) e ≡ true
+
 -- a worker's attempt: where it was first pushed to it, what is true of its Holds, and that what the worker began was born before
 pub record RunKeeps (log : List Entry) (sent : List Letter) (acks : List Event) (w : ℕ) (x : Worker) (run : Run) : Type 0 where
   pub place : ℕ
@@ -48,14 +64,14 @@ pub record RunKeeps (log : List Entry) (sent : List Letter) (acks : List Event) 
       (spec : Birth) × (item_at sent place ≡ Some (push_by run.attempt.object.owner w run.attempt spec))
       × ((i : ℕ) (other : Birth) → i < place → item_at sent i ≡ Some (push_by run.attempt.object.owner w run.attempt other) → ⊥)
   pub holds : RunHolds log sent acks w place run
-  pub apart : (a : Attempt) → has_begun a x.began ≡ true → a.object.owner ≡ w → a.object.serial < run.base.serial
+  pub apart : (a : Attempt) → has_begun a x.began ≡ true → a.object.owner ≡ w → IsBelow log a run.base.serial
 
 pub record KeepsHolds (log : List Entry) (c : Whole) : Type 0 where
   -- an attempt is pushed by its owner
   pub pushes : (u w : ℕ) (a : Attempt) (spec : Birth) → Among (push_by u w a spec) c.network → u ≡ a.object.owner
-  -- behind the Push of an attempt its worker sends a Hold of the attempt's object only once the attempt ended
-  pub behind : (p i u w v : ℕ) (a : Attempt) (spec : Birth) (o : Id) → p < i → item_at c.network p ≡ Some (push_by u w a spec) →
-      item_at c.network i ≡ Some (letter (TheWorker w) (TheWorker v) (Hold a.object o)) → HasEnd log a
+  -- behind the Push of an attempt its worker sends a Hold of an object of its task only once the attempt ended
+  pub behind : (p i u w v : ℕ) (a : Attempt) (spec : Birth) (f o : Id) → IsPartOfTask a spec f → p < i → item_at c.network p ≡ Some (push_by u w a spec) →
+      item_at c.network i ≡ Some (letter (TheWorker w) (TheWorker v) (Hold f o)) → HasEnd log a
   pub runs : (w : ℕ) (x : Worker) (run : Run) → worker_at c w ≡ Some x → x.run ≡ Some run → RunKeeps log c.network (accepted_events log) w x run
 
 -- ---- one event
@@ -64,19 +80,19 @@ pub run_later : (log es : List Entry) (sent : List Letter) (acks : List Event) (
     RunHolds (log ++ es) sent acks w p run
 run_later log es sent acks w p run r = record {
   over = r.over;
-  each = λ k i. later (r.each k i);
+  each = λ k i. later run.attempt run.base.serial k.holder (r.each k i);
   held = λ other k i.
       let h = r.held other k i in
-      record { entry = born h.entry; sends = h.sends; unheard = h.unheard };
+      record { entry = born k.holder run.attempt h.entry; sends = h.sends; unheard = h.unheard };
 }
   where
-    later : {a : Attempt} {base : ℕ} {e : Id} → IsHolder log w a base e → IsHolder (log ++ es) w a base e
-    later (inl (same, (c, i))) = inl (same, (c, among-more log es _ i))
-    later (inr own) = inr own
+    later : (a : Attempt) (base : ℕ) (e : Id) → IsHolder log w a base e → IsHolder (log ++ es) w a base e
+    later a base e (inl (r, (c, i))) = inl (result_more log es a e r, (c, among-more log es _ i))
+    later a base e (inr own) = inr own
 
-    born : {e : Id} {a : Attempt} → (e ≡ a.object) ⊎ ((b : Birth) × Among (Born e a b) log) → (e ≡ a.object) ⊎ ((b : Birth) × Among (Born e a b) (log ++ es))
-    born (inl same) = inl same
-    born (inr (b, i)) = inr (b, among-more log es _ i)
+    born : (e : Id) (a : Attempt) → IsOfRun log a e → IsOfRun (log ++ es) a e
+    born e a (inl r) = inl (result_more log es a e r)
+    born e a (inr (o, b, i, made)) = inr (o, b, among-more log es _ i, made)
 
 -- with one more event, which acknowledges none of these
 run_acked : (log : List Entry) (sent : List Letter) (acks : List Event) (e : Event) (w p : ℕ) (run : Run) → RunHolds log sent acks w p run →
@@ -127,7 +143,7 @@ module _ (s : Setting) (log : List Entry) (c : Whole) (step : IsInStep s log c) 
   -- what the event's letters and attempts have to be
   pub record Goes : Type 0 where
     pub pushes : (u w : ℕ) (a : Attempt) (spec : Birth) → Among (push_by u w a spec) m.out.letters → u ≡ a.object.owner
-    pub says : (u w v : ℕ) (a : Attempt) (spec : Birth) (o : Id) → Among (letter (TheWorker w) (TheWorker v) (Hold a.object o)) m.out.letters →
+    pub says : (u w v : ℕ) (a : Attempt) (spec : Birth) (f o : Id) → IsPartOfTask a spec f → Among (letter (TheWorker w) (TheWorker v) (Hold f o)) m.out.letters →
         Among (push_by u w a spec) m.whole.network → HasEnd next a
     pub runs : (w : ℕ) (x : Worker) (run : Run) → worker_at m.whole w ≡ Some x → x.run ≡ Some run → RunKeeps next m.whole.network (accepted_events next) w x run
 
@@ -140,16 +156,16 @@ module _ (s : Setting) (log : List Entry) (c : Whole) (step : IsInStep s log c) 
       | inl old ↦ k.pushes u w a spec old
       | inr new ↦ g.pushes u w a spec new
     ];
-    behind = λ p i u w v a spec o less pushed hold. elim (item_cases c.network m.out.letters i (letter (TheWorker w) (TheWorker v) (Hold a.object o)) (ap (λ ls. item_at
+    behind = λ p i u w v a spec f o made less pushed hold. elim (item_cases c.network m.out.letters i (letter (TheWorker w) (TheWorker v) (Hold f o)) (ap (λ ls. item_at
         ls i) (sym network) ∙ hold)) [
           | inl old ↦ elim (item_cases c.network m.out.letters p (push_by u w a spec) (ap (λ ls. item_at ls p) (sym network) ∙ pushed)) [
-            | inl was ↦ end_more a (k.behind p i u w v a spec o less was old)
+            | inl was ↦ end_more a (k.behind p i u w v a spec f o made less was old)
             | inr new ↦
                 let above = new.0 in
-                let below = item_within c.network i (letter (TheWorker w) (TheWorker v) (Hold a.object o)) old in
+                let below = item_within c.network i (letter (TheWorker w) (TheWorker v) (Hold f o)) old in
                 absurd (omega (arith, above, below, less))
           ]
-          | inr new ↦ g.says u w v a spec o new.1 (among_at m.whole.network p (push_by u w a spec) pushed)
+          | inr new ↦ g.says u w v a spec f o made new.1 (among_at m.whole.network p (push_by u w a spec) pushed)
         ];
     runs = g.runs;
   }
@@ -164,7 +180,7 @@ module _ (s : Setting) (log : List Entry) (c : Whole) (step : IsInStep s log c) 
       × ((i : ℕ) (other : Birth) → i < p → item_at c.network i ≡ Some (push_by run.attempt.object.owner w run.attempt other) → ⊥)) →
       RunHolds next (c.network ++ m.out.letters) (accepted_events log) w p run →
       ((j : Holding) → Among j run.holds → (n : ℕ) → e ≡ Deliver n → item_at c.network n ≡ Some (ack_of w j) → ⊥) →
-      ((a : Attempt) → has_begun a y.began ≡ true → a.object.owner ≡ w → a.object.serial < run.base.serial) →
+      ((a : Attempt) → has_begun a y.began ≡ true → a.object.owner ≡ w → IsBelow next a run.base.serial) →
       RunKeeps next m.whole.network (accepted_events next) w y run
   keeps_on w y run p within pushed holds unheard apart = record {
     place = p;
@@ -207,7 +223,8 @@ module _ (s : Setting) (log : List Entry) (c : Whole) (step : IsInStep s log c) 
       keeps_on w x run r.place r.within r.pushed
       (run_more next c.network m.out.letters (accepted_events log) w r.place run known
       (run_later log (In e seat ∷ m.out.entries) c.network (accepted_events log) w r.place run r.holds))
-      (λ j i n is_it ack. unheard n (TheWorker j.object.owner) (HoldAck j.holder j.object) is_it ack) r.apart
+      (λ j i n is_it ack. unheard n (TheWorker j.object.owner) (HoldAck j.holder j.object) is_it ack)
+      (λ a begun own. below_more log (In e seat ∷ m.out.entries) a run.base.serial (r.apart a begun own))
 
   -- ---- an event of a worker
 
@@ -220,7 +237,7 @@ module _ (s : Setting) (log : List Entry) (c : Whole) (step : IsInStep s log c) 
       pub runs : (run : Run) → last.worker.run ≡ Some run → RunKeeps next m.whole.network (accepted_events next) me last.worker run
       pub own : (w : ℕ) (l : Letter) → Among l last.there.out.letters → l.sender ≡ TheWorker w → w ≡ me
       pub pushes : (w : ℕ) (a : Attempt) (spec : Birth) → Among (push_by me w a spec) last.there.out.letters → a.object.owner ≡ me
-      pub says : (u v : ℕ) (a : Attempt) (spec : Birth) (o : Id) → Among (letter (TheWorker me) (TheWorker v) (Hold a.object o)) last.there.out.letters →
+      pub says : (u v : ℕ) (a : Attempt) (spec : Birth) (f o : Id) → IsPartOfTask a spec f → Among (letter (TheWorker me) (TheWorker v) (Hold f o)) last.there.out.letters →
           Among (push_by u me a spec) m.whole.network → HasEnd next a
 
     pub worker_goes : Mine → Goes
@@ -229,10 +246,10 @@ module _ (s : Setting) (log : List Entry) (c : Whole) (step : IsInStep s log c) 
           let j = subst (λ ls. Among (push_by u w a spec) ls) letters i in
           let same : u ≡ me = mine.own u (push_by u w a spec) j refl in
           same ∙ sym (mine.pushes w a spec (subst (λ z. Among (push_by z w a spec) last.there.out.letters) same j));
-      says = λ u w v a spec o i pushed.
-          let j = subst (λ ls. Among (letter (TheWorker w) (TheWorker v) (Hold a.object o)) ls) letters i in
-          let same : w ≡ me = mine.own w (letter (TheWorker w) (TheWorker v) (Hold a.object o)) j refl in
-          mine.says u v a spec o (subst (λ z. Among (letter (TheWorker z) (TheWorker v) (Hold a.object o)) last.there.out.letters) same j)
+      says = λ u w v a spec f o made i pushed.
+          let j = subst (λ ls. Among (letter (TheWorker w) (TheWorker v) (Hold f o)) ls) letters i in
+          let same : w ≡ me = mine.own w (letter (TheWorker w) (TheWorker v) (Hold f o)) j refl in
+          mine.says u v a spec f o made (subst (λ z. Among (letter (TheWorker z) (TheWorker v) (Hold f o)) last.there.out.letters) same j)
           (subst (λ z. Among (push_by u z a spec) m.whole.network) same pushed);
       runs = λ w y run is r. by_who w y run (append_split (changed_at c.workers me (λ _. last.worker)) (repeated last.there.opened (new_worker home)) w y
           (ap (λ ws. item_at ws w) (sym workers) ∙ is)) r;
@@ -272,17 +289,38 @@ module _ (s : Setting) (log : List Entry) (c : Whole) (step : IsInStep s log c) 
       let other : d.number ≡ 0 = only_first s next m.whole b asks calm a touched d.number w (ap (λ (o : Id). worker_of (record { object = o; number = d.number }) next) same ∙ ran) in
       attempt_parts d a (sym same) (other ∙ sym first)
 
-  -- a Hold of its object is said only once it ended, or by a worker that is free
-  pub said_in_time : (u me : ℕ) (x y : Worker) (r : Run) (a : Attempt) (spec : Birth) → worker_at c me ≡ Some x → x.run ≡ Some r → worker_of r.attempt next ≡ Some me →
-      y.began ≡ x.began → Among (push_by u me a spec) m.whole.network → IsHolder next me r.attempt r.base.serial a.object →
+  sane : Sane next
+  sane = legal_logs_are_sane (setting_of s m.whole) next b.legal
+
+  pushed_born : (u me : ℕ) (a : Attempt) (spec : Birth) → Among (push_by u me a spec) m.whole.network → birth_at (births next) a.object ≡ Some spec
+  pushed_born u me a spec i =
+      let says : IsPushed next a spec me = all_among (Says (past next b.asked)) m.whole.network (push_by u me a spec) b.knows.told i in
+      says.born
+
+  same_part : (p q : Part) → ◌≡◌ {A = Option Part} (Some p) (Some q) → p ≡ q
+  same_part p q f = cc
+
+  same_birth : (p q : Birth) → ◌≡◌ {A = Option Birth} (Some p) (Some q) → p ≡ q
+  same_birth p q f = cc
+
+  -- a Hold of an object of its task is said only once it ended, or by a worker that is free
+  pub said_in_time : (u me : ℕ) (x y : Worker) (r : Run) (a : Attempt) (spec : Birth) (f : Id) → IsPartOfTask a spec f → worker_at c me ≡ Some x → x.run ≡ Some r →
+      worker_of r.attempt next ≡ Some me → y.began ≡ x.began → Among (push_by u me a spec) m.whole.network → IsHolder next me r.attempt r.base.serial f →
       ((has_begun a y.began ≡ false) → ⊥) → HasEnd next a
-  said_in_time u me x y r a spec at is ran began i (inl (same, ended)) unbegun =
+  said_in_time u me x y r a spec f made at is ran began i (inl (of, ended)) unbegun =
+      let part = sane.grouped.whole a.object f spec (pushed_born u me a spec i) made in
+      let other = sane.grouped.whole r.attempt.object f of.0 of.1 of.2 in
+      let same : a.object ≡ r.attempt.object = ap (λ (p : Part). p.born.object) (same_part _ _ (sym part ∙ other)) in
       let one : r.attempt ≡ a = one_attempt u me me a r.attempt spec i same ran in
       subst (HasEnd next) one ended
-  said_in_time u me x y r a spec at is ran began i (inr (owner, above)) unbegun =
+  said_in_time u me x y r a spec f made at is ran began i (inr (owner, above)) unbegun =
       let begun : has_begun a y.began ≡ true = true_from (has_begun a y.began) unbegun in
-      let below = (k.runs me x r at is).apart a (ap (λ bs. has_begun a bs) (sym began) ∙ begun) owner in
-      absurd (omega (arith, above, below))
+      let own : a.object.owner ≡ me = made_owner (record { object = a.object; birth = spec }) f made ∙ owner in
+      let below = below_more log (In e seat ∷ m.out.entries) a r.base.serial ((k.runs me x r at is).apart a (ap (λ bs. has_begun a bs) (sym began) ∙ begun) own) in
+      let same : below.0 ≡ spec = same_birth below.0 spec (sym below.1 ∙ pushed_born u me a spec i) in
+      let room : a.object.serial + results_of spec ≤ r.base.serial = subst (λ d. a.object.serial + results_of d ≤ r.base.serial) same below.2 in
+      let within = made_below (record { object = a.object; birth = spec }) f made in
+      absurd (omega (arith, above, room, within))
     where
       true_from : (t : Bool) → (t ≡ false → ⊥) → t ≡ true
       true_from true f = refl

@@ -1,19 +1,27 @@
 -- What a calm run tells of Pushes and Holds: an attempt that was pushed is the first of its object, and there is a first letter of a kind.
-use Rattle.std.proofs.Common.{◌≡◌, ℕ, zero, suc, ◌+◌, ◌<◌, List, Some, None, Option, refl, ap, sym, subst, ◌∙◌, inl, inr, arith}
+use Rattle.std.proofs.Common.{ap, arith, inl, inr, length, List, None, Option, refl, Some, subst, suc, sym, zero, ℕ, ◌++◌, ◌+◌, ◌<◌, ◌∙◌, ◌∷◌, ◌≡◌}
+use Rattle.meaning.specs.Births.{birth_at, same_id}
+use Rattle.meaning.specs.Meaning.{replay, run_birth}
+use Rattle.meaning.specs.Runs.{Over, Piece}
+use Rattle.meaning.specs.Values.{Birth, Completion, Id, Outcome, outcomes, results_of, without_first}
+use Rattle.event_log.specs.Breaks.{Among}
+use Rattle.event_log.specs.Entries.{Attempt, Ended, Entry, main_object}
+use Rattle.event_log.specs.Legal as L
+use Rattle.event_log.specs.Legal.{opening}
+use Rattle.event_log.specs.Rules.{Setting, Stops}
+use Rattle.event_log.specs.Words.{answers_of, attempt, births, same_attempt, worker_of}
+use Rattle.event_log.proofs.Extending.{births-more}
+use Rattle.event_log.proofs.Finishing.{over_outcomes}
+use Rattle.owed_replies.proofs.Delivered.{allowed_at}
 use Rattle.std.specs.Prelude.{Bool, true, false, ◌==◌, ◌&&◌}
 use Rattle.std.proofs.lemmas.Bool.{and_parts, both_ways, eq-eqb, eqb-true}
 use Rattle.meaning.proofs.BirthLaws.{at_test, same_id-refl, same_id-true}
-use Rattle.meaning.specs.Births.{same_id}
-use Rattle.meaning.specs.Values.{Birth, Id}
-use Rattle.event_log.specs.Entries.{Attempt, Entry, main_object}
-use Rattle.event_log.specs.Rules.{Setting}
-use Rattle.event_log.specs.Words.{attempt, same_attempt, worker_of}
 use Rattle.event_log.proofs.WordLaws.{same_attempt-refl, same_attempt-true}
-use Rattle.protocol.specs.Messages.{Ask, At, Back, CopyOf, Elsewhere, Failed, Fetch, Finished, FinishedAck, Give, Gone, Hold, HoldAck, Letter, Message, Missing, Party}
-use Rattle.protocol.specs.Messages.{Push, TheNode, TheWorker, Unhold, Wait, Where, letter}
+use Rattle.protocol.specs.Messages.{Ask, At, Back, CopyOf, Elsewhere, Failed, Fetch, Finished, FinishedAck, Give, Gone, Hold, HoldAck, Letter, letter, Message}
+use Rattle.protocol.specs.Messages.{Missing, Party, Push, TheNode, TheWorker, Unhold, Wait, Where}
 use Rattle.protocol.specs.Numbered.{item_at}
 use Rattle.protocol.specs.Sets.{object_id}
-use Rattle.protocol.specs.Tables.{AskedAt, AtRest, ByTask, Maker, Object, OwnTask, Progress, RunsOn, WasPut, Worker, task_in, task_of}
+use Rattle.protocol.specs.Tables.{AskedAt, AtRest, Beside, ByTask, Maker, Object, OwnTask, Progress, RunsOn, WasPut, Worker, task_in, task_of}
 use Rattle.protocol.specs.Whole.{Whole, worker_at}
 use Rattle.protocol_legal.specs.Knows.{KnowsMaker, KnowsObject, KnowsProgress, KnowsTask}
 use Rattle.protocol_legal.specs.Past.{past}
@@ -110,7 +118,7 @@ pushes_is a (Give b t v) e = absurd (cc)
 pushes_is a (Elsewhere b t n) e = absurd (cc)
 pushes_is a (Wait b t) e = absurd (cc)
 pushes_is a (Back b) e = absurd (cc)
-pushes_is a (Finished b n ids content) e = absurd (cc)
+pushes_is a (Finished b n rs) e = absurd (cc)
 pushes_is a (FinishedAck b) e = absurd (cc)
 pushes_is a (Failed b f) e = absurd (cc)
 pushes_is a (Where o) e = absurd (cc)
@@ -156,7 +164,7 @@ holds_is e o (Give b k v) t = absurd (cc)
 holds_is e o (Elsewhere b k n) t = absurd (cc)
 holds_is e o (Wait b k) t = absurd (cc)
 holds_is e o (Back b) t = absurd (cc)
-holds_is e o (Finished b n ids content) t = absurd (cc)
+holds_is e o (Finished b n rs) t = absurd (cc)
 holds_is e o (FinishedAck b) t = absurd (cc)
 holds_is e o (Failed b f) t = absurd (cc)
 holds_is e o (Where q) t = absurd (cc)
@@ -191,14 +199,14 @@ module _ (s : Setting) (log : List Entry) (c : Whole) (b : Between s log c) (ask
       let o = asks.owned a touched in
       by_task o.0 o.1 (task_of (item_at o.0.objects a.object.serial)) refl
     where
-      by_progress : (x : Worker) (z : Object) (task : OwnTask) → KnowsTask (past log b.asked) a.object z task → (q : Progress) → task.progress ≡ q → number ≡ 0
-      by_progress x z task k (AskedAt t m) e = absurd (none_begun s log c b calm a.object task t m number v x z k e ran)
+      by_progress : (x : Worker) (z : Object) (task : OwnTask) → KnowsTask (past log b.asked) a.object x.objects task → (q : Progress) → task.progress ≡ q → number ≡ 0
+      by_progress x z task k (AskedAt t m) e = absurd (none_begun s log c b calm a.object task x.objects t m number v k e ran)
       by_progress x z task k AtRest e =
-          let q = subst (KnowsProgress (past log b.asked) a.object z task) e k.progress in
+          let q = subst (KnowsProgress (past log b.asked) a.object task) e k.progress in
           (begun_first s log c b calm a.object task q.0 q.1 number v q.2 k.begun ran).1
       by_progress x z task k (RunsOn w n) e =
-          let q = subst (KnowsProgress (past log b.asked) a.object z task) e k.progress in
-          (begun_first s log c b calm a.object task w n number v q.2 k.begun ran).1
+          let q = subst (KnowsProgress (past log b.asked) a.object task) e k.progress in
+          (begun_first s log c b calm a.object task w n number v q.0 k.begun ran).1
 
       by_object : (x : Worker) → worker_at c a.object.owner ≡ Some x → (p : Option Object) → item_at x.objects a.object.serial ≡ p → (task : OwnTask) →
           task_of p ≡ Some task → number ≡ 0
@@ -207,9 +215,10 @@ module _ (s : Setting) (log : List Entry) (c : Whole) (b : Between s log c) (ask
         where
           by_maker : (m : Maker) → z.maker ≡ m → task_in m ≡ Some task → number ≡ 0
           by_maker WasPut is f = absurd (cc)
+          by_maker (Beside j) is f = absurd (cc)
           by_maker (ByTask other) is f =
               let k : KnowsObject (past log b.asked) x a.object z = knows_of s log c b calm a.object x z at there in
-              let t : KnowsTask (past log b.asked) a.object z other = subst (KnowsMaker (past log b.asked) x.node a.object z) is k.maker in
+              let t : KnowsTask (past log b.asked) a.object x.objects other = (subst (KnowsMaker (past log b.asked) x.node x.objects a.object z) is k.maker).0 in
               by_progress x z other t other.progress refl
 
       by_task : (x : Worker) → worker_at c a.object.owner ≡ Some x → (p : Option OwnTask) → task_of (item_at x.objects a.object.serial) ≡ p → number ≡ 0
@@ -222,3 +231,24 @@ module _ (s : Setting) (log : List Entry) (c : Whole) (b : Between s log c) (ask
       let o = asks.owned a touched in
       let at : worker_at c main_object.owner ≡ Some o.0 = ap (λ (z : Id). worker_at c z.owner) (sym same) ∙ o.1 in
       (asks.owners 1 o.0 at).none 0 a.number refl (subst (λ z. Touched c.network (attempt z a.number)) same touched)
+
+-- ---- an end has a content for each result
+
+outcomes-length : (n : ℕ) (e : Completion) → length (outcomes n e) ≡ n
+outcomes-length zero e = refl
+outcomes-length (suc n) e = ap suc (outcomes-length n (without_first e))
+
+pub ends_with_all : (s : Setting) (log : List Entry) → L.Legal s log → (a : Attempt) (cs : List Outcome) (spec : Birth) → Among (Ended a cs) log →
+    birth_at (births log) a.object ≡ Some spec → length cs ≡ results_of spec
+ends_with_all s log legal a cs spec i born =
+    let r = allowed_at s log legal (Ended a cs) (λ e. absurd (cc)) (λ e. absurd (cc)) i in
+    let stops : Stops s (opening ++ r.0) a (Over cs) = r.1.stops in
+    let known : birth_at (births log) a.object ≡ Some stops.replays.spec =
+    subst (λ l. birth_at (births l) a.object ≡ Some stops.replays.spec) (sym r.3) (births-more (opening ++ r.0) (Ended a cs ∷ r.2) a.object stops.replays.spec stops.replays.born) in
+    let same : stops.replays.spec ≡ spec = same_birth stops.replays.spec spec (sym known ∙ born) in
+    let over : (replay s.script stops.replays.spec stops.base (answers_of a (opening ++ r.0))).stop ≡ Over cs = ap (λ (p : Piece). p.stop) (sym stops.replays.replayed) ∙ stops.stopped in
+    let q = over_outcomes (results_of stops.replays.spec) (run_birth s.script stops.replays.spec) stops.base (answers_of a (opening ++ r.0)) cs over in
+    ap length q.1 ∙ outcomes-length (results_of stops.replays.spec) q.0 ∙ ap results_of same
+  where
+    same_birth : (p q : Birth) → ◌≡◌ {A = Option Birth} (Some p) (Some q) → p ≡ q
+    same_birth p q f = cc

@@ -1,6 +1,5 @@
 -- As long as nothing was killed or lost, each event keeps what is true of Pushes and Holds: the events, one by one.
-use Rattle.std.proofs.Common.{◌≡◌, ℕ, zero, suc, ◌+◌, ◌<◌, List, [], ◌∷◌, ◌++◌, length, Some, None, Option, refl, ap, sym, subst, ◌∙◌}
-use Rattle.std.proofs.Common.{append-nil}
+use Rattle.std.proofs.Common.{[], ap, append-nil, length, List, None, Option, refl, Some, subst, suc, sym, zero, ℕ, ◌++◌, ◌+◌, ◌<◌, ◌∙◌, ◌∷◌, ◌≡◌}
 use Rattle.std.specs.Prelude.{Bool, true, false, if◌then◌else◌, not, ◌&&◌}
 use Rattle.std.specs.List.{filter}
 use Rattle.std.proofs.lemmas.Bool.{both_ways}
@@ -14,8 +13,7 @@ use Rattle.event_log.specs.Rules.{Setting}
 use Rattle.event_log.specs.Words.{same_attempt, worker_of}
 use Rattle.protocol.specs.Holders.{hold_ack_by, same_holding, without_holding}
 use Rattle.protocol.specs.Jobs.{Given}
-use Rattle.protocol.specs.Messages.{Hold, Letter, Message, Party}
-use Rattle.protocol.specs.Messages.{Push, TheWorker, letter}
+use Rattle.protocol.specs.Messages.{Hold, Letter, letter, Message, Party, Push, TheWorker}
 use Rattle.protocol.specs.Nodes.{Node}
 use Rattle.protocol.specs.Numbered.{item_at}
 use Rattle.protocol.specs.Releases.{release_step}
@@ -34,7 +32,7 @@ use Rattle.owed_replies.specs.Kept.{KeepsReplies}
 use Rattle.owed_replies.proofs.Moves.{IsKept, release_step-kept}
 use Rattle.owed_replies.proofs.Paying.{kept_among}
 use Rattle.owed_laws.proofs.HoldEvents as E
-use Rattle.owed_laws.proofs.HoldEvents.{HasEnd, KeepsHolds, RunKeeps, push_by, run_later}
+use Rattle.owed_laws.proofs.HoldEvents.{HasEnd, IsBelow, IsPartOfTask, KeepsHolds, RunKeeps, below_more, push_by, run_later}
 use Rattle.owed_laws.proofs.HoldMoves as H
 use Rattle.owed_laws.proofs.HoldMoves.{IsHolder, RunHolds, ack_of, item_within}
 use Rattle.owed_laws.proofs.Made.{runs_more}
@@ -194,7 +192,7 @@ module _ (s : Setting) (log : List Entry) (c : Whole) (step : IsInStep s log c) 
         (holds : (r : Run) (is : x.run ≡ Some r) → RunsAs r is g) (idles : x.run ≡ None → IdlesAs g)
         (unheard : (run : Run) → last.worker.run ≡ Some run → (j : Holding) → Among j run.holds → (n : ℕ) → e ≡ Deliver n → item_at c.network n ≡ Some (ack_of me j) → ⊥)
         (speaks : Speaks (Unit {0}) (Unit {0}) me g)
-        (free_says_none : (u v : ℕ) (b : Attempt) (spec : Birth) (o : Id) → Among (letter (TheWorker me) (TheWorker v) (Hold b.object o)) last.there.out.letters →
+        (free_says_none : (u v : ℕ) (b : Attempt) (spec : Birth) (f o : Id) → IsPartOfTask b spec f → Among (letter (TheWorker me) (TheWorker v) (Hold f o)) last.there.out.letters →
         Among (push_by u me b spec) done.whole.network → has_begun b last.worker.began ≡ false → ⊥) where
       runs_last : (r : Run) (is : x.run ≡ Some r) → RunsAs r is last
       runs_last r is = release_step-kept (RunsAs r is) (H.holds_kept logged c.network (accepted_events log) known me (k.runs me x r at is).place x.began r.attempt
@@ -216,22 +214,23 @@ module _ (s : Setting) (log : List Entry) (c : Whole) (step : IsInStep s log c) 
           (λ other. subst (λ (d : Attempt). (spec : Birth) × (item_at c.network old.place ≡ Some (push_by d.object.owner me d spec)) × ((n : ℕ) (f : Birth) → n < old.place →
           item_at c.network n ≡ Some (push_by d.object.owner me d f) → ⊥)) (sym same.0) (old.pushed (subst (λ d. same_attempt d main_attempt ≡ false) same.0 other)))
           (q.run run i) (unheard run i)
-          (λ d begun own. subst (λ n. d.object.serial < n) (sym same.1) (old.apart d (ap (λ bs. has_begun d bs) (sym q.kept_began) ∙ begun) own))
+          (λ d begun own. subst (IsBelow logged d) (sym same.1)
+          (below_more log (In e seat ∷ last.there.out.entries) d r.base.serial (old.apart d (ap (λ bs. has_begun d bs) (sym q.kept_began) ∙ begun) own)))
 
-      my_says : (u v : ℕ) (b : Attempt) (spec : Birth) (o : Id) → Among (letter (TheWorker me) (TheWorker v) (Hold b.object o)) last.there.out.letters →
+      my_says : (u v : ℕ) (b : Attempt) (spec : Birth) (f o : Id) → IsPartOfTask b spec f → Among (letter (TheWorker me) (TheWorker v) (Hold f o)) last.there.out.letters →
           Among (push_by u me b spec) done.whole.network → (r : Option Run) → x.run ≡ r → HasEnd logged b
-      my_says u v b spec o i pushed None is = absurd (((idles_last is).said v b.object o i).1)
-      my_says u v b spec o i pushed (Some r) is =
+      my_says u v b spec f o part i pushed None is = absurd (((idles_last is).said v f o i).1)
+      my_says u v b spec f o part i pushed (Some r) is =
           let q : RunsAs r is last = runs_last r is in
-          let ran : worker_of r.attempt logged ≡ Some me = runs_more s log c step.sound.between e seat last.there.out.entries r.attempt me
+          let ran : worker_of r.attempt logged ≡ Some me = runs_more log e seat last.there.out.entries r.attempt me
           ((step.sound.between.knows.workers me x at live).run r is).runs in
-          E.said_in_time s log c step replies k e seat done a.after a.asks a.calm a.accepted a.network a.sent u me x last.worker r b spec at is ran q.kept_began pushed
-          (q.said v b.object o i).0 (free_says_none u v b spec o i pushed)
+          E.said_in_time s log c step replies k e seat done a.after a.asks a.calm a.accepted a.network a.sent u me x last.worker r b spec f part at is ran q.kept_began pushed
+          (q.said v f o i).0 (free_says_none u v b spec f o part i pushed)
 
       pub goes_on : Goes e done a
       goes_on = E.worker_goes s log c step replies k e seat done a.after a.asks a.calm a.accepted a.network a.sent me x at x.node last refl refl to_me (record {
         runs = λ run i. my_run run i x.run refl;
         own = speaks_last.own;
         pushes = λ w b spec i. (speaks_last.said w (Push b spec) i).0;
-        says = λ u v b spec o i pushed. my_says u v b spec o i pushed x.run refl;
+        says = λ u v b spec f o part i pushed. my_says u v b spec f o part i pushed x.run refl;
       })

@@ -1,7 +1,10 @@
 -- A worker's step keeps what is true of the Holds of its attempt: each that waits was sent behind the attempt's Push, and no acknowledgement that
 -- was delivered is younger than that.
-use Rattle.std.proofs.Common.{◌≡◌, ℕ, zero, suc, ◌+◌, ◌<◌, ◌≤◌, List, [], ◌∷◌, ◌++◌, length, Some, None, Option, refl, ap, sym, subst, ◌∙◌, ◌⊎◌, inl, inr, arith}
-use Rattle.std.proofs.Common.{append_assoc, length-append}
+use Rattle.meaning.specs.Births.{birth_at, is_made_by}
+use Rattle.event_log.specs.Words.{births, same_attempt}
+use Rattle.event_log.proofs.Extending.{births-more}
+use Rattle.std.proofs.Common.{[], ap, append_assoc, arith, inl, inr, length, length-append, List, None, Option, refl, Some, subst, suc, sym, zero, ℕ, ◌++◌, ◌+◌}
+use Rattle.std.proofs.Common.{◌<◌, ◌∙◌, ◌∷◌, ◌≡◌, ◌≤◌, ◌⊎◌}
 use Rattle.std.specs.Prelude.{Bool, true, false, if◌then◌else◌, not, ◌&&◌, slice_get}
 use Rattle.std.specs.List.{filter}
 use Rattle.std.proofs.lemmas.Bool.{both_ways}
@@ -10,9 +13,8 @@ use Rattle.meaning.proofs.BirthLaws.{at_test}
 use Rattle.meaning.specs.Values.{Birth, Id, Outcome}
 use Rattle.event_log.specs.Breaks.{Among}
 use Rattle.event_log.specs.Entries.{Attempt, Born, Deliver, Ended, Entry, Event, Faulted, Got, main_attempt}
-use Rattle.event_log.specs.Words.{same_attempt}
-use Rattle.protocol.specs.Messages.{Ask, At, Back, CopyOf, Elsewhere, Failed, Fetch, Finished, FinishedAck, Give, Gone, Hold, HoldAck, Letter, Message, Missing, Party}
-use Rattle.protocol.specs.Messages.{Push, TheNode, TheWorker, Unhold, Wait, Where, letter}
+use Rattle.protocol.specs.Messages.{Ask, At, Back, CopyOf, Elsewhere, Failed, Fetch, Finished, FinishedAck, Give, Gone, Hold, HoldAck, Letter, letter, Message}
+use Rattle.protocol.specs.Messages.{Missing, Party, Push, TheNode, TheWorker, Unhold, Wait, Where}
 use Rattle.protocol.specs.Nodes.{There}
 use Rattle.protocol.specs.Numbered.{item_at}
 use Rattle.protocol.specs.Runs.{asks_for_slot, gives_slot_back, is_heard, leaves, leaves_by, leaves_if_free, tells, tells_stop, with_answer}
@@ -62,13 +64,25 @@ hold_of w k = letter (TheWorker w) (TheWorker k.object.owner) (Hold k.holder k.o
 abbrev pub ack_of : ℕ → Holding → Letter
 ack_of w k = letter (TheWorker k.object.owner) (TheWorker w) (HoldAck k.holder k.object)
 
--- the attempt's own object, once it ended, or what its worker bore from that serial on
+-- the object is a result of the attempt's task
+abbrev pub IsResultOf : List Entry → Attempt → Id → Type 0
+IsResultOf log a e = (spec : Birth) × (birth_at (births log) a.object ≡ Some spec) × (is_made_by (record { object = a.object; birth = spec }) e ≡ true)
+
+pub result_more : (log es : List Entry) (a : Attempt) (e : Id) → IsResultOf log a e → IsResultOf (log ++ es) a e
+result_more log es a e (spec, born, made) = (spec, births-more log es a.object spec born, made)
+
+-- an object of the attempt's task, once it ended, or what its worker bore from that serial on
 abbrev pub IsHolder : List Entry → ℕ → Attempt → ℕ → Id → Type 0
-IsHolder log w a base e = ((e ≡ a.object) × ((c : List Outcome) × Among (Ended a c) log)) ⊎ ((e.owner ≡ w) × (base ≤ e.serial))
+IsHolder log w a base e = (IsResultOf log a e × ((c : List Outcome) × Among (Ended a c) log)) ⊎ ((e.owner ≡ w) × (base ≤ e.serial))
+
+-- it is a result of the attempt's task, or of what the attempt bore
+abbrev pub IsOfRun : List Entry → Attempt → Id → Type 0
+IsOfRun log a e =
+    IsResultOf log a e ⊎ ((o : Id) × (b : Birth) × Among (Born o a b) log × (is_made_by (record { object = o; birth = b }) e ≡ true))
 
 -- a Hold that waits: it is the attempt's; it was sent behind that place; and what acknowledges it was delivered before it was sent, if ever
 pub record IsHeld (log : List Entry) (sent : List Letter) (acks : List Event) (w : ℕ) (a : Attempt) (p : ℕ) (k : Holding) : Type 0 where
-  pub entry : (k.holder ≡ a.object) ⊎ ((b : Birth) × Among (Born k.holder a b) log)
+  pub entry : IsOfRun log a k.holder
   pub sends : (i : ℕ) × (p < i) × (item_at sent i ≡ Some (hold_of w k))
   pub unheard : (n i : ℕ) → Among (Deliver n) acks → item_at sent n ≡ Some (ack_of w k) → p < i → item_at sent i ≡ Some (hold_of w k) → n < i
 
@@ -181,7 +195,7 @@ module _ (log : List Entry) (net : List Letter) (acks : List Event) (known : (n 
       says_hold h w e o (subst (λ n. IsHolder log me a n e) is.1 (subst (λ b. IsHolder log me b run.base.serial e) is.0 holder), is.2) q
   says_holds h w (Where y) s q = says_plain h w (Where y) refl q
   says_holds h w (Missing y number n) s q = says_plain h w (Missing y number n) refl q
-  says_holds h w (Finished b n ids content) s q = says_plain h w (Finished b n ids content) refl q
+  says_holds h w (Finished b n rs) s q = says_plain h w (Finished b n rs) refl q
   says_holds h w (At y number ns content) s q = says_plain h w (At y number ns content) refl q
   says_holds h w (Ask b t) s q = says_plain h w (Ask b t) refl q
   says_holds h w (Give b t v) s q = says_plain h w (Give b t v) refl q

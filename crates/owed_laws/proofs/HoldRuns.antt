@@ -1,30 +1,31 @@
 -- As long as nothing was killed or lost, every run keeps what is true of Pushes and Holds.
-use Rattle.std.proofs.Common.{◌≡◌, ℕ, zero, suc, ◌+◌, ◌<◌, ◌≤◌, List, [], ◌∷◌, ◌++◌, length, Some, None, Option, refl, ap, sym, subst, ◌∙◌, ◌⊎◌, inl, inr}
-use Rattle.std.proofs.Common.{arith}
-use Rattle.std.specs.Prelude.{Bool, true, false, if◌then◌else◌, not, ◌&&◌, ◌||◌, is_some}
-use Rattle.std.specs.List.{list_any}
+use Rattle.meaning.specs.Births.{birth_at}
+use Rattle.meaning.specs.Values.{main_birth}
+use Rattle.meaning.proofs.BirthLaws.{at_test, same_id-refl}
+use Rattle.event_log.specs.Words.{births, born_in, same_attempt}
+use Rattle.event_log.specs.Entries.{Attempt, Claim, Commit, Deliver, Ended, Entry, Event, Evict, In, Join, Kill, KillNode, Limit, Lose, main_attempt}
+use Rattle.event_log.specs.Entries.{main_object, NoJob, NoMessage, NotDead, Notice, NoticeNode, NotReady, NoWorker, Refusal, Refused, Stale, Tick}
+use Rattle.std.specs.List.{flat_map, list_any}
+use Rattle.std.specs.Prelude.{Bool, false, if◌then◌else◌, is_some, not, true, ◌&&◌, ◌||◌}
+use Rattle.std.proofs.Common.{[], ap, arith, inl, inr, length, List, None, Option, refl, Some, subst, suc, sym, zero, ℕ, ◌++◌, ◌+◌, ◌<◌, ◌∙◌, ◌∷◌, ◌≡◌, ◌≤◌}
+use Rattle.std.proofs.Common.{◌⊎◌}
 use Rattle.std.proofs.lemmas.Bool.{both_ways}
 use Rattle.std.proofs.lemmas.List.Folds.{list_any-append}
 use Rattle.sequence.proofs.Places.{and_right}
-use Rattle.meaning.proofs.BirthLaws.{at_test}
 use Rattle.meaning.specs.Mains.{KeepsMainApart}
 use Rattle.event_log.specs.Breaks.{Among}
-use Rattle.event_log.specs.Entries.{Attempt, Claim, Commit, Deliver, Ended, Entry, Event, Evict, In, Join, Kill, KillNode, Lose, Notice, NoticeNode, Refused, Tick}
-use Rattle.event_log.specs.Entries.{main_attempt}
-use Rattle.event_log.specs.Entries.{Refusal, NoWorker, NotReady, NoJob, Stale, NoMessage, NotDead, Limit}
 use Rattle.event_log.specs.Events.{accepted_events, refused_next}
 use Rattle.event_log.specs.Legal.{opening}
 use Rattle.event_log.specs.Rules.{Setting}
-use Rattle.event_log.specs.Words.{same_attempt}
 use Rattle.event_log.proofs.WordLaws.{same_attempt-refl, same_attempt-true}
 use Rattle.event_log.proofs.EventLaws.{accepted-append, accepted-event, accepted-refused}
 use Rattle.protocol.specs.Answers.{Answer, Refuses, Takes, answer, decided, given_out, logged, takes, whole_after}
 use Rattle.protocol.specs.Commits.{claim_step, commit_step}
 use Rattle.protocol.specs.Deliveries.{reached, reached_from_worker}
-use Rattle.protocol.specs.Events.{committed_by, delivered_by, delivered_to, happens, is_live_node, is_live_worker, with_committed, with_delivered}
+use Rattle.protocol.specs.Events.{committed_by, delivered_by, delivered_to, happens, is_live_node, is_live_worker, with_committed, with_delivered, objects_made}
 use Rattle.protocol.specs.Jobs.{Given, Handed, Nothing, OfAnother, OfJob}
-use Rattle.protocol.specs.Messages.{Ask, At, Back, CopyOf, Elsewhere, Failed, Fetch, Finished, FinishedAck, Give, Gone, Hold, HoldAck, Letter, Message, Missing, Party}
-use Rattle.protocol.specs.Messages.{Push, TheNode, TheWorker, Unhold, Wait, Where, letter}
+use Rattle.protocol.specs.Messages.{Ask, At, Back, CopyOf, Elsewhere, Failed, Fetch, Finished, FinishedAck, Give, Gone, Hold, HoldAck, Letter, letter, Message}
+use Rattle.protocol.specs.Messages.{Missing, Party, Push, TheNode, TheWorker, Unhold, Wait, Where}
 use Rattle.protocol.specs.Nodes.{Node, There}
 use Rattle.protocol.specs.Notices.{notice_node_step, notice_step}
 use Rattle.protocol.specs.Numbered.{item_at}
@@ -36,8 +37,8 @@ use Rattle.protocol.specs.Slots.{node_reached}
 use Rattle.protocol.specs.Steps.{Here}
 use Rattle.protocol.specs.Tables.{Run, Worker, new_worker}
 use Rattle.protocol.specs.Ticks.{tick_step}
-use Rattle.protocol.specs.Whole.{Moved, Whole, after_worker, driver, first_whole, here, main_run, moved, node_at, node_does, node_does_by, there, worker_at, worker_does}
-use Rattle.protocol.specs.Whole.{worker_does_at, worker_does_by}
+use Rattle.protocol.specs.Whole.{after_worker, driver, first_whole, here, main_run, Moved, moved, node_at, node_does, node_does_by, there, Whole, worker_at}
+use Rattle.protocol.specs.Whole.{worker_does, worker_does_at, worker_does_by}
 use Rattle.protocol_owed.specs.Courses.{has_begun}
 use Rattle.protocol_owed.specs.Runs.{Handing, Running, after_event, after_events, opening_run}
 use Rattle.protocol_owed.specs.Seen.{IsCalm, is_failure}
@@ -61,7 +62,7 @@ use Rattle.owed_replies.proofs.Runs.{run_replies}
 use Rattle.owed_replies.proofs.Quiet.{all_live}
 use Rattle.owed_laws.proofs.HoldCases as C
 use Rattle.owed_laws.proofs.HoldEvents as E
-use Rattle.owed_laws.proofs.HoldEvents.{KeepsHolds, RunKeeps, push_by, run_later}
+use Rattle.owed_laws.proofs.HoldEvents.{IsBelow, KeepsHolds, RunKeeps, below_more, push_by, run_later}
 use Rattle.owed_laws.proofs.HoldHappens as V
 use Rattle.owed_laws.proofs.HoldMoves.{RunHolds}
 
@@ -80,7 +81,7 @@ module _ (s : Setting) (log : List Entry) (c : Whole) (step : IsInStep s log c) 
       Fits e m
   others_go e m letters workers to_nobody a = record {
     pushes = λ u w b spec i. absurd (by_node u (letters (push_by u w b spec) i));
-    says = λ u w v b spec o i pushed. absurd (by_node w (letters (letter (TheWorker w) (TheWorker v) (Hold b.object o)) i));
+    says = λ u w v b spec f o part i pushed. absurd (by_node w (letters (letter (TheWorker w) (TheWorker v) (Hold f o)) i));
     runs = λ w y run at is. elim (workers w y at) [
       | inl was ↦ E.stays s log c step replies k e seat m a.after a.asks a.calm a.accepted a.network a.sent w y run was is
           (λ n from l is_it sent_it. to_nobody a n w from l y is_it sent_it was)
@@ -165,7 +166,7 @@ module _ (s : Setting) (log : List Entry) (c : Whole) (step : IsInStep s log c) 
       let x : IsThere (worker_at c g.worker) = live_there (worker_at c g.worker) (passed (is_live_worker (worker_at c g.worker)) Stale both.1) in
       let n = home_of g.worker x.worker x.at in
       let run : OutOf x.worker.run j = out_of x.worker.run j (ap (λ y. is_out_by y j) (sym x.at) ∙ out) in
-      let d : Whole = with_committed c j (length o.births) in
+      let d : Whole = with_committed c j (objects_made o.births) in
       of_worker (Commit j) d.jobs d.made c.delivered g.worker x.worker x.at x.live n.0 n.1 (λ h. commit_step h o)
       (λ a. C.commit_goes s log c step replies k seat (Commit j) d.jobs d.made c.delivered g.worker x.worker x.at x.live n.0 n.1 o j run.run run.at run.out a
       (λ i v from l is. absurd (cc)) (λ i is. absurd (cc)))
@@ -192,9 +193,8 @@ module _ (s : Setting) (log : List Entry) (c : Whole) (step : IsInStep s log c) 
         at_test (λ t. Reaches (if t then begins_run first q spec else first)) (is_free x.run && not (has_begun q x.began))
         (λ _ a. C.begin_goes s log c step replies k seat (Deliver i) c.jobs c.made marks w x at live node home i u q spec refl sent a)
         (λ _ a. C.passed_over s log c step replies k seat (Deliver i) c.jobs c.made marks w x at live node home i (TheWorker u) (Push q spec) refl sent refl a)
-    from_worker u (Finished q n ids content) sent =
-        λ a. C.finished s log c step replies k seat (Deliver i) c.jobs c.made marks w x at live node home i (TheWorker u) (Finished q n ids content) refl sent refl u q n ids
-        content a
+    from_worker u (Finished q n rs) sent =
+        λ a. C.finished s log c step replies k seat (Deliver i) c.jobs c.made marks w x at live node home i (TheWorker u) (Finished q n rs) refl sent refl u q n rs a
     from_worker u (HoldAck f o) sent =
         λ a. C.acked s log c step replies k seat (Deliver i) c.jobs c.made marks w x at live node home i (TheWorker u) (HoldAck f o) refl sent f o refl a
     from_worker u (FinishedAck q) sent = plain u (FinishedAck q) sent refl (λ X Q kept p. R.reached_from_worker-kept Q kept first u (FinishedAck q) tt p)
@@ -341,8 +341,8 @@ module _ (s : Setting) (log : List Entry) (c : Whole) (step : IsInStep s log c) 
   refused_keeps : (code : Refusal) → Keeps (Refuses code)
   refused_keeps code after asks calm k = record {
     pushes = k.pushes;
-    behind = λ p i u w v a spec o less pushed hold.
-        let end = k.behind p i u w v a spec o less pushed hold in
+    behind = λ p i u w v a spec f o part less pushed hold.
+        let end = k.behind p i u w v a spec f o part less pushed hold in
         (end.0, among-more log (In e seat ∷ Refused code ∷ []) (Ended a end.0) end.1);
     runs = λ w x run at is.
         let r = k.runs w x run at is in
@@ -352,7 +352,7 @@ module _ (s : Setting) (log : List Entry) (c : Whole) (step : IsInStep s log c) 
           pushed = r.pushed;
           holds = subst (λ es. RunHolds (log ++ In e seat ∷ Refused code ∷ []) c.network es w r.place run) (sym (accepted-refused log e seat code))
               (run_later log (In e seat ∷ Refused code ∷ []) c.network (accepted_events log) w r.place run r.holds);
-          apart = r.apart;
+          apart = λ a begun own. below_more log (In e seat ∷ Refused code ∷ []) a run.base.serial (r.apart a begun own);
         };
   }
 
@@ -372,7 +372,7 @@ module _ (s : Setting) (log : List Entry) (c : Whole) (step : IsInStep s log c) 
 opening_holds : (nodes slots : ℕ) → KeepsHolds opening (first_whole nodes slots)
 opening_holds nodes slots = record {
   pushes = λ u w a spec i. absurd (among-nothing _ i);
-  behind = λ p i u w v a spec o less pushed hold. absurd (none p pushed);
+  behind = λ p i u w v a spec f o part less pushed hold. absurd (none p pushed);
   runs = λ w x run at is. by_run w x run (only_driver w x at) is;
 }
   where
@@ -382,6 +382,9 @@ opening_holds nodes slots = record {
 
     same_run : (y z : Run) → ◌≡◌ {A = Option Run} (Some y) (Some z) → y ≡ z
     same_run y z i = cc
+
+    main_born : (es : List Entry) → birth_at (births es) main_object ≡ Some main_birth
+    main_born es = ap (λ t. if t then Some main_birth else birth_at (flat_map born_in es) main_object) (same_id-refl main_object)
 
     of_main : (log : List Entry) (w : ℕ) (x : Worker) → driver ≡ x → (run : Run) → main_run ≡ run → RunKeeps log [] (accepted_events log) w x run
     of_main log w x who run is = record {
@@ -399,12 +402,11 @@ opening_holds nodes slots = record {
         not_yet : false ≡ true → ⊥
         not_yet f = cc
 
-        only_one : (a : Attempt) → has_begun a (main_attempt ∷ []) ≡ true → main_run ≡ run → a.object.serial < run.base.serial
+        only_one : (a : Attempt) → has_begun a (main_attempt ∷ []) ≡ true → main_run ≡ run → IsBelow log a run.base.serial
         only_one a f same =
             let main : main_attempt ≡ a = same_attempt-true main_attempt a (first (same_attempt main_attempt a) f) in
-            let serial : a.object.serial ≡ 0 = ap (λ (z : Attempt). z.object.serial) (sym main) in
             let low : run.base.serial ≡ 1 = ap (λ (y : Run). y.base.serial) (sym same) in
-            omega (arith, serial, low)
+            subst (IsBelow log a) (sym low) (subst (λ d. IsBelow log d 1) main (main_birth, main_born log, omega arith))
           where
             first : (t : Bool) → (t || false) ≡ true → t ≡ true
             first true g = refl

@@ -1,6 +1,11 @@
 -- The worked examples of what is owed.
 use Rattle.std.proofs.Common.{◌≡◌, ◌<◌, ℕ, zero, suc, Bool, true, false, List, [], ◌∷◌, Some, None, Option, refl, ap, sym, subst, ◌∙◌, inl, inr, arith}
-use Rattle.meaning.specs.Births.{birth_at, same_id}
+use Rattle.meaning.specs.Births.{Part, birth_at, is_made_by, part_at, same_id}
+use Rattle.meaning.proofs.BirthLaws.{first_is_made}
+use Rattle.std.specs.Prelude.{slice_get}
+use Rattle.owed_laws.specs.Examples.{acknowledged, birth_comes, BirthsAreJudged, empty_list, end_comes, ended_log, ended_network, EndsAreJudged, fetch_comes}
+use Rattle.owed_laws.specs.Examples.{fetch_scene, FetchesAreJudged, long_list, put_log, report_scene, ReportsAreJudged, request_comes, request_scene}
+use Rattle.owed_laws.specs.Examples.{RequestsAreJudged, unaccepted_log}
 use Rattle.meaning.specs.Values.{Argument, Birth, Id, Name, Outcome, Put, Task, Val, Value}
 use Rattle.values.specs.Cells.{is_small}
 use Rattle.event_log.specs.Breaks.{Among}
@@ -8,7 +13,8 @@ use Rattle.event_log.specs.Entries.{Accepted, Attempt, Born, Deliver, Ended, Ent
 use Rattle.event_log.specs.Events.{accepted_events, node_of, was_lost}
 use Rattle.event_log.specs.Rules.{Setting}
 use Rattle.event_log.specs.Words.{attempt, births, worker_of}
-use Rattle.protocol.specs.Messages.{Ask, At, CopyOf, Fetch, Finished, FinishedAck, Hold, HoldAck, Letter, Message, Missing, Party, Push, Reason, TheNode, TheWorker, Unhold, Where, letter}
+use Rattle.protocol.specs.Messages.{Ask, At, CopyOf, EndedResult, Fetch, Finished, FinishedAck, Hold, HoldAck, Letter, letter, Message, Missing, Party, Push, Reason}
+use Rattle.protocol.specs.Messages.{TheNode, TheWorker, Unhold, Where}
 use Rattle.protocol.specs.Numbered.{item_at}
 use Rattle.protocol.specs.Sets.{object_id}
 use Rattle.protocol_owed.specs.Ends.{EndsAreReported, HoldsAreAcknowledged, IsHoldOf}
@@ -16,8 +22,6 @@ use Rattle.protocol_owed.specs.Replies.{BirthIsAsked, FetchIsAnswered, FinishIsA
 use Rattle.protocol_owed.specs.Seen.{IsContentOf, IsKnownAt, Tells, deliveries}
 use Rattle.protocol_owed.proofs.Letters.{among-nothing}
 use Rattle.lease_discipline.specs.Examples.{first_one, given_log, one_once}
-use Rattle.owed_laws.specs.Examples.{BirthsAreJudged, EndsAreJudged, FetchesAreJudged, ReportsAreJudged, RequestsAreJudged, report_scene, acknowledged, birth_comes, empty_list, end_comes, ended_network}
-use Rattle.owed_laws.specs.Examples.{fetch_comes, fetch_scene, long_list, put_log, request_comes, request_scene, unaccepted_log}
 
 -- ---- a birth
 
@@ -66,24 +70,27 @@ births_are_judged = record {
 
 -- ---- an end
 
-end_parts : (w v : ℕ) (a : Attempt) (n : ℕ) (ids : List Id) (content : Option Outcome) →
-    ◌≡◌ {A = Option Letter} (Some (letter (TheWorker 2) (TheWorker 1) (Finished first_one 1 [] None))) (Some (letter (TheWorker w) (TheWorker v)
-    (Finished a n ids content))) →
+abbrev no_ids : List EndedResult
+no_ids = record { ids = []; kept = None } ∷ []
+
+end_parts : (w v : ℕ) (a : Attempt) (n : ℕ) (rs : List EndedResult) →
+    ◌≡◌ {A = Option Letter} (Some (letter (TheWorker 2) (TheWorker 1) (Finished first_one 1 no_ids))) (Some (letter (TheWorker w) (TheWorker v)
+    (Finished a n rs))) →
     (2 ≡ w) × (1 ≡ v) × (first_one ≡ a)
-end_parts w v a n ids content e =
-    let same : letter (TheWorker 2) (TheWorker 1) (Finished first_one 1 [] None) ≡ letter (TheWorker w) (TheWorker v) (Finished a n ids content) = cc in
+end_parts w v a n rs e =
+    let same : letter (TheWorker 2) (TheWorker 1) (Finished first_one 1 no_ids) ≡ letter (TheWorker w) (TheWorker v) (Finished a n rs) = cc in
     let from : TheWorker 2 ≡ TheWorker w = ap (λ (l : Letter). l.sender) same in
     let to : TheWorker 1 ≡ TheWorker v = ap (λ (l : Letter). l.receiver) same in
-    let says : Finished first_one 1 [] None ≡ Finished a n ids content = ap (λ (l : Letter). l.message) same in
+    let says : Finished first_one 1 no_ids ≡ Finished a n rs = ap (λ (l : Letter). l.message) same in
     (cc, cc, cc)
 
 first_number : (k : ℕ) → Deliver 1 ≡ Deliver k → 1 ≡ k
 first_number k e = cc
 
 end_is_paid : (s : Setting) → FinishIsAcknowledged (end_comes s (Accepted first_one ∷ []) acknowledged)
-end_is_paid s w v a n ids content brings =
-    let parts = end_parts w v a n ids content
-    (subst (λ i. item_at ended_network i ≡ Some (letter (TheWorker w) (TheWorker v) (Finished a n ids content))) (sym (first_number brings.0 brings.1)) brings.2) in
+end_is_paid s w v a n rs brings =
+    let parts = end_parts w v a n rs
+    (subst (λ i. item_at ended_network i ≡ Some (letter (TheWorker w) (TheWorker v) (Finished a n rs))) (sym (first_number brings.0 brings.1)) brings.2) in
     ((zero, sent w v a parts.0 parts.1 parts.2), λ _. (zero, ap (λ i. Some (Accepted i)) parts.2))
   where
     sent : (w v : ℕ) (a : Attempt) → 2 ≡ w → 1 ≡ v → first_one ≡ a →
@@ -104,8 +111,8 @@ unaccepted_yet (suc (suc (suc (suc (suc (suc (suc k)))))), e) = absurd (cc)
 pub ends_are_judged : EndsAreJudged
 ends_are_judged = record {
   paid = end_is_paid;
-  unaccepted = λ s p. among-nothing _ ((p 2 1 first_one 1 [] None (1, refl, refl)).1 unaccepted_yet);
-  unacknowledged = λ s p. among-nothing _ (p 2 1 first_one 1 [] None (1, refl, refl)).0;
+  unaccepted = λ s p. among-nothing _ ((p 2 1 first_one 1 no_ids (1, refl, refl)).1 unaccepted_yet);
+  unacknowledged = λ s p. among-nothing _ (p 2 1 first_one 1 no_ids (1, refl, refl)).0;
 }
 
 -- ---- a Fetch
@@ -124,13 +131,13 @@ fetch_is_paid s = record {
   lacking = λ e. absurd (not_lacked e);
 }
 
-no_end : (c : List Outcome) → Among (Ended first_one c) put_log → ⊥
-no_end c (zero, e) = absurd (cc)
-no_end c (suc zero, e) = absurd (cc)
-no_end c (suc (suc zero), e) = absurd (cc)
-no_end c (suc (suc (suc zero)), e) = absurd (cc)
-no_end c (suc (suc (suc (suc zero))), e) = absurd (cc)
-no_end c (suc (suc (suc (suc (suc k)))), e) = absurd (cc)
+no_end : (a : Attempt) (c : List Outcome) → Among (Ended a c) put_log → ⊥
+no_end a c (zero, e) = absurd (cc)
+no_end a c (suc zero, e) = absurd (cc)
+no_end a c (suc (suc zero), e) = absurd (cc)
+no_end a c (suc (suc (suc zero)), e) = absurd (cc)
+no_end a c (suc (suc (suc (suc zero))), e) = absurd (cc)
+no_end a c (suc (suc (suc (suc (suc k)))), e) = absurd (cc)
 
 nothing_came : (s : Setting) → deliveries (fetch_scene s put_log false) ≡ []
 unfolding accepted_events
@@ -143,7 +150,7 @@ nothing_lost = refl
 first_is_there : (s : Setting) → HasFirstCopy (fetch_scene s put_log false) 1 (object_id 1 1) 0
 first_is_there s = record {
   first = inl (record { value = empty_list; put = was_put; first = refl; place = refl });
-  big = λ c i. absurd (no_end (c ∷ []) i);
+  big = λ part c r. absurd (no_end (attempt part.born.object 0) r.contents r.ended);
   unlost = nothing_lost;
   kept = λ from e why came. among-nothing _ (subst (λ ls. Among (letter from (TheNode 1) (Unhold e (object_id 1 1) why)) ls) (nothing_came s) came);
 }
@@ -153,7 +160,7 @@ put_alone c (inl (v, born, first, is)) = is ∙ same v (sym born ∙ was_put)
   where
     same : (v : Value) → ◌≡◌ {A = Option Birth} (Some (Put v)) (Some (Put empty_list)) → Val v ≡ Val empty_list
     same v e = cc
-put_alone c (inr i) = absurd (no_end (c ∷ []) i)
+put_alone c (inr (part, r)) = absurd (no_end (attempt part.born.object 0) r.contents r.ended)
 
 not_that : (c : Outcome) → c ≡ Val empty_list →
     Among (letter (TheNode 1) (TheWorker 2) (CopyOf (object_id 1 1) 0 c)) (letter (TheNode 1) (TheWorker 2) (CopyOf (object_id 1 1) 0 (Val long_list)) ∷ []) → ⊥
@@ -281,20 +288,38 @@ is_long : is_small (Val long_list) ≡ false
 unfolding is_small
 is_long = refl
 
-long_end : (c : Outcome) → Among (Ended first_one (c ∷ [])) unaccepted_log → is_small c ≡ false
-long_end c (zero, e) = absurd (cc)
-long_end c (suc zero, e) = absurd (cc)
-long_end c (suc (suc zero), e) = absurd (cc)
-long_end c (suc (suc (suc zero)), e) = absurd (cc)
-long_end c (suc (suc (suc (suc zero))), e) = absurd (cc)
-long_end c (suc (suc (suc (suc (suc zero)))), e) = absurd (cc)
-long_end c (suc (suc (suc (suc (suc (suc zero))))), e) = absurd (cc)
-long_end c (suc (suc (suc (suc (suc (suc (suc zero)))))), e) = absurd (cc)
-long_end c (suc (suc (suc (suc (suc (suc (suc (suc zero))))))), e) = subst (λ d. is_small d ≡ false) (same c e) is_long
+long_end : (a : Attempt) (c : List Outcome) → Among (Ended a c) unaccepted_log → c ≡ Val long_list ∷ []
+long_end a c (zero, e) = absurd (cc)
+long_end a c (suc zero, e) = absurd (cc)
+long_end a c (suc (suc zero), e) = absurd (cc)
+long_end a c (suc (suc (suc zero)), e) = absurd (cc)
+long_end a c (suc (suc (suc (suc zero))), e) = absurd (cc)
+long_end a c (suc (suc (suc (suc (suc zero)))), e) = absurd (cc)
+long_end a c (suc (suc (suc (suc (suc (suc zero))))), e) = absurd (cc)
+long_end a c (suc (suc (suc (suc (suc (suc (suc zero)))))), e) = absurd (cc)
+long_end a c (suc (suc (suc (suc (suc (suc (suc (suc zero))))))), e) = sym (same a c e)
   where
-    same : (c : Outcome) → ◌≡◌ {A = Option Entry} (Some (Ended first_one (Val long_list ∷ []))) (Some (Ended first_one (c ∷ []))) → Val long_list ≡ c
-    same c f = cc
-long_end c (suc (suc (suc (suc (suc (suc (suc (suc (suc k)))))))), e) = absurd (cc)
+    same : (a : Attempt) (c : List Outcome) → ◌≡◌ {A = Option Entry} (Some (Ended first_one (Val long_list ∷ []))) (Some (Ended a c)) → Val long_list ∷ [] ≡ c
+    same a c f = cc
+long_end a c (suc (suc (suc (suc (suc (suc (suc (suc (suc k)))))))), e) = absurd (cc)
+
+long_content : (cs : List Outcome) (i : ℕ) (c : Outcome) → cs ≡ Val long_list ∷ [] → slice_get cs i ≡ Some c → is_small c ≡ false
+long_content cs i c e f = by_place i (sym (ap (λ ds. slice_get ds i) e) ∙ f)
+  where
+    by_place : (j : ℕ) → ◌≡◌ {A = Option Outcome} (slice_get (Val long_list ∷ []) j) (Some c) → is_small c ≡ false
+    by_place zero g = let same : Val long_list ≡ c = cc in subst (λ d. is_small d ≡ false) same is_long
+    by_place (suc j) g = absurd (cc)
+
+abbrev first_part : Part
+first_part = record { born = record { object = first_one.object; birth = one_once }; place = 0 }
+
+born_unaccepted : part_at (births unaccepted_log) (object_id 1 1) ≡ Some first_part
+unfolding is_made_by
+born_unaccepted = refl
+
+born_ended : part_at (births ended_log) (object_id 1 1) ≡ Some first_part
+unfolding is_made_by
+born_ended = refl
 
 ran_there : worker_of first_one unaccepted_log ≡ Some 2
 unfolding same_id
@@ -322,8 +347,15 @@ no_word from e why (suc k, f) = absurd (cc)
 
 ended_is_there : (s : Setting) → HasFirstCopy (fetch_scene s unaccepted_log false) 1 (object_id 1 1) 0
 ended_is_there s = record {
-  first = inr (record { content = Val long_list; ended = (8, refl); worker = 2; ran = ran_there; place = refl });
-  big = long_end;
+  first = inr (record {
+    part = first_part;
+    content = Val long_list;
+    ended = record { born = born_unaccepted; contents = Val long_list ∷ []; ended = (8, refl); content = refl };
+    worker = 2;
+    ran = ran_there;
+    place = refl;
+  });
+  big = λ part c r. long_content r.contents part.place c (long_end (attempt part.born.object 0) r.contents r.ended) r.content;
   unlost = never_lost;
   kept = λ from e why came. no_word from e why (subst (λ ls. Among (letter from (TheNode 1) (Unhold e (object_id 1 1) why)) ls) (only_fetched s) came);
 }
@@ -354,7 +386,7 @@ fetches_are_judged = record {
   other = λ s p. let r = p.there refl in not_that r.0 (put_alone r.0 r.1) r.2;
   withheld = λ s p. let r = p.first_copy (first_is_there s) in no_copy r.0 r.2;
   unaccepted = ended_is_there;
-  small = λ s p. not_both (is_small (Val empty_list)) is_little (p.big (Val empty_list) (8, refl));
+  small = λ s p. not_both (is_small (Val empty_list)) is_little (p.big first_part (Val empty_list) (record { born = born_ended; contents = Val empty_list ∷ []; ended = (8, refl); content = refl }));
 }
 
 -- ---- a report
@@ -392,24 +424,24 @@ no_hold (suc zero) v e o f =
     absurd (cc)
 no_hold (suc (suc k)) v e o f = cc
 
-no_report : (n : ℕ) (ids : List Id) (kept : Option Outcome) → Among (letter (TheWorker 2) (TheWorker 1) (Finished first_one n ids kept)) (report_network []) → ⊥
-no_report n ids kept (zero, e) =
-    let same : letter (TheWorker 1) (TheWorker 2) (Push first_one one_once) ≡ letter (TheWorker 2) (TheWorker 1) (Finished first_one n ids kept) = cc in
-    let g : Push first_one one_once ≡ Finished first_one n ids kept = ap (λ (l : Letter). l.message) same in
+no_report : (n : ℕ) (rs : List EndedResult) → Among (letter (TheWorker 2) (TheWorker 1) (Finished first_one n rs)) (report_network []) → ⊥
+no_report n rs (zero, e) =
+    let same : letter (TheWorker 1) (TheWorker 2) (Push first_one one_once) ≡ letter (TheWorker 2) (TheWorker 1) (Finished first_one n rs) = cc in
+    let g : Push first_one one_once ≡ Finished first_one n rs = ap (λ (l : Letter). l.message) same in
     absurd (cc)
-no_report n ids kept (suc k, e) = absurd (cc)
+no_report n rs (suc k, e) = absurd (cc)
 
 untold_is_refused : (s : Setting) → EndsAreReported (report_scene s []) → ⊥
 untold_is_refused s p =
     let r = p first_one (Val empty_list ∷ []) 2 (8, refl) not_main (runs_first s []) (λ k e o h. absurd (no_hold k o.owner e o h.held.there)) in
-    no_report r.0 r.1 r.2 r.3
+    no_report r.0 r.1 r.2
 
 hold_is_its : (s : Setting) → IsHoldOf (report_scene s one_hold) first_one 2 2 (object_id 1 1) (object_id 3 1)
 hold_is_its s = record {
   spec = one_once;
   push = 1;
   pushed = record { there = refl; earlier = λ i less at. none i less at };
-  entry = inl refl;
+  entry = inl (first_is_made (record { object = first_one.object; birth = one_once }));
   held = record { there = refl; behind = omega arith; between = λ i far less at. absurd (omega (arith, far, less)) };
 }
   where

@@ -1,23 +1,27 @@
 -- In every run what was made at a node is in its store, as long as no loss took it there and no word of the object's release came, whoever died.
-use Rattle.std.proofs.Common.{◌≡◌, ℕ, zero, suc, ◌+◌, ◌<◌, List, [], ◌∷◌, ◌++◌, length, Some, None, Option, refl, ap, sym, subst, ◌∙◌, ◌⊎◌, inl, inr, arith}
+use Rattle.std.proofs.Common.{[], ap, arith, inl, inr, length, List, None, Option, refl, Some, subst, suc, sym, zero, ℕ, ◌++◌, ◌+◌, ◌-◌, ◌<◌, ◌∙◌, ◌∷◌, ◌≡◌}
+use Rattle.std.proofs.Common.{◌⊎◌}
 use Rattle.std.specs.Prelude.{Bool, true, false, if◌then◌else◌, ◌&&◌, ◌||◌, ◌==◌}
 use Rattle.std.specs.List.{find, flat_map, list_any}
 use Rattle.std.specs.Option.{option_map}
 use Rattle.std.proofs.lemmas.Bool.{eq-eqb}
 use Rattle.std.proofs.lemmas.List.Concat.{flat_map-append}
 use Rattle.std.proofs.lemmas.List.Folds.{list_any-append}
-use Rattle.meaning.proofs.BirthLaws.{at_test, same_id-refl}
-use Rattle.meaning.specs.Births.{same_id}
+use Rattle.meaning.proofs.BirthLaws.{at_test, first_is_made, same_id-refl}
+use Rattle.meaning.specs.Births.{birth_at, part_at, same_id}
+use Rattle.meaning.specs.Values.{Id, main_birth, Outcome, Put, Value}
+use Rattle.event_log.specs.Sane.{Sane}
+use Rattle.event_log.proofs.Extending.{parts-more}
+use Rattle.event_log.proofs.SaneLaws.{legal_logs_are_sane}
+use Rattle.event_log.specs.Words.{attempt, births, ended_in, ends_of}
+use Rattle.protocol_legal.specs.Whole.{Between, setting_of}
 use Rattle.meaning.specs.Mains.{KeepsMainApart}
-use Rattle.meaning.specs.Values.{Id, Outcome, Put, main_birth}
 use Rattle.event_log.specs.Breaks.{Among}
-use Rattle.event_log.specs.Entries.{Attempt, Claim, Commit, Deliver, Ended, Entry, Event, Evict, In, Join, Kill, KillNode, Lose, Notice, NoticeNode}
-use Rattle.event_log.specs.Entries.{Refused, Tick, main_object}
-use Rattle.event_log.specs.Entries.{Refusal, Limit}
+use Rattle.event_log.specs.Entries.{Attempt, Claim, Commit, Deliver, Ended, Entry, Event, Evict, In, Join, Kill, KillNode, Limit, Lose, main_object, Notice}
+use Rattle.event_log.specs.Entries.{NoticeNode, Refusal, Refused, Tick}
 use Rattle.event_log.specs.Events.{accepted_events, from_one, loses, node_of, refused_next, was_lost}
 use Rattle.event_log.specs.Legal.{opening}
 use Rattle.event_log.specs.Rules.{Setting}
-use Rattle.event_log.specs.Words.{attempt, ended_in, ends_of}
 use Rattle.event_log.proofs.EventLaws.{accepted-append, accepted-event}
 use Rattle.event_log.proofs.WordLaws.{same_attempt-refl}
 use Rattle.protocol.specs.Answers.{Answer, Refuses, answer, decided, given_out, logged, takes, whole_after}
@@ -31,7 +35,6 @@ use Rattle.protocol.specs.Stores.{Copy, is_copy_of}
 use Rattle.protocol.specs.Tables.{Worker}
 use Rattle.protocol.specs.Whole.{Moved, Whole, first_whole, node_at, worker_at}
 use Rattle.protocol_legal.specs.Made.{EndsSmall, IsMadeAt}
-use Rattle.protocol_legal.specs.Whole.{Between}
 use Rattle.protocol_owed.specs.Replies.{HasFirstCopy}
 use Rattle.protocol_owed.specs.Runs.{Handing, Running, after_event, after_events, is_copy, keeps_in, opening_run, seen}
 use Rattle.protocol_owed.specs.Seen.{EndedAt, PutAt, delivered_in, letters_by}
@@ -56,7 +59,7 @@ WasDropped sent log n o = (from : Party) × (e : Id) × (why : Reason) × Among 
 
 -- what was made at the node isn't there any more, or, small as it is, never was
 abbrev pub IsGone : List Letter → List Entry → ℕ → Id → ℕ → Type 0
-IsGone sent log n o number = WasDropped sent log n o ⊎ (was_lost n o log ≡ true) ⊎ EndsSmall log (attempt o number)
+IsGone sent log n o number = WasDropped sent log n o ⊎ (was_lost n o log ≡ true) ⊎ EndsSmall log o number
 
 -- each content that was made at a node is in its store, or is gone
 abbrev pub KeepsMade : List Entry → Whole → Type 0
@@ -105,14 +108,24 @@ module _ (sent more : List Letter) (still : AreStill sent more) where
     lost_still n o h = ap (list_any (loses n o)) (accepted-append log es unrefused) ∙ list_any-append (loses n o) (accepted_events log) (accepted_events es) ∙
         ap (λ b. b || list_any (loses n o) (accepted_events es)) h
 
-    small_still : (a : Attempt) → EndsSmall log a → EndsSmall (log ++ es) a
-    small_still a (content, ended, small) =
-        (content, subst (λ xs. Among (content ∷ []) xs) (sym (flat_map-append (ended_in a) log es)) (among-more (ends_of a log) (flat_map (ended_in a) es) (content ∷ []) ended), small)
+    small_still : (o : Id) (number : ℕ) → EndsSmall log o number → EndsSmall (log ++ es) o number
+    small_still o number (part, content, r, small) =
+        let a : Attempt = attempt part.born.object number in (
+          part,
+          content,
+          record {
+            born = parts-more log es o part r.born;
+            contents = r.contents;
+            ended = subst (λ xs. Among r.contents xs) (sym (flat_map-append (ended_in a) log es)) (among-more (ends_of a log) (flat_map (ended_in a) es) r.contents r.ended);
+            content = r.content;
+          },
+          small,
+        )
 
     gone_still : (n : ℕ) (o : Id) (number : ℕ) → IsGone sent log n o number → IsGone more (log ++ es) n o number
     gone_still n o number (inl (from, e, why, h)) = inl (from, e, why, came_still (letter from (TheNode n) (Unhold e o why)) h)
     gone_still n o number (inr (inl lost)) = inr (inl (lost_still n o lost))
-    gone_still n o number (inr (inr small)) = inr (inr (small_still (attempt o number) small))
+    gone_still n o number (inr (inr small)) = inr (inr (small_still o number small))
 
 -- ---- what the event takes is gone
 
@@ -160,7 +173,7 @@ module _ (s : Setting) (log : List Entry) (c : Whole) (b : Between s log c) wher
 
   module _ (k : KeepsMade log c) (e : Event) (seat : ℕ) (m : Moved) (network : m.whole.network ≡ c.network ++ m.out.letters)
       (accepted : accepted_events (log ++ In e seat ∷ m.out.entries) ≡ accepted_events log ++ e ∷ [])
-      (makes : Makes c (log ++ In e seat ∷ m.out.entries) e m) where
+      (makes : Makes c (log ++ In e seat ∷ m.out.entries) e m) (after : Sane (log ++ In e seat ∷ m.out.entries)) where
     abbrev later : List Entry
     later = log ++ In e seat ∷ m.out.entries
 
@@ -181,17 +194,17 @@ module _ (s : Setting) (log : List Entry) (c : Whole) (b : Between s log c) wher
     ]
 
     pub still_made : KeepsMade later m.whole
-    still_made n node at o number (inl p) = elim (put_before s log c b e seat m.out.entries o number n p) [
+    still_made n node at o number (inl p) = elim (put_before s log c b e seat m.out.entries after o number n p) [
       | inl old ↦ old_stays n node at o number old
       | inr new ↦ inl (makes.puts n node at o number p new)
     ]
-    still_made n node at o number (inr p) = elim (end_before s log c b e seat m.out.entries o number n p) [
+    still_made n node at o number (inr p) = elim (end_before s log c b e seat m.out.entries after o number n p) [
       | inl old ↦ old_stays n node at o number old
       | inr (inl new) ↦ inl (makes.ends n node at o number p new)
       | inr (inr small) ↦ inr (inr (inr small))
     ]
 
-  module _ (k : KeepsMade log c) (e : Event) (seat : ℕ) (code : Refusal) where
+  module _ (k : KeepsMade log c) (e : Event) (seat : ℕ) (code : Refusal) (after : Sane (log ++ In e seat ∷ Refused code ∷ [])) where
     abbrev refusing : List Entry
     refusing = In e seat ∷ Refused code ∷ []
 
@@ -199,9 +212,12 @@ module _ (s : Setting) (log : List Entry) (c : Whole) (b : Between s log c) wher
     no_put o number (a, v, (zero, f), z) = absurd (cc)
     no_put o number (a, v, (suc i, f), z) = absurd (cc)
 
-    no_end : (o : Id) (number : ℕ) → IsNewEnd (Refused code ∷ []) o number → ⊥
-    no_end o number (x, (zero, f), big) = absurd (cc)
-    no_end o number (x, (suc i, f), big) = absurd (cc)
+    no_end : (first o : Id) (number : ℕ) → IsNewEnd (Refused code ∷ []) first o number → ⊥
+    no_end first o number q = none q.contents q.ended
+      where
+        none : (cs : List Outcome) → Among (Ended (attempt first number) cs) (Refused code ∷ []) → ⊥
+        none cs (zero, f) = absurd (cc)
+        none cs (suc i, f) = absurd (cc)
 
     as_before : (n : ℕ) (node : Node) → node_at c n ≡ Some node → (o : Id) (number : ℕ) → IsMadeAt log o number n →
         Stores node.store o number ⊎ IsGone c.network (log ++ refusing) n o number
@@ -211,28 +227,28 @@ module _ (s : Setting) (log : List Entry) (c : Whole) (b : Between s log c) wher
     ]
 
     pub refused_made : KeepsMade (log ++ refusing) c
-    refused_made n node at o number (inl p) = elim (put_before s log c b e seat (Refused code ∷ []) o number n p) [
+    refused_made n node at o number (inl p) = elim (put_before s log c b e seat (Refused code ∷ []) after o number n p) [
       | inl old ↦ as_before n node at o number old
       | inr new ↦ absurd (no_put o number new)
     ]
-    refused_made n node at o number (inr p) = elim (end_before s log c b e seat (Refused code ∷ []) o number n p) [
+    refused_made n node at o number (inr p) = elim (end_before s log c b e seat (Refused code ∷ []) after o number n p) [
       | inl old ↦ as_before n node at o number old
-      | inr (inl new) ↦ absurd (no_end o number new)
+      | inr (inl new) ↦ absurd (no_end p.part.born.object o number new)
       | inr (inr small) ↦ inr (inr (inr small))
     ]
 
 -- accepted or refused
 module _ (s : Setting) (log : List Entry) (c : Whole) (before : IsInStep s log c) (k : KeepsMade log c) (e : Event) (seat : ℕ) (handed : Handed) where
   abbrev Kept : Answer → Type 0
-  Kept a = KeepsMade (log ++ logged e seat a) (whole_after c a)
+  Kept a = Sane (log ++ logged e seat a) → KeepsMade (log ++ logged e seat a) (whole_after c a)
 
   taken_made : refusal c e handed ≡ None → Kept (takes (happens c e handed) (given_out c e))
-  taken_made unrefused =
+  taken_made unrefused after =
       let m : Moved = happens c e handed in
       let q = (happens-counted c e handed).quiet in
       still_made s log c before.sound.between k e seat m (happens_network c e handed)
       (accepted-event log e seat m.out.entries (no_event m.out.entries q) ∙ ap (λ t. accepted_events log ++ (if t then [] else e ∷ [])) (not_refused m.out.entries q))
-      (event_makes s log c before seat e handed unrefused)
+      (event_makes s log c before seat e handed unrefused) after
 
   limited_made : (t : Bool) → refusal c e handed ≡ None → Kept (if t then takes (happens c e handed) (given_out c e) else Refuses Limit)
   limited_made true unrefused = taken_made unrefused
@@ -254,14 +270,15 @@ opening_made nodes slots n node at o number (inl p) = absurd (no_put (same_id ma
     no_put : (t : Bool) → (if t then Some main_birth else None) ≡ Some (Put p.value) → ⊥
     no_put true e = absurd (cc)
     no_put false e = absurd (cc)
-opening_made nodes slots n node at o number (inr p) = absurd (among-nothing (p.content ∷ []) p.ended)
+opening_made nodes slots n node at o number (inr p) = absurd (among-nothing p.result.contents p.result.ended)
 
 made_stays : (s : Setting) → KeepsMainApart s.script → (r : Running) (gs : List Handing) → AreRight s r gs → IsInStep s r.log r.whole → KeepsMade r.log r.whole →
     KeepsMade (after_events r gs).log (after_events r gs).whole
 made_stays s apart r [] right step k = k
 made_stays s apart r (g ∷ gs) right step k =
     made_stays s apart (after_event r g) gs right.1 (events_stay_in_step s apart r.log r.whole g.event g.seat g.handed step right.0)
-    (event_made s r.log r.whole step k g.event g.seat g.handed)
+    (event_made s r.log r.whole step k g.event g.seat g.handed
+    (legal_logs_are_sane (setting_of s (after_event r g).whole) (after_event r g).log (events_stay_in_step s apart r.log r.whole g.event g.seat g.handed step right.0).sound.between.legal))
 
 pub runs_keep_made : (s : Setting) (slots : ℕ) → 0 < s.nodes → KeepsMainApart s.script → (gs : List Handing) → AreRight s (opening_run s.nodes slots) gs →
     KeepsMade (after_events (opening_run s.nodes slots) gs).log (after_events (opening_run s.nodes slots) gs).whole
@@ -281,19 +298,39 @@ entry_ended log a c i =
     among_flat (ended_in a) log (Ended a c) c i (subst (λ t. Among c (if t then c ∷ [] else [])) (sym (same_attempt-refl a)) (zero, refl))
 
 -- a first copy is in the store
-pub first_copy_kept : (s : Setting) (r : Running) → KeepsMade r.log r.whole → (n : ℕ) (node : Node) → node_at r.whole n ≡ Some node →
+pub first_copy_kept : (s : Setting) (r : Running) → Sane r.log → KeepsMade r.log r.whole → (n : ℕ) (node : Node) → node_at r.whole n ≡ Some node →
     (y : Id) (number : ℕ) → HasFirstCopy (seen s r) n y number → (seen s r).keeps n y number ≡ true
-first_copy_kept s r k n node at y number first = ap (keeps_in y number) at ∙ elim (k n node at y number (made first.first)) [
+first_copy_kept s r sane k n node at y number first = ap (keeps_in y number) at ∙ elim (k n node at y number (made first.first)) [
   | inl stored ↦ found_first (is_copy_of y number) node.store.primaries node.store.secondaries stored
   | inr (inl (from, e, why, dropped)) ↦ absurd (first.kept from e why dropped)
   | inr (inr (inl lost)) ↦ absurd (differ (was_lost n y r.log) lost first.unlost)
-  | inr (inr (inr (content, ended, small))) ↦ absurd (differ _ small (first.big content (ended_entry r.log (attempt y number) (content ∷ []) ended)))
+  | inr (inr (inr (part, content, e, small))) ↦ absurd (differ _ small (first.big part content
+      (record { born = e.born; contents = e.contents; ended = ended_entry r.log (attempt part.born.object number) e.contents e.ended; content = e.content })))
 ]
   where
     differ : (t : Bool) → t ≡ true → t ≡ false → ⊥
     differ t e f = cc
 
+    put_part : (o : Id) (v : Value) → birth_at (births r.log) o ≡ Some (Put v) → part_at (births r.log) o ≡ Some (record { born = record { object = o; birth = Put v }; place = 0 })
+    put_part o v f =
+        sane.grouped.whole o o (Put v) f (first_is_made (record { object = o; birth = Put v })) ∙
+        ap (λ i. Some (record { born = record { object = o; birth = Put v }; place = i })) (none o.serial)
+      where
+        none : (m : ℕ) → m - m ≡ 0
+        none m = omega arith
+
     made : PutAt r.log y number n ⊎ EndedAt r.log y number n → IsMadeAt r.log y number n
-    made (inl p) = inl (record { value = p.value; born = p.put; first = p.first; home = p.place })
-    made (inr p) =
-        inr (record { worker = p.worker; runs = p.ran; home = p.place; content = p.content; ended = entry_ended r.log (attempt y number) (p.content ∷ []) p.ended })
+    made (inl p) = inl (record { value = p.value; born = p.put; part = put_part y p.value p.put; first = p.first; home = p.place })
+    made (inr p) = inr (record {
+      part = p.part;
+      worker = p.worker;
+      runs = p.ran;
+      home = p.place;
+      content = p.content;
+      result = record {
+        born = p.ended.born;
+        contents = p.ended.contents;
+        ended = entry_ended r.log (attempt p.part.born.object number) p.ended.contents p.ended.ended;
+        content = p.ended.content;
+      };
+    })

@@ -1,25 +1,23 @@
 -- A commit that leaves an attempt to wait for an own object: an own put is never waited for, and of an own accepted one a copy is fetched.
 use Rattle.std.proofs.Common.{◌≡◌, ◌≤◌, ◌<◌, ℕ, zero, suc, List, [], ◌∷◌, ◌++◌, length, map, Some, None, Option, refl, ap, sym, subst, ◌∙◌, inl, inr, append_assoc, append-nil, arith}
 use Rattle.std.specs.Prelude.{true, false, if◌then◌else◌, not, ◌&&◌, ◌==◌}
-use Rattle.std.specs.List.{flat_map}
 use Rattle.std.proofs.lemmas.Bool.{and_parts, eqb-true, not-true}
 use Rattle.std.proofs.lemmas.Bool.Decides.{nat_tests}
-use Rattle.std.proofs.lemmas.List.Concat.{flat_map-append}
-use Rattle.meaning.proofs.BirthLaws.{at_test}
-use Rattle.meaning.specs.Births.{birth_at}
+use Rattle.meaning.proofs.BirthLaws.{at_test, first_is_made}
+use Rattle.meaning.specs.Births.{birth_at, Part, part_at, part_of}
 use Rattle.meaning.specs.Mains.{KeepsMainApart}
 use Rattle.meaning.specs.Values.{Id, Outcome, Put, Value}
 use Rattle.values.specs.Listed.{each_once, ids_in_outcome}
-use Rattle.event_log.proofs.Extending.{birth_at-more}
+use Rattle.event_log.proofs.Extending.{parts-more}
 use Rattle.event_log.specs.Breaks.{Among}
-use Rattle.event_log.specs.Entries.{Accepted, Attempt, Commit, Deliver, Entry, Event, In, Opened, Released}
+use Rattle.event_log.specs.Entries.{Accepted, Attempt, Commit, Deliver, Entry, Event, In, main_attempt, NoJob, Opened, Refusal, Released, Stale}
 use Rattle.event_log.specs.Events.{from_one}
 use Rattle.event_log.specs.Rules.{Setting}
-use Rattle.event_log.specs.Words.{attempt, births, born_in, main_bearing, worker_of}
+use Rattle.event_log.specs.Words.{attempt, births, same_attempt, worker_of}
 use Rattle.holding_steps.proofs.Known.{known_born}
 use Rattle.protocol.specs.Answers.{Step, Takes, decided}
-use Rattle.protocol.specs.Commits.{asks_where, commit_by, commit_step, ends, rests_if_waiting, stops_by, with_outcomes}
-use Rattle.protocol.specs.Events.{committed_by, happens, is_live_worker, with_committed}
+use Rattle.protocol.specs.Commits.{keeps_content, keeps_contents, asks_where, commit_by, commit_step, ends, rests_if_waiting, stops_by, with_outcomes}
+use Rattle.protocol.specs.Events.{objects_made, committed_by, happens, is_live_worker, with_committed}
 use Rattle.protocol.specs.Holders.{holds_ids, passes_on}
 use Rattle.protocol.specs.Jobs.{AtEnd, AtGet, Given, Handed, Nothing, OfAnother, OfJob, Outcomes, Stopped}
 use Rattle.protocol.specs.Messages.{Fetch, TheNode, TheWorker, letter}
@@ -32,15 +30,12 @@ use Rattle.protocol.specs.Stores.{with_ended}
 use Rattle.protocol.specs.Steps.{Here, store_here, with_phase, with_run, with_store}
 use Rattle.protocol.specs.Tables.{HasEnded, Out, Ready, Run, Waits, Worker, has_stopped, is_waiting_for, knows_dead, needed_by, new_worker, object_needed, owner_of}
 use Rattle.protocol.specs.Whole.{Moved, Whole, after_worker, worker_at, worker_does_at, worker_does_by}
-use Rattle.event_log.specs.Entries.{main_attempt}
-use Rattle.event_log.specs.Entries.{Refusal, NoJob, Stale}
-use Rattle.event_log.specs.Words.{same_attempt}
 use Rattle.protocol_laws.specs.Coming.{IsRight}
 use Rattle.protocol_laws.specs.Sound.{IsSound}
 use Rattle.protocol_laws.proofs.Tests.{live_worker, or_none, out_run, unless_none}
 use Rattle.protocol_legal.specs.Done.{IsTrue}
 use Rattle.protocol_legal.specs.Whole.{setting_of}
-use Rattle.protocol_legal.proofs.Bearing.{Still, still_holds}
+use Rattle.protocol_legal.proofs.Bearing.{still_holds}
 use Rattle.protocol_owed.specs.Replies.{NewWaitIsTended, NewWaitsAreTended, NewlyWaits, SaysFetch}
 use Rattle.protocol_owed.specs.Runs.{Handing, Running, after_event, after_events, answer_to, opening_run}
 use Rattle.protocol_owed.specs.Seen.{IsCalm}
@@ -64,6 +59,10 @@ use Rattle.owed_replies.proofs.Happens.{event_advances}
 use Rattle.owed_replies.proofs.Known.{born_by_past}
 use Rattle.owed_replies.proofs.Runs.{RunReplies, run_replies}
 use Rattle.owed_laws.proofs.OwnNeeds.{GoesOnHere}
+use Rattle.meaning.specs.Readings.{IsBorn}
+use Rattle.event_log.specs.Sane.{Sane}
+use Rattle.event_log.proofs.SaneLaws.{legal_logs_are_sane}
+use Rattle.meaning.specs.Runs.{next_id}
 use Rattle.owed_laws.proofs.OwnWaits as W
 use Rattle.owed_laws.proofs.Unreleased.{needed_known, needed_stays}
 
@@ -99,7 +98,7 @@ begins_stays es = record {
 abbrev NeedsNothing : Here → Type 0
 NeedsNothing h = needed_by h.worker.run ≡ None
 
-leaves_nothing : (h : Here) (run : Run) (c : Outcome) → run.phase ≡ HasEnded c → NeedsNothing (leaves h run)
+leaves_nothing : (h : Here) (run : Run) (c : List Outcome) → run.phase ≡ HasEnded c → NeedsNothing (leaves h run)
 leaves_nothing h run c ended =
     at_test (λ t. NeedsNothing (if t then with_run h (record run { is_acknowledged = true }) else if knows_dead h.worker (owner_of run) then is_heard (tells h run) run else tells h run))
     (same_attempt run.attempt main_attempt) (λ _. none)
@@ -109,20 +108,27 @@ leaves_nothing h run c ended =
     none : object_needed run.phase ≡ None
     none = ap object_needed ended
 
-module _ (b : Here) (run : Run) (c : Outcome) where
-  abbrev o : Id
-  o = run.attempt.object
+module _ (b : Here) (run : Run) (c : List Outcome) where
+  -- the attempt as it ends, with the Holds that wait
+  abbrev Ends : Here → Type 0
+  Ends h = (run : Run) × (h.worker.run ≡ Some run) × (run.phase ≡ HasEnded c)
 
-  abbrev passed : Here
-  passed = passes_on (with_store (with_phase b run (HasEnded c)) (with_ended (store_here b) o run.attempt.number c)) o (each_once (ids_in_outcome c))
+  held_ends : (h : Here) (e : Id) (os : List Id) → Ends h → Ends (holds_ids h e os)
+  held_ends h e os (last, is, ended) =
+      let s = still_holds h.me h.worker.node (length h.worker.objects) last e h os (record { me = refl; node = refl; count = refl; holds = last.holds; runs = is }) in
+      (record last { holds = s.holds }, s.runs, ended)
+
+  contents_end : (cs : List Outcome) (h : Here) (o : Id) (number : ℕ) → Ends h → Ends (keeps_contents h o number cs)
+  contents_end [] h o number p = p
+  contents_end (d ∷ cs) h o number p =
+      contents_end cs (keeps_content h o number d) (next_id o) number
+      (held_ends (passes_on (with_store h (with_ended (store_here h) o number d)) o (each_once (ids_in_outcome d))) o (each_once (ids_in_outcome d)) p)
 
   abbrev held : Here
-  held = holds_ids passed o (each_once (ids_in_outcome c))
+  held = keeps_contents (with_phase b run (HasEnded c)) run.attempt.object run.attempt.number c
 
-  still : Still b.me b.worker.node (length b.worker.objects) (record run { phase = HasEnded c }) held
-  still = still_holds b.me b.worker.node (length b.worker.objects) (record run { phase = HasEnded c }) o
-      passed (each_once (ids_in_outcome c))
-      (record { me = refl; node = refl; count = refl; holds = run.holds; runs = refl })
+  still : Ends held
+  still = contents_end c (with_phase b run (HasEnded c)) run.attempt.object run.attempt.number (record run { phase = HasEnded c }, refl, refl)
 
   by_run : (h : Here) (r : Option Run) → h.worker.run ≡ r → (last : Run) → r ≡ Some last → last.phase ≡ HasEnded c → NeedsNothing (leaves_by h r)
   by_run h None e last f g = absurd (cc)
@@ -133,7 +139,7 @@ module _ (b : Here) (run : Run) (c : Outcome) where
       (λ _. leaves_nothing h (record next { is_over = true }) c ended) (λ _. ap needed_by e ∙ ap object_needed ended)
 
   ends_nothing : NeedsNothing (release_step (ends b run c))
-  ends_nothing = ap needed_by (release_step-run (ends b run c)) ∙ by_run held held.worker.run refl (record run { phase = HasEnded c; holds = still.holds }) still.runs refl
+  ends_nothing = ap needed_by (release_step-run (ends b run c)) ∙ by_run held held.worker.run refl still.0 still.1 still.2
 
 -- ---- a commit that was taken
 
@@ -232,7 +238,7 @@ module _ (s : Setting) (slots : ℕ) (some : 0 < s.nodes) (slot : 1 ≤ slots) (
     end = release_step (commit_step start k.outcomes)
 
     abbrev d : Whole
-    d = with_committed c new.job (length k.outcomes.births)
+    d = with_committed c new.job (objects_made k.outcomes.births)
 
     made : happens c g.event g.handed ≡ after_worker d k.given.worker k.worker.node end
     made =
@@ -354,17 +360,29 @@ module _ (s : Setting) (slots : ℕ) (some : 0 < s.nodes) (slot : 1 ≤ slots) (
     own_here : y.owner ≡ k.given.worker
     own_here = own ∙ sym k.same
 
+    sane_mid : Sane log_mid
+    sane_mid = W.sane_mid s apart r.log c keeps.step.sound before new.job g.seat k.outcomes k.given k.at k.fresh k.worker k.there k.lives k.run k.runs k.out done y stop_is
+
+    sane_then : Sane (after_event r g).log
+    sane_then = legal_logs_are_sane (setting_of s (after_event r g).whole) (after_event r g).log sound.between.legal
+
+    abbrev born_mid : IsBorn (births log_mid) y
+    born_mid = W.born_mid s apart r.log c keeps.step.sound before new.job g.seat k.outcomes k.given k.at k.fresh k.worker k.there k.lives k.run k.runs k.out done y stop_is
+
+    same_part : (p q : Part) → ◌≡◌ {A = Option Part} (Some p) (Some q) → p ≡ q
+    same_part p q e = cc
+
     -- an own put is never waited for
     own_put : (v : Value) → birth_at (births (after_event r g).log) y ≡ Some (Put v) → ⊥
     own_put v e =
-        let born = W.born_first s apart r.log c keeps.step.sound before new.job g.seat k.outcomes k.given k.at k.fresh k.worker k.there k.lives k.run k.runs k.out done y stop_is in
-        let still : birth_at (births (after_event r g).log) y ≡ Some born.0 =
-        ap (λ l. birth_at (births l) y) on_from.1 ∙ ap (λ xs. birth_at (main_bearing ∷ xs) y) (flat_map-append born_in log_mid on_from.0) ∙
-        birth_at-more (births log_mid) (flat_map born_in on_from.0) y born.0 born.1 in
-        not_on (W.put_answered s apart r.log c keeps.step.sound before new.job g.seat k.outcomes k.given k.at k.fresh k.worker k.there k.lives k.run k.runs k.out done y stop_is own_here serial unreleased v (born.1 ∙ sym still ∙ e))
+        let later : part_at (births (after_event r g).log) y ≡ Some born_mid.0 = ap (λ l. part_at (births l) y) on_from.1 ∙ parts-more log_mid on_from.0 y born_mid.0 born_mid.1 in
+        let same : born_mid.0 ≡ part_of (record { object = y; birth = Put v }) y =
+        same_part born_mid.0 (part_of (record { object = y; birth = Put v }) y) (sym later ∙ sane_then.grouped.whole y y (Put v) e (first_is_made (record { object = y; birth = Put v }))) in
+        let born : birth_at (births log_mid) y ≡ Some (Put v) = subst (λ (p : Part). birth_at (births log_mid) p.born.object ≡ Some p.born.birth) same (sane_mid.grouped.firsts y born_mid.0 born_mid.1) in
+        not_on (W.put_answered s apart r.log c keeps.step.sound before new.job g.seat k.outcomes k.given k.at k.fresh k.worker k.there k.lives k.run k.runs k.out done y stop_is own_here serial unreleased v born)
 
     -- of an accepted one a copy is fetched
-    own_accepted : (number : ℕ) → Among (Accepted (attempt y number)) r.log → SaysFetch (happening s r g step) w y
+    own_accepted : (number : ℕ) → Among (Accepted (attempt born_mid.0.born.object number)) r.log → SaysFetch (happening s r g step) w y
     own_accepted number i = elim (W.accepted_served s apart r.log c keeps.step.sound before new.job g.seat k.outcomes k.given k.at k.fresh k.worker k.there k.lives k.run k.runs k.out done y stop_is own_here serial unreleased number i) [
       | inl goes ↦ absurd (not_on goes)
       | inr (n, m, sent) ↦ (
@@ -395,17 +413,24 @@ module _ (s : Setting) (slots : ℕ) (some : 0 < s.nodes) (slot : 1 ≤ slots) (
     tended = record {
       foreign = λ apart_from. absurd (apart_from own);
       own_put = λ _. own_put;
-      own_accepted = λ _ number n at. own_accepted number
-          (elim (among-append_cases r.log (In g.event g.seat ∷ step.entries) (Accepted (attempt y number))
-          (subst (λ l. Among (Accepted (attempt y number)) l) (last_log r g step taken) at.accepted)) [
-            | inl old ↦ old
-            | inr fresh ↦ absurd (accepts_none (attempt y number) (not_first (attempt y number) fresh))
-          ]);
+      own_accepted = λ _ number n at. own_accepted number (accepted_so number at.part at.born at.accepted);
     }
       where
         not_first : (i : Attempt) → Among (Accepted i) (In g.event g.seat ∷ step.entries) → Among (Accepted i) step.entries
         not_first i (zero, e) = absurd (cc)
         not_first i (suc n, e) = (n, e)
+
+        accepted_so : (number : ℕ) (p : Part) → part_at (births (after_event r g).log) y ≡ Some p → Among (Accepted (attempt p.born.object number)) (after_event r g).log →
+            Among (Accepted (attempt born_mid.0.born.object number)) r.log
+        accepted_so number p born accepted =
+            let later : part_at (births (after_event r g).log) y ≡ Some born_mid.0 = ap (λ l. part_at (births l) y) on_from.1 ∙ parts-more log_mid on_from.0 y born_mid.0 born_mid.1 in
+            let same : p ≡ born_mid.0 = same_part p born_mid.0 (sym born ∙ later) in
+            let i : Attempt = attempt born_mid.0.born.object number in
+            elim (among-append_cases r.log (In g.event g.seat ∷ step.entries) (Accepted i)
+            (subst (λ l. Among (Accepted i) l) (last_log r g step taken) (subst (λ (q : Part). Among (Accepted (attempt q.born.object number)) (after_event r g).log) same accepted))) [
+              | inl old ↦ old
+              | inr fresh ↦ absurd (accepts_none i (not_first i fresh))
+            ]
 
 -- whether the object is an own one or another worker's
 pub new_waits_are_tended : EveryEvent NewWaitsAreTended

@@ -61,7 +61,7 @@ module _ (g : Here) (run : Run) (y : Id) (z : Object) (number n : ℕ) (item : o
   looked P p =
       subst (λ o. P (needs_at h y o)) (sym item)
       (subst (λ o. P (needs_by h y z o)) (sym unfaulted)
-      (subst (λ t. P (if t then looks_for h y z else if is_lost z then recovers h y else if z.is_released then needs_released h z.dead_holder else h)) (sym whole) p))
+      (subst (λ t. P (if t then looks_for h y z else if is_lost h.worker.objects z then recovers h y else if z.is_released then needs_released h z.dead_holder else h)) (sym whole) p))
 
   copied : (d : Outcome) → GoesOnHere (looks_here_by h y z (Some d))
   copied d = (with_answer (record run { phase = Waits y None }) d, refl, refl)

@@ -1,45 +1,45 @@
 -- What a commit does that leaves its attempt to need an own object whose content is there. As long as nothing was killed or lost, the owner keeps
 -- the content, or the primary copy is where it was made and the owner's table knows it: the attempt is answered at once or fetches.
-use Rattle.std.proofs.Common.{◌≡◌, ◌≤◌, ℕ, ◌+◌, List, [], ◌∷◌, ◌++◌, length, Some, None, refl, ap, sym, subst, ◌∙◌, inl, inr, append-nil, arith}
-use Rattle.std.specs.Prelude.{Bool, true, false, if◌then◌else◌, ◌==◌, ◌||◌}
+use Rattle.std.proofs.Common.{[], ap, append-nil, arith, inl, inr, length, List, None, refl, Some, subst, sym, ℕ, ◌++◌, ◌+◌, ◌-◌, ◌∙◌, ◌∷◌, ◌≡◌, ◌≤◌}
+use Rattle.std.specs.Prelude.{Bool, false, if◌then◌else◌, slice_get, true, ◌==◌, ◌||◌}
 use Rattle.std.specs.List.{find, list_any}
 use Rattle.std.specs.Option.{option_map}
 use Rattle.std.proofs.lemmas.Bool.Decides.{nat_tests}
-use Rattle.meaning.proofs.BirthLaws.{at_test}
-use Rattle.meaning.specs.Births.{IsFirstOf, birth_at}
+use Rattle.meaning.proofs.BirthLaws.{at_test, first_is_made}
+use Rattle.meaning.specs.Births.{Part, birth_at, part_at}
+use Rattle.event_log.specs.Words.{attempt, births, ends_of, worker_of}
+use Rattle.protocol_legal.specs.Made.{EndsSmall, IsEndedAt, IsMadeAt, IsTaken}
+use Rattle.protocol_legal.specs.Past.{past}
+use Rattle.owed_replies.proofs.Quiet.{accepted_among, HasContentAt, IsHad, no_dead_nodes, no_run, node_alive, none_lost, none_lost_put, OfPut, OfTask, Origin}
+use Rattle.owed_replies.proofs.Quiet.{origin, part_is, put_known, released_among, worker_alive}
 use Rattle.meaning.specs.Mains.{KeepsMainApart}
 use Rattle.meaning.specs.Meaning.{replay}
 use Rattle.meaning.specs.Readings.{IsBorn}
 use Rattle.meaning.specs.Runs.{Needs}
 use Rattle.meaning.specs.Values.{Id, Named, Outcome, Put, Value}
+use Rattle.event_log.specs.Commits.{commit_entries}
 use Rattle.event_log.specs.Breaks.{Among}
 use Rattle.event_log.specs.Entries.{Accepted, Attempt, Commit, Entry, In, Released}
 use Rattle.event_log.specs.Events.{accepted_events, from_one, node_of, refused_next, worker_of_job}
 use Rattle.event_log.specs.Legal as L
 use Rattle.event_log.specs.Rules.{Setting}
 use Rattle.event_log.specs.Sane.{Sane}
-use Rattle.event_log.specs.Words.{attempt, births, ends_of}
 use Rattle.event_log.proofs.EventLaws.{accepted-event}
-use Rattle.event_log.proofs.OneResult.{part_birth}
 use Rattle.event_log.proofs.SaneLaws.{legal_logs_are_sane}
-use Rattle.event_log.proofs.SingleLaws.{legal_logs_are_of_singles}
-use Rattle.protocol.specs.Commits.{asks_where, bears_all, commit_by, commit_step, rests_if_waiting, stops_by, with_outcomes, single_entries}
+use Rattle.protocol.specs.Commits.{asks_where, bears_all, commit_by, commit_step, rests_if_waiting, stops_by, with_outcomes}
 use Rattle.protocol.specs.Events.{with_committed}
 use Rattle.protocol.specs.Jobs.{AtGet, Given, Outcomes, stop_of}
 use Rattle.protocol.specs.Nodes.{Node}
-use Rattle.protocol.specs.Numbered.{item_at}
+use Rattle.protocol.specs.Numbered.{changed_at, item_at}
 use Rattle.protocol.specs.Releases.{release_step}
-use Rattle.protocol.specs.Sets.{has, object_id}
+use Rattle.protocol.specs.Sets.{has, object_id, repeated}
 use Rattle.protocol.specs.Stores.{Copy, copy_in, is_copy_of}
 use Rattle.protocol.specs.Steps.{Here, logs_all, object_at, store_here, with_phase, with_run}
 use Rattle.protocol.specs.Tables.{Object, Out, Run, Waits, Worker, new_worker}
-use Rattle.protocol.specs.Sets.{repeated}
-use Rattle.protocol.specs.Numbered.{changed_at}
 use Rattle.protocol.specs.Whole.{Whole, after_worker, here, node_at, worker_at}
 use Rattle.protocol_legal.specs.Done.{IsTrue}
 use Rattle.protocol_legal.specs.During.{Frame, HearsNoDeath, SoundHere}
 use Rattle.protocol_legal.specs.Frame.{Arrives}
-use Rattle.protocol_legal.specs.Made.{EndsSmall, IsMadeAt, IsTaken}
 use Rattle.protocol_legal.specs.Steps.{EventsOfWorkers, frame_of}
 use Rattle.protocol_legal.specs.Steps as St
 use Rattle.protocol_legal.specs.Whole.{Between, committed_in, setting_of}
@@ -59,7 +59,6 @@ use Rattle.lease_discipline.proofs.Heres.{changed_now}
 use Rattle.lease_discipline.proofs.Told.{places}
 use Rattle.owed_replies.proofs.Advancing.{owner_has}
 use Rattle.owed_replies.proofs.Known.{need_known}
-use Rattle.owed_replies.proofs.Quiet.{HasContentAt, IsHad, accepted_among, no_dead_nodes, node_alive, none_lost, none_lost_put, put_known, released_among, worker_alive}
 use Rattle.owed_laws.proofs.OwnNeeds.{GoesOnHere, IsServed, answers_here, fetches_then, goes_on_then, own_where, serves}
 
 found : (p : Copy → Bool) (xs ys : List Copy) → list_any p xs ≡ true → (x : Copy) × (find p (xs ++ ys) ≡ Some x)
@@ -137,7 +136,7 @@ module _ (s : Setting) (apart : KeepsMainApart s.script) (log : List Entry) (c :
 
   abbrev pub logged : Here
   logged = logs_all (with_run start (with_outcomes run d))
-      (single_entries run.attempt (object_id g.worker (length x.objects + 1)) d.births d.prints (stop_of d.stop))
+      (commit_entries run.attempt (object_id g.worker (length x.objects + 1)) d.births d.prints (stop_of d.stop))
 
   abbrev pub borne : Here
   borne = bears_all logged run.attempt d.births
@@ -219,12 +218,11 @@ module _ (s : Setting) (apart : KeepsMainApart s.script) (log : List Entry) (c :
     there_mid = there_more (changed_at c.workers g.worker (λ _. mid.worker)) (repeated mid.there.opened (new_worker x.node)) g.worker mid.worker
         (changed_now c.workers g.worker x mid.worker there)
 
-    born_mid : IsBorn (births log_mid) y
+    pub born_mid : IsBorn (births log_mid) y
     born_mid = need_known s log_mid after_mid between g.worker mid.worker (record later { phase = Waits y None }) there_mid waits.worker_lives refl y refl
 
-    -- it is the first object of its birth
-    pub born_first : IsFirstOf (births log_mid) y
-    born_first = (born_mid.0.born.birth, part_birth (births log_mid) (legal_logs_are_of_singles (setting_of s after_mid) log_mid between.legal).births y born_mid.0 born_mid.1)
+    pub sane_mid : Sane log_mid
+    sane_mid = legal_logs_are_sane (setting_of s after_mid) log_mid between.legal
 
     module _ (own : y.owner ≡ g.worker) (some : 1 ≤ y.serial) (unreleased : Among (Released y) log_mid → ⊥) where
       at_owner : worker_at after_mid y.owner ≡ Some mid.worker
@@ -242,15 +240,15 @@ module _ (s : Setting) (apart : KeepsMainApart s.script) (log : List Entry) (c :
       item : object_at mid y ≡ Some object.0
       item = ap (λ t. if t then item_at mid.worker.objects y.serial else None) is_own ∙ object.1
 
-      not_taken : (number n : ℕ) → (EndsSmall log_mid (attempt y number) → ⊥) → IsTaken log_mid y number n → ⊥
+      not_taken : (number n : ℕ) → (EndsSmall log_mid y number → ⊥) → IsTaken log_mid y number n → ⊥
       not_taken number n big (inl released) = unreleased (released_among s log_mid after_mid between calm_mid y released)
       not_taken number n big (inr (inl (put, inl lost))) = none_lost_put log_mid calm_mid lost.before lost.after n y lost.parts lost.lost
       not_taken number n big (inr (inl (put, inr killed))) = node_alive log_mid calm_mid n killed
-      not_taken number n big (inr (inr (ended, inl lost))) = none_lost log_mid calm_mid (attempt y number) lost
+      not_taken number n big (inr (inr (ended, inl lost))) = none_lost log_mid calm_mid _ lost.2
       not_taken number n big (inr (inr (ended, inr small))) = big small
 
       -- what was made on the own node, and isn't small, is in its store
-      stored : (number n : ℕ) → (EndsSmall log_mid (attempt y number) → ⊥) → IsMadeAt log_mid y number n → n ≡ mid.worker.node → (o : Outcome) × (copy_in (store_here mid) y number ≡ Some o)
+      stored : (number n : ℕ) → (EndsSmall log_mid y number → ⊥) → IsMadeAt log_mid y number n → n ≡ mid.worker.node → (o : Outcome) × (copy_in (store_here mid) y number ≡ Some o)
       stored number n big made here_too =
           let here_made : IsMadeAt log_mid y number mid.there.number = subst (IsMadeAt log_mid y number) (here_too ∙ waits.at_home) made in
           elim (waits.there.node.store.kept y number here_made) [
@@ -292,18 +290,46 @@ module _ (s : Setting) (apart : KeepsMainApart s.script) (log : List Entry) (c :
       put_answered v born =
           let place : node_of y.owner log_mid ≡ Some mid.worker.node = ap (λ w. node_of w log_mid) own ∙ places s log_mid after_mid between g.worker mid.worker there_mid in
           own_answered 0 mid.worker.node (inl (record { value = v; put = born; first = refl; place = place }))
-          (inl (record { value = v; born = born; first = refl; home = place })) refl
+          (inl (record { value = v; born = born; part = put_part v born; first = refl; home = place })) refl
+        where
+          put_part : (u : Value) → birth_at (births log_mid) y ≡ Some (Put u) → part_at (births log_mid) y ≡ Some (record { born = record { object = y; birth = Put u }; place = 0 })
+          put_part u e =
+              sane_mid.grouped.whole y y (Put u) e (first_is_made (record { object = y; birth = Put u })) ∙
+              ap (λ i. Some (record { born = record { object = y; birth = Put u }; place = i })) (none y.serial)
+            where
+              none : (m : ℕ) → m - m ≡ 0
+              none m = omega arith
 
       -- an accepted end is where its attempt ran
-      pub accepted_served : (number : ℕ) → Among (Accepted (attempt y number)) log → IsServed g.worker y (release_step (commit_step start d))
+      pub accepted_served : (number : ℕ) → Among (Accepted (attempt born_mid.0.born.object number)) log → IsServed g.worker y (release_step (commit_step start d))
       accepted_served number i =
-          let a : Attempt = attempt y number in
+          let first : Id = born_mid.0.born.object in
+          let a : Attempt = attempt first number in
           let accepted : Among (Accepted a) log_mid = among-more log (In (Commit j) seat ∷ borne.there.out.entries) (Accepted a) i in
-          let sane : Sane log_mid = legal_logs_are_sane (setting_of s after_mid) log_mid between.legal in
           let heard = accepted_among s log_mid after_mid between calm_mid a accepted in
-          let ended = sane.accepted a heard.0 a heard.1 in
-          let ran = sane.ended a ended.1.0 ended.0 ended.1.1 in
-          let node = sane.opened y number ran.0 ran.1 in
-          let one = (legal_logs_are_of_singles (setting_of s after_mid) log_mid between.legal).ends a ended.1.0 ended.0 ended.1.1 in
-          own_served number node.0 (inr (record { accepted = accepted; worker = ran.0; ran = ran.1; place = node.1 }))
-          (inr (record { worker = ran.0; runs = ran.1; home = node.1; content = one.0; ended = subst (λ cs. Among cs (ends_of a log_mid)) one.1 ended.1 }))
+          let ended = sane_mid.accepted a heard.0 a heard.1 in
+          let ran = sane_mid.ended a ended.1.0 ended.0 ended.1.1 in
+          let node = sane_mid.opened first number ran.0 ran.1 in
+          let known : IsKnownAt log_mid y number node.0 = inr (record { part = born_mid.0; born = born_mid.1; accepted = accepted; worker = ran.0; ran = ran.1; place = node.1 }) in
+          let had = put_known s log_mid after_mid between calm_mid y mid.worker object.0 number node.0 at_owner object.1 unreleased known in
+          own_served number node.0 known (inr (made number node.0 ran.0 ran.1 node.1 had.0.settled (origin s log_mid after_mid between calm_mid y mid.worker object.0 at_owner object.1)))
+        where
+          made : (number n w : ℕ) → worker_of (attempt born_mid.0.born.object number) log_mid ≡ Some w → node_of w log_mid ≡ Some n → object.0.settled ≡ Some number →
+              Origin (past log_mid between.asked) y mid.worker object.0 → IsEndedAt log_mid y number n
+          made number n w ran home settled (OfPut q) = absurd (no_run s log_mid after_mid between calm_mid y mid.worker object.0 born_mid.0 number w at_owner object.1 q born_mid.1 ran)
+          made number n w ran home settled (OfTask m) =
+              let same = part_is s log_mid after_mid between calm_mid y mid.worker object.0 m born_mid.0 born_mid.1 in
+              let was = m.result.made number settled in
+              record {
+                part = born_mid.0;
+                worker = w;
+                runs = ran;
+                home = home;
+                content = was.content;
+                result = record {
+                  born = born_mid.1;
+                  contents = was.contents;
+                  ended = subst (λ (p : Part). Among was.contents (ends_of (attempt p.born.object number) log_mid)) (sym same) was.ended;
+                  content = ap (λ (p : Part). slice_get was.contents p.place) same ∙ was.has;
+                };
+              }

@@ -1,4 +1,7 @@
 -- Every accepted event of every run pays what it owes, as far as that is proved.
+use Rattle.event_log.specs.Sane.{Sane}
+use Rattle.event_log.proofs.SaneLaws.{legal_logs_are_sane}
+use Rattle.protocol_legal.specs.Whole.{setting_of}
 use Rattle.std.proofs.Common.{◌≡◌, ℕ, ◌<◌, ◌≤◌, Bool, true, false, List, [], ◌∷◌, ◌++◌, Option, Some, None, refl, ap, sym, subst, ◌∙◌}
 use Rattle.meaning.specs.Mains.{KeepsMainApart}
 use Rattle.meaning.specs.Values.{Id, Outcome}
@@ -24,8 +27,8 @@ use Rattle.lease_discipline.specs.Told.{entries_of}
 use Rattle.lease_discipline.proofs.Events.{among_at}
 use Rattle.lease_discipline.proofs.Told.{claims_are_answered, places}
 use Rattle.owed_asks.specs.Law.{happening}
-use Rattle.owed_asks.proofs.Laws.{RunKeeps, births_are_asked, calm_so_far, elsewheres_are_asked, gives_are_begun, last_log, last_whole, one_more, runs_keep}
-use Rattle.owed_asks.proofs.Laws.{all_right}
+use Rattle.owed_asks.proofs.Laws.{all_right, births_are_asked, calm_so_far, elsewheres_are_asked, gives_are_begun, last_log, last_whole, one_more, RunKeeps}
+use Rattle.owed_asks.proofs.Laws.{runs_keep}
 use Rattle.owed_asks.proofs.Needs.{copies_are_got}
 use Rattle.owed_asks.proofs.RightSlots.{run_uses, slots_are_all_right, there}
 use Rattle.owed_asks.proofs.UserEvents.{KeepsUses}
@@ -34,8 +37,7 @@ use Rattle.owed_replies.proofs.Contents.{copy_known}
 use Rattle.owed_laws.proofs.Reports.{ends_are_reported}
 use Rattle.owed_laws.proofs.Senders.{senders_are_there}
 use Rattle.owed_laws.proofs.NewWaits.{new_waits_are_tended}
-use Rattle.owed_laws.specs.Law.{AllIsPaid, AnswerPays, EventIsPaid, EventsArePaid, FetchesAreMet, FetchesReachNodes, ReachedGoesOn, ReachedPays}
-use Rattle.owed_laws.specs.Law.{RepliesArePaid}
+use Rattle.owed_laws.specs.Law.{AllIsPaid, AnswerPays, EventIsPaid, EventsArePaid, FetchesAreMet, FetchesReachNodes, ReachedGoesOn, ReachedPays, RepliesArePaid}
 use Rattle.protocol_owed.specs.Owed.{RepliesAreMade}
 use Rattle.protocol_owed.specs.Replies.{FetchIsAnswered, Happening}
 use Rattle.owed_replies.specs.Law as R
@@ -51,6 +53,9 @@ module _ (s : Setting) (slots : ℕ) (some : 0 < s.nodes) (slot : 1 ≤ slots) (
 
   uses : KeepsUses r.whole
   uses = run_uses s slots some slot apart gs right
+
+  sane : Sane r.log
+  sane = legal_logs_are_sane (setting_of s r.whole) r.log keeps.step.sound.between.legal
 
   copies : KeepsMade r.log r.whole
   copies = runs_keep_made s slots some apart gs right
@@ -84,7 +89,7 @@ module _ (s : Setting) (slots : ℕ) (some : 0 < s.nodes) (slot : 1 ≤ slots) (
       by_copy : (c : Option Outcome) → copy_in node.store y number ≡ c → FetchIsAnswered (happening s r g step) n w y number
       by_copy None has = record {
         there = λ e. absurd (differ _ e (kept None has));
-        first_copy = λ first. absurd (differ _ (first_copy_kept s r copies n node at y number first) (kept None has));
+        first_copy = λ first. absurd (differ _ (first_copy_kept s r sane copies n node at y number first) (kept None has));
         lacking = λ _. met.lacking has;
       }
       by_copy (Some c) has = record {

@@ -1,5 +1,10 @@
 -- As long as nothing was killed or lost, an attempt that ended is reported to its owner once its Holds are acknowledged, by log and network alone.
-use Rattle.std.proofs.Common.{◌≡◌, ℕ, zero, suc, ◌<◌, ◌≤◌, List, [], ◌∷◌, Some, Option, refl, ap, sym, subst, ◌∙◌, ◌⊎◌, inl, inr, arith}
+use Rattle.meaning.specs.Births.{birth_at, is_made_by}
+use Rattle.event_log.specs.Words.{births, same_attempt, worker_of}
+use Rattle.protocol.specs.Messages.{Finished, Letter, letter, TheWorker}
+use Rattle.lease_discipline.proofs.Events.{among_at}
+use Rattle.owed_laws.proofs.HoldMoves.{hold_of, IsHeld, IsOfRun}
+use Rattle.std.proofs.Common.{◌≡◌, ℕ, zero, suc, ◌<◌, ◌≤◌, List, [], ◌∷◌, Some, Option, refl, ap, sym, subst, ◌∙◌, inl, inr, arith}
 use Rattle.std.specs.Prelude.{true, false, ◌||◌}
 use Rattle.std.specs.List.{list_any}
 use Rattle.std.proofs.lemmas.Bool.{eqb-true, false_from_ne_true}
@@ -7,12 +12,10 @@ use Rattle.meaning.proofs.BirthLaws.{at_test}
 use Rattle.meaning.specs.Mains.{KeepsMainApart}
 use Rattle.meaning.specs.Values.{Birth}
 use Rattle.event_log.specs.Breaks.{Among}
-use Rattle.event_log.specs.Entries.{Attempt, Born, Claim, Commit, Deliver, Event, Evict, Join, Kill, KillNode, Lose, Notice, NoticeNode, Tick, main_attempt}
+use Rattle.event_log.specs.Entries.{Attempt, Claim, Commit, Deliver, Event, Evict, Join, Kill, KillNode, Lose, Notice, NoticeNode, Tick, main_attempt}
 use Rattle.event_log.specs.Events.{accepted_events}
 use Rattle.event_log.specs.Rules.{Setting}
-use Rattle.event_log.specs.Words.{same_attempt, worker_of}
 use Rattle.event_log.proofs.WordLaws.{same_attempt-true}
-use Rattle.protocol.specs.Messages.{Finished, TheWorker, letter}
 use Rattle.protocol.specs.Numbered.{item_at}
 use Rattle.protocol.specs.Tables.{Holding, Run, Worker}
 use Rattle.protocol.specs.Whole.{worker_at}
@@ -33,7 +36,6 @@ use Rattle.owed_replies.proofs.Quiet.{all_live}
 use Rattle.owed_replies.proofs.Runs.{law_of_ends}
 use Rattle.owed_laws.proofs.HoldEvents.{KeepsHolds, RunKeeps, push_by}
 use Rattle.owed_laws.proofs.HoldFacts.{IsFirst, first_behind, hold_is, is_hold, is_hold_of}
-use Rattle.owed_laws.proofs.HoldMoves.{IsHeld, hold_of}
 use Rattle.owed_laws.proofs.HoldRuns.{run_holds}
 
 -- a delivery that the log has
@@ -75,11 +77,11 @@ module _ (s : Setting) (r : Running) (keeps : A.RunKeeps s r) (k : KeepsHolds r.
 
   -- the attempt's own worker reported it
   reported : (a : Attempt) (w : ℕ) → (a ≡ main_attempt → ⊥) → worker_of a r.log ≡ Some w → ((v : ℕ) × IsReported r.whole.network v a) → IsReported r.whole.network w a
-  reported a w other ran (v, (n, ids, content, i)) =
+  reported a w other ran (v, (n, rs, i)) =
       let done : IsDone (worker_at r.whole) v a =
-      keeps.step.leases.workers.letters (letter (TheWorker v) (TheWorker a.object.owner) (Finished a n ids content)) i in
+      keeps.step.leases.workers.letters (letter (TheWorker v) (TheWorker a.object.owner) (Finished a n rs)) i in
       let same : v ≡ w = same_number v w (sym (runs_it v done.worker a done.there done.done.listed other) ∙ ran) in
-      subst (λ z. IsReported r.whole.network z a) same (n, ids, content, i)
+      subst (λ z. IsReported r.whole.network z a) same (n, rs, i)
 
   -- a Hold that waits is the attempt's, and isn't acknowledged
   module _ (a : Attempt) (w : ℕ) (x : Worker) (run : Run) (at : worker_at r.whole w ≡ Some x) (is : x.run ≡ Some run) (present : run.attempt ≡ a)
@@ -103,7 +105,7 @@ module _ (s : Setting) (r : Running) (keeps : A.RunKeeps s r) (k : KeepsHolds r.
           spec = q.0;
           push = old.place;
           pushed = record { there = q.1; earlier = λ i less letter. q.2 i q.0 less letter };
-          entry = entry held.entry;
+          entry = entry q.0 (pushed_born q.0 old.place q.1) held.entry;
           held = record {
             there = there;
             behind = first.behind;
@@ -111,9 +113,21 @@ module _ (s : Setting) (r : Running) (keeps : A.RunKeeps s r) (k : KeepsHolds r.
           };
         }
       where
-        entry : (j.holder ≡ run.attempt.object) ⊎ ((c : Birth) × Among (Born j.holder run.attempt c) r.log) → IsEntryOf (seen s r) run.attempt j.holder
-        entry (inl same) = inl same
-        entry (inr born) = inr born
+        same_birth : (p q : Birth) → ◌≡◌ {A = Option Birth} (Some p) (Some q) → p ≡ q
+        same_birth p q f = cc
+
+        pushed_born : (spec : Birth) (i : ℕ) → item_at r.whole.network i ≡ Some (push_by run.attempt.object.owner w run.attempt spec) →
+            birth_at (births r.log) run.attempt.object ≡ Some spec
+        pushed_born spec i at_i =
+            let l : Letter = push_by run.attempt.object.owner w run.attempt spec in
+            let says : IsPushed r.log run.attempt spec w = all_among (Says (past r.log b.asked)) r.whole.network l b.knows.told (among_at r.whole.network i l at_i) in
+            says.born
+
+        entry : (spec : Birth) → birth_at (births r.log) run.attempt.object ≡ Some spec → IsOfRun r.log run.attempt j.holder →
+            IsEntryOf (seen s r) run.attempt spec j.holder
+        entry spec born (inl (other, of, made)) =
+            inl (subst (λ d. is_made_by (record { object = run.attempt.object; birth = d }) j.holder ≡ true) (same_birth other spec (sym of ∙ born)) made)
+        entry spec born (inr of) = inr of
 
     unacknowledged : IsAcknowledged (seen s r) w first.number j.holder j.object → ⊥
     unacknowledged ack =

@@ -4,15 +4,14 @@ use Rattle.std.specs.Prelude.{false, if◌then◌else◌, slice_get}
 use Rattle.meaning.proofs.BirthLaws.{at_test}
 use Rattle.meaning.specs.Values.{Id, Outcome}
 use Rattle.event_log.specs.Breaks.{Among}
-use Rattle.event_log.specs.Entries.{Claim, Commit, Deliver, Event, Evict, Join, Kill, KillNode, Lose, Notice, NoticeNode, Tick}
-use Rattle.event_log.specs.Entries.{Refusal, Limit}
+use Rattle.event_log.specs.Entries.{Claim, Commit, Deliver, Event, Evict, Join, Kill, KillNode, Limit, Lose, Notice, NoticeNode, Refusal, Tick}
 use Rattle.protocol.specs.Answers.{Refuses, decided, given_out, takes, whole_after}
 use Rattle.protocol.specs.Commits.{claim_step, commit_step}
 use Rattle.protocol.specs.Deliveries.{reached}
-use Rattle.protocol.specs.Events.{committed_by, dead, delivered_by, delivered_to, dies_with, happens, is_live_node, is_live_worker, killed_by, with_committed, with_delivered}
+use Rattle.protocol.specs.Events.{committed_by, dead, delivered_by, delivered_to, dies_with, happens, is_live_node, is_live_worker, killed_by, with_committed, with_delivered, objects_made}
 use Rattle.protocol.specs.Jobs.{Given, Handed, Nothing, OfAnother, OfJob}
-use Rattle.protocol.specs.Messages.{Ask, At, Back, CopyOf, Elsewhere, Failed, Fetch, Finished, FinishedAck, Give, Gone, Hold, HoldAck, Letter, Message, Missing, Party, Push}
-use Rattle.protocol.specs.Messages.{TheNode, TheWorker, Unhold, Wait, Where, letter}
+use Rattle.protocol.specs.Messages.{Ask, At, Back, CopyOf, Elsewhere, Failed, Fetch, Finished, FinishedAck, Give, Gone, Hold, HoldAck, Letter, letter, Message}
+use Rattle.protocol.specs.Messages.{Missing, Party, Push, TheNode, TheWorker, Unhold, Wait, Where}
 use Rattle.protocol.specs.Nodes.{AskKey, AskReply, Leased, Node, Queued, SentOn, There}
 use Rattle.protocol.specs.Notices.{notice_node_step, notice_step}
 use Rattle.protocol.specs.Numbered.{changed_at, item_at}
@@ -93,7 +92,7 @@ module _ (Who : ℕ → Type 0) where
   reached_said t w (Elsewhere a i m) is p = p
   reached_said t w (Wait a i) is p = p
   reached_said t w (Push a spec) is p = p
-  reached_said t w (Finished a m ids kept) is p = p
+  reached_said t w (Finished a m rs) is p = p
   reached_said t w (FinishedAck a) is p = p
   reached_said t w (Failed a f) is p = p
   reached_said t w (Where o) is p = p
@@ -199,7 +198,7 @@ commit_said : (c : Whole) (j : ℕ) (handed : Handed) (g : Option Given) → Kee
 commit_said c j Nothing g k = k
 commit_said c j OfAnother g k = k
 commit_said c j (OfJob o) None k = k
-commit_said c j (OfJob o) (Some g) k = worker_said (with_committed c j (length o.births)) g.worker (λ h. commit_step h o) (λ P kept h p. commit_step-kept P kept h o p) k
+commit_said c j (OfJob o) (Some g) k = worker_said (with_committed c j (objects_made o.births)) g.worker (λ h. commit_step h o) (λ P kept h p. commit_step-kept P kept h o p) k
 
 kill_said : (c : Whole) (w : ℕ) (o : Option Worker) → KeepsSenders c → KeepsSenders (killed_by c w o).whole
 kill_said c w None k = k

@@ -1,24 +1,27 @@
 -- Which messages a worker says in a step: Holds and Pushes of its own objects, or none of these.
-use Rattle.std.proofs.Common.{◌≡◌, ℕ, List, [], ◌∷◌, Some, None, Option, refl, ap, sym, subst, ◌∙◌, inl, inr}
+use Rattle.std.proofs.Common.{[], ap, inl, inr, List, None, Option, refl, Some, subst, suc, sym, ℕ, ◌∙◌, ◌∷◌, ◌≡◌}
+use Rattle.smallest_steps.proofs.Over.{each_from-kept}
+use Rattle.protocol.specs.Steps.{Here, is_own, logs, logs_all, own_id, says, says_to_node, store_here, with_phase, with_run, with_store, with_worker}
+use Rattle.meaning.specs.Runs.{next_id}
+use Rattle.meaning.specs.Values.{Birth, Id, Outcome, Put, Task}
 use Rattle.std.specs.Prelude.{Bool, true, false, if◌then◌else◌, not, ◌&&◌}
 use Rattle.std.specs.List.{filter}
-use Rattle.meaning.specs.Values.{Birth, Id, Put, Task}
 use Rattle.values.specs.Listed.{each_once, ids_in_outcome}
+use Rattle.event_log.specs.Commits.{commit_entries}
 use Rattle.event_log.specs.Breaks.{Among}
 use Rattle.event_log.specs.Entries.{Attempt, Faulted, Got, main_attempt}
 use Rattle.event_log.specs.Holding.{ids_of_birth}
 use Rattle.event_log.specs.Words.{same_attempt}
-use Rattle.protocol.specs.Commits.{bears, bears_all, commit_by, commit_step, next_id_here, stops, stops_by, with_object, with_outcomes, single_entries}
+use Rattle.protocol.specs.Commits.{bears, bears_all, commit_by, commit_step, next_id_here, stops, stops_by, each_holds, keeps_content, keeps_contents, task_objects, with_objects, with_outcomes}
 use Rattle.protocol.specs.Holders.{awaits_hold_by, holding, holds_id, holds_ids, passes_on, sends_hold}
 use Rattle.protocol.specs.Jobs.{AtEnd, AtGet, Outcomes, Stopped, stop_of}
-use Rattle.protocol.specs.Messages.{Ask, At, Back, CopyOf, Elsewhere, Failed, Fetch, Finished, FinishedAck, Give, Gone, Hold, HoldAck, Letter, Message, Missing, Party}
-use Rattle.protocol.specs.Messages.{Push, TheNode, TheWorker, Unhold, Wait, Where, letter}
+use Rattle.protocol.specs.Messages.{Ask, At, Back, CopyOf, Elsewhere, Failed, Fetch, Finished, FinishedAck, Give, Gone, Hold, HoldAck, Letter, letter, Message}
+use Rattle.protocol.specs.Messages.{Missing, Party, Push, TheNode, TheWorker, Unhold, Wait, Where}
 use Rattle.protocol.specs.Nodes.{There}
 use Rattle.protocol.specs.Runs.{asks_for_slot, gives_slot_back, is_heard, leaves, leaves_by, leaves_if_free, tells, tells_stop, with_answer}
 use Rattle.protocol.specs.Sets.{is_empty}
-use Rattle.protocol.specs.Steps.{Here, is_own, logs, logs_all, says, says_to_node, store_here, with_phase, with_run, with_store, with_worker}
 use Rattle.protocol.specs.Stores.{with_ended}
-use Rattle.protocol.specs.Tables.{ByTask, HasEnded, HasFaulted, Out, Phase, Ready, Run, Waits, Worker, has_stopped, knows_dead, new_object, new_task, owner_of}
+use Rattle.protocol.specs.Tables.{HasEnded, HasFaulted, Out, Phase, Ready, Run, Waits, Worker, has_stopped, knows_dead, new_task, owner_of}
 use Rattle.protocol_owed.proofs.Letters.{among-push_cases}
 use Rattle.protocol_owed.proofs.NodeMoves.{IsKeptThere, asks_slot-kept, frees-kept}
 use Rattle.owed_replies.proofs.Moves.{IsKeptWhere, IsSaid, asks_again-kept, needs-kept, sends_stop-kept, sends_tasks-kept}
@@ -85,7 +88,7 @@ module _ (holds pushes : Type 0) (me : ℕ) where
   by_said h w (Push a spec) who s = (s.0 ∙ who, s.1)
   by_said h w (Where y) who s = tt
   by_said h w (Missing y number n) who s = tt
-  by_said h w (Finished b n ids content) who s = tt
+  by_said h w (Finished b n rs) who s = tt
   by_said h w (At y number ns content) who s = tt
   by_said h w (Ask b t) who s = tt
   by_said h w (Give b t v) who s = tt
@@ -224,13 +227,22 @@ module _ (holds pushes : Type 0) (me : ℕ) where
     bears_speaks h a (Task g args depth retries others) p =
         let spec : Birth = Task g args depth retries others in
         let ids = each_once (ids_of_birth spec) in
-        let x : Here = holds_ids (with_object h (new_object (ByTask (new_task spec)) a ids)) (next_id_here h) ids in
+        let o : Id = next_id_here h in
+        let x : Here = each_holds (with_objects h (task_objects a o.serial spec others ids)) o (new_task spec) ids in
         says_to_node_speaks _ _ _ (quietly x _ refl refl
-        (holds_ids_speaks (with_object h (new_object (ByTask (new_task spec)) a ids)) (next_id_here h) ids (quietly h _ refl refl p)))
+        (each_from-kept Speaks (λ y k. holds_ids y (own_id y k) ids) (λ y k q. holds_ids_speaks y (own_id y k) ids q)
+        (with_objects h (task_objects a o.serial spec others ids)) o.serial (suc others) (quietly h _ refl refl p)))
 
     bears_all_speaks : (h : Here) (a : Attempt) (bs : List Birth) → Speaks h → Speaks (bears_all h a bs)
     bears_all_speaks h a [] p = p
     bears_all_speaks h a (b ∷ bs) p = bears_all_speaks (bears h a b) a bs (bears_speaks h a b p)
+
+    contents_speak : (cs : List Outcome) (h : Here) (o : Id) (number : ℕ) → Speaks h → Speaks (keeps_contents h o number cs)
+    contents_speak [] h o number p = p
+    contents_speak (c ∷ cs) h o number p =
+        let ids : List Id = each_once (ids_in_outcome c) in
+        let g : Here = passes_on (with_store h (with_ended (store_here h) o number c)) o ids in
+        contents_speak cs (keeps_content h o number c) (next_id o) number (holds_ids_speaks g o ids (quietly h g refl refl p))
 
     stops_speaks : (h : Here) (stop : Stopped) → Speaks h → Speaks (stops h stop)
     stops_speaks h stop p = by_run h.worker.run stop
@@ -238,11 +250,9 @@ module _ (holds pushes : Type 0) (me : ℕ) where
         by_run : (r : Option Run) (t : Stopped) → Speaks (stops_by h t r)
         by_run None t = p
         by_run (Some run) (AtGet y) = needs-kept Speaks speaks_kept h run y (quietly h (with_phase h run (Waits y None)) refl refl p)
-        by_run (Some run) (AtEnd c) =
-            let o : Id = run.attempt.object in
-            let ids : List Id = each_once (ids_in_outcome c) in
-            let g : Here = passes_on (with_store (with_phase h run (HasEnded c)) (with_ended (store_here h) o run.attempt.number c)) o ids in
-            frees_speaks _ (leaves_speaks (holds_ids g o ids) (holds_ids_speaks g o ids (quietly h g refl refl p)))
+        by_run (Some run) (AtEnd cs) =
+            frees_speaks _ (leaves_speaks (keeps_contents (with_phase h run (HasEnded cs)) run.attempt.object run.attempt.number cs)
+            (contents_speak cs (with_phase h run (HasEnded cs)) run.attempt.object run.attempt.number (quietly h (with_phase h run (HasEnded cs)) refl refl p)))
 
     pub commit_speaks : (h : Here) (d : Outcomes) → Speaks h → Speaks (commit_step h d)
     commit_speaks h d p = by_run h.worker.run
@@ -250,5 +260,5 @@ module _ (holds pushes : Type 0) (me : ℕ) where
         by_run : (r : Option Run) → Speaks (commit_by h d r)
         by_run None = p
         by_run (Some run) =
-            let g : Here = logs_all (with_run h (with_outcomes run d)) (single_entries run.attempt (next_id_here h) d.births d.prints (stop_of d.stop)) in
+            let g : Here = logs_all (with_run h (with_outcomes run d)) (commit_entries run.attempt (next_id_here h) d.births d.prints (stop_of d.stop)) in
             stops_speaks (bears_all g run.attempt d.births) d.stop (bears_all_speaks g run.attempt d.births (quietly h g refl refl p))

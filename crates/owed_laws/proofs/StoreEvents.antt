@@ -6,19 +6,20 @@ use Rattle.sequence.proofs.Places.{and_right}
 use Rattle.meaning.proofs.BirthLaws.{at_test, same_id-true}
 use Rattle.meaning.specs.Births.{same_id}
 use Rattle.meaning.specs.Values.{Id, Outcome}
-use Rattle.event_log.specs.Entries.{Claim, Commit, Deliver, Entry, Event, Evict, In, Join, Kill, KillNode, Lose, Notice, NoticeNode, Tick}
-use Rattle.event_log.specs.Entries.{Refusal, NoJob, Stale}
+use Rattle.event_log.specs.Commits.{commit_entries}
+use Rattle.event_log.specs.Entries.{Claim, Commit, Deliver, Entry, Event, Evict, In, Join, Kill, KillNode, Lose, NoJob, Notice, NoticeNode, Refusal, Stale}
+use Rattle.event_log.specs.Entries.{Tick}
 use Rattle.event_log.specs.Events.{node_of}
 use Rattle.event_log.specs.Rules.{Setting}
 use Rattle.event_log.specs.Words.{attempt, worker_of}
 use Rattle.event_log.proofs.Extending.{node_of-more}
-use Rattle.protocol.specs.Commits.{claim_step, commit_step, next_id_here, single_entries}
+use Rattle.protocol.specs.Commits.{claim_step, commit_step, next_id_here}
 use Rattle.protocol.specs.Deliveries.{reached}
-use Rattle.protocol.specs.Events.{committed_by, dead, delivered_by, delivered_to, happens, is_live_node, is_live_worker, killed_by, with_committed}
-use Rattle.protocol.specs.Events.{with_delivered}
+use Rattle.protocol.specs.Events.{committed_by, dead, delivered_by, delivered_to, happens, is_live_node, is_live_worker, killed_by, objects_made}
+use Rattle.protocol.specs.Events.{with_committed, with_delivered}
 use Rattle.protocol.specs.Jobs.{Given, Handed, Nothing, OfAnother, OfJob, Outcomes, stop_of}
-use Rattle.protocol.specs.Messages.{Ask, At, Back, CopyOf, Elsewhere, Failed, Fetch, Finished, FinishedAck, Give, Gone, Hold, HoldAck, Letter, Message, Missing}
-use Rattle.protocol.specs.Messages.{Party, Push, Reason, TheNode, TheWorker, Unhold, Wait, Where, letter}
+use Rattle.protocol.specs.Messages.{Ask, At, Back, CopyOf, Elsewhere, Failed, Fetch, Finished, FinishedAck, Give, Gone, Hold, HoldAck, Letter, letter, Message}
+use Rattle.protocol.specs.Messages.{Missing, Party, Push, Reason, TheNode, TheWorker, Unhold, Wait, Where}
 use Rattle.protocol.specs.Nodes.{Node, There, new_node}
 use Rattle.protocol.specs.Notices.{notice_node_step, notice_step}
 use Rattle.protocol.specs.Numbered.{changed_at, item_at}
@@ -69,14 +70,14 @@ pub record Makes (c : Whole) (later : List Entry) (e : Event) (m : Moved) : Type
   pub nodes : NodesKeep c e m.whole.nodes
   pub puts : (n : ℕ) (node : Node) → node_at m.whole n ≡ Some node → (o : Id) (number : ℕ) → IsPutAt later o number n → IsNewPut m.out.entries o number →
       Stores node.store o number
-  pub ends : (n : ℕ) (node : Node) → node_at m.whole n ≡ Some node → (o : Id) (number : ℕ) → IsEndedAt later o number n → IsNewEnd m.out.entries o number →
+  pub ends : (n : ℕ) (node : Node) → node_at m.whole n ≡ Some node → (o : Id) (number : ℕ) (p : IsEndedAt later o number n) → IsNewEnd m.out.entries p.part.born.object o number →
       Stores node.store o number
 
 abbrev MakesNothing : List Entry → Type 0
-MakesNothing es = (o : Id) (number : ℕ) → (IsNewPut es o number → ⊥) × (IsNewEnd es o number → ⊥)
+MakesNothing es = (o : Id) (number : ℕ) → (IsNewPut es o number → ⊥) × ((first : Id) → IsNewEnd es first o number → ⊥)
 
 none_made : MakesNothing []
-none_made o number = (λ p. among-nothing _ p.2, λ p. among-nothing _ p.1)
+none_made o number = (λ p. among-nothing _ p.2, λ first p. among-nothing _ p.ended)
 
 same_node : (x y : Node) → ◌≡◌ {A = Option Node} (Some x) (Some y) → x ≡ y
 same_node x y e = cc
@@ -149,11 +150,11 @@ module _ (c : Whole) (e : Event) where
   stays_leaves : (n : ℕ) (before : Store) (t : There) → StaysThere before [] t → Leaves n before t
   stays_leaves n before t p = record {
     keeps = λ o number q. inl (p.copies o number q);
-    none = λ o number. (λ q. (none_made o number).0 (p.puts o number q), λ q. (none_made o number).1 (p.ends o number q));
+    none = λ o number. (λ q. (none_made o number).0 (p.puts o number q), λ first q. (none_made o number).1 first (p.ends first o number q));
   }
 
   begun : (d : Whole) (n : ℕ) (node : Node) → StaysThere node.store [] (there d n node)
-  begun d n node = record { copies = λ o number q. q; puts = λ o number q. q; ends = λ o number q. q }
+  begun d n node = record { copies = λ o number q. q; puts = λ o number q. q; ends = λ first o number q. q }
 
   node_changed : (d : Whole) → d.nodes ≡ c.nodes → (n : ℕ) (node : Node) → node_at d n ≡ Some node → (t : There) →
       ((o : Id) (number : ℕ) → Stores node.store o number → Stores t.node.store o number ⊎ TakesCopies c.network e n o) →
@@ -193,7 +194,7 @@ pub makes_none : (c : Whole) (later : List Entry) (e : Event) (m : Moved) → No
 makes_none c later e m nodes none = record {
   nodes = nodes;
   puts = λ n node at o number p new. absurd ((none o number).0 new);
-  ends = λ n node at o number p new. absurd ((none o number).1 new);
+  ends = λ n node at o number p new. absurd ((none o number).1 p.part.born.object new);
 }
 
 -- ---- deliveries
@@ -246,7 +247,7 @@ module _ (c : Whole) (i : ℕ) (l : Letter) (sent : item_at c.network i ≡ Some
     by_message w (Elsewhere a k m) e f = stays t start
     by_message w (Wait a k) e f = stays t start
     by_message w (Push a spec) e f = stays t start
-    by_message w (Finished a m ids kept) e f = stays t start
+    by_message w (Finished a m rs) e f = stays t start
     by_message w (FinishedAck a) e f = stays t start
     by_message w (Failed a g) e f = stays t start
     by_message w (Where o) e f = stays t start
@@ -285,7 +286,7 @@ deliver_silent c i (Some l) at = delivered_silent c i l at l.receiver refl
 module _ (s : Setting) (log : List Entry) (c : Whole) (b : Between s log c) (j seat : ℕ) (d : Outcomes) (me : ℕ) (x : Worker) (at : worker_at c me ≡ Some x)
     (live : x.is_live ≡ true) (node : Node) (home : node_at c x.node ≡ Some node) (run : Run) (runs : x.run ≡ Some run) where
   abbrev base : Whole
-  base = with_committed c j (length d.births)
+  base = with_committed c j (objects_made d.births)
 
   abbrev before_commit : Here
   before_commit = here base me x node
@@ -294,7 +295,7 @@ module _ (s : Setting) (log : List Entry) (c : Whole) (b : Between s log c) (j s
   after_commit = release_step (commit_step before_commit d)
 
   abbrev commit_made : List Entry
-  commit_made = single_entries run.attempt (next_id_here before_commit) d.births d.prints (stop_of d.stop)
+  commit_made = commit_entries run.attempt (next_id_here before_commit) d.births d.prints (stop_of d.stop)
 
   abbrev committed_so : Moved
   committed_so = after_worker base me x.node after_commit
@@ -330,14 +331,15 @@ module _ (s : Setting) (log : List Entry) (c : Whole) (b : Between s log c) (j s
         let same : x.node ≡ n = same_number x.node n (sym placed ∙ ap (λ w. node_of w log_after) (sym own) ∙ p.home) in
         subst (λ (y : Node). Stores y.store o number) (at_home n next there same) (stored_last o number (inl i));
     ends = λ n next there o number p new.
-        let i = left_there.ends o number new in
-        let is : run.attempt ≡ attempt o number = C.new_end_own before_commit d run runs o number i in
-        let old : worker_of (attempt o number) log ≡ Some me =
+        let first : Id = p.part.born.object in
+        let i = left_there.ends first o number new in
+        let is : run.attempt ≡ attempt first number = C.new_end_own before_commit d run runs first o number i in
+        let old : worker_of (attempt first number) log ≡ Some me =
         ap (λ a. worker_of a log) (sym is) ∙ ((b.knows.workers me x at live).run run runs).runs in
         let own : me ≡ p.worker =
-        same_number me p.worker (sym (runs_more s log c b (Commit j) seat after_commit.there.out.entries (attempt o number) me old) ∙ p.runs) in
+        same_number me p.worker (sym (runs_more log (Commit j) seat after_commit.there.out.entries (attempt first number) me old) ∙ p.runs) in
         let same : x.node ≡ n = same_number x.node n (sym placed ∙ ap (λ w. node_of w log_after) own ∙ p.home) in
-        subst (λ (y : Node). Stores y.store o number) (at_home n next there same) (stored_last o number (inr i));
+        subst (λ (y : Node). Stores y.store o number) (at_home n next there same) (stored_last o number (inr (first, i)));
   }
 
 -- ---- every event
@@ -366,7 +368,7 @@ module _ (s : Setting) (log : List Entry) (c : Whole) (before : IsInStep s log c
       let x : LiveOne (worker_at c g.worker) = live_one (worker_at c g.worker) (passed (is_live_worker (worker_at c g.worker)) Stale both.1) in
       let n = before.leases.homes g.worker x.worker x.at in
       let run : OutOf x.worker.run j = out_of x.worker.run j (ap (λ y. is_out_by y j) (sym x.at) ∙ out) in
-      let d : Whole = with_committed c j (length o.births) in
+      let d : Whole = with_committed c j (objects_made o.births) in
       let same : worker_does d g.worker (λ h. commit_step h o) ≡ after_worker d g.worker x.worker.node (release_step (commit_step (here d g.worker x.worker n.0) o)) =
       ap (worker_does_by d g.worker (λ h. commit_step h o)) x.at ∙ ap (worker_does_at d g.worker x.worker (λ h. commit_step h o)) n.1 in
       subst (λ (m : Moved). Makes c (After (Commit j) m) (Commit j) m) (sym same)

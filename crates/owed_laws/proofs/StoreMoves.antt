@@ -8,17 +8,16 @@ use Rattle.meaning.specs.Births.{same_id}
 use Rattle.std.specs.Prelude.{◌≡◌, ℕ, ◌==◌, ◌&&◌, not, Bool, true, false, if◌then◌else◌, List, [], ◌∷◌, Option, Some, None, ◌++◌, ◌||◌, take}
 use Rattle.meaning.specs.Values.{Id, Outcome, Birth, Val}
 use Rattle.values.specs.Cells.{is_small}
-use Rattle.values.specs.Listed.{each_once, ids_in_outcome}
 use Rattle.event_log.specs.Entries.{Attempt, Entry, In, Refused, Opened, Born, Ended}
 use Rattle.protocol.specs.Messages.{Message, Party}
 use Rattle.protocol.specs.Jobs.{Stopped}
 use Rattle.protocol.specs.Stores.{Copy, Store, brought_to_front, copy, is_copy_of, looked_up, with_ended, with_primary, with_secondary}
-use Rattle.protocol.specs.Tables.{HasEnded, Run, Worker}
+use Rattle.protocol.specs.Tables.{Run, Worker}
 use Rattle.std.specs.List.{filter, find, list_any}
-use Rattle.protocol.specs.Steps.{Here, with_phase, logs_all, says, says_to_node, with_worker, with_store, store_here}
+use Rattle.protocol.specs.Steps.{Here, logs_all, says, says_to_node, with_worker, with_store, store_here}
 use Rattle.protocol.specs.Runs.{gives_slot_back, asks_for_slot, leaves_if_free}
-use Rattle.protocol.specs.Holders.{holds_ids, passes_on}
-use Rattle.protocol.specs.Commits.{bears_all, ends, stops_by, claim_step}
+use Rattle.protocol.specs.Holders.{holds_ids}
+use Rattle.protocol.specs.Commits.{keeps_contents, bears_all, stops_by, claim_step}
 use Rattle.protocol.specs.Notices.{notice_step, notice_node_step}
 use Rattle.protocol.specs.Ticks.{tick_step}
 use Rattle.protocol.specs.Releases.{release_step}
@@ -134,6 +133,7 @@ module _ (P : Here → Type 0) (kept : IsKept P) where
     looked = λ h o number p. kept.store h _ (looked_keeps (store_here h) o number) p;
     copied = λ h o number c p. kept.store h _ (secondary_keeps (store_here h) o number c) p;
     primary = λ h o v p. kept.store h _ (primary_keeps (store_here h) o 0 (Val v)) p;
+    ended = λ h o number c p. kept.store h _ (ended_keeps (store_here h) o number c) p;
     frees = kept.frees;
     asks = kept.asks;
   }
@@ -162,18 +162,11 @@ module _ (P : Here → Type 0) (kept : IsKept P) where
   pub bears_all-kept : (h : Here) (a : Attempt) (bs : List Birth) → P h → P (bears_all h a bs)
   bears_all-kept h a bs p = S.bears_all-kept P (L.keeps P plain) (L.births P plain) h a bs p
 
+  pub keeps_contents-kept : (h : Here) (o : Id) (number : ℕ) (cs : List Outcome) → P h → P (keeps_contents h o number cs)
+  keeps_contents-kept h o number cs p = S.keeps_contents-kept P (L.keeps P plain) (L.births P plain) h o number cs p
+
   pub claim_step-kept : (h : Here) (j : ℕ) → P h → P (claim_step h j)
   claim_step-kept h j p = L.claim_step-kept P plain h j p
 
-  ends-kept : (h : Here) (run : Run) (c : Outcome) → P h → P (ends h run c)
-  ends-kept h run c p =
-      let o : Id = run.attempt.object in
-      let n : ℕ = run.attempt.number in
-      let ids : List Id = each_once (ids_in_outcome c) in
-      let stored : Here = with_store (with_phase h run (HasEnded c)) (with_ended (store_here h) o n c) in
-      let there : P stored = kept.store (with_phase h run (HasEnded c)) (with_ended (store_here h) o n c) (ended_keeps (store_here h) o n c)
-      (kept.worker h _ refl refl p) in
-      L.ends_after P plain (passes_on stored o ids) o ids (kept.worker stored _ refl refl there)
-
   pub stops_by-kept : (h : Here) (stop : Stopped) (r : Option Run) → P h → P (stops_by h stop r)
-  stops_by-kept h stop r p = L.stops_by-kept P plain ends-kept h stop r p
+  stops_by-kept h stop r p = L.stops_by-kept P plain h stop r p

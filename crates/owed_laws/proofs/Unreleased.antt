@@ -37,11 +37,11 @@ abbrev NoneKilled : List Fact → Type 0
 NoneKilled past = (w : ℕ) → HasNot (Killed w) past
 
 puts_more : (f : Fact) (past : List Fact) (a : Attempt) (e z : Id) → Puts past a e z → Puts (f ∷ past) a e z
-puts_more f past a e z (InBirth put ids h m) = InBirth put ids (inr h) m
-puts_more f past a e z (InContent ids same h m) = InContent ids same (inr h) m
+puts_more f past a e z (InBirth o put others ids h i m) = InBirth o put others ids (inr h) i m
+puts_more f past a e z (InContent contents ids h filled m) = InContent contents ids (inr h) filled m
 
 safe_more : (f : Fact) (past : List Fact) → NoneKilled (f ∷ past) → (a : Attempt) (z : Id) → Safe past a z → Safe (f ∷ past) a z
-safe_more f past alive a z (SafeBorn put ids h) = SafeBorn put ids (inr h)
+safe_more f past alive a z (SafeBorn o put others ids h i) = SafeBorn o put others ids (inr h) i
 safe_more f past alive a z (SafeGiven b p lives safe) = SafeGiven b (puts_more f past b a.object z p) (alive a.object.owner) (safe_more f past alive b z safe)
 safe_more f past alive a z (SafeGained b y has lives p safe) =
     SafeGained b y (safe_more f past alive a y has) (alive y.owner) (puts_more f past b y z p) (safe_more f past alive b z safe)
@@ -55,33 +55,35 @@ module _ (f : Fact) (past : List Fact) (legal : Legal (f ∷ past)) (alive : Non
   later : (a : Attempt) (z : Id) → Safe past a z → Safe (f ∷ past) a z
   later a z safe = safe_more f past alive a z safe
 
-  may_bear : (o : Id) (a : Attempt) (put : Bool) (ids : List Id) → facts.Born o a put ids ≡ f → MayBear past o a ids
-  may_bear o a put ids e = subst (λ g. Allowed past g) (sym e) legal.0
+  may_bear : (o : Id) (a : Attempt) (put : Bool) (others : ℕ) (ids : List Id) → facts.Born o a put others ids ≡ f → MayBear past o a others ids
+  may_bear o a put others ids e = subst (λ g. Allowed past g) (sym e) legal.0
 
-  may_end : (a : Attempt) (ids : List Id) → facts.Ended a ids ≡ f → MayEnd past a ids
-  may_end a ids e = subst (λ g. Allowed past g) (sym e) legal.0
+  may_end : (a : Attempt) (contents : List (List Id)) → facts.Ended a contents ≡ f → MayEnd past a contents
+  may_end a contents e = subst (λ g. Allowed past g) (sym e) legal.0
 
   may_get : (a : Attempt) (y : Id) (ids : List Id) → facts.Got a y ids ≡ f → MayGet past a y ids
   may_get a y ids e = subst (λ g. Allowed past g) (sym e) legal.0
 
   puts_then : (a : Attempt) (e z : Id) → Puts (f ∷ past) a e z → Safe (f ∷ past) a z
-  puts_then a e z (InBirth put ids (inl is) m) = later a z (before.knows a z ((may_bear e a put ids is).known z m))
-  puts_then a e z (InBirth put ids (inr h) m) = later a z (before.puts a e z (InBirth put ids h m))
-  puts_then a e z (InContent ids same (inl is) m) = later a z (before.knows a z ((may_end a ids is).known z m))
-  puts_then a e z (InContent ids same (inr h) m) = later a z (before.puts a e z (InContent ids same h m))
+  puts_then a e z (InBirth o put others ids (inl is) i m) = later a z (before.knows a z ((may_bear o a put others ids is).known z m))
+  puts_then a e z (InBirth o put others ids (inr h) i m) = later a z (before.puts a e z (InBirth o put others ids h i m))
+  puts_then a e z (InContent contents ids (inl is) filled m) = later a z (before.knows a z ((may_end a contents is).known e ids z filled m))
+  puts_then a e z (InContent contents ids (inr h) filled m) = later a z (before.puts a e z (InContent contents ids h filled m))
 
   gained : (a : Attempt) (y z : Id) (ids : List Id) → Knows past a y → Among z ids → IsContent past y ids → Safe (f ∷ past) a z
   gained a y z ids has m (OfPut q h) =
-      SafeGained q y (later a y (before.knows a y has)) (alive y.owner) (InBirth true ids (inr h) m) (later q z (before.puts q y z (InBirth true ids h m)))
-  gained a y z ids has m (OfTask v same ended accepted) =
-      SafeGained v y (later a y (before.knows a y has)) (alive y.owner) (InContent ids (sym same) (inr ended) m)
-      (later v z (before.puts v y z (InContent ids (sym same) ended m)))
+      SafeGained q y (later a y (before.knows a y has)) (alive y.owner) (InBirth y true 0 ids (inr h) (inl refl) m)
+      (later q z (before.puts q y z (InBirth y true 0 ids h (inl refl) m)))
+  gained a y z ids has m (OfTask v contents ended filled accepted) =
+      SafeGained v y (later a y (before.knows a y has)) (alive y.owner) (InContent contents ids (inr ended) filled m)
+      (later v z (before.puts v y z (InContent contents ids ended filled m)))
 
   knows_then : (a : Attempt) (z : Id) → Knows (f ∷ past) a z → Safe (f ∷ past) a z
-  knows_then a z (Bore put ids h) = SafeBorn put ids h
-  knows_then a z (Given b put ids (inl is) m) =
-      SafeGiven b (InBirth put ids (inl is) m) (alive a.object.owner) (later b z (before.knows b z ((may_bear a.object b put ids is).known z m)))
-  knows_then a z (Given b put ids (inr h) m) = later a z (before.knows a z (Given b put ids h m))
+  knows_then a z (Bore o put others ids h i) = SafeBorn o put others ids h i
+  knows_then a z (Given b put others ids (inl is) m) =
+      SafeGiven b (InBirth a.object put others ids (inl is) (inl refl) m) (alive a.object.owner)
+      (later b z (before.knows b z ((may_bear a.object b put others ids is).known z m)))
+  knows_then a z (Given b put others ids (inr h) m) = later a z (before.knows a z (Given b put others ids h m))
   knows_then a z (Gained y ids (inl is) m) = let may = may_get a y ids is in gained a y z ids may.known m may.content
   knows_then a z (Gained y ids (inr h) m) = later a z (before.knows a z (Gained y ids h m))
 
@@ -89,13 +91,13 @@ all_safe : (past : List Fact) → Legal past → NoneKilled past → AllSafe pas
 all_safe [] legal alive = record { knows = no_one; puts = nothing }
   where
     no_one : (a : Attempt) (z : Id) → Knows [] a z → Safe [] a z
-    no_one a z (Bore put ids h) = absurd h
-    no_one a z (Given b put ids h m) = absurd h
+    no_one a z (Bore o put others ids h i) = absurd h
+    no_one a z (Given b put others ids h m) = absurd h
     no_one a z (Gained y ids h m) = absurd h
 
     nothing : (a : Attempt) (e z : Id) → Puts [] a e z → Safe [] a z
-    nothing a e z (InBirth put ids h m) = absurd h
-    nothing a e z (InContent ids same h m) = absurd h
+    nothing a e z (InBirth o put others ids h i m) = absurd h
+    nothing a e z (InContent contents ids h filled m) = absurd h
 all_safe (f ∷ past) legal alive =
     let before : AllSafe past = all_safe past legal.1 (λ w h. alive w (inr h)) in
     record { knows = knows_then f past legal alive before; puts = puts_then f past legal alive before }

@@ -33,7 +33,7 @@ pub record BirthsAreJudged : Type 0 where
 -- ---- an end
 
 abbrev pub ended_network : List Letter
-ended_network = letter (TheWorker 2) (TheWorker 1) (Finished first_one 1 [] None) ∷ []
+ended_network = letter (TheWorker 2) (TheWorker 1) (Finished first_one 1 (record { ids = []; kept = None } ∷ [])) ∷ []
 
 -- worker 2 has told worker 1 that the attempt ended
 abbrev pub end_comes : Setting → List Entry → List Letter → Happening

@@ -4,20 +4,21 @@ use Rattle.std.proofs.Common.{arith}
 use Rattle.std.specs.Prelude.{true, false, if◌then◌else◌, slice_get}
 use Rattle.std.specs.List.{AllByRecursion, flat_map}
 use Rattle.meaning.proofs.BirthLaws.{at_test, same_id-refl}
-use Rattle.meaning.specs.Births.{Bearing, birth_at, same_id}
+use Rattle.meaning.specs.Births.{Part, is_made_by, part_at, part_of, Bearing, same_id}
 use Rattle.meaning.specs.Readings.{IsBorn}
-use Rattle.meaning.specs.Values.{Birth, Id, Outcome, Put}
+use Rattle.meaning.specs.Values.{Id, Outcome, Put}
 use Rattle.event_log.specs.Breaks.{Among}
 use Rattle.event_log.specs.Entries.{Accepted, Attempt, Born, Claim, Commit, Deliver, Ended, Entry, Event, Evict, In, Join, Kill, KillNode, Lose, Notice, NoticeNode}
-use Rattle.event_log.specs.Entries.{Tick, main_attempt}
+use Rattle.event_log.specs.Entries.{Begun, Faulted, Got, Opened, Printed, Refused, Released, Resolved, Tick, main_attempt, main_object}
 use Rattle.event_log.specs.Events.{accepted_events}
 use Rattle.event_log.specs.Rules.{Setting}
 use Rattle.event_log.specs.Sane.{Sane}
 use Rattle.event_log.proofs.Extending.{parts-more}
 use Rattle.event_log.proofs.FreshLaws.{born_if_first}
-use Rattle.event_log.specs.Words.{births, born_in, ended_in, ends_of, faults_of, same_attempt}
+use Rattle.event_log.specs.Words.{main_bearing, births, born_in, ended_in, ends_of, faults_of, same_attempt}
 use Rattle.event_log.proofs.SaneLaws.{legal_logs_are_sane}
 use Rattle.event_log.proofs.WordLaws.{same_attempt-refl}
+use Rattle.protocol.specs.Messages.{EndedResult}
 use Rattle.protocol.specs.Messages.{Letter, letter, Message, Party, TheWorker, TheNode, Ask, Give, Elsewhere, Wait, Back, Push, Finished, FinishedAck, Failed}
 use Rattle.protocol.specs.Messages.{Where, At, Gone, Fetch, CopyOf, Missing, Hold, HoldAck, Unhold}
 use Rattle.protocol.specs.Numbered.{item_at}
@@ -59,23 +60,67 @@ all_among P (x ∷ ls) l all (suc k, e) = all_among P ls l all.1 (k, e)
 
 -- ---- what a log says of births and ends
 
-birth_among : (xs : List Bearing) (y : Bearing) → Among y xs → (b : Birth) × (birth_at xs y.object ≡ Some b)
-birth_among [] y (k, e) = absurd (cc)
-birth_among (x ∷ xs) y (zero, e) =
+part_among : (xs : List Bearing) (y : Bearing) (o : Id) → Among y xs → is_made_by y o ≡ true → (p : Part) × (part_at xs o ≡ Some p)
+part_among [] y o (k, e) made = absurd (cc)
+part_among (x ∷ xs) y o (zero, e) made =
     let same : x ≡ y = cc in
-    (x.birth, ap (λ (z : Bearing). if same_id x.object z.object then Some x.birth else birth_at xs z.object) (sym same) ∙ ap (λ b. if b then Some x.birth else birth_at xs x.object) (same_id-refl x.object))
-birth_among (x ∷ xs) y (suc k, e) = first (birth_among xs y (k, e))
+    (part_of x o, ap (λ b. if b then Some (part_of x o) else part_at xs o) (ap (λ (z : Bearing). is_made_by z o) same ∙ made))
+part_among (x ∷ xs) y o (suc k, e) made = first (part_among xs y o (k, e) made)
   where
-    first : ((b : Birth) × (birth_at xs y.object ≡ Some b)) → (b : Birth) × ((if same_id x.object y.object then Some x.birth else birth_at xs y.object) ≡ Some b)
-    first r = at_test (λ t. (b : Birth) × ((if t then Some x.birth else birth_at xs y.object) ≡ Some b)) (same_id x.object y.object) (λ _. (x.birth, refl)) (λ _. r)
+    first : (p : Part) × (part_at xs o ≡ Some p) → (p : Part) × ((if is_made_by x o then Some (part_of x o) else part_at xs o) ≡ Some p)
+    first r = at_test (λ t. (p : Part) × ((if t then Some (part_of x o) else part_at xs o) ≡ Some p)) (is_made_by x o) (λ _. (part_of x o, refl)) (λ _. r)
 
 -- what an entry bears was born
 pub entry_born : (log : List Entry) (o : Id) → IsBornIn log o → IsBorn (births log) o
-entry_born log o (a, b, i) =
-    let x : Bearing = record { object = o; birth = b } in
-    let j = among_flat born_in log (Born o a b) x i (zero, refl) in
-    let r = birth_among (births log) x (suc j.0, j.1) in
-    born_if_first (births log) o r.0 r.1
+entry_born log o (p, a, b, i, made) =
+    let x : Bearing = record { object = p; birth = b } in
+    let j = among_flat born_in log (Born p a b) x i (zero, refl) in
+    part_among (births log) x o (suc j.0, j.1) made
+
+part_from : (xs : List Bearing) (o : Id) (p : Part) → part_at xs o ≡ Some p → (x : Bearing) × Among x xs × (is_made_by x o ≡ true) × (p ≡ part_of x o)
+part_from [] o p e = absurd (cc)
+part_from (x ∷ xs) o p e =
+    at_test (λ t. is_made_by x o ≡ t → (if t then Some (part_of x o) else part_at xs o) ≡ Some p →
+    (y : Bearing) × Among y (x ∷ xs) × (is_made_by y o ≡ true) × (p ≡ part_of y o)) (is_made_by x o)
+    (λ _ made f. (x, (zero, refl), made, same p (part_of x o) (sym f)))
+    (λ _ _ f. let r = part_from xs o p f in (r.0, (suc r.1.0, r.1.1), r.2, r.3)) refl e
+  where
+    same : (u v : Part) → ◌≡◌ {A = Option Part} (Some u) (Some v) → u ≡ v
+    same u v f = cc
+
+bearing_entry : (log : List Entry) (x : Bearing) → Among x (flat_map born_in log) → (a : Attempt) × Among (Born x.object a x.birth) log
+bearing_entry log x i = let r = flat_among born_in log x i in by_entry r.0 r.2 r.1
+  where
+    none : {Y : Type 0} → Among {X = Bearing} x [] → Y
+    none h = absurd (among-nothing _ h)
+
+    by_entry : (y : Entry) → Among {X = Bearing} x (born_in y) → Among y log → (a : Attempt) × Among (Born x.object a x.birth) log
+    by_entry (Born p a d) (zero, e) k =
+        let f : ◌≡◌ {A = Bearing} (record { object = p; birth = d }) x = cc in (a, subst (λ (z : Bearing). Among (Born z.object a z.birth) log) f k)
+    by_entry (Born p a d) (suc j, e) k = absurd (cc)
+    by_entry (In e seat) j k = none j
+    by_entry (Refused code) j k = none j
+    by_entry (Opened w n) j k = none j
+    by_entry (Begun a w) j k = none j
+    by_entry (Got a y d) j k = none j
+    by_entry (Printed v) j k = none j
+    by_entry (Ended a d) j k = none j
+    by_entry (Accepted a) j k = none j
+    by_entry (Faulted a y f) j k = none j
+    by_entry (Resolved p f) j k = none j
+    by_entry (Released p) j k = none j
+
+-- an object whose birth isn't main's was borne by an attempt
+pub part_born : (log : List Entry) (o : Id) (p : Part) → part_at (births log) o ≡ Some p → same_id p.born.object main_object ≡ false → IsBornIn log o
+part_born log o p e other = let r = part_from (births log) o p e in by_place r.0 r.1 r.2 r.3
+  where
+    by_place : (x : Bearing) → Among x (births log) → is_made_by x o ≡ true → p ≡ part_of x o → IsBornIn log o
+    by_place x (zero, f) made same =
+        let is : main_bearing ≡ x = cc in
+        let first : p.born.object ≡ main_object = ap (λ (q : Part). q.born.object) same ∙ ap (λ (y : Bearing). y.object) (sym is) in
+        let t : same_id p.born.object main_object ≡ true = ap (λ i. same_id i main_object) first ∙ same_id-refl main_object in
+        absurd (cc)
+    by_place x (suc i, f) made same = let q = bearing_entry log x (i, f) in (x.object, q.0, x.birth, q.1, made)
 
 pub end_among : (log : List Entry) (a : Attempt) (b : List Outcome) → Among (Ended a b) log → Among b (ends_of a log)
 end_among log a b i = among_flat (ended_in a) log (Ended a b) b i (subst (λ t. Among b (if t then b ∷ [] else [])) (sym (same_attempt-refl a)) (zero, refl))
@@ -103,9 +148,7 @@ owner_has s log c b y born x at live some =
 -- a content that was made is of what was born
 pub made_born : (s : Setting) (log : List Entry) (c : Whole) → Between s log c → (y : Id) (number : ℕ) → IsMade log y number → IsBorn (births log) y
 made_born s log c b y number (n, inl p) = born_if_first (births log) y (Put p.value) p.born
-made_born s log c b y number (n, inr p) =
-    let first = (legal_logs_are_sane (setting_of s c) log b.legal).born y number p.worker p.runs in
-    born_if_first (births log) y first.0 first.1
+made_born s log c b y number (n, inr p) = (p.part, p.result.born)
 
 -- what is asked for was born
 pub request_born : (s : Setting) (log : List Entry) (c : Whole) → Between s log c → KeepsReplies log c → (v w : ℕ) (y : Id) (m : Message) →
@@ -120,7 +163,7 @@ request_born s log c b k v w y m i (inr (number, n, is)) =
 
 -- what was born stays so
 pub born_more : (log es : List Entry) (o : Id) → IsBornIn log o → IsBornIn (log ++ es) o
-born_more log es o (f, x, i) = (f, x, among-more log es _ i)
+born_more log es o (p, a, b, i, made) = (p, a, b, among-more log es _ i, made)
 
 pub known_more : (log es : List Entry) (o : Id) → IsBorn (births log) o → IsBorn (births (log ++ es)) o
 known_more log es o (p, e) = (p, parts-more log es o p e)
@@ -130,7 +173,7 @@ pub right_more : (p es : List Entry) (from to : Party) (m : Message) → IsRight
 right_more p es (TheWorker v) (TheWorker w) (Where y) r = (r.0, r.1, known_more p es y r.2)
 right_more p es (TheWorker v) (TheWorker w) (Hold e o) r = (r.0, born_more p es o r.1)
 right_more p es (TheWorker v) (TheWorker w) (Missing y number n) r = r
-right_more p es (TheWorker v) (TheWorker w) (Finished a n ids kept) r = r
+right_more p es (TheWorker v) (TheWorker w) (Finished a n rs) r = r
 right_more p es (TheWorker v) (TheWorker w) (At y number ns kept) r = r
 right_more p es (TheWorker v) (TheWorker w) (Ask a t) r = tt
 right_more p es (TheWorker v) (TheWorker w) (Give a t u) r = tt
@@ -171,11 +214,10 @@ pub record IsBrought (c : Whole) (e : Event) (a : Attempt) : Type 0 where
   pub sender : ℕ
   pub owner : ℕ
   pub node : ℕ
-  pub ids : List Id
-  pub kept : Option Outcome
+  pub results : List EndedResult
   pub worker : Worker
   pub event : e ≡ Deliver number
-  pub sent : item_at c.network number ≡ Some (letter (TheWorker sender) (TheWorker owner) (Finished a node ids kept))
+  pub sent : item_at c.network number ≡ Some (letter (TheWorker sender) (TheWorker owner) (Finished a node results))
   pub there : worker_at c owner ≡ Some worker
   pub lives : worker.is_live ≡ true
 
@@ -271,9 +313,8 @@ module _ (s : Setting) (log : List Entry) (c : Whole) (e : Event) (seat : ℕ) (
         (
           r.0,
           r.1,
-          r.2,
-          subst (λ ls. Among (letter (TheWorker w) (TheWorker f.object.owner) (Finished f r.0 r.1 r.2)) ls) (sym a.network)
-              (among-more c.network m.out.letters _ r.3),
+          subst (λ ls. Among (letter (TheWorker w) (TheWorker f.object.owner) (Finished f r.0 r.1)) ls) (sym a.network)
+              (among-more c.network m.out.letters _ r.2),
         ),
       )
       by_old (inr g) = elim (a.goes_on f g) [ inl h ↦ inr h | inr p ↦ settles f x i other p ]

@@ -1,41 +1,42 @@
 -- How an attempt begins here, is given out and is committed, and how an end is accepted, keeps what is true of messages and attempts.
 use Rattle.std.proofs.Common.{◌≡◌, ℕ, zero, suc, ◌+◌, List, [], ◌∷◌, ◌++◌, length, Some, None, Option, refl, ap, sym, subst, ◌∙◌, ◌⊎◌, inl, inr}
-use Rattle.std.specs.Prelude.{Bool, true, false, if◌then◌else◌, not, ◌==◌, ◌&&◌}
+use Rattle.std.specs.Prelude.{map, Bool, true, false, if◌then◌else◌, not, ◌==◌, ◌&&◌}
 use Rattle.std.specs.List.{list_any}
 use Rattle.std.proofs.lemmas.Bool.{both_ways}
 use Rattle.meaning.proofs.BirthLaws.{at_test}
 use Rattle.meaning.specs.Readings.{IsBorn}
-use Rattle.meaning.specs.Runs.{Needs, Over, Stop, next_id}
-use Rattle.meaning.specs.Values.{Birth, Id, Outcome, Put, Task, Value}
+use Rattle.meaning.specs.Runs.{Needs, Over, Stop, behind, ids_from, next_id}
+use Rattle.meaning.specs.Values.{Birth, Id, Outcome, Put, Task, Value, results_of}
 use Rattle.values.specs.Listed.{each_once, ids_in_outcome}
+use Rattle.event_log.specs.Commits.{commit_entries}
 use Rattle.event_log.specs.Breaks.{Among}
 use Rattle.event_log.specs.Entries.{Accepted, Attempt, Ended, Entry, Faulted, OwnerDied, Released}
 use Rattle.event_log.specs.Holding.{ids_of_birth}
 use Rattle.event_log.specs.Words.{attempt, births, same_attempt}
 use Rattle.protocol.specs.Jobs.{AtEnd, AtGet, Outcomes, Stopped, stop_of}
-use Rattle.protocol.specs.Messages.{Ask, FinishedAck, Hold, Letter, TheWorker, Unhold, WasReleased, Where}
-use Rattle.protocol.specs.Numbered.{changed_at, item_at}
+use Rattle.protocol.specs.Messages.{EndedResult}
+use Rattle.protocol.specs.Messages.{Ask, Hold, Letter, TheWorker, Unhold, WasReleased, Where}
+use Rattle.protocol.specs.Numbered.{item_at}
 use Rattle.protocol.specs.Sets.{fault}
 use Rattle.protocol.specs.Stores.{Store, with_ended}
-use Rattle.protocol.specs.Tables.{AskedAt, ByTask, HasEnded, HasFaulted, Holding, Object, Out, OwnTask, Run, Waits, is_waiting_for, knows_dead, needed_by}
-use Rattle.protocol.specs.Tables.{new_object, new_run, new_task, put_object, task_in, task_of, released, with_content, with_dead_holder, with_holder, with_task, without_holder}
-use Rattle.protocol.specs.Steps.{Here, changes, each_from, is_own, logs, logs_all, object_at, own_id, own_object, says, says_to_node, store_here, with_run, with_store}
+use Rattle.protocol.specs.Tables.{AskedAt, HasEnded, HasFaulted, Holding, Object, Out, OwnTask, Run, Waits, is_waiting_for, knows_dead, needed_by}
+use Rattle.protocol.specs.Tables.{new_run, new_task, put_object, released, with_content, with_dead_holder, with_holder, without_holder}
+use Rattle.protocol.specs.Steps.{Here, changes, each_from, is_own, logs_all, object_at, own_id, own_object, says, says_to_node, store_here, with_run, with_store}
 use Rattle.protocol.specs.Steps.{with_task_of, with_worker}
 use Rattle.protocol.specs.Runs.{begins_run, faults, gives_slot_back, is_free, push_reached}
 use Rattle.protocol.specs.Asking.{asks_at, rests}
-use Rattle.protocol.specs.Places.{answers_settled, needs_own}
-use Rattle.protocol.specs.Holders.{adds_holder, awaits_hold_by, holding, holds_id, holds_ids, passes_on, same_holding, sends_hold, unhold_reached, with_holding}
-use Rattle.protocol.specs.Commits.{bears, bears_all, claim_by, claim_step, commit_by, commit_step, ends, needs, single_entries}
-use Rattle.protocol.specs.Commits.{next_id_here, rests_if_waiting, stops, stops_by, with_object, with_outcomes}
-use Rattle.protocol.specs.Ends.{accepts, finished_by, finished_reached, hears_of_end, if_present}
-use Rattle.protocol.specs.Releases.{drops_copies, may_release, lets_go, lets_go_of, release_pass, release_passes, release_step, releases, releases_by, entries_made}
+use Rattle.protocol.specs.Places.{needs_own}
+use Rattle.protocol.specs.Holders.{adds_holder, awaits_hold_by, holding, holds_id, holds_ids, same_holding, sends_hold, unhold_reached, with_holding}
+use Rattle.protocol.specs.Commits.{bears, bears_all, claim_by, claim_step, commit_by, commit_step, ends, needs}
+use Rattle.protocol.specs.Commits.{each_holds, keeps_content, keeps_contents, next_id_here, rests_if_waiting, stops, stops_by, task_objects, with_objects, with_outcomes}
+use Rattle.protocol.specs.Ends.{accepts, finished_reached, settles}
+use Rattle.protocol.specs.Releases.{drops_copies, going_with, lets_all_go, marks_released, may_release, lets_go, lets_go_of, release_pass, release_passes, release_step, releases_all, releases_by, entries_made}
 use Rattle.protocol_owed.proofs.Letters.{among-append_cases, among-push_cases}
 use Rattle.owed_replies.specs.Kept.{IsBornIn, IsOverInTime, RunIsRight}
-use Rattle.owed_replies.proofs.Objects.{Grows, pushed_grows, put_grows, same_grows, succeeds_alike}
-use Rattle.smallest_steps.proofs.Known.{somewhere}
-use Rattle.owed_replies.proofs.Moves.{IsKeptWhere, answers_settled-kept, needs_own-kept, rests_if_waiting-kept}
+use Rattle.owed_replies.proofs.Objects.{Grows, joined_grows, put_grows, same_grows, succeeds_alike}
+use Rattle.smallest_steps.proofs.Over.{each_from-kept, settles-kept}
+use Rattle.owed_replies.proofs.Moves.{finished_reached-kept, needs_own-kept, rests_if_waiting-kept}
 use Rattle.owed_replies.proofs.Paying.{Does, Pays, frees_does, leaves_pays, objects_does, pays_kept, run_does, said, says_to_node_does, writes_does}
-use Rattle.smallest_steps.proofs.Known.{changed_here}
 
 -- ---- releases leave the attempt as it is
 
@@ -57,17 +58,24 @@ drops_copies-run : (r : Option Run) (h : Here) (e : Id) (ns : List ℕ) → IsAs
 drops_copies-run r h e [] p = p
 drops_copies-run r h e (n ∷ ns) p = drops_copies-run r (says_to_node h n (Unhold e e WasReleased)) e ns p
 
-releases-run : (r : Option Run) (h : Here) (e : Id) (x : Object) → IsAs r h → IsAs r (releases h e x)
-releases-run r h e x p = drops_copies-run r (lets_go (logs (changes h e released) (Released e)) e x.ids) e x.ever
-    (lets_go-run r (logs (changes h e released) (Released e)) e x.ids p)
-
-releases_by-run : (r : Option Run) (h : Here) (k : ℕ) (x : Option Object) → IsAs r h → IsAs r (releases_by h k x)
-releases_by-run r h k None p = p
-releases_by-run r h k (Some x) p = either_run r (may_release h.worker x) (releases h (own_id h k) x) h (releases-run r h (own_id h k) x p) p
-
 each-run : (r : Option Run) (f : Here → ℕ → Here) → ((g : Here) (k : ℕ) → IsAs r g → IsAs r (f g k)) → (h : Here) (k n : ℕ) → IsAs r h → IsAs r (each_from f h k n)
 each-run r f each h k zero p = p
 each-run r f each h k (suc n) p = each-run r f each (f h k) (k + 1) n (each h k p)
+
+lets_all_go-run : (r : Option Run) (h : Here) (e : Id) (x : Option Object) → IsAs r h → IsAs r (lets_all_go h e x)
+lets_all_go-run r h e None p = p
+lets_all_go-run r h e (Some x) p = drops_copies-run r (lets_go h e x.ids) e x.ever (lets_go-run r h e x.ids p)
+
+releases_all-run : (r : Option Run) (h : Here) (k n : ℕ) → IsAs r h → IsAs r (releases_all h k n)
+releases_all-run r h k n p =
+    each-run r (λ g i. lets_all_go g (own_id g i) (own_object g i)) (λ g i q. lets_all_go-run r g (own_id g i) (own_object g i) q)
+    (logs_all (marks_released h k n) (map Released (ids_from (own_id h k) n))) k n
+    (each-run r (λ g i. changes g (own_id g i) released) (λ g i q. q) h k n p)
+
+releases_by-run : (r : Option Run) (h : Here) (k : ℕ) (x : Option Object) → IsAs r h → IsAs r (releases_by h k x)
+releases_by-run r h k None p = p
+releases_by-run r h k (Some x) p =
+    either_run r (may_release h.worker k x) (releases_all h k (going_with x.maker)) h (releases_all-run r h k (going_with x.maker) p) p
 
 release_pass-run : (r : Option Run) (h : Here) → IsAs r h → IsAs r (release_pass h)
 release_pass-run r h p = each-run r (λ g k. releases_by g k (own_object g k)) (λ g k q. releases_by-run r g k (own_object g k) q) h 1 (length h.worker.objects) p
@@ -83,18 +91,18 @@ release_step-run h = release_passes-run h.worker.run false (length h.worker.obje
 
 -- ---- what a commit logs
 
-commits_accept_none : (a b : Attempt) (o : Id) (bs : List Birth) (vs : List Value) (stop : Stop) → Among (Accepted b) (single_entries a o bs vs stop) → ⊥
+commits_accept_none : (a b : Attempt) (o : Id) (bs : List Birth) (vs : List Value) (stop : Stop) → Among (Accepted b) (commit_entries a o bs vs stop) → ⊥
 commits_accept_none a b o (x ∷ bs) vs stop (zero, e) = cc
-commits_accept_none a b o (x ∷ bs) vs stop (suc k, e) = commits_accept_none a b (next_id o) bs vs stop (k, e)
+commits_accept_none a b o (x ∷ bs) vs stop (suc k, e) = commits_accept_none a b (behind o x) bs vs stop (k, e)
 commits_accept_none a b o [] (v ∷ vs) stop (zero, e) = cc
 commits_accept_none a b o [] (v ∷ vs) stop (suc k, e) = commits_accept_none a b o [] vs stop (k, e)
 commits_accept_none a b o [] [] (Over c) (zero, e) = cc
 commits_accept_none a b o [] [] (Over c) (suc k, e) = cc
 commits_accept_none a b o [] [] (Needs y) (k, e) = cc
 
-commits_end_own : (a b : Attempt) (c : List Outcome) (o : Id) (bs : List Birth) (vs : List Value) (stop : Stop) → Among (Ended b c) (single_entries a o bs vs stop) → a ≡ b
+commits_end_own : (a b : Attempt) (c : List Outcome) (o : Id) (bs : List Birth) (vs : List Value) (stop : Stop) → Among (Ended b c) (commit_entries a o bs vs stop) → a ≡ b
 commits_end_own a b c o (x ∷ bs) vs stop (zero, e) = absurd (cc)
-commits_end_own a b c o (x ∷ bs) vs stop (suc k, e) = commits_end_own a b c (next_id o) bs vs stop (k, e)
+commits_end_own a b c o (x ∷ bs) vs stop (suc k, e) = commits_end_own a b c (behind o x) bs vs stop (k, e)
 commits_end_own a b c o [] (v ∷ vs) stop (zero, e) = absurd (cc)
 commits_end_own a b c o [] (v ∷ vs) stop (suc k, e) = commits_end_own a b c o [] vs stop (k, e)
 commits_end_own a b c o [] [] (Over d) (zero, e) = cc
@@ -112,39 +120,6 @@ pub own_item : (h : Here) (o : Id) (x : Object) → object_at h o ≡ Some x →
 own_item h o x e =
     at_test (λ b. is_own h o ≡ b → (if b then own_object h o.serial else None) ≡ Some x → (is_own h o ≡ true) × (item_at h.worker.objects o.serial ≡ Some x))
     (is_own h o) (λ _ t f. (t, f)) (λ _ _ f. absurd (cc)) refl e
-
--- the object has its content then
-pub accepted_object : (h : Here) (a : Attempt) (task : OwnTask) (n : ℕ) (ids : List Id) (content : Option Outcome) (x : Object) → object_at h a.object ≡ Some x →
-    object_at (accepts h a task n ids content) a.object ≡ Some (with_content a.number n ids content (with_task (rests task) x))
-accepted_object h a task n ids content x e =
-    let there = own_item h a.object x e in
-    let once : item_at (changed_at h.worker.objects a.object.serial (with_task (rests task))) a.object.serial ≡ Some (with_task (rests task) x) =
-    changed_here h.worker.objects a.object.serial (with_task (rests task)) x there.1 in
-    let twice = changed_here (changed_at h.worker.objects a.object.serial (with_task (rests task))) a.object.serial (with_content a.number n ids content)
-    (with_task (rests task) x) once in
-    ap (λ b. if b then item_at (changed_at (changed_at h.worker.objects a.object.serial (with_task (rests task))) a.object.serial
-    (with_content a.number n ids content)) a.object.serial else None) there.0 ∙ twice
-
--- where the acceptance is kept, what follows it is
-pub finished_reached-kept : {AnyHold AnyPush : Type 0} (P : Here → Type 0) → IsKeptWhere AnyHold AnyPush P → (h : Here) (w : ℕ) (a : Attempt) (n : ℕ) (ids : List Id) (content : Option Outcome) →
-    ((task : OwnTask) → P (accepts h a task n ids content)) → P h → P (finished_reached h w a n ids content)
-finished_reached-kept P kept h w a n ids content accept p = by_object (object_at h a.object) refl
-  where
-    says_so : (g : Here) → P g → P (hears_of_end g w a)
-    says_so g q = kept.says g w (FinishedAck a) tt q
-
-    by_task : (x : Object) → object_at h a.object ≡ Some x → (t : Option OwnTask) → P (finished_by h w a n ids content t)
-    by_task x e None = says_so h p
-    by_task x e (Some task) =
-        at_test (λ b. P (if b then answers_settled (hears_of_end (accepts h a task n ids content) w a) a.object else hears_of_end h w a)) (if_present a task)
-        (λ _. answers_settled-kept P kept (hears_of_end (accepts h a task n ids content) w a) a.object
-        (with_content a.number n ids content (with_task (rests task) x)) (accepted_object h a task n ids content x e) (somewhere n content) refl
-        (says_so (accepts h a task n ids content) (accept task)))
-        (λ _. says_so h p)
-
-    by_object : (o : Option Object) → object_at h a.object ≡ o → P (finished_by h w a n ids content (task_of o))
-    by_object None e = says_so h p
-    by_object (Some x) e = by_task x e (task_in x.maker)
 
 -- ---- steps that stand apart
 
@@ -258,15 +233,20 @@ module _ (log : List Entry) (net : List Letter) (me : ℕ) (old : List Object) (
       let r = changes_both h _ (put_grows h o next) q in
       (says_to_node_does log net me old ok fin (with_task_of h o next) n (Ask (attempt o task.number) t) r.0, r.1)
 
+  each_holds_both : (h : Here) (e : Id) (task : OwnTask) (ids : List Id) → ((o : Id) → Among o ids → IsBornIn log o) → Both h → Both (each_holds h e task ids)
+  each_holds_both h e task ids born q =
+      each_from-kept Both (λ g k. holds_ids g (own_id g k) ids) (λ g k. holds_ids_does g (own_id g k) ids born) h e.serial (results_of task.spec) q
+
   bears_both : (h : Here) (a : Attempt) (b : Birth) → ((o : Id) → Among o (each_once (ids_of_birth b)) → IsBornIn log o) → Both h → Both (bears h a b)
   bears_both h a (Put v) ids q =
       holds_ids_does _ (next_id_here h) (each_once (ids_of_birth (Put v))) ids
-      (with_store_both _ _ (changes_both h _ (pushed_grows h.worker.objects (put_object a (each_once (ids_of_birth (Put v))) h.worker.node)) q))
+      (with_store_both _ _ (changes_both h _ (joined_grows h.worker.objects (put_object a (each_once (ids_of_birth (Put v))) h.worker.node ∷ [])) q))
   bears_both h a (Task g args depth retries others) ids q =
       let spec : Birth = Task g args depth retries others in
-      let x : Object = new_object (ByTask (new_task spec)) a (each_once (ids_of_birth spec)) in
-      asks_both (holds_ids (with_object h x) (next_id_here h) (each_once (ids_of_birth spec))) (next_id_here h) (new_task spec) 0 _
-      (holds_ids_does (with_object h x) (next_id_here h) (each_once (ids_of_birth spec)) ids (changes_both h _ (pushed_grows h.worker.objects x) q))
+      let names : List Id = each_once (ids_of_birth spec) in
+      let xs : List Object = task_objects a (next_id_here h).serial spec others names in
+      asks_both (each_holds (with_objects h xs) (next_id_here h) (new_task spec) names) (next_id_here h) (new_task spec) 0 _
+      (each_holds_both (with_objects h xs) (next_id_here h) (new_task spec) names ids (changes_both h _ (joined_grows h.worker.objects xs) q))
 
   bears_all_both : (h : Here) (a : Attempt) (bs : List Birth) → ((b : Birth) → Among b bs → (o : Id) → Among o (each_once (ids_of_birth b)) → IsBornIn log o) → Both h → Both (bears_all h a bs)
   bears_all_both h a [] ids q = q
@@ -325,10 +305,19 @@ module _ (log : List Entry) (net : List Letter) (me : ℕ) (old : List Object) (
       not_own : (x z : Id) → (x.owner == me) ≡ true → (z.owner == me) ≡ false → x ≡ z → ⊥
       not_own x z own foreign same = let f : (z.owner == me) ≡ true = subst (λ (i : Id). (i.owner == me) ≡ true) same own in cc
 
-  ends_pays : (h : Here) (run : Run) (c : Outcome) → h.worker.run ≡ Some run → ((o : Id) → Among o (each_once (ids_in_outcome c)) → IsBornIn log o) → Both h → P (ends h run c)
-  ends_pays h run c e ids q =
+  keeps_contents_both : (h : Here) (o : Id) (number : ℕ) (cs : List Outcome) →
+      ((c : Outcome) → Among c cs → (z : Id) → Among z (each_once (ids_in_outcome c)) → IsBornIn log z) → Both h → Both (keeps_contents h o number cs)
+  keeps_contents_both h o number [] ids q = q
+  keeps_contents_both h o number (c ∷ cs) ids q =
+      let stored : Here = with_store h (with_ended (store_here h) o number c) in
+      keeps_contents_both (keeps_content h o number c) (next_id o) number cs (λ d i. ids d (suc i.0, i.1))
+      (holds_ids_does _ o (each_once (ids_in_outcome c)) (ids c (zero, refl)) (passes_both stored _ (with_store_both _ _ q)))
+
+  ends_pays : (h : Here) (run : Run) (cs : List Outcome) → h.worker.run ≡ Some run →
+      ((c : Outcome) → Among c cs → (o : Id) → Among o (each_once (ids_in_outcome c)) → IsBornIn log o) → Both h → P (ends h run cs)
+  ends_pays h run cs e ids q =
       let r = q.0.run run e in
-      let next : Run = record run { phase = HasEnded c } in
+      let next : Run = record run { phase = HasEnded cs } in
       let going : run.is_over ≡ false = q.1 run e in
       let ended : Both (with_run h next) = (
         run_does log net me old ok fin h next (record {
@@ -339,13 +328,10 @@ module _ (log : List Entry) (net : List Letter) (me : ℕ) (old : List Object) (
         }) q.0,
         λ s f. let same : next ≡ s = some_run next s f in subst (λ (x : Run). x.is_over ≡ false) same going,
       ) in
-      let kept : Both (with_store (with_run h next) (with_ended (store_here h) run.attempt.object run.attempt.number c)) = with_store_both _ _ ended in
-      let ended_here : Here = with_store (with_run h next) (with_ended (store_here h) run.attempt.object run.attempt.number c) in
-      let passed : Both (passes_on ended_here run.attempt.object (each_once (ids_in_outcome c))) = passes_both ended_here _ kept in
-      let held = holds_ids_does _ run.attempt.object (each_once (ids_in_outcome c)) ids passed in
+      let held = keeps_contents_both (with_run h next) run.attempt.object run.attempt.number cs ids ended in
       (pays_kept log net me old ok fin).frees _ (leaves_pays log net me old ok fin _ held.0)
 
-  stops_pays : (h : Here) (stop : Stopped) → ((y : Id) → stop ≡ AtGet y → NeedIsBorn (stops h stop) y) → ((c : Outcome) → stop ≡ AtEnd c → (o : Id) → Among o (each_once (ids_in_outcome c)) → IsBornIn log o) →
+  stops_pays : (h : Here) (stop : Stopped) → ((y : Id) → stop ≡ AtGet y → NeedIsBorn (stops h stop) y) → ((cs : List Outcome) → stop ≡ AtEnd cs → (c : Outcome) → Among c cs → (o : Id) → Among o (each_once (ids_in_outcome c)) → IsBornIn log o) →
       Both h → P (stops h stop)
   stops_pays h stop later ids q = by_run h.worker.run refl stop refl
     where
@@ -358,21 +344,21 @@ module _ (log : List Entry) (net : List Letter) (me : ℕ) (old : List Object) (
         where
           there : stop ≡ AtGet y → stops h stop ≡ needs h run y
           there g = ap (stops h) g ∙ ap (stops_by h (AtGet y)) e
-      by_run (Some run) e (AtEnd c) f = ends_pays h run c e (ids c f) q
+      by_run (Some run) e (AtEnd cs) f = ends_pays h run cs e (ids cs f) q
 
   -- ---- a commit
 
   -- what the commit's births and its end name was born, and so was what the attempt waits for then
   pub record NamesBorn (h : Here) (d : Outcomes) : Type 0 where
     pub births : (b : Birth) → Among b d.births → (o : Id) → Among o (each_once (ids_of_birth b)) → IsBornIn log o
-    pub end : (c : Outcome) → d.stop ≡ AtEnd c → (o : Id) → Among o (each_once (ids_in_outcome c)) → IsBornIn log o
+    pub end : (cs : List Outcome) → d.stop ≡ AtEnd cs → (c : Outcome) → Among c cs → (o : Id) → Among o (each_once (ids_in_outcome c)) → IsBornIn log o
     pub need : (y : Id) → d.stop ≡ AtGet y → NeedIsBorn (commit_step h d) y
 
   -- births, prints and the attempt's own end
   writes_commit : (h : Here) (run : Run) (d : Outcomes) (g : Here) → fin run.attempt → Q g →
-      Q (logs_all g (single_entries run.attempt (next_id_here h) d.births d.prints (stop_of d.stop)))
+      Q (logs_all g (commit_entries run.attempt (next_id_here h) d.births d.prints (stop_of d.stop)))
   writes_commit h run d g fine q =
-      let es : List Entry = single_entries run.attempt (next_id_here h) d.births d.prints (stop_of d.stop) in
+      let es : List Entry = commit_entries run.attempt (next_id_here h) d.births d.prints (stop_of d.stop) in
       record {
         who = q.who;
         objects = q.objects;
@@ -395,7 +381,7 @@ module _ (log : List Entry) (net : List Letter) (me : ℕ) (old : List Object) (
   commit_pays h d run e going fine names p =
       let r = p.does.run run e in
       let next : Run = with_outcomes run d in
-      let entries : List Entry = single_entries run.attempt (next_id_here h) d.births d.prints (stop_of d.stop) in
+      let entries : List Entry = commit_entries run.attempt (next_id_here h) d.births d.prints (stop_of d.stop) in
       let logged : Both (logs_all (with_run h next) entries) = (
         writes_commit h run d (with_run h next) fine (run_does log net me old ok fin h next (record { needs = λ z i. absurd (cc); holds = r.holds; told = λ c i. absurd (cc); main = r.main }) p.does),
         λ s f. subst (λ (x : Run). x.is_over ≡ false) (some_run next s f) going,
@@ -407,13 +393,16 @@ module _ (log : List Entry) (net : List Letter) (me : ℕ) (old : List Object) (
 
   -- ---- an acceptance
 
-  accepts_pays : (h : Here) (a : Attempt) (task : OwnTask) (n : ℕ) (ids : List Id) (content : Option Outcome) → ok a → P h → P (accepts h a task n ids content)
-  accepts_pays h a task n ids content k p =
+  accepts_pays : (h : Here) (a : Attempt) (task : OwnTask) (n : ℕ) (rs : List EndedResult) → ok a → P h → P (accepts h a task n rs)
+  accepts_pays h a task n rs k p =
       let kept = pays_kept log net me old ok fin in
       let g : Here = with_task_of h a.object (rests task) in
       let q : P g = kept.objects h _ (put_grows h a.object (rests task)) p in
-      let settled : P (changes g a.object (with_content a.number n ids content)) = kept.objects g _
-      (same_grows g.worker.objects a.object.serial (with_content a.number n ids content) (λ y. record { askers = λ w f. inr (inl refl); answered = λ _. inl refl })) q in
+      let settled : P (settles g a.object a.number n (results_of task.spec) rs) = settles-kept P
+      (λ x o number m r t. kept.objects x _
+      (same_grows x.worker.objects o.serial (with_content number m r.ids r.kept) (λ y. record { askers = λ w f. inr (inl refl); answered = λ _. inl refl })) t)
+      (results_of task.spec) g a.object a.number n rs q in
+      let before : List Entry = (settles g a.object a.number n (results_of task.spec) rs).there.out.entries in
       record {
         does = record {
           who = settled.does.who;
@@ -421,12 +410,12 @@ module _ (log : List Entry) (net : List Letter) (me : ℕ) (old : List Object) (
           run = settled.does.run;
           out = record {
             letters = settled.does.out.letters;
-            ended = λ b c i. elim (among-push_cases h.there.out.entries (Accepted a) (Ended b c) i) [
-              | inl f ↦ p.does.out.ended b c f
+            ended = λ b c i. elim (among-push_cases before (Accepted a) (Ended b c) i) [
+              | inl f ↦ settled.does.out.ended b c f
               | inr f ↦ absurd (no_end b c f)
             ];
-            quiet = λ b i. elim (among-push_cases h.there.out.entries (Accepted a) (Accepted b) i) [
-              | inl f ↦ p.does.out.quiet b f
+            quiet = λ b i. elim (among-push_cases before (Accepted a) (Accepted b) i) [
+              | inl f ↦ settled.does.out.quiet b f
               | inr f ↦ let same : b ≡ a = cc in subst ok (sym same) k
             ];
           };
@@ -437,5 +426,6 @@ module _ (log : List Entry) (net : List Letter) (me : ℕ) (old : List Object) (
       no_end : (b : Attempt) (c : List Outcome) → Ended b c ≡ Accepted a → ⊥
       no_end b c e = absurd (cc)
 
-  pub finish_pays : (h : Here) (w : ℕ) (a : Attempt) (n : ℕ) (ids : List Id) (content : Option Outcome) → ok a → P h → P (finished_reached h w a n ids content)
-  finish_pays h w a n ids content k p = finished_reached-kept P (pays_kept log net me old ok fin) h w a n ids content (λ task. accepts_pays h a task n ids content k p) p
+  pub finish_pays : (h : Here) (w : ℕ) (a : Attempt) (n : ℕ) (rs : List EndedResult) → ok a → P h → P (finished_reached h w a n rs)
+  finish_pays h w a n rs k p =
+      finished_reached-kept P (pays_kept log net me old ok fin) (λ _ b. ok b) (λ g b task m ts u e t _ q. accepts_pays g b task m ts t q) h w a n rs k p

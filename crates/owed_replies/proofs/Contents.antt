@@ -47,7 +47,9 @@ ended_entry es a c i = let r = flat_among (ended_in a) es c i in by_entry r.0 r.
 -- what is true of a copy is so by the entries
 pub copy_known : (log : List Entry) (y : Id) (number : ℕ) (c : Outcome) → IsCopy log y number c → IsContentOf log y number c
 copy_known log y number c (inl put) = inl put
-copy_known log y number c (inr ended) = inr (ended_entry log (attempt y number) (c ∷ []) ended)
+copy_known log y number c (inr (part, r)) =
+    let ended : Among (Ended (attempt part.born.object number) r.contents) log = ended_entry log (attempt part.born.object number) r.contents r.ended in
+    inr (part, record { born = r.born; contents = r.contents; ended = ended; content = r.content })
 
 carried_known : (log : List Entry) (y : Id) (number : ℕ) (kept : Option Outcome) → IsCarried log y number kept → (c : Outcome) → kept ≡ Some c →
     IsContentOf log y number c

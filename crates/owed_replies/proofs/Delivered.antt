@@ -3,6 +3,7 @@ use Rattle.std.proofs.Common.{◌≡◌, ◌≤◌, ℕ, zero, suc, ◌+◌, Lis
 use Rattle.std.specs.Prelude.{Bool, true, false, if◌then◌else◌, ◌==◌, is_some}
 use Rattle.std.proofs.lemmas.Bool.Decides.{nat_tests}
 use Rattle.meaning.proofs.BirthLaws.{at_test}
+use Rattle.meaning.proofs.BirthLaws.{made_from}
 use Rattle.meaning.specs.Births.{Bearing, same_id}
 use Rattle.meaning.specs.Readings.{IsBorn}
 use Rattle.meaning.specs.Values.{Id, results_of}
@@ -14,10 +15,7 @@ use Rattle.event_log.specs.Legal.{opening}
 use Rattle.event_log.specs.Rules.{Allowed, Setting}
 use Rattle.std.specs.List.{flat_map}
 use Rattle.event_log.specs.Words.{births, born_in, main_bearing, next_serial}
-use Rattle.event_log.specs.Singles.{AreSingle}
 use Rattle.event_log.proofs.Growing.{entries_have_their_needs}
-use Rattle.event_log.proofs.OneResult.{part_birth}
-use Rattle.event_log.proofs.SingleLaws.{legal_logs_are_of_singles}
 use Rattle.event_log.specs.Laws.{HasItsNeeds}
 use Rattle.protocol.specs.Answers.{Answer, Refuses, Step, Takes, answer, decided, takes}
 use Rattle.protocol.specs.Deliveries.{reached}
@@ -31,7 +29,7 @@ use Rattle.protocol.specs.Releases.{release_step}
 use Rattle.protocol.specs.Steps.{Here}
 use Rattle.protocol.specs.Tables.{Worker}
 use Rattle.protocol.specs.Whole.{Moved, Whole, here, moved, node_at, worker_at, worker_does, worker_does_at, worker_does_by}
-use Rattle.protocol_legal.specs.Whole.{Between, setting_of}
+use Rattle.protocol_legal.specs.Whole.{Between}
 use Rattle.protocol_owed.specs.Seen.{IsCalm}
 use Rattle.protocol_owed.proofs.Letters.{among-nothing}
 use Rattle.lease_discipline.proofs.Told.{lives_there}
@@ -92,11 +90,11 @@ split_at x (y ∷ log) (suc k, e) = let r = split_at x log (k, e) in record { be
 
 -- what isn't of the opening was allowed where it stands
 pub allowed_at : (s : Setting) (log : List Entry) → L.Legal s log → (x : Entry) → (x ≡ Opened 1 1 → ⊥) → (x ≡ Begun main_attempt 1 → ⊥) → Among x log →
-    (before : List Entry) × Allowed s (opening ++ before) x
+    (before : List Entry) × Allowed s (opening ++ before) x × (after : List Entry) × (log ≡ opening ++ (before ++ x ∷ after))
 allowed_at s log legal x not_first not_second i =
     let r = split_at x legal.rest (behind (subst (λ xs. Among x xs) legal.begins i)) in
     let needs : HasItsNeeds s (opening ++ r.before) x r.after = entries_have_their_needs s log legal r.before x r.after (legal.begins ∙ ap (λ xs. opening ++ xs) r.parts) in
-    (r.before, needs.allowed)
+    (r.before, needs.allowed, r.after, legal.begins ∙ ap (λ xs. opening ++ xs) r.parts)
   where
     behind : Among x (opening ++ legal.rest) → Among x legal.rest
     behind (zero, e) = let same : Opened 1 1 ≡ x = cc in absurd (not_first (sym same))
@@ -118,11 +116,12 @@ serial_some w xs =
     turned e = grind (arith, nat_tests)
 
 pub born_serial : (s : Setting) (log : List Entry) → L.Legal s log → (o : Id) → IsBornIn log o → 1 ≤ o.serial
-born_serial s log legal o (a, b, i) =
-    let r = allowed_at s log legal (Born o a b) (λ e. absurd (cc)) (λ e. absurd (cc)) i in
+born_serial s log legal o (p, a, b, i, made) =
+    let r = allowed_at s log legal (Born p a b) (λ e. absurd (cc)) (λ e. absurd (cc)) i in
     let next = r.1.next in
-    let some = serial_some o.owner (flat_map born_in (opening ++ r.0)) in
-    omega (arith, next, some)
+    let some = serial_some p.owner (flat_map born_in (opening ++ r.0)) in
+    let from = made_from (record { object = p; birth = b }) o made in
+    omega (arith, next, some, from)
 
 -- main's own object is never accepted
 pub accepted_other : (s : Setting) (log : List Entry) → L.Legal s log → (a : Attempt) → Among (Accepted a) log → same_id a.object main_object ≡ false
@@ -132,6 +131,5 @@ accepted_other s log legal a i =
 -- the owner of what was born is there
 pub owner_there : (s : Setting) (log : List Entry) (c : Whole) → Between s log c → IsCalm log → (y : Id) → IsBorn (births log) y → (x : Worker) × (worker_at c y.owner ≡ Some x) × (x.is_live ≡ true)
 owner_there s log c b calm y born =
-    let single : AreSingle (births log) = (legal_logs_are_of_singles (setting_of s c) log b.legal).births in
-    let home = b.knows.calm.homes y (born.0.born.birth, part_birth (births log) single y born.0 born.1) in
+    let home = b.knows.calm.homes y born in
     lives_there s log c b y.owner (opened_lives log calm y.owner home.0 home.1)

@@ -31,7 +31,7 @@ pub run_right_more : (log es : List Entry) (net ls : List Letter) (w : ℕ) (run
 run_right_more log es net ls w run r = record {
   needs = λ y e foreign. known_more log es y (r.needs y e foreign);
   holds = λ k i. born_more log es k.object (r.holds k i);
-  told = λ c e over other. let t = r.told c e over other in (t.0, t.1, t.2, among-more net ls _ t.3);
+  told = λ c e over other. let t = r.told c e over other in (t.0, t.1, among-more net ls _ t.2);
   main = r.main;
 }
 

@@ -8,9 +8,10 @@ use Rattle.std.proofs.lemmas.Bool.{false_from_ne_true}
 use Rattle.sequence.proofs.Places.{and_right}
 use Rattle.meaning.proofs.BirthLaws.{at_test}
 use Rattle.meaning.specs.Readings.{IsBorn}
-use Rattle.meaning.specs.Runs.{Over, Stop, next_id}
-use Rattle.meaning.specs.Values.{Birth, Id, Outcome, Put, Task, Value}
+use Rattle.meaning.specs.Runs.{Over, Stop, behind, next_id}
+use Rattle.meaning.specs.Values.{Birth, Id, Outcome, Put, Task, Value, results_of}
 use Rattle.values.specs.Listed.{each_once, ids_in_outcome}
+use Rattle.event_log.specs.Commits.{commit_entries}
 use Rattle.event_log.specs.Breaks.{Among}
 use Rattle.event_log.specs.Entries.{Attempt, Born, Claim, Commit, Deliver, Ended, Entry, Event, Evict, In, Join, Kill, KillNode, Lose, Notice, NoticeNode, Tick}
 use Rattle.event_log.specs.Entries.{Refusal, NoWorker, NotReady, NoJob, Stale, NoMessage, NotDead}
@@ -20,27 +21,28 @@ use Rattle.event_log.specs.Rules.{Setting}
 use Rattle.event_log.specs.Words.{births, same_attempt}
 use Rattle.event_log.proofs.EventLaws.{accepted-event}
 use Rattle.protocol.specs.Jobs.{AtEnd, AtGet, Given, Handed, Nothing, OfAnother, OfJob, Outcomes, Stopped, stop_of}
+use Rattle.protocol.specs.Messages.{EndedResult}
 use Rattle.protocol.specs.Messages.{Letter, letter, Message, Party, TheWorker, TheNode, Ask, Give, Elsewhere, Wait, Back, Push, Finished, FinishedAck, Failed}
 use Rattle.protocol.specs.Messages.{Where, At, Gone, Fetch, CopyOf, Missing, Hold, HoldAck, Unhold}
 use Rattle.protocol.specs.Nodes.{Node, There}
 use Rattle.protocol.specs.Numbered.{changed_at, item_at}
-use Rattle.protocol.specs.Sets.{repeated}
-use Rattle.protocol.specs.Steps.{Here, own_object}
-use Rattle.protocol.specs.Tables.{AskedAt, AtRest, ByTask, HasEnded, Maker, Object, Out, OwnTask, Progress, Run, RunsOn, WasPut, Worker, has_stopped, needed_by, knows_dead, new_worker, with_content, with_dead_holder, with_holder}
+use Rattle.protocol.specs.Sets.{object_id, repeated}
+use Rattle.protocol.specs.Steps.{Here, own_id, own_object}
+use Rattle.protocol.specs.Tables.{is_pending_task, HasEnded, Object, Out, OwnTask, Run, Worker, has_stopped, new_task, needed_by, knows_dead, new_worker, with_content, with_dead_holder, with_holder}
 use Rattle.protocol.specs.Runs.{begins_run, is_free, push_reached}
 use Rattle.protocol.specs.Slots.{forgets, node_reached}
 use Rattle.protocol.specs.Ends.{finished_reached}
 use Rattle.protocol.specs.Asking.{rests}
-use Rattle.protocol.specs.Stores.{with_ended}
-use Rattle.protocol.specs.Holders.{adds_holder, awaits_hold_by, holding, holds_id, holds_ids, passes_on, sends_hold}
-use Rattle.protocol.specs.Commits.{bears, stops_by, bears_all, claim_by, claim_step, commit_by, commit_step, next_id_here, stops, with_outcomes, single_entries}
-use Rattle.protocol.specs.Steps.{changes, is_own, logs_all, store_here, with_phase, with_run, with_store}
+use Rattle.protocol.specs.Holders.{adds_holder, awaits_hold_by, holding, holds_id, holds_ids, sends_hold}
+use Rattle.protocol.specs.Commits.{each_holds, keeps_content, keeps_contents, task_objects, with_objects, bears, stops_by, bears_all, claim_by, claim_step, commit_by, commit_step, next_id_here, stops, with_outcomes}
+use Rattle.smallest_steps.proofs.Over.{each_from-kept, settles-kept}
+use Rattle.protocol.specs.Steps.{with_task_of, changes, is_own, logs_all, with_phase, with_run}
 use Rattle.protocol.specs.Deliveries.{reached}
 use Rattle.protocol.specs.Notices.{notice_node_step, notice_step}
 use Rattle.protocol.specs.Ticks.{tick_step}
 use Rattle.protocol.specs.Releases.{release_step}
 use Rattle.protocol.specs.Whole.{Moved, Whole, after_node, after_worker, here, moved, node_at, node_does, node_does_by, there, worker_at, worker_does, worker_does_at, worker_does_by}
-use Rattle.protocol.specs.Events.{as_committed, claimed, committed_by, dead, delivered_by, delivered_to, dies_with, happens, is_live_node, is_live_worker, killed_by, with_committed, with_delivered}
+use Rattle.protocol.specs.Events.{as_committed, claimed, committed_by, dead, delivered_by, delivered_to, dies_with, happens, is_live_node, is_live_worker, killed_by, with_committed, with_delivered, objects_made}
 use Rattle.protocol.specs.Refusals.{commit_refusal, is_dead_node, is_dead_worker, is_of_job, is_out_by, is_ready, no_worker, or_refusal, refusal, unless}
 use Rattle.protocol_owed.specs.Replies.{IsRequest}
 use Rattle.protocol_owed.proofs.Moves as M
@@ -57,14 +59,17 @@ use Rattle.lease_discipline.specs.Told.{IsInStep}
 use Rattle.lease_discipline.proofs.Events.{item_map}
 use Rattle.lease_discipline.proofs.Heres.{changed_now}
 use Rattle.lease_discipline.proofs.Tame.{item_mapped}
-use Rattle.protocol_legal.specs.Knows.{KnowsMaker, KnowsObject, KnowsProgress}
-use Rattle.protocol_legal.specs.Past.{past}
+use Rattle.protocol_legal.specs.Knows.{KnowsObject}
+use Rattle.protocol_legal.specs.Past.{Past, past}
 use Rattle.owed_replies.specs.Kept.{IsAwaitedBy, IsRightLetter, KeepsReplies}
-use Rattle.owed_replies.proofs.Objects.{grows_itself, put_grows, same_grows, then_grows}
+use Rattle.owed_replies.proofs.Objects.{grows_itself, put_grows, same_grows}
 use Rattle.owed_replies.proofs.Moves as R
 use Rattle.owed_replies.proofs.Moves.{needs-kept, notice_node_step-kept, notice_step-kept, reached-kept, release_step-kept, tick_step-kept}
 use Rattle.owed_replies.proofs.Paying.{pays_kept}
-use Rattle.owed_replies.proofs.Committing.{NamesBorn, claim_pays, commit_pays, finish_pays, finished_reached-kept, push_pays, release_step-run}
+use Rattle.owed_replies.proofs.Committing.{NamesBorn, claim_pays, commit_pays, finish_pays, push_pays, release_step-run}
+use Rattle.owed_replies.proofs.Moves.{finished_reached-kept}
+use Rattle.owed_replies.proofs.Quiet.{IsMadeBy, OfPut, OfTask, Origin, origin_of}
+use Rattle.smallest_steps.proofs.Smallest.{AnyTold}
 use Rattle.owed_replies.proofs.Steady.{IsAwaited, IsSteady, leaves_steady, missing_waits, steady_kept, still_awaited, where_waits}
 use Rattle.owed_replies.proofs.Advancing.{Advances, IsBrought, advanced, owner_has, request_born}
 use Rattle.owed_replies.proofs.Known.{named_in_birth, named_in_end, need_known}
@@ -97,16 +102,16 @@ steady_start h = record { grows = grows_itself h.worker.objects; attempt = refl 
 steady_end : (h g : Here) → IsSteady h.worker.objects (attempt_by h.worker.run) g → IsSteady h.worker.objects (attempt_by h.worker.run) (release_step g)
 steady_end h g s = release_step-kept (IsSteady h.worker.objects (attempt_by h.worker.run)) (steady_kept h.worker.objects (attempt_by h.worker.run)) g s
 
-finish_steady : (h : Here) (w : ℕ) (a : Attempt) (n : ℕ) (ids : List Id) (content : Option Outcome) → IsSteady h.worker.objects (attempt_by h.worker.run) (finished_reached h w a n ids content)
-finish_steady h w a n ids content =
-    let P : Here → Type 0 = IsSteady h.worker.objects (attempt_by h.worker.run) in
-    let kept : R.IsKept P = steady_kept h.worker.objects (attempt_by h.worker.run) in
-    finished_reached-kept P kept h w a n ids content
-    (λ task. record {
-      grows = then_grows _ _ _ (put_grows h a.object (rests task))
-          (same_grows _ a.object.serial (with_content a.number n ids content) (λ y. record { askers = λ v f. inr (inl refl); answered = λ _. inl refl }));
-      attempt = refl;
-    }) (steady_start h)
+finish_steady : (h : Here) (w : ℕ) (a : Attempt) (n : ℕ) (rs : List EndedResult) → IsSteady h.worker.objects (attempt_by h.worker.run) (finished_reached h w a n rs)
+finish_steady h w a n rs =
+    let old : List Object = h.worker.objects in
+    let kept : R.IsKept (IsSteady old (attempt_by h.worker.run)) = steady_kept old (attempt_by h.worker.run) in
+    finished_reached-kept (IsSteady old (attempt_by h.worker.run)) kept AnyTold
+    (λ g b task m ts u _ _ _ q. settles-kept (IsSteady old (attempt_by h.worker.run))
+    (λ x o number i r t. kept.objects x _
+    (same_grows x.worker.objects o.serial (with_content number i r.ids r.kept) (λ y. record { askers = λ v f. inr (inl refl); answered = λ _. inl refl })) t)
+    (results_of task.spec) (with_task_of g b.object (rests task)) b.object b.number m ts (kept.objects g _ (put_grows g b.object (rests task)) q))
+    h w a n rs tt (steady_start h)
 
 -- a Push that finds the attempt going on is passed over
 push_steady : (h : Here) (a : Attempt) (spec : Birth) (run : Run) → h.worker.run ≡ Some run → run.is_over ≡ false → IsSteady h.worker.objects (attempt_by h.worker.run) (push_reached h a spec)
@@ -120,7 +125,7 @@ module _ (h : Here) (run : Run) (e : h.worker.run ≡ Some run) (going : run.is_
 
   heard_steady : (w : ℕ) (m : Message) → R.IsHeard T (steady_kept h.worker.objects (attempt_by h.worker.run)) h w m
   heard_steady w (Push a spec) = push_steady h a spec run e going
-  heard_steady w (Finished a n ids content) = finish_steady h w a n ids content
+  heard_steady w (Finished a n rs) = finish_steady h w a n rs
   heard_steady w (FinishedAck a) = tt
   heard_steady w (Failed a f) = tt
   heard_steady w (Ask a t) = tt
@@ -157,21 +162,21 @@ claim_steady h j = ap attempt_by (release_step-run (claim_step h j)) ∙ by_run 
 
 -- whatever a commit logs at first stays logged
 pub committed_logged : (h : Here) (d : Outcomes) (run : Run) → h.worker.run ≡ Some run → (x : Entry) →
-    Among x (single_entries run.attempt (next_id_here h) d.births d.prints (stop_of d.stop)) → Logged x (release_step (commit_step h d))
+    Among x (commit_entries run.attempt (next_id_here h) d.births d.prints (stop_of d.stop)) → Logged x (release_step (commit_step h d))
 committed_logged h d run e x i =
-    let g : Here = logs_all (with_run h (with_outcomes run d)) (single_entries run.attempt (next_id_here h) d.births d.prints (stop_of d.stop)) in
+    let g : Here = logs_all (with_run h (with_outcomes run d)) (commit_entries run.attempt (next_id_here h) d.births d.prints (stop_of d.stop)) in
     let same : commit_step h d ≡ stops (bears_all g run.attempt d.births) d.stop = ap (commit_by h d) e in
     logged_after x (commit_step h d) (subst (Logged x) (sym same)
     (M.stops-kept (Logged x) (logged_stays x) (bears_all g run.attempt d.births) d.stop
     (M.bears_all-kept (Logged x) (logged_stays x) g run.attempt d.births (among-behind h.there.out.entries _ x i))))
 
-birth_logged : (a : Attempt) (b : Birth) (o : Id) (bs : List Birth) (vs : List Value) (stop : Stop) → Among b bs → (p : Id) × Among (Born p a b) (single_entries a o bs vs stop)
+birth_logged : (a : Attempt) (b : Birth) (o : Id) (bs : List Birth) (vs : List Value) (stop : Stop) → Among b bs → (p : Id) × Among (Born p a b) (commit_entries a o bs vs stop)
 birth_logged a b o [] vs stop (k, e) = absurd (cc)
 birth_logged a b o (x ∷ bs) vs stop (zero, e) = let same : x ≡ b = cc in (o, (zero, ap (λ y. Some (Born o a y)) same))
-birth_logged a b o (x ∷ bs) vs stop (suc k, e) = let r = birth_logged a b (next_id o) bs vs stop (k, e) in (r.0, (suc r.1.0, r.1.1))
+birth_logged a b o (x ∷ bs) vs stop (suc k, e) = let r = birth_logged a b (behind o x) bs vs stop (k, e) in (r.0, (suc r.1.0, r.1.1))
 
-pub end_logged : (a : Attempt) (cs : List Outcome) (o : Id) (bs : List Birth) (vs : List Value) → Among (Ended a cs) (single_entries a o bs vs (Over cs))
-end_logged a cs o (b ∷ bs) vs = let r = end_logged a cs (next_id o) bs vs in (suc r.0, r.1)
+pub end_logged : (a : Attempt) (cs : List Outcome) (o : Id) (bs : List Birth) (vs : List Value) → Among (Ended a cs) (commit_entries a o bs vs (Over cs))
+end_logged a cs o (b ∷ bs) vs = let r = end_logged a cs (behind o b) bs vs in (suc r.0, r.1)
 end_logged a cs o [] (v ∷ vs) = let r = end_logged a cs o [] vs in (suc r.0, r.1)
 end_logged a cs o [] [] = (zero, refl)
 
@@ -191,9 +196,21 @@ holds_ids-attempt : (h : Here) (e : Id) (os : List Id) → attempt_by (holds_ids
 holds_ids-attempt h e [] = refl
 holds_ids-attempt h e (o ∷ os) = holds_ids-attempt (holds_id h e o) e os ∙ holds_id-attempt h e o
 
+each_holds-attempt : (h : Here) (e : Id) (task : OwnTask) (os : List Id) → attempt_by (each_holds h e task os).worker.run ≡ attempt_by h.worker.run
+each_holds-attempt h e task os =
+    each_from-kept (λ g. attempt_by g.worker.run ≡ attempt_by h.worker.run) (λ g k. holds_ids g (own_id g k) os)
+    (λ g k p. holds_ids-attempt g (own_id g k) os ∙ p) h e.serial (results_of task.spec) refl
+
+keeps_contents-attempt : (h : Here) (o : Id) (number : ℕ) (cs : List Outcome) → attempt_by (keeps_contents h o number cs).worker.run ≡ attempt_by h.worker.run
+keeps_contents-attempt h o number [] = refl
+keeps_contents-attempt h o number (c ∷ cs) =
+    keeps_contents-attempt (keeps_content h o number c) (next_id o) number cs ∙ holds_ids-attempt _ o (each_once (ids_in_outcome c))
+
 bears-attempt : (h : Here) (a : Attempt) (b : Birth) → attempt_by (bears h a b).worker.run ≡ attempt_by h.worker.run
 bears-attempt h a (Put v) = holds_ids-attempt _ (next_id_here h) (each_once (ids_of_birth (Put v)))
-bears-attempt h a (Task g args depth retries others) = holds_ids-attempt _ (next_id_here h) (each_once (ids_of_birth (Task g args depth retries others)))
+bears-attempt h a (Task g args depth retries others) =
+    let b : Birth = Task g args depth retries others in
+    each_holds-attempt (with_objects h (task_objects a (next_id_here h).serial b others (each_once (ids_of_birth b)))) (next_id_here h) (new_task b) (each_once (ids_of_birth b))
 
 bears_all-attempt : (h : Here) (a : Attempt) (bs : List Birth) → attempt_by (bears_all h a bs).worker.run ≡ attempt_by h.worker.run
 bears_all-attempt h a [] = refl
@@ -208,16 +225,15 @@ stops-attempt h stop = by_run h.worker.run refl stop
         let a : Option Attempt = attempt_by h.worker.run in
         (needs-kept (IsSteady h.worker.objects a) (steady_kept h.worker.objects a) h run y
         (record { grows = grows_itself h.worker.objects; attempt = ap attempt_by (sym e) })).attempt
-    by_run (Some run) e (AtEnd c) =
-        let ids : List Id = each_once (ids_in_outcome c) in
-        let f : Here = passes_on (with_store (with_phase h run (HasEnded c)) (with_ended (store_here h) run.attempt.object run.attempt.number c)) run.attempt.object ids in
-        let g : Here = holds_ids f run.attempt.object ids in
+    by_run (Some run) e (AtEnd cs) =
+        let f : Here = with_phase h run (HasEnded cs) in
+        let g : Here = keeps_contents f run.attempt.object run.attempt.number cs in
         (leaves_steady g.worker.objects (attempt_by g.worker.run) g (steady_start g)).attempt ∙
-        holds_ids-attempt f run.attempt.object ids ∙ ap attempt_by (sym e)
+        keeps_contents-attempt f run.attempt.object run.attempt.number cs ∙ ap attempt_by (sym e)
 
 commit_steady : (h : Here) (d : Outcomes) (run : Run) → h.worker.run ≡ Some run → attempt_by (release_step (commit_step h d)).worker.run ≡ Some run.attempt
 commit_steady h d run e =
-    let g : Here = logs_all (with_run h (with_outcomes run d)) (single_entries run.attempt (next_id_here h) d.births d.prints (stop_of d.stop)) in
+    let g : Here = logs_all (with_run h (with_outcomes run d)) (commit_entries run.attempt (next_id_here h) d.births d.prints (stop_of d.stop)) in
     let same : commit_step h d ≡ stops (bears_all g run.attempt d.births) d.stop = ap (commit_by h d) e in
     ap attempt_by (release_step-run (commit_step h d)) ∙ ap (λ (x : Here). attempt_by x.worker.run) same ∙
     stops-attempt (bears_all g run.attempt d.births) d.stop ∙ bears_all-attempt g run.attempt d.births
@@ -319,7 +335,7 @@ module _ (s : Setting) (log : List Entry) (c : Whole) (before : IsInStep s log c
     jobs_then = changed_at c.jobs j as_committed
 
     abbrev born_then : ℕ
-    born_then = c.made + length o.births
+    born_then = c.made + objects_made o.births
 
     abbrev commits : Here → Here
     commits h = commit_step h o
@@ -336,7 +352,7 @@ module _ (s : Setting) (log : List Entry) (c : Whole) (before : IsInStep s log c
     abbrev whole_then : Whole
     whole_then = (moved_on log c (Commit j) seat k jobs_then born_then c.delivered me x node at live commits).whole
 
-    entries_stand : (y : Entry) → Among y (single_entries run.attempt (next_id_here at_first) o.births o.prints (stop_of o.stop)) → Among y log_then
+    entries_stand : (y : Entry) → Among y (commit_entries run.attempt (next_id_here at_first) o.births o.prints (stop_of o.stop)) → Among y log_then
     entries_stand y i = let r = committed_logged at_first o run is y i in among-behind log _ y (suc r.0, r.1)
 
     names : IsInStep s log_then whole_then → NamesBorn log_then c.network me x.objects (IsBrought c (Commit j)) (IsOf at_last.worker) at_first o
@@ -344,9 +360,9 @@ module _ (s : Setting) (log : List Entry) (c : Whole) (before : IsInStep s log c
       births = λ b i p m.
           let r = birth_logged run.attempt b (next_id_here at_first) o.births o.prints (stop_of o.stop) i in
           named_in_birth s log_then whole_then after.sound r.0 run.attempt b (entries_stand (Born r.0 run.attempt b) r.1) p m;
-      end = λ d stops_so p m. named_in_end s log_then whole_then after.sound run.attempt d (entries_stand (Ended run.attempt (d ∷ []))
-          (subst (λ q. Among (Ended run.attempt (d ∷ [])) (single_entries run.attempt (next_id_here at_first) o.births o.prints (stop_of q))) (sym stops_so)
-          (end_logged run.attempt (d ∷ []) (next_id_here at_first) o.births o.prints))) p m;
+      end = λ cs stops_so d i p m. named_in_end s log_then whole_then after.sound run.attempt cs (entries_stand (Ended run.attempt cs)
+          (subst (λ q. Among (Ended run.attempt cs) (commit_entries run.attempt (next_id_here at_first) o.births o.prints (stop_of q))) (sym stops_so)
+          (end_logged run.attempt cs (next_id_here at_first) o.births o.prints))) d i p m;
       need = λ y stops_so needed _. needed_then after y (ap needed_by (release_step-run (commits at_first)) ∙ needed);
     }
       where
@@ -394,7 +410,7 @@ module _ (s : Setting) (log : List Entry) (c : Whole) (before : IsInStep s log c
       let x = live_there (worker_at c g.worker) (passed (is_live_worker (worker_at c g.worker)) Stale both.1) in
       let n = home_of g.worker x.worker x.at in
       let run : OutOf x.worker.run j = out_of x.worker.run j (ap (λ y. is_out_by y j) (sym x.at) ∙ out) in
-      let d : Whole = with_committed c j (length o.births) in
+      let d : Whole = with_committed c j (objects_made o.births) in
       let same : worker_does d g.worker (λ h. commit_step h o) ≡ after_worker d g.worker x.worker.node (release_step (commit_step (here d g.worker x.worker n.0) o)) =
       ap (worker_does_by d g.worker (λ h. commit_step h o)) x.at ∙ ap (worker_does_at d g.worker x.worker (λ h. commit_step h o)) n.1 in
       commit_advance j o g.worker x.worker x.at x.live n.0 n.1 run.run run.at run.out
@@ -421,13 +437,12 @@ module _ (s : Setting) (log : List Entry) (c : Whole) (before : IsInStep s log c
 
     heard_pays : (w : ℕ) (n : Message) → from ≡ TheWorker w → m ≡ n → Pay first_here → R.IsHeard Pay pay_kept first_here w n
     heard_pays w (Push a spec) e f q = push_pays _ _ _ _ _ _ first_here a spec q
-    heard_pays w (Finished a n ids content) e f q = finish_pays _ _ _ _ _ _ first_here w a n ids content (record {
+    heard_pays w (Finished a n rs) e f q = finish_pays _ _ _ _ _ _ first_here w a n rs (record {
       number = i;
       sender = w;
       owner = me;
       node = n;
-      ids = ids;
-      kept = content;
+      results = rs;
       worker = x;
       event = refl;
       sent = sent ∙ ap (λ p. Some (letter p (TheWorker me) m)) e ∙ ap (λ g. Some (letter (TheWorker w) (TheWorker me) g)) f;
@@ -477,19 +492,28 @@ module _ (s : Setting) (log : List Entry) (c : Whole) (before : IsInStep s log c
 
     -- a released object has a fault or a content
     rests_there : (o : Id) → o.owner ≡ me → (z : Object) → item_at x.objects o.serial ≡ Some z → z.is_released ≡ true → z.fault ≡ None → is_some z.settled ≡ true
-    rests_there o own z there released unfaulted = by_maker z.maker knows.maker
+    rests_there o own z there released unfaulted = by_origin (origin_of p o x z each there)
       where
-        knows : KnowsObject (past log before.sound.between.asked) x o z
-        knows = (before.sound.between.knows.workers o.owner x (subst (λ w. worker_at c w ≡ Some x) (sym own) at) live).objects o.serial z there
+        p : Past
+        p = past log before.sound.between.asked
 
-        by_progress : (task : OwnTask) (q : Progress) → KnowsProgress (past log before.sound.between.asked) o z task q → is_some z.settled ≡ true
-        by_progress task AtRest k = ap is_some (k.3 unfaulted).settled
-        by_progress task (AskedAt t g) k = absurd (differ z.is_released released k.1)
-        by_progress task (RunsOn w g) k = absurd (differ z.is_released released k.1)
+        each : (n : ℕ) (w : Object) → item_at x.objects n ≡ Some w → KnowsObject (past log before.sound.between.asked) x (object_id o.owner n) w
+        each n w i = (before.sound.between.knows.workers o.owner x (subst (λ v. worker_at c v ≡ Some x) (sym own) at) live).objects n w i
 
-        by_maker : (maker : Maker) → KnowsMaker (past log before.sound.between.asked) x.node o z maker → is_some z.settled ≡ true
-        by_maker WasPut k = ap is_some k.settled
-        by_maker (ByTask task) k = by_progress task task.progress k.progress
+        same_item : (u v : Object) → ◌≡◌ {A = Option Object} (Some u) (Some v) → u ≡ v
+        same_item u v e = cc
+
+        -- it is released with its task, of which no attempt is under way then
+        resting : (m : IsMadeBy (past log before.sound.between.asked) o x z) → is_pending_task m.task ≡ false
+        resting m =
+            let row = m.knows.rows m.place m.within in
+            let same : row.object ≡ z = same_item row.object z (sym row.there ∙ ap (item_at x.objects) (sym m.serial) ∙ there) in
+            let gone : m.knows.released ≡ true = sym row.is_released ∙ ap (λ (u : Object). u.is_released) same ∙ released in
+            at_test (λ t. is_pending_task m.task ≡ t → t ≡ false) (is_pending_task m.task) (λ _ pending. absurd (differ m.knows.released gone (m.knows.kept pending))) (λ _ _. refl) refl
+
+        by_origin : Origin (past log before.sound.between.asked) o x z → is_some z.settled ≡ true
+        by_origin (OfPut k) = ap is_some k.settled
+        by_origin (OfTask m) = ap is_some (m.result.rests (resting m) unfaulted).settled
 
     by_request : (v : ℕ) (o : Id) (n : Message) → from ≡ TheWorker v → o.owner ≡ me → n ≡ m → IsRequest o n → (z : Object) → item_at x.objects o.serial ≡ Some z →
         IsAwaited o.serial v (hears first_here).worker.objects

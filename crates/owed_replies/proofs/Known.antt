@@ -1,5 +1,5 @@
 -- What an attempt waits for, and what stands in its births and its end, was born.
-use Rattle.std.proofs.Common.{◌≡◌, ℕ, zero, suc, List, [], ◌∷◌, Some, refl, ap, sym, subst, ◌∙◌, inl, inr}
+use Rattle.std.proofs.Common.{◌≡◌, ℕ, zero, suc, List, [], ◌∷◌, Some, refl, ap, sym, subst, inl, inr}
 use Rattle.std.specs.Prelude.{Bool, true}
 use Rattle.script_laws.proofs.Given.{stop_by_piece}
 use Rattle.script_laws.proofs.Ids.{births_keep}
@@ -8,7 +8,7 @@ use Rattle.meaning.specs.Ids.{ObjectsIn, OutcomesIn, StopIn}
 use Rattle.meaning.specs.Meaning.{replay, run_birth}
 use Rattle.meaning.specs.Readings.{IsBorn}
 use Rattle.meaning.specs.Runs.{Piece}
-use Rattle.meaning.specs.Values.{Birth, Id, Outcome, results_of}
+use Rattle.meaning.specs.Values.{Birth, Id, Outcome, others_of, results_of}
 use Rattle.values.specs.Listed.{each_once, ids_in_outcome}
 use Rattle.event_log.specs.Breaks as B
 use Rattle.event_log.specs.Entries as logged
@@ -16,10 +16,12 @@ use Rattle.event_log.specs.Entries.{Attempt, Entry}
 use Rattle.event_log.specs.Holding.{ids_of_birth}
 use Rattle.event_log.specs.Rules.{Setting}
 use Rattle.event_log.specs.Words.{answers_of, births, own_births}
-use Rattle.holding.specs.Legal.{Allowed, Legal, MayBear}
-use Rattle.holding.specs.Past.{Accepted, Among, Born, Ended, Fact, Has}
-use Rattle.holding.specs.Tells.{IsFactOf, Stands, Tells, facts_in, is_put}
-use Rattle.holding.proofs.Words.{BornBy, IsBorn as IsBornPast, born_known, ended_known}
+use Rattle.holding.specs.Legal.{IsPart}
+use Rattle.holding.proofs.Bridge.{one_made}
+use Rattle.meaning.specs.Runs.{next_id}
+use Rattle.holding.specs.Past.{Accepted, Among, Born, Ended, Has, IsFilled, IsOneOf}
+use Rattle.holding.specs.Tells.{IsFactOf, Stands, Tells, facts_in, ids_in_each, is_put}
+use Rattle.holding.proofs.Words.{IsBorn as IsBornPast, agree, born_known, ended_known}
 use Rattle.holding_steps.proofs.Committing.{once_among}
 use Rattle.holding_steps.proofs.Known.{known_born}
 use Rattle.event_log.proofs.WordLaws.{deeds}
@@ -90,41 +92,41 @@ from_stands [] x h = absurd h
 from_stands (y ∷ log) x (inl e) = (zero, ap (λ z. Some z) (sym e))
 from_stands (y ∷ log) x (inr h) = let r = from_stands log x h in (suc r.0, r.1)
 
-born_so : (ps : List Fact) → Legal ps → (o : Id) (b : Attempt) (p : Bool) (js : List Id) (c : Attempt) (q : Bool) (ks : List Id) →
-    Has (Born o b p js) ps → Has (Born o c q ks) ps → p ≡ q
-born_so [] l o b p js c q ks h k = absurd h
-born_so (f ∷ ps) l o b p js c q ks (inl h) (inl k) = same (h ∙ sym k)
-  where
-    same : Born o b p js ≡ Born o c q ks → p ≡ q
-    same e = cc
-born_so (f ∷ ps) l o b p js c q ks (inl h) (inr k) = let may : MayBear ps o b js = subst (Allowed ps) (sym h) l.0 in absurd (may.fresh c q ks k)
-born_so (f ∷ ps) l o b p js c q ks (inr h) (inl k) = let may : MayBear ps o c ks = subst (Allowed ps) (sym k) l.0 in absurd (may.fresh b p js h)
-born_so (f ∷ ps) l o b p js c q ks (inr h) (inr k) = born_so ps l.1 o b p js c q ks h k
+-- the place of a content among those of an end
+filled_at : (first : Id) (cs : List Outcome) (d : Outcome) → B.Among d cs → (e : Id) × IsFilled first (ids_in_each cs) e (ids_in_outcome d)
+filled_at first [] d (k, e) = absurd (cc)
+filled_at first (c ∷ cs) d (zero, e) = let same : c ≡ d = cc in (first, inl (refl, ap ids_in_outcome (sym same)))
+filled_at first (c ∷ cs) d (suc k, e) = let r = filled_at (next_id first) cs d (k, e) in (r.0, inr r.1)
 
 module _ (s : Setting) (log : List Entry) (c : Whole) (sound : IsSound s log c) where
   abbrev tells : Tells log sound.past
   tells = sound.held.joined.tells
 
-  born_entry : (o : Id) (a : Attempt) (put : Bool) (ids : List Id) (x : Entry) → Has (Born o a put ids) (facts_in x) → B.Among x log → IsBornIn log o
-  born_entry o a put ids (logged.Born p b birth) (inl e) i = let same : o ≡ p = cc in subst (IsBornIn log) (sym same) (b, birth, i)
-  born_entry o a put ids (logged.Born p b birth) (inr h) i = absurd h
-  born_entry o a put ids (logged.Begun b w) (inl e) i = absurd (cc)
-  born_entry o a put ids (logged.Begun b w) (inr h) i = absurd h
-  born_entry o a put ids (logged.Got b y d) (inl e) i = absurd (cc)
-  born_entry o a put ids (logged.Got b y d) (inr h) i = absurd h
-  born_entry o a put ids (logged.Ended b d) (inl e) i = absurd (cc)
-  born_entry o a put ids (logged.Ended b d) (inr h) i = absurd h
-  born_entry o a put ids (logged.Faulted b y f) (inl e) i = absurd (cc)
-  born_entry o a put ids (logged.Faulted b y f) (inr h) i = absurd h
-  born_entry o a put ids (logged.Accepted b) (inl e) i = absurd (cc)
-  born_entry o a put ids (logged.Accepted b) (inr h) i = absurd h
-  born_entry o a put ids (logged.Released p) (inl e) i = absurd (cc)
-  born_entry o a put ids (logged.Released p) (inr h) i = absurd h
-  born_entry o a put ids (logged.In e seat) h i = absurd h
-  born_entry o a put ids (logged.Refused code) h i = absurd h
-  born_entry o a put ids (logged.Opened w n) h i = absurd h
-  born_entry o a put ids (logged.Printed v) h i = absurd h
-  born_entry o a put ids (logged.Resolved p f) h i = absurd h
+  module _ (o : Id) (a : Attempt) (put : Bool) (others : ℕ) (ids : List Id) (z : Id) (one : IsOneOf o others z) where
+    same_births : (p : Id) (b : Attempt) (birth : Birth) → Born o a put others ids ≡ Born p b (is_put birth) (others_of birth) (ids_of_birth birth) →
+        IsOneOf p (others_of birth) z
+    same_births p b birth e = let f : o ≡ p = cc in let g : others ≡ others_of birth = cc in subst (λ q. IsOneOf q (others_of birth) z) f (subst (λ n. IsOneOf o n z) g one)
+
+    born_entry : (x : Entry) → Has (Born o a put others ids) (facts_in x) → B.Among x log → IsBornIn log z
+    born_entry (logged.Born p b birth) (inl e) i = (p, b, birth, i, one_made (record { object = p; birth = birth }) z (same_births p b birth e))
+    born_entry (logged.Born p b birth) (inr h) i = absurd h
+    born_entry (logged.Begun b w) (inl e) i = absurd (cc)
+    born_entry (logged.Begun b w) (inr h) i = absurd h
+    born_entry (logged.Got b y d) (inl e) i = absurd (cc)
+    born_entry (logged.Got b y d) (inr h) i = absurd h
+    born_entry (logged.Ended b d) (inl e) i = absurd (cc)
+    born_entry (logged.Ended b d) (inr h) i = absurd h
+    born_entry (logged.Faulted b y f) (inl e) i = absurd (cc)
+    born_entry (logged.Faulted b y f) (inr h) i = absurd h
+    born_entry (logged.Accepted b) (inl e) i = absurd (cc)
+    born_entry (logged.Accepted b) (inr h) i = absurd h
+    born_entry (logged.Released p) (inl e) i = absurd (cc)
+    born_entry (logged.Released p) (inr h) i = absurd h
+    born_entry (logged.In e seat) h i = absurd h
+    born_entry (logged.Refused code) h i = absurd h
+    born_entry (logged.Opened w n) h i = absurd h
+    born_entry (logged.Printed v) h i = absurd h
+    born_entry (logged.Resolved p f) h i = absurd h
 
   accepted_entry : (a : Attempt) (x : Entry) → Has (Accepted a) (facts_in x) → B.Among x log → B.Among (logged.Accepted a) log
   accepted_entry a (logged.Accepted b) (inl e) i = let same : a ≡ b = cc in subst (λ q. B.Among (logged.Accepted q) log) (sym same) i
@@ -152,25 +154,27 @@ module _ (s : Setting) (log : List Entry) (c : Whole) (sound : IsSound s log c) 
       let m : IsFactOf log (Accepted a) = tells.meant (Accepted a) refl h in
       accepted_entry a m.entry m.fact (from_stands log m.entry m.stands)
 
-  -- what makes an object is told once
-  pub made_so : (o : Id) (b : Attempt) (p : Bool) (js : List Id) (c : Attempt) (q : Bool) (ks : List Id) → Has (Born o b p js) sound.past → Has (Born o c q ks) sound.past → p ≡ q
-  made_so o b p js c q ks h k = born_so sound.past sound.held.joined.legal o b p js c q ks h k
+  -- whether an object was put is told once
+  pub made_so : (z first second : Id) (h : IsPart sound.past first z) (k : IsPart sound.past second z) → h.put ≡ k.put
+  made_so z first second h k = (agree sound.past sound.held.joined.legal first second z h k).puts
 
   pub born_by_past : (o : Id) → IsBornPast sound.past o → IsBornIn log o
-  born_by_past o (BornBy a put ids h) =
-      let m : IsFactOf log (Born o a put ids) = tells.meant (Born o a put ids) refl h in
-      born_entry o a put ids m.entry m.fact (from_stands log m.entry m.stands)
+  born_by_past o (first, h) =
+      let m : IsFactOf log (Born first h.bearer h.put h.others h.ids) = tells.meant (Born first h.bearer h.put h.others h.ids) refl h.born in
+      born_entry first h.bearer h.put h.others h.ids o h.one m.entry m.fact (from_stands log m.entry m.stands)
 
   -- in a birth
   pub named_in_birth : (p : Id) (a : Attempt) (birth : Birth) → B.Among (logged.Born p a birth) log → (o : Id) → B.Among o (each_once (ids_of_birth birth)) → IsBornIn log o
   named_in_birth p a birth i o j =
-      let fact : Has (Born p a (is_put birth) (ids_of_birth birth)) sound.past = tells.said (logged.Born p a birth) _ (to_stands log _ i) (inl refl) in
+      let fact : Has (Born p a (is_put birth) (others_of birth) (ids_of_birth birth)) sound.past = tells.said (logged.Born p a birth) _ (to_stands log _ i) (inl refl) in
       born_by_past o (known_born sound.past sound.held.joined.legal a o
-      (born_known sound.past sound.held.joined.legal p a (is_put birth) (ids_of_birth birth) o fact (once_among o (ids_of_birth birth) (to_among o _ j))))
+      (born_known sound.past sound.held.joined.legal p a (is_put birth) (others_of birth) (ids_of_birth birth) o fact (once_among o (ids_of_birth birth) (to_among o _ j))))
 
-  -- in an end
-  pub named_in_end : (a : Attempt) (d : Outcome) → B.Among (logged.Ended a (d ∷ [])) log → (o : Id) → B.Among o (each_once (ids_in_outcome d)) → IsBornIn log o
-  named_in_end a d i o j =
-      let fact : Has (Ended a (ids_in_outcome d)) sound.past = tells.said (logged.Ended a (d ∷ [])) _ (to_stands log _ i) (inl refl) in
+  -- in a content of an end
+  pub named_in_end : (a : Attempt) (cs : List Outcome) → B.Among (logged.Ended a cs) log → (d : Outcome) → B.Among d cs → (o : Id) →
+      B.Among o (each_once (ids_in_outcome d)) → IsBornIn log o
+  named_in_end a cs i d k o j =
+      let fact : Has (Ended a (ids_in_each cs)) sound.past = tells.said (logged.Ended a cs) _ (to_stands log _ i) (inl refl) in
+      let at = filled_at a.object cs d k in
       born_by_past o (known_born sound.past sound.held.joined.legal a o
-      (ended_known sound.past sound.held.joined.legal a (ids_in_outcome d) o fact (once_among o (ids_in_outcome d) (to_among o _ j))))
+      (ended_known sound.past sound.held.joined.legal a (ids_in_each cs) at.0 (ids_in_outcome d) o fact at.1 (once_among o (ids_in_outcome d) (to_among o _ j))))

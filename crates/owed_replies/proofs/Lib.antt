@@ -6,11 +6,12 @@ pub mod Steady
 pub mod Advancing
 pub mod Known
 pub mod Events
-pub mod Happens
 pub mod Contents
 pub mod Quiet
+pub mod Happens
 pub mod Delivered
 pub mod Runs
+pub mod Answering
 pub mod Replies
 pub mod Waiting
 pub mod Requests

@@ -6,10 +6,11 @@ use Rattle.std.specs.Prelude.{◌≡◌, ℕ, ◌+◌, ◌&&◌, Bool, true, fal
 use Rattle.meaning.specs.Values.{Id, Outcome}
 use Rattle.event_log.specs.Breaks.{Among}
 use Rattle.event_log.specs.Entries.{Attempt, Entry, Got, Fault, Faulted, Accepted, Ended}
+use Rattle.protocol.specs.Messages.{EndedResult}
 use Rattle.protocol.specs.Messages.{Message, Party, TheWorker, TheNode, Push, Finished, Where, At, Missing, Hold}
 use Rattle.protocol.specs.Stores.{Store}
 use Rattle.protocol.specs.Sets.{is_empty}
-use Rattle.protocol.specs.Tables.{AskedAt, Fetching, HasEnded, HasFaulted, Holding, Object, Out, Phase, Ready, Run, Waits, is_nowhere, released, without_place}
+use Rattle.protocol.specs.Tables.{AskedAt, Fetching, HasEnded, HasFaulted, Holding, Object, Out, Phase, Ready, Run, Waits, is_nowhere, without_place}
 use Rattle.protocol.specs.Steps.{Here, is_own, logs_all, logs, object_at, says, says_to_node, with_phase, with_run, with_store, with_worker}
 use Rattle.protocol.specs.Runs.{asks_for_slot, gives_slot_back, leaves_if_free, push_reached, tells_stop, with_answer}
 use Rattle.protocol.specs.Asking.{rests, with_begun}
@@ -23,7 +24,7 @@ use Rattle.protocol.specs.Ticks.{asks_again, sends_stop, sends_tasks, tick_step}
 use Rattle.protocol.specs.Releases.{release_step}
 use Rattle.protocol.specs.Deliveries.{reached, reached_from_worker}
 use Rattle.smallest_steps.specs.Steps.{Needs}
-use Rattle.smallest_steps.proofs.Smallest.{AnyOver, AnyPassed, AnyTold, KeepsHere, KeepsHeard, KeepsAnswers}
+use Rattle.smallest_steps.proofs.Smallest.{AnyOver, AnyPassed, AnyTold, KeepsAccepted, KeepsHere, KeepsHeard, KeepsAnswers}
 use Rattle.smallest_steps.proofs.Moves as S
 use Rattle.owed_replies.proofs.Objects.{Grows, answered_grows, answered_there, asker_grows, fault_grows, mapped_grows, put_grows, same_grows, succeeds_alike}
 
@@ -59,7 +60,7 @@ IsSaid AnyHold AnyPush h w (Where y) = (w ≡ y.owner) × (is_own h y ≡ false)
 IsSaid AnyHold AnyPush h w (Missing y number n) = (w ≡ y.owner) × (is_own h y ≡ false)
 IsSaid AnyHold AnyPush h w (Hold e o) = (w ≡ o.owner) × Awaits h (holding e o) × AnyHold
 IsSaid AnyHold AnyPush h w (Push a spec) = (a.object.owner ≡ h.me) × AnyPush
-IsSaid AnyHold AnyPush h w (Finished a n ids kept) = (w ≡ a.object.owner) × IsUnheard h a
+IsSaid AnyHold AnyPush h w (Finished a n rs) = (w ≡ a.object.owner) × IsUnheard h a
 IsSaid AnyHold AnyPush h w (At y number ns kept) = (is_empty ns && is_none kept) ≡ false
 IsSaid AnyHold AnyPush h w m = Unit {0}
 
@@ -102,14 +103,13 @@ module _ {AnyHold AnyPush : Type 0} (P : Here → Type 0) (kept : IsKeptWhere An
   tells_stop-kept h run (Out j) u p = p
   tells_stop-kept h run (Waits y f) u p = p
 
-  keeps : KeepsHere AnyTold AnyPassed AnyHold AnyPush P
-  keeps = record {
+  keeps_told : (T : ℕ → Attempt → Type 0) → KeepsHere T AnyPassed AnyHold AnyPush P
+  keeps_told T = record {
     alike = λ h o f same p. kept.objects h _ (same_grows h.worker.objects o.serial f (λ y. succeeds_alike y (f y) (same y).1 (same y).2 (same y).3)) p;
     asker = λ h o w p. kept.objects h _ (asker_grows h.worker.objects o.serial w) p;
     answered = λ h o x at a p. kept.objects h _ (answered_grows h o (λ y e. answered_there h o x y a at e)) p;
     resolved = λ h o f p. kept.writes _ _ refl (kept.objects h _ (fault_grows h o f) p);
-    freed = λ h o p. kept.writes _ _ refl
-        (kept.objects h _ (same_grows h.worker.objects o.serial released (λ y. succeeds_alike y (released y) refl refl refl)) p);
+    freed = λ h o p. kept.writes h _ refl p;
     places_lost = λ h m p. kept.objects h _ (mapped_grows h.worker.objects (without_place m) (λ y. succeeds_alike y (without_place m y) refl refl refl)) p;
     worker_dead = λ h v p. kept.deaths h _ _ p;
     node_dead = λ h m p. kept.deaths h _ _ p;
@@ -139,14 +139,25 @@ module _ {AnyHold AnyPush : Type 0} (P : Here → Type 0) (kept : IsKeptWhere An
     copy_dropped = λ h n e p. kept.says_to_node h _ _ p;
   }
 
-  replies : KeepsAnswers AnyTold AnyOver (GivenWhere AnyPush) P
-  replies = record {
+  keeps : KeepsHere AnyTold AnyPassed AnyHold AnyPush P
+  keeps = keeps_told AnyTold
+
+  replies_told : (T : ℕ → Attempt → Type 0) → KeepsAnswers T AnyOver (GivenWhere AnyPush) P
+  replies_told T = record {
     acked = λ h w a _ p. kept.says h _ _ tt p;
     back_of = λ h n a _ _ p. kept.says_to_node h _ _ p;
     begun = λ h o task w n t m own _ _ may p. kept.says _ _ _ (own, may) (kept.writes _ _ refl (kept.objects h _ (put_grows h o (with_begun task w n)) p));
   }
 
+  replies : KeepsAnswers AnyTold AnyOver (GivenWhere AnyPush) P
+  replies = replies_told AnyTold
+
   -- ---- each step
+
+  -- where the acceptance is kept, what follows it is
+  pub finished_reached-kept : (T : ℕ → Attempt → Type 0) → KeepsAccepted T P → (h : Here) (w : ℕ) (a : Attempt) (n : ℕ) (rs : List EndedResult) → T w a → P h →
+      P (finished_reached h w a n rs)
+  finished_reached-kept T accepted h w a n rs t p = S.finished_reached-kept P (keeps_told T) (replies_told T) accepted h w a n rs t p
 
   pub asks_again-kept : (h : Here) (run : Run) (phase : Phase) → h.worker.run ≡ Some run → run.phase ≡ phase → P h → P (asks_again h phase)
   asks_again-kept h run phase e q p = S.asks_again-kept P keeps h run phase e q p
@@ -193,7 +204,7 @@ module _ {AnyHold AnyPush : Type 0} (P : Here → Type 0) (kept : IsKeptWhere An
   -- a Push, and an end that is told, stand apart
   abbrev pub IsHeard : Here → ℕ → Message → Type 0
   IsHeard h w (Push a spec) = P (push_reached h a spec)
-  IsHeard h w (Finished a n ids c) = P (finished_reached h w a n ids c)
+  IsHeard h w (Finished a n rs) = P (finished_reached h w a n rs)
   IsHeard h w m = Unit {0}
 
   abbrev pub IsHeardFrom : Here → Party → Message → Type 0
@@ -207,7 +218,7 @@ module _ {AnyHold AnyPush : Type 0} (P : Here → Type 0) (kept : IsKeptWhere An
   heard : KeepsHeard Hears P
   heard = record {
     push = λ h w a spec s _. s;
-    finished = λ h w a n ids c s _. s;
+    finished = λ h w a n rs s _. s;
     finished_ack = λ h w a _ p. S.finished_ack_reached-kept P keeps replies h a tt p;
     failed = λ h w a f _ p. S.failed_reached-kept P keeps replies h w a f tt p;
     given = λ h n a t w may p. S.given_reached-kept P keeps replies h n a t w (λ _. may) p;

@@ -50,7 +50,7 @@ then_grows xs ys zs p q k x at =
     let z = q k y.object y.there in
     record { object = z.object; there = z.there; succeeds = then_succeeds x y.object z.object y.succeeds z.succeeds }
 
-same_item : (xs : List Object) (k : ℕ) (x y : Object) → item_at xs k ≡ Some x → item_at xs k ≡ Some y → x ≡ y
+pub same_item : (xs : List Object) (k : ℕ) (x y : Object) → item_at xs k ≡ Some x → item_at xs k ≡ Some y → x ≡ y
 same_item xs k x y e f = let g : ◌≡◌ {A = Option Object} (Some x) (Some y) = sym e ∙ f in cc
 
 -- one object is changed
@@ -93,8 +93,8 @@ mapped_grows xs f each zero x at = absurd (cc)
 mapped_grows xs f each (suc i) x at = record { object = f x; there = get_mapped f xs i x at; succeeds = each x }
 
 -- an object more
-pub pushed_grows : (xs : List Object) (y : Object) → Grows xs (xs ++ y ∷ [])
-pushed_grows xs y k x at = record { object = x; there = there_more xs (y ∷ []) k x at; succeeds = succeeds_itself x }
+pub joined_grows : (xs ys : List Object) → Grows xs (xs ++ ys)
+joined_grows xs ys k x at = record { object = x; there = there_more xs ys k x at; succeeds = succeeds_itself x }
 
 -- nobody waits for it any more, where it is answered
 pub answered_grows : (h : Here) (o : Id) → ((x : Object) → item_at h.worker.objects o.serial ≡ Some x → IsAnswered x) →

@@ -1,17 +1,15 @@
 -- A worker's step keeps what is true of messages and attempts.
 use Rattle.std.proofs.Common.{◌≡◌, ℕ, zero, suc, List, [], ◌∷◌, ◌++◌, Some, None, Option, refl, ap, sym, subst, ◌∙◌, inl, inr, append_assoc}
-use Rattle.std.specs.Prelude.{Bool, true, false, if◌then◌else◌, not, ◌==◌, ◌&&◌}
+use Rattle.std.specs.Prelude.{map, Bool, true, false, if◌then◌else◌, not, ◌==◌, ◌&&◌}
 use Rattle.std.specs.List.{filter}
 use Rattle.std.proofs.lemmas.Bool.{both_ways, not-true}
 use Rattle.sequence.proofs.Places.{and_left, and_right}
 use Rattle.meaning.proofs.BirthLaws.{at_test}
 use Rattle.meaning.specs.Readings.{IsBorn}
 use Rattle.meaning.specs.Values.{Id, Outcome}
-use Rattle.values.specs.Listed.{each_once, ids_in_outcome}
 use Rattle.event_log.specs.Breaks.{Among}
 use Rattle.event_log.specs.Entries.{Accepted, Attempt, Ended, Entry, Fault, Faulted, Got, Opened, main_attempt}
 use Rattle.event_log.specs.Words.{births, same_attempt}
-use Rattle.values.specs.Cells.{if_small}
 use Rattle.protocol.specs.Messages.{Letter, letter, Message, Party, TheWorker, TheNode, Ask, Give, Elsewhere, Wait, Back, Push, Finished, FinishedAck, Failed}
 use Rattle.protocol.specs.Messages.{Where, At, Gone, Fetch, CopyOf, Missing, Hold, HoldAck, Unhold}
 use Rattle.protocol.specs.Nodes.{There}
@@ -19,7 +17,7 @@ use Rattle.protocol.specs.Sets.{is_empty}
 use Rattle.protocol.specs.Tables.{Fetching, HasEnded, HasFaulted, Holding, Object, Out, Phase, Ready, Run, Waits, Worker, has_stopped, knows_dead}
 use Rattle.protocol.specs.Tables.{object_needed, owner_of}
 use Rattle.protocol.specs.Steps.{Here, is_own, logs, logs_all, says, says_to_node, with_phase, with_run, with_worker}
-use Rattle.protocol.specs.Runs.{asks_for_slot, gives_slot_back, is_heard, leaves, leaves_by, leaves_if_free, tells, tells_stop, with_answer}
+use Rattle.protocol.specs.Runs.{ended_result, asks_for_slot, gives_slot_back, is_heard, leaves, leaves_by, leaves_if_free, tells, tells_stop, with_answer}
 use Rattle.protocol_owed.proofs.Letters.{among-more, among-last, among-push_cases, among-append_cases}
 use Rattle.protocol_owed.proofs.NodeMoves.{IsKeptThere, frees-kept, asks_slot-kept}
 use Rattle.smallest_steps.proofs.Untouched.{tells_stop-worker}
@@ -77,7 +75,7 @@ module _ (log : List Entry) (net : List Letter) (me : ℕ) (old : List Object) (
   -- ---- what is sent besides
 
   more_sent : (ls : List Letter) (l : Letter) (w : ℕ) (a : Attempt) → IsReported (net ++ ls) w a → IsReported (net ++ (ls ++ l ∷ [])) w a
-  more_sent ls l w a (n, ids, content, i) = (n, ids, content, subst (Among (letter (TheWorker w) (TheWorker a.object.owner) (Finished a n ids content))) (append_assoc net ls (l ∷ [])) (among-more (net ++ ls) (l ∷ []) _ i))
+  more_sent ls l w a (n, rs, i) = (n, rs, subst (Among (letter (TheWorker w) (TheWorker a.object.owner) (Finished a n rs))) (append_assoc net ls (l ∷ [])) (among-more (net ++ ls) (l ∷ []) _ i))
 
   run_more : (ls : List Letter) (l : Letter) (run : Run) → RunIsRight log (net ++ ls) me run → RunIsRight log (net ++ (ls ++ l ∷ [])) me run
   run_more ls l run r = record { needs = r.needs; holds = r.holds; told = λ c e o m. more_sent ls l me run.attempt (r.told c e o m); main = r.main }
@@ -172,7 +170,7 @@ module _ (log : List Entry) (net : List Letter) (me : ℕ) (old : List Object) (
   says_does h w (Where y) s d = said h (TheWorker w) (Where y) (s.0, s.1, waits_born h y s.1 s.2 d) d
   says_does h w (Missing y number n) s d = said h (TheWorker w) (Missing y number n) s d
   says_does h w (Hold e o) s d = said h (TheWorker w) (Hold e o) (s.0, holds_born h _ s.1 d) d
-  says_does h w (Finished a n ids content) s d = said h (TheWorker w) (Finished a n ids content) (s.0, not_main h a s.1 d) d
+  says_does h w (Finished a n rs) s d = said h (TheWorker w) (Finished a n rs) (s.0, not_main h a s.1 d) d
   says_does h w (At y number ns content) s d = said h (TheWorker w) (At y number ns content) s d
   says_does h w (Ask a t) s d = said h (TheWorker w) (Ask a t) tt d
   says_does h w (Give a t v) s d = said h (TheWorker w) (Give a t v) tt d
@@ -193,23 +191,23 @@ module _ (log : List Entry) (net : List Letter) (me : ℕ) (old : List Object) (
 
   -- ---- the end of an attempt
 
-  ended_not : (run : Run) (f : Fault) (c : Outcome) → run.phase ≡ HasFaulted f → run.phase ≡ HasEnded c → ⊥
-  ended_not run f c e g = let i : ◌≡◌ {A = Phase} (HasFaulted f) (HasEnded c) = sym e ∙ g in absurd (cc)
+  ended_not : (run : Run) (f : Fault) (cs : List Outcome) → run.phase ≡ HasFaulted f → run.phase ≡ HasEnded cs → ⊥
+  ended_not run f cs e g = let i : ◌≡◌ {A = Phase} (HasFaulted f) (HasEnded cs) = sym e ∙ g in absurd (cc)
 
   -- told of a stop that is over; main's is not told
   tells_does : (h : Here) (run : Run) → run.is_over ≡ true → same_attempt run.attempt main_attempt ≡ false → RunIsRight log (sent_here h.there) me (record run { is_over = false }) →
       Does h → Does (tells h run)
   tells_does h run over other right d = by_phase run.phase refl
     where
-      other_phase : {p : Phase} (c : Outcome) → run.phase ≡ p → run.phase ≡ HasEnded c → (p ≡ HasEnded c → ⊥) → ⊥
-      other_phase c e g apart = apart (sym e ∙ g)
+      other_phase : {p : Phase} (cs : List Outcome) → run.phase ≡ p → run.phase ≡ HasEnded cs → (p ≡ HasEnded cs → ⊥) → ⊥
+      other_phase cs e g apart = apart (sym e ∙ g)
 
-      still : ((c : Outcome) → run.phase ≡ HasEnded c → ⊥) → RunIsRight log (sent_here h.there) me run
+      still : ((cs : List Outcome) → run.phase ≡ HasEnded cs → ⊥) → RunIsRight log (sent_here h.there) me run
       still apart = record { needs = right.needs; holds = right.holds; told = λ c e _ _. absurd (apart c e); main = λ m. absurd (both_ways _ other m) }
 
       by_phase : (p : Phase) → run.phase ≡ p → Does (tells_stop (with_run h run) run p)
-      by_phase (HasEnded c) e =
-          let l : Letter = letter (TheWorker h.me) (TheWorker (owner_of run)) (Finished run.attempt h.worker.node (each_once (ids_in_outcome c)) (if_small c)) in
+      by_phase (HasEnded cs) e =
+          let l : Letter = letter (TheWorker h.me) (TheWorker (owner_of run)) (Finished run.attempt h.worker.node (map ended_result cs)) in
           record {
             who = d.who;
             objects = d.objects;
@@ -218,11 +216,10 @@ module _ (log : List Entry) (net : List Letter) (me : ℕ) (old : List Object) (
               holds = right.holds;
               told = λ _ _ _ _. (
                 h.worker.node,
-                each_once (ids_in_outcome c),
-                if_small c,
-                subst (Among (letter (TheWorker me) (TheWorker run.attempt.object.owner) (Finished run.attempt h.worker.node (each_once (ids_in_outcome c)) (if_small c))))
+                map ended_result cs,
+                subst (Among (letter (TheWorker me) (TheWorker run.attempt.object.owner) (Finished run.attempt h.worker.node (map ended_result cs))))
                     (append_assoc net h.there.out.letters (l ∷ []))
-                    (subst (λ v. Among (letter (TheWorker v) (TheWorker run.attempt.object.owner) (Finished run.attempt h.worker.node (each_once (ids_in_outcome c)) (if_small c))) ((net ++ h.there.out.letters) ++ l ∷ [])) d.who
+                    (subst (λ v. Among (letter (TheWorker v) (TheWorker run.attempt.object.owner) (Finished run.attempt h.worker.node (map ended_result cs))) ((net ++ h.there.out.letters) ++ l ∷ [])) d.who
                     (among-last (net ++ h.there.out.letters) l)),
               );
               main = λ m. absurd (both_ways _ other m);

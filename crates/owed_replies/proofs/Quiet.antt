@@ -4,9 +4,9 @@ use Rattle.std.specs.Prelude.{Bool, true, false, if◌then◌else◌, not, ◌==
 use Rattle.std.specs.List.{list_any}
 use Rattle.std.specs.Option.{unwrap_or}
 use Rattle.std.proofs.lemmas.Bool.Decides.{nat_tests}
-use Rattle.meaning.proofs.BirthLaws.{at_test, same_id-true}
-use Rattle.meaning.specs.Births.{birth_at, objects_at, same_id}
-use Rattle.meaning.specs.Values.{Birth, Id, Put, Task, Value, Outcome}
+use Rattle.meaning.proofs.BirthLaws.{at_test, first_is_made, same_id-true}
+use Rattle.meaning.specs.Births.{Part, birth_at, objects_at, part_at, part_of, same_id}
+use Rattle.meaning.specs.Values.{Birth, Id, Put, Task, Value, Outcome, results_of}
 use Rattle.event_log.specs.Breaks.{Among, BreakRising, at_worker, CauseOf, Standing, breaks, breaks_from, breaks_of}
 use Rattle.event_log.specs.Breaks.{is_some as some_of}
 use Rattle.event_log.specs.Entries.{Accepted, Attempt, Claim, Commit, Deliver, Ended, Entry, Event, Evict, Fault, FaultKind, In, Join, Kill, KillNode, Lose, Notice}
@@ -21,13 +21,14 @@ use Rattle.event_log.proofs.SaneLaws.{legal_logs_are_sane}
 use Rattle.protocol_legal.proofs.Placing.{lone}
 use Rattle.values.specs.Cells.{if_small, is_small}
 use Rattle.protocol.specs.Numbered.{item_at}
-use Rattle.protocol.specs.Sets.{has}
-use Rattle.protocol.specs.Tables.{AskedAt, AtRest, ByTask, Maker, Object, OwnTask, Progress, RunsOn, WasPut, Worker, has_content, is_pending, is_pending_by, is_under_way, settled_number, is_nowhere}
+use Rattle.protocol.specs.Sets.{has, object_id}
+use Rattle.protocol.specs.Tables.{AskedAt, AtRest, Beside, ByTask, Maker, task_by, task_in, task_of, is_pending_task, Object, OwnTask, Progress, RunsOn, WasPut, Worker, has_content, is_under_way, settled_number, is_nowhere}
 use Rattle.protocol.specs.Whole.{Whole, worker_at}
-use Rattle.protocol_legal.specs.Knows.{IsBegun, IsTask, KnowsMaker, KnowsObject, KnowsProgress, KnowsPut, KnowsTask, once}
+use Rattle.protocol_legal.specs.Knows.{IsBegun, IsPartOf, IsPlaced, IsSettled, IsTask, KnowsMaker, KnowsObject, KnowsProgress, KnowsPut, KnowsResult}
+use Rattle.protocol_legal.specs.Knows.{KnowsTask, kept_until, once}
 use Rattle.protocol_legal.specs.Lost.{IsLost, RisingTo}
-use Rattle.protocol_legal.specs.Made.{IsMadeAt, EndsSmall, IsSmallEnd}
-use Rattle.protocol_legal.specs.Past.{past}
+use Rattle.protocol_legal.specs.Made.{IsMadeAt, EndsSmall}
+use Rattle.protocol_legal.specs.Past.{Past, past}
 use Rattle.protocol_legal.specs.Whole.{Between, setting_of}
 use Rattle.protocol_owed.specs.Seen.{AcceptedAt, IsCalm, IsKnownAt, PutAt, is_failure}
 use Rattle.lease_discipline.proofs.Told.{places}
@@ -208,6 +209,73 @@ no_cause log calm RetriesUsed z c = by_places c.places c.all c.broken
     by_places [] e b = absurd (omega (arith, e))
     by_places (k ∷ ks) e b = none_broken log calm (attempt c.part.born.object 0) k b.1
 
+-- ---- what makes an object
+
+-- the task that makes an object, and what is known of both; it stands with the first object
+pub record IsMadeBy (p : Past) (y : Id) (x : Worker) (z : Object) : Type 0 where
+  pub first : Id
+  pub task : OwnTask
+  pub place : ℕ
+  pub makes : task_by x.objects z.maker ≡ Some task
+  pub there : task_of (item_at x.objects first.serial) ≡ Some task
+  pub owner : first.owner ≡ y.owner
+  pub serial : y.serial ≡ first.serial + place
+  pub within : place < results_of task.spec
+  pub knows : KnowsTask p first x.objects task
+  pub part : IsPartOf p.log y first task.spec place
+  pub result : KnowsResult p.log y first place z (is_pending_task task)
+
+-- what was put, or a result of a task
+pub data Origin (p : Past) (y : Id) (x : Worker) (z : Object) : Type 0 where
+  OfPut : KnowsPut p.log x.node y z → Origin p y x z
+  OfTask : IsMadeBy p y x z → Origin p y x z
+
+pub origin_of : (p : Past) (y : Id) (x : Worker) (z : Object) → ((k : ℕ) (w : Object) → item_at x.objects k ≡ Some w → KnowsObject p x (object_id y.owner k) w) →
+    item_at x.objects y.serial ≡ Some z → Origin p y x z
+origin_of p y x z each there = by_maker z.maker refl (each y.serial z there).maker
+  where
+    by_row : (k : ℕ) (task : OwnTask) → task_of (item_at x.objects k) ≡ Some task → KnowsTask p (object_id y.owner k) x.objects task
+    by_row k task e = by_object (item_at x.objects k) refl e
+      where
+        by_made : (w : Object) (m : Maker) → KnowsMaker p x.node x.objects (object_id y.owner k) w m →
+            task_in m ≡ Some task → KnowsTask p (object_id y.owner k) x.objects task
+        by_made w WasPut q f = absurd (cc)
+        by_made w (ByTask other) q f = let same : other ≡ task = cc in subst (KnowsTask p (object_id y.owner k) x.objects) same q.0
+        by_made w (Beside j) q f = absurd (cc)
+
+        by_object : (o : Option Object) → item_at x.objects k ≡ o → task_of o ≡ Some task → KnowsTask p (object_id y.owner k) x.objects task
+        by_object None i f = absurd (cc)
+        by_object (Some w) i f = by_made w w.maker (each k w i).maker f
+
+    by_maker : (m : Maker) → z.maker ≡ m → KnowsMaker p x.node x.objects y z m → Origin p y x z
+    by_maker WasPut e q = OfPut q
+    by_maker (ByTask task) e q = OfTask (record {
+      first = y;
+      task = task;
+      place = q.1.0;
+      makes = ap (task_by x.objects) e;
+      there = ap task_of there ∙ ap task_in e;
+      owner = refl;
+      serial = q.1.2;
+      within = q.1.1;
+      knows = q.0;
+      part = q.1.3;
+      result = q.1.4;
+    })
+    by_maker (Beside k) e q = OfTask (record {
+      first = object_id y.owner k;
+      task = q.0;
+      place = q.2.0;
+      makes = ap (task_by x.objects) e ∙ q.1;
+      there = q.1;
+      owner = refl;
+      serial = q.2.2;
+      within = q.2.1;
+      knows = by_row k q.0 q.1;
+      part = q.2.3;
+      result = q.2.4;
+    })
+
 -- ---- what an owner's table says
 
 -- no test finds it
@@ -220,6 +288,7 @@ none_there (x ∷ xs) h = absurd (h x (ap (λ b. b || has xs x) (equal x)))
 
 -- the object has its content, of that number: its owner keeps it, or it has a place at that node
 pub record HasContentAt (z : Object) (number n : ℕ) : Type 0 where
+  pub settled : z.settled ≡ Some number
   pub unfaulted : z.fault ≡ None
   pub whole : has_content z ≡ true
   pub number_is : settled_number z ≡ number
@@ -227,7 +296,7 @@ pub record HasContentAt (z : Object) (number n : ℕ) : Type 0 where
 
 -- and where the owner doesn't keep it, it isn't small
 abbrev pub IsHad : List Entry → Id → Object → ℕ → ℕ → Type 0
-IsHad log y z number n = HasContentAt z number n × (z.kept ≡ None → EndsSmall log (attempt y number) → ⊥)
+IsHad log y z number n = HasContentAt z number n × (z.kept ≡ None → EndsSmall log y number → ⊥)
 
 module _ (s : Setting) (log : List Entry) (c : Whole) (b : Between s log c) (calm : IsCalm log) where
   pub all_live : (w : ℕ) (x : Worker) → worker_at c w ≡ Some x → x.is_live ≡ true
@@ -267,7 +336,7 @@ module _ (s : Setting) (log : List Entry) (c : Whole) (b : Between s log c) (cal
       by_entry (Faulted a o f) j k = absurd (nothing_in [] y refl j)
       by_entry (Resolved o f) j k = absurd (nothing_in [] y refl j)
 
-  not_released : (y : Id) (x : Worker) (z : Object) → worker_at c y.owner ≡ Some x → item_at x.objects y.serial ≡ Some z → (Among (Released y) log → ⊥) → z.is_released ≡ false
+  pub not_released : (y : Id) (x : Worker) (z : Object) → worker_at c y.owner ≡ Some x → item_at x.objects y.serial ≡ Some z → (Among (Released y) log → ⊥) → z.is_released ≡ false
   not_released y x z at there unreleased = by_mark z.is_released refl
     where
       by_mark : (t : Bool) → z.is_released ≡ t → z.is_released ≡ false
@@ -276,26 +345,19 @@ module _ (s : Setting) (log : List Entry) (c : Whole) (b : Between s log c) (cal
           let f : releases_of y log ≡ once true y = (knows_of y x z at there).released ∙ ap (λ t. once t y) e in
           absurd (unreleased (released_among y (subst (λ xs. Among y xs) (sym f) (zero, refl))))
 
-  one_content : {c d : Outcome} → ◌≡◌ {A = List Outcome} (c ∷ []) (d ∷ []) → c ≡ d
-  one_content e = cc
-
-  -- an attempt that ended with a small content carries it along
-  pub carries_small : (a : Attempt) (kept : Option Outcome) → IsSmallEnd log a kept → kept ≡ None → EndsSmall log a → ⊥
-  carries_small a kept end none small =
+  pub same_contents : (a : Attempt) (cs ds : List Outcome) → Among cs (ends_of a log) → Among ds (ends_of a log) → cs ≡ ds
+  same_contents a cs ds i j =
       let sane : Sane log = legal_logs_are_sane (setting_of s c) log b.legal in
-      let contents : ◌≡◌ {A = List Outcome} (end.0 ∷ []) (small.0 ∷ []) = lone (ends_of a log) (let l = sane.one_end a in omega (arith, l)) (end.0 ∷ []) (small.0 ∷ []) end.1 small.1 in
-      let same : end.0 ≡ small.0 = one_content contents in
-      let some : if_small end.0 ≡ Some end.0 = ap (λ t. if t then Some end.0 else None) (ap is_small same ∙ small.2) in
-      let is : kept ≡ if_small end.0 = end.2 in
-      absurd (cc)
+      lone (ends_of a log) (let l = sane.one_end a in omega (arith, l)) cs ds i j
 
-  content_there : (z : Object) (number n : ℕ) → z.settled ≡ Some number → z.fault ≡ None → is_pending z ≡ false → z.is_released ≡ false → (z.kept ≡ None → has z.places n ≡ true) → HasContentAt z number n
-  content_there z number n settled unfaulted rests kept place = record {
+  content_there : (z : Object) (number n : ℕ) → z.settled ≡ Some number → z.fault ≡ None → z.is_released ≡ false → (z.kept ≡ None → has z.places n ≡ true) →
+      HasContentAt z number n
+  content_there z number n settled unfaulted kept place = record {
+    settled = settled;
     unfaulted = unfaulted;
-    whole = ap (λ o. is_some o && is_none z.fault && not (is_pending z) && not z.is_released && not (is_nowhere z)) settled ∙
-        ap (λ o. true && is_none o && not (is_pending z) && not z.is_released && not (is_nowhere z)) unfaulted ∙
-        ap (λ t. true && true && not t && not z.is_released && not (is_nowhere z)) rests ∙
-        ap (λ t. true && true && true && not t && not (is_nowhere z)) kept ∙ ap (λ t. true && true && true && true && not t) (there_is z.places n z.kept place);
+    whole = ap (λ o. is_some o && is_none z.fault && not z.is_released && not (is_nowhere z)) settled ∙
+        ap (λ o. true && is_none o && not z.is_released && not (is_nowhere z)) unfaulted ∙
+        ap (λ t. true && true && not t && not (is_nowhere z)) kept ∙ ap (λ t. true && true && true && not t) (there_is z.places n z.kept place);
     number_is = ap (λ o. unwrap_or o 0) settled;
     place = place;
   }
@@ -322,99 +384,159 @@ module _ (s : Setting) (log : List Entry) (c : Whole) (b : Between s log c) (cal
       let none : number ≡ 0 = omega (arith, first, below, count) in
       (first, none, same_node v w (sym there ∙ ap (slice_get task.begun) (none ∙ sym first) ∙ begun.runs))
 
-  pub none_begun : (y : Id) (task : OwnTask) (t m number v : ℕ) (x : Worker) (z : Object) → KnowsTask (past log b.asked) y z task → task.progress ≡ AskedAt t m →
-      worker_of (attempt y number) log ≡ Some v → ⊥
-  none_begun y task t m number v x z knows asked ran =
-      let q = subst (KnowsProgress (past log b.asked) y z task) asked knows.progress in
-      let first : task.number ≡ 0 = never_risen log calm y task.number q.3.0 (q.4 q.3.0 q.3.1) in
+  pub none_begun : (y : Id) (task : OwnTask) (objects : List Object) (t m number v : ℕ) → KnowsTask (past log b.asked) y objects task →
+      task.progress ≡ AskedAt t m → worker_of (attempt y number) log ≡ Some v → ⊥
+  none_begun y task objects t m number v knows asked ran =
+      let q = subst (KnowsProgress (past log b.asked) y task) asked knows.progress in
+      let first : task.number ≡ 0 = never_risen log calm y task.number q.1.0 (q.2 q.1.0 q.1.1) in
       let there : slice_get task.begun number ≡ Some v = ap (λ xs. slice_get xs number) (sym knows.begun) ∙ ran in
       let below = below_length task.begun number v there in
-      let count = q.2 in
+      let count = q.0 in
       omega (arith, first, below, count)
 
-  pub put_no_task : (spec : Birth) (v : Value) → IsTask spec → Some spec ≡ Some (Put v) → ⊥
+  -- what an object of a table is
+  abbrev pub MadeBy : Id → Worker → Object → Type 0
+  MadeBy y x z = IsMadeBy (past log b.asked) y x z
+
+  pub origin : (y : Id) (x : Worker) (z : Object) → worker_at c y.owner ≡ Some x → item_at x.objects y.serial ≡ Some z → Origin (past log b.asked) y x z
+  origin y x z at there = origin_of (past log b.asked) y x z (λ k w i. knows_of (object_id y.owner k) x w at i) there
+
+  pub same_part : (u v : Part) → ◌≡◌ {A = Option Part} (Some u) (Some v) → u ≡ v
+  same_part u v e = cc
+
+  pub put_no_task : (spec : Birth) (v : Value) → IsTask spec → spec ≡ Put v → ⊥
   put_no_task (Put u) v t e = t
   put_no_task (Task g args depth retries others) v t e = cc
+
+  -- what was put is no result of a task
+  pub no_result : (y : Id) (x : Worker) (z : Object) → worker_at c y.owner ≡ Some x → item_at x.objects y.serial ≡ Some z → (v : Value) →
+      birth_at (births log) y ≡ Some (Put v) → MadeBy y x z → ⊥
+  no_result y x z at there v put m =
+      let sane : Sane log = legal_logs_are_sane (setting_of s c) log b.legal in
+      let same : part_of (record { object = y; birth = Put v }) y ≡ record { born = record { object = m.first; birth = m.task.spec }; place = m.place } =
+      same_part _ _ (sym (sane.grouped.whole y y (Put v) put (first_is_made (record { object = y; birth = Put v }))) ∙ m.part) in
+      put_no_task m.task.spec v m.knows.is_task (sym (ap (λ (p : Part). p.born.birth) same))
+
+  -- the part of what was put
+  pub no_run : (y : Id) (x : Worker) (z : Object) (part : Part) (number w : ℕ) → worker_at c y.owner ≡ Some x → item_at x.objects y.serial ≡ Some z → KnowsPut log x.node y z →
+      part_at (births log) y ≡ Some part → worker_of (attempt part.born.object number) log ≡ Some w → ⊥
+  no_run y x z part number w at there k born ran =
+      let same : part ≡ record { born = record { object = y; birth = Put k.value }; place = 0 } = same_part _ _ (sym born ∙ k.part) in
+      nothing_in [] w refl (number, ap (λ xs. slice_get xs number) (sym k.unbegun) ∙ ap (λ (p : Part). worker_of (attempt p.born.object number) log) (sym same) ∙ ran)
+
+  -- of a result it is the part of its task
+  pub part_is : (y : Id) (x : Worker) (z : Object) (m : MadeBy y x z) (part : Part) → part_at (births log) y ≡ Some part →
+      part ≡ record { born = record { object = m.first; birth = m.task.spec }; place = m.place }
+  part_is y x z m part born = same_part _ _ (sym born ∙ m.part)
 
   -- what was made of a content whose place is known was made there
   pub same_home : (y : Id) (x : Worker) (z : Object) (number n home : ℕ) → worker_at c y.owner ≡ Some x → item_at x.objects y.serial ≡ Some z →
       IsKnownAt log y number n → IsMadeAt log y number home → home ≡ n
   same_home y x z number n home at there (inl p) (inl q) = same_node home n (sym q.home ∙ p.place)
   same_home y x z number n home at there (inr p) (inr q) =
-      same_node home n (sym q.home ∙ ap (λ w. node_of w log) (same_node q.worker p.worker (sym q.runs ∙ p.ran)) ∙ p.place)
-  same_home y x z number n home at there (inl p) (inr q) = absurd (put_not_run z.maker (knows_of y x z at there).maker p.value p.put q.worker q.runs)
+      let same : q.part ≡ p.part = same_part _ _ (sym q.result.born ∙ p.born) in
+      let ran : worker_of (attempt p.part.born.object number) log ≡ Some q.worker =
+      ap (λ (u : Part). worker_of (attempt u.born.object number) log) (sym same) ∙ q.runs in
+      same_node home n (sym q.home ∙ ap (λ w. node_of w log) (same_node q.worker p.worker (sym ran ∙ p.ran)) ∙ p.place)
+  same_home y x z number n home at there (inl p) (inr q) = absurd (by_origin (origin y x z at there))
     where
-      put_not_run : (m : Maker) → KnowsMaker (past log b.asked) x.node y z m → (v : Value) → birth_at (births log) y ≡ Some (Put v) → (w : ℕ) → worker_of (attempt y number) log ≡ Some w → ⊥
-      put_not_run WasPut k v put w ran = nothing_in [] w refl (number, ap (λ xs. slice_get xs number) (sym k.unbegun) ∙ ran)
-      put_not_run (ByTask task) k v put w ran = put_no_task task.spec v k.is_task (sym k.spec ∙ put)
-  same_home y x z number n home at there (inr p) (inl q) = absurd (run_not_put z.maker (knows_of y x z at there).maker q.value q.born p.worker p.ran)
+      by_origin : Origin (past log b.asked) y x z → ⊥
+      by_origin (OfPut k) = no_run y x z q.part number q.worker at there k q.result.born q.runs
+      by_origin (OfTask m) = no_result y x z at there p.value p.put m
+  same_home y x z number n home at there (inr p) (inl q) = absurd (by_origin (origin y x z at there))
     where
-      run_not_put : (m : Maker) → KnowsMaker (past log b.asked) x.node y z m → (v : Value) → birth_at (births log) y ≡ Some (Put v) → (w : ℕ) → worker_of (attempt y number) log ≡ Some w → ⊥
-      run_not_put WasPut k v put w ran = nothing_in [] w refl (number, ap (λ xs. slice_get xs number) (sym k.unbegun) ∙ ran)
-      run_not_put (ByTask task) k v put w ran = put_no_task task.spec v k.is_task (sym k.spec ∙ put)
+      by_origin : Origin (past log b.asked) y x z → ⊥
+      by_origin (OfPut k) = no_run y x z p.part number p.worker at there k p.born p.ran
+      by_origin (OfTask m) = no_result y x z at there q.value q.born m
+
+  -- a result whose content was put in no store, small as it is, is kept by its owner
+  pub kept_if_small : (y : Id) (number : ℕ) (part : Part) (content : Outcome) (kept : Option Outcome) → part_at (births log) y ≡ Some part →
+      (contents : List Outcome) → Among contents (ends_of (attempt part.born.object number) log) → slice_get contents part.place ≡ Some content →
+      kept ≡ if_small content → kept ≡ None → EndsSmall log y number → ⊥
+  kept_if_small y number part content kept born contents ended has is none small =
+      let same : small.0 ≡ part = same_part _ _ (sym small.2.born ∙ born) in
+      let other : Among small.2.contents (ends_of (attempt part.born.object number) log) =
+      subst (λ (u : Part). Among small.2.contents (ends_of (attempt u.born.object number) log)) same small.2.ended in
+      let all : small.2.contents ≡ contents = same_contents (attempt part.born.object number) _ _ other ended in
+      let there : ◌≡◌ {A = Option Outcome} (Some small.1) (Some content) =
+      sym small.2.content ∙ ap (λ cs. slice_get cs small.0.place) all ∙ ap (λ (u : Part). slice_get contents u.place) same ∙ has in
+      let one : small.1 ≡ content = cc in
+      let some : if_small content ≡ Some content = ap (λ t. if t then Some content else None) (ap is_small (sym one) ∙ small.3) in
+      absurd (cc)
 
   pub put_known : (y : Id) (x : Worker) (z : Object) (number n : ℕ) → worker_at c y.owner ≡ Some x → item_at x.objects y.serial ≡ Some z → (Among (Released y) log → ⊥) →
       IsKnownAt log y number n → IsHad log y z number n
-  put_known y x z number n at there unreleased known = by_maker z.maker refl known
+  put_known y x z number n at there unreleased known = by_origin (origin y x z at there) known
     where
-      knows : KnowsObject (past log b.asked) x y z
-      knows = knows_of y x z at there
-
       unfaulted : z.fault ≡ None
       unfaulted = no_fault y x z at there
 
       kept : z.is_released ≡ false
       kept = not_released y x z at there unreleased
 
-      put_here : KnowsPut log x.node y z → PutAt log y number n → z.maker ≡ WasPut → IsHad log y z number n
-      put_here k p made =
+      put_here : KnowsPut log x.node y z → PutAt log y number n → IsHad log y z number n
+      put_here k p =
           let home : x.node ≡ n = same_node x.node n (sym (places s log c b y.owner x at) ∙ p.place) in
           let where_is : has z.places n ≡ true = elim (k.placed unfaulted kept) [
             | inl e ↦ subst (λ m. has z.places m ≡ true) home e
             | inr l ↦ absurd (none_lost_put log calm l.before l.after x.node y l.parts l.lost)
           ] in
-          (content_there z number n (k.settled ∙ ap (λ m. Some m) (sym p.first)) unfaulted (ap is_pending_by made) kept (λ _. where_is), λ _ small. not_run small)
+          (content_there z number n (k.settled ∙ ap (λ m. Some m) (sym p.first)) unfaulted kept (λ _. where_is), λ _ small. not_run small)
         where
-          not_run : EndsSmall log (attempt y number) → ⊥
+          not_run : EndsSmall log y number → ⊥
           not_run small =
               let sane : Sane log = legal_logs_are_sane (setting_of s c) log b.legal in
-              let r = sane.ended (attempt y number) small.1.0 (small.0 ∷ []) small.1.1 in
-              nothing_in [] r.0 refl (number, ap (λ xs. slice_get xs number) (sym k.unbegun) ∙ r.1)
+              let a : Attempt = attempt small.0.born.object number in
+              let r = sane.ended a small.2.ended.0 small.2.contents small.2.ended.1 in
+              no_run y x z small.0 number r.0 at there k small.2.born r.1
 
-      no_task : (spec : Birth) (v : Value) → IsTask spec → birth_at (births log) y ≡ Some spec → birth_at (births log) y ≡ Some (Put v) → ⊥
-      no_task (Put u) v t e f = t
-      no_task (Task g args depth retries others) v t e f = let h : ◌≡◌ {A = Option Birth} (Some (Task g args depth retries others)) (Some (Put v)) = sym e ∙ f in cc
+      -- its task's attempt is the first one, which is accepted: so it is at rest
+      rested : (m : MadeBy y x z) → (a : AcceptedAt log y number n) → (q : Progress) → m.task.progress ≡ q → IsHad log y z number n
+      rested m a q e =
+          let same : a.part ≡ record { born = record { object = m.first; birth = m.task.spec }; place = m.place } = part_is y x z m a.part a.born in
+          let ran : worker_of (attempt m.first number) log ≡ Some a.worker =
+          ap (λ (u : Part). worker_of (attempt u.born.object number) log) (sym same) ∙ a.ran in
+          let accepted : Among (Accepted (attempt m.first number)) log =
+          subst (λ (u : Part). Among (Accepted (attempt u.born.object number)) log) same a.accepted in
+          by_progress ran accepted q e
+        where
+          by_place : (settled : IsSettled log m.first m.place z) → (placed : IsPlaced log m.first settled.number z) → number ≡ 0 → placed.node ≡ n → settled.number ≡ 0 →
+              IsHad log y z number n
+          by_place settled placed none_before node first =
+              let same : settled.number ≡ number = first ∙ sym none_before in
+              let where_is : z.kept ≡ None → has z.places n ≡ true = λ none. elim (placed.there none) [
+                | inl f ↦ subst (λ i. has z.places i ≡ true) node f
+                | inr l ↦ absurd (none_lost log calm _ l)
+              ] in
+              let acc = settled.accepted in (
+                content_there z number n (settled.settled ∙ ap (λ i. Some i) same) unfaulted kept where_is,
+                λ none small. kept_if_small y number (record { born = record { object = m.first; birth = m.task.spec }; place = m.place }) acc.content z.kept m.part acc.contents
+                    (subst (λ i. Among acc.contents (ends_of (attempt m.first i) log)) same acc.ended) acc.has (acc.small ∙ ap (λ t. kept_until t acc.content) kept) none small,
+              )
 
-      rested : (task : OwnTask) → KnowsTask (past log b.asked) y z task → z.maker ≡ ByTask task → AcceptedAt log y number n → (q : Progress) → task.progress ≡ q → IsHad log y z number n
-      rested task k made a (AskedAt t m) e = absurd (none_begun y task t m number a.worker x z k e a.ran)
-      rested task k made a (RunsOn w m) e =
-          let q = subst (KnowsProgress (past log b.asked) y z task) e k.progress in
-          let r = begun_first y task w m number a.worker q.2 k.begun a.ran in
-          let same : number ≡ task.number = r.1 ∙ sym r.0 in
-          absurd (nothing_in (accepts_of (attempt y task.number) log) (attempt y task.number) q.3
-          (accepted_among (attempt y task.number) (subst (λ i. Among (Accepted (attempt y i)) log) same a.accepted)))
-      rested task k made a AtRest e =
-          let q = subst (KnowsProgress (past log b.asked) y z task) e k.progress in
-          let r = begun_first y task q.0 q.1 number a.worker q.2 k.begun a.ran in
-          let same : task.number ≡ number = r.0 ∙ sym r.1 in
-          let settled = q.3 unfaulted in
-          let node : q.1 ≡ n = same_node q.1 n (sym q.2.home ∙ ap (λ w. node_of w log) (sym r.2) ∙ a.place) in
-          let where_is : z.kept ≡ None → has z.places n ≡ true = λ none. elim (settled.placed kept none) [
-            | inl f ↦ subst (λ m. has z.places m ≡ true) node f
-            | inr l ↦ absurd (none_lost log calm _ l)
-          ] in (
-            content_there z number n (settled.settled ∙ ap (λ m. Some m) same) unfaulted (ap is_pending_by made ∙ ap is_under_way e) kept where_is,
-            λ none small. carries_small (attempt y task.number) z.kept (settled.content, settled.ended, settled.kept kept) none
-                (subst (λ i. EndsSmall log (attempt y i)) (sym same) small),
-          )
+          by_progress : worker_of (attempt m.first number) log ≡ Some a.worker → Among (Accepted (attempt m.first number)) log → (q : Progress) → m.task.progress ≡ q →
+              IsHad log y z number n
+          by_progress ran accepted (AskedAt t i) e = absurd (none_begun m.first m.task x.objects t i number a.worker m.knows e ran)
+          by_progress ran accepted (RunsOn w i) e =
+              let q = subst (KnowsProgress (past log b.asked) m.first m.task) e m.knows.progress in
+              let r = begun_first m.first m.task w i number a.worker q.0 m.knows.begun ran in
+              let same : number ≡ m.task.number = r.1 ∙ sym r.0 in
+              absurd (nothing_in (accepts_of (attempt m.first m.task.number) log) (attempt m.first m.task.number) q.1
+              (accepted_among (attempt m.first m.task.number) (subst (λ j. Among (Accepted (attempt m.first j)) log) same accepted)))
+          by_progress ran accepted AtRest e =
+              let q = subst (KnowsProgress (past log b.asked) m.first m.task) e m.knows.progress in
+              let r = begun_first m.first m.task q.0 q.1 number a.worker q.2 m.knows.begun ran in
+              let settled : IsSettled log m.first m.place z = m.result.rests (ap is_under_way e) unfaulted in
+              elim (settled.placed kept) [
+                | inr spent ↦ absurd (no_cause log calm RetriesUsed spent.object spent.known.cause)
+                | inl placed ↦ by_place settled placed r.1
+                    (same_node placed.node n (sym placed.home ∙ ap (λ w. node_of w log)
+                    ((begun_first m.first m.task q.0 q.1 settled.number placed.worker q.2 m.knows.begun placed.runs).2 ∙ sym r.2) ∙ a.place))
+                    (begun_first m.first m.task q.0 q.1 settled.number placed.worker q.2 m.knows.begun placed.runs).1
+              ]
 
-      by_maker : (m : Maker) → z.maker ≡ m → IsKnownAt log y number n → IsHad log y z number n
-      by_maker WasPut e (inl p) = put_here (subst (KnowsMaker (past log b.asked) x.node y z) e knows.maker) p e
-      by_maker WasPut e (inr a) =
-          let k = subst (KnowsMaker (past log b.asked) x.node y z) e knows.maker in
-          let f : slice_get [] number ≡ Some a.worker = ap (λ xs. slice_get xs number) (sym k.unbegun) ∙ a.ran in
-          absurd (nothing_in [] a.worker refl (number, f))
-      by_maker (ByTask task) e (inl p) =
-          let k = subst (KnowsMaker (past log b.asked) x.node y z) e knows.maker in
-          absurd (no_task task.spec p.value k.is_task k.spec p.put)
-      by_maker (ByTask task) e (inr a) = rested task (subst (KnowsMaker (past log b.asked) x.node y z) e knows.maker) e a task.progress refl
+      by_origin : Origin (past log b.asked) y x z → IsKnownAt log y number n → IsHad log y z number n
+      by_origin (OfPut k) (inl p) = put_here k p
+      by_origin (OfPut k) (inr a) = absurd (no_run y x z a.part number a.worker at there k a.born a.ran)
+      by_origin (OfTask m) (inl p) = absurd (no_result y x z at there p.value p.put m)
+      by_origin (OfTask m) (inr a) = rested m a m.task.progress refl

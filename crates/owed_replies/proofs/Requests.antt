@@ -3,17 +3,14 @@ use Rattle.std.proofs.Common.{◌≡◌, ◌≢◌, ℕ, List, ◌∷◌, ◌++�
 use Rattle.std.specs.Prelude.{true, false, if◌then◌else◌, not, ◌==◌, ◌&&◌, is_some, is_none}
 use Rattle.std.proofs.lemmas.Bool.Decides.{nat_tests}
 use Rattle.sequence.proofs.Places.{and_left, and_right}
-use Rattle.meaning.proofs.BirthLaws.{at_test, same_id-refl}
-use Rattle.meaning.specs.Births.{same_id}
+use Rattle.meaning.proofs.BirthLaws.{at_test}
 use Rattle.meaning.specs.Values.{Id, Put, main_birth, Outcome}
 use Rattle.event_log.specs.Breaks.{Among}
-use Rattle.event_log.specs.Entries.{Attempt, Deliver, Entry, Event, In, Released, main_object}
+use Rattle.event_log.specs.Entries.{Deliver, Entry, Event, In, Released}
 use Rattle.event_log.specs.Rules.{Setting}
 use Rattle.event_log.specs.Words.{attempt}
 use Rattle.event_log.specs.Holding.{ids_of_birth}
-use Rattle.holding.specs.Tells.{is_put}
 use Rattle.holding.proofs.Logged.{born_past}
-use Rattle.holding.proofs.Words.{BornBy, begun_born}
 use Rattle.owed_replies.proofs.Objects.{there_is}
 use Rattle.protocol.specs.Answers.{Step, Takes, answer}
 use Rattle.protocol.specs.Deliveries.{reached}
@@ -25,7 +22,7 @@ use Rattle.protocol.specs.Places.{hands_missing_on, is_present, takes_place, tak
 use Rattle.protocol.specs.Releases.{release_step}
 use Rattle.protocol.specs.Sets.{has, without_number}
 use Rattle.protocol.specs.Steps.{Here, changes, is_own, object_at}
-use Rattle.protocol.specs.Tables.{Object, Worker, is_pending, is_whole, settled_number, without_place, is_nowhere}
+use Rattle.protocol.specs.Tables.{Object, Worker, is_whole, settled_number, without_place, is_nowhere}
 use Rattle.protocol.specs.Whole.{Whole, here, worker_at}
 use Rattle.protocol_legal.specs.Made.{IsNotAt, EndsSmall}
 use Rattle.protocol_legal.specs.Past.{past}
@@ -40,7 +37,7 @@ use Rattle.lease_discipline.proofs.Events.{among_at}
 use Rattle.smallest_steps.proofs.Known.{changed_here}
 use Rattle.owed_replies.specs.Kept.{IsBornIn, IsRightLetter}
 use Rattle.owed_replies.specs.Law.{happening}
-use Rattle.owed_replies.proofs.Advancing.{all_among, entry_born, owner_has}
+use Rattle.owed_replies.proofs.Advancing.{part_born, all_among, entry_born, owner_has}
 use Rattle.owed_replies.proofs.Contents.{AtsAreKnown}
 use Rattle.owed_replies.proofs.Delivered.{accepted_other, born_serial, delivered_out, owner_there}
 use Rattle.owed_replies.proofs.Known.{born_by_past}
@@ -59,25 +56,19 @@ module _ (s : Setting) (r : Running) (k : RunReplies s r) (calm : IsCalm r.log) 
   known_born y number n (inl p) =
       elim (born_past s r.log k.step.sound.past k.step.sound.held.joined.tells y (Put p.value) p.put) [
         | inl main ↦ absurd (not_main main.1)
-        | inr q ↦ born_by_past s r.log c k.step.sound y (BornBy q.0 (is_put (Put p.value)) (ids_of_birth (Put p.value)) q.1)
+        | inr q ↦ born_by_past s r.log c k.step.sound y (y, record { bearer = q.0; put = true; others = 0; ids = ids_of_birth (Put p.value); born = q.1; one = inl refl })
       ]
     where
       not_main : Put p.value ≡ main_birth → ⊥
       not_main e = cc
-  known_born y number n (inr p) =
-      elim (begun_born k.step.sound.past k.step.sound.held.joined.legal (attempt y number) p.worker (k.step.sound.held.joined.tells.runs (attempt y number) p.worker p.ran)) [
-        | inl main ↦ absurd (not_main (ap (λ (a : Attempt). a.object) main.0) (accepted_other (setting_of s c) r.log b.legal (attempt y number) p.accepted))
-        | inr born ↦ born_by_past s r.log c k.step.sound y born
-      ]
-    where
-      not_main : y ≡ main_object → same_id y main_object ≡ false → ⊥
-      not_main e f = let g : same_id y main_object ≡ true = ap (same_id y) (sym e) ∙ same_id-refl y in cc
+  known_born y number n (inr p) = part_born r.log y p.part p.born (accepted_other (setting_of s c) r.log b.legal (attempt p.part.born.object number) p.accepted)
 
   -- another place that is taken out leaves the content
   pub without_other : (z : Object) (number n j : ℕ) → n ≢ j → HasContentAt z number n → HasContentAt (without_place j z) number n
   without_other z number n j apart q =
       let kept : z.kept ≡ None → has (without_number z.places j) n ≡ true = λ none. has-stays z.places j n (λ e. apart (sym e)) (q.place none) in
       record {
+        settled = q.settled;
         unfaulted = q.unfaulted;
         whole = ap (λ t. t && not (is_nowhere (without_place j z))) (and_left (is_whole z) (not (is_nowhere z)) q.whole) ∙
             ap not (there_is (without_number z.places j) n z.kept kept);
@@ -125,11 +116,11 @@ module _ (s : Setting) (r : Running) (k : RunReplies s r) (calm : IsCalm r.log) 
     none_of (Some d) f = absurd (cc)
 
     missed_elsewhere : (y : Id) (x : Worker) (z : Object) (number n j : ℕ) → worker_at c y.owner ≡ Some x → item_at x.objects y.serial ≡ Some z → IsKnownAt r.log y number n →
-        (Among (Released y) r.log → ⊥) → (EndsSmall r.log (attempt y number) → ⊥) → IsNotAt r.log y number j → n ≢ j
+        (Among (Released y) r.log → ⊥) → (EndsSmall r.log y number → ⊥) → IsNotAt r.log y number j → n ≢ j
     missed_elsewhere y x z number n j at there known unreleased big (made, inl (inl gone)) same = unreleased (released_among s r.log c b calm y gone)
     missed_elsewhere y x z number n j at there known unreleased big (made, inl (inr (inl (put, inl lost)))) same = none_lost_put r.log calm lost.before lost.after j y lost.parts lost.lost
     missed_elsewhere y x z number n j at there known unreleased big (made, inl (inr (inl (put, inr killed)))) same = node_alive r.log calm j killed
-    missed_elsewhere y x z number n j at there known unreleased big (made, inl (inr (inr (ended, inl lost)))) same = none_lost r.log calm _ lost
+    missed_elsewhere y x z number n j at there known unreleased big (made, inl (inr (inr (ended, inl lost)))) same = none_lost r.log calm _ lost.2
     missed_elsewhere y x z number n j at there known unreleased big (made, inl (inr (inr (ended, inr small)))) same = big small
     missed_elsewhere y x z number n j at there known unreleased big (made, inr (home, is, apart)) same =
         apart (same_home s r.log c b calm y x z number n home at there known is ∙ same)
@@ -174,10 +165,9 @@ module _ (s : Setting) (r : Running) (k : RunReplies s r) (calm : IsCalm r.log) 
             at_test (λ t. is_present number' z ≡ t → step.letters ≡ (release_step (where_reached (if t then changes h y (without_place j) else h) w y)).there.out.letters → Tells then_log step.letters y w number n)
             (is_present number' z)
             (λ _ present so.
-            let none : z.kept ≡ None = none_of z.kept (and_right (is_some z.settled && (settled_number z == number') && not z.is_released && not (is_pending z)) (is_none z.kept) present) in
+            let none : z.kept ≡ None = none_of z.kept (and_right (is_some z.settled && (settled_number z == number') && not z.is_released) (is_none z.kept) present) in
             let same : settled_number z ≡ number' = same_number (settled_number z) number' (and_right (is_some z.settled) (settled_number z == number')
-            (and_left (is_some z.settled && (settled_number z == number')) (not z.is_released) (and_left (is_some z.settled && (settled_number z == number') && not z.is_released) (not (is_pending z))
-            (and_left (is_some z.settled && (settled_number z == number') && not z.is_released && not (is_pending z)) (is_none z.kept) present)))) in
+            (and_left (is_some z.settled && (settled_number z == number')) (not z.is_released) (and_left (is_some z.settled && (settled_number z == number') && not z.is_released) (is_none z.kept) present))) in
             let apart : n ≢ j = missed_elsewhere y x z number n j at there known unreleased (big none) (subst (λ q. IsNotAt r.log y q j) (sym same ∙ content.number_is) says) in
             let left : HasContentAt (without_place j z) number n = without_other z number n j apart content in
             let g : Here = changes h y (without_place j) in

@@ -11,7 +11,7 @@ use Rattle.event_log.specs.Words.{same_attempt}
 use Rattle.protocol.specs.Messages.{At, TheWorker}
 use Rattle.protocol.specs.Numbered.{changed_at, item_at}
 use Rattle.protocol.specs.Sets.{has, is_empty, with_number}
-use Rattle.protocol.specs.Tables.{HasFaulted, Object, Run, Worker, has_content, has_stopped, is_lost, is_pending, is_whole, knows_dead, owner_of, settled_number}
+use Rattle.protocol.specs.Tables.{HasFaulted, Object, Run, Worker, has_content, has_stopped, is_lost, is_whole, knows_dead, owner_of, settled_number}
 use Rattle.protocol.specs.Tables.{with_asker, without_place, is_nowhere}
 use Rattle.protocol.specs.Steps.{Here, changes, is_own, object_at, own_object, says, with_run}
 use Rattle.protocol.specs.Runs.{is_heard, leaves, leaves_by, leaves_if_free, tells}
@@ -105,7 +105,7 @@ module _ (h : Here) (v : ℕ) (o : Id) where
   lets_it_wait : (x : Object) → item_at h.worker.objects o.serial ≡ Some x → Awaited (lets_wait h o v x)
   lets_it_wait x at =
       let g : Here = changes h o (with_asker v) in
-      at_test (λ b. Awaited (if b then recovers g o else g)) (is_lost x)
+      at_test (λ b. Awaited (if b then recovers g o else g)) (is_lost h.worker.objects x)
       (λ _. still_awaited o.serial v g.worker.objects (recovers g o).worker.objects
       (recovers-kept (IsSteady g.worker.objects (attempt_by g.worker.run)) (steady_kept g.worker.objects (attempt_by g.worker.run)) g o
       (record { grows = grows_itself g.worker.objects; attempt = refl })).grows (waits_now x at))
@@ -113,8 +113,8 @@ module _ (h : Here) (v : ℕ) (o : Id) where
 
   settled_of : (x : Object) → has_content x ≡ true → is_some x.settled ≡ true
   settled_of x e =
-      and_left (is_some x.settled) (is_none x.fault) (and_left (is_some x.settled && is_none x.fault) (not (is_pending x))
-      (and_left (is_some x.settled && is_none x.fault && not (is_pending x)) (not x.is_released) (and_left (is_whole x) (not (is_nowhere x)) e)))
+      and_left (is_some x.settled) (is_none x.fault)
+      (and_left (is_some x.settled && is_none x.fault) (not x.is_released) (and_left (is_whole x) (not (is_nowhere x)) e))
 
   -- a released one has a fault or a content
   abbrev Rests : Object → Type 0

@@ -1,12 +1,14 @@
 -- What is true of messages and attempts between two events, so that each message gets its reply.
-use Rattle.std.specs.Prelude.{◌≡◌, ◌==◌, ◌&&◌, ◌⊎◌, ℕ, true, false, List, [], Option, Some, is_none, is_some}
+use Rattle.std.specs.Prelude.{◌≡◌, ◌==◌, ◌&&◌, ◌⊎◌, ℕ, true, false, List, [], Some, is_none, is_some}
 use Rattle.std.specs.List.{flat_map}
+use Rattle.meaning.specs.Births.{is_made_by}
 use Rattle.meaning.specs.Readings.{IsBorn}
 use Rattle.meaning.specs.Values.{Birth, Id, Outcome}
 use Rattle.event_log.specs.Breaks.{Among}
 use Rattle.event_log.specs.Entries.{Attempt, Born, Deliver, Ended, Entry, main_attempt}
 use Rattle.event_log.specs.Events.{accepted_events}
 use Rattle.event_log.specs.Words.{births, same_attempt}
+use Rattle.protocol.specs.Messages.{EndedResult}
 use Rattle.protocol.specs.Messages.{At, Finished, Hold, Letter, Message, Missing, Party, TheNode, TheWorker, Where, letter}
 use Rattle.protocol.specs.Numbered.{item_at}
 use Rattle.protocol.specs.Sets.{has, is_empty}
@@ -15,9 +17,9 @@ use Rattle.protocol.specs.Whole.{Whole, worker_at}
 use Rattle.protocol_owed.specs.Replies.{IsRequest}
 use Rattle.protocol_owed.specs.Seen.{Sends, delivered_in}
 
--- the object was born
+-- an attempt bore the object
 abbrev pub IsBornIn : List Entry → Id → Type 0
-IsBornIn log o = (a : Attempt) × (b : Birth) × Among (Born o a b) log
+IsBornIn log o = (p : Id) × (a : Attempt) × (b : Birth) × Among (Born p a b) log × (is_made_by (record { object = p; birth = b }) o ≡ true)
 
 -- what worker v says to worker w: of objects that were born, to their owners, who are others; the end of an attempt to its owner; and of places
 -- there is one at least, or the content comes along
@@ -25,7 +27,7 @@ abbrev pub IsSaidRight : List Entry → ℕ → ℕ → Message → Type 0
 IsSaidRight log v w (Where y) = (w ≡ y.owner) × ((y.owner == v) ≡ false) × IsBorn (births log) y
 IsSaidRight log v w (Missing y number n) = (w ≡ y.owner) × ((y.owner == v) ≡ false)
 IsSaidRight log v w (Hold e o) = (w ≡ o.owner) × IsBornIn log o
-IsSaidRight log v w (Finished a n ids kept) = (w ≡ a.object.owner) × (same_attempt a main_attempt ≡ false)
+IsSaidRight log v w (Finished a n rs) = (w ≡ a.object.owner) × (same_attempt a main_attempt ≡ false)
 IsSaidRight log v w (At y number ns kept) = (is_empty ns && is_none kept) ≡ false
 IsSaidRight log v w m = Unit {0}
 
@@ -39,7 +41,7 @@ IsRightLetter log l = IsRightBetween log l.sender l.receiver l.message
 
 -- the worker told the attempt's owner that it ended
 abbrev pub IsReported : List Letter → ℕ → Attempt → Type 0
-IsReported sent w a = (n : ℕ) × (ids : List Id) × (kept : Option Outcome) × Sends sent (TheWorker w) (TheWorker a.object.owner) (Finished a n ids kept)
+IsReported sent w a = (n : ℕ) × (rs : List EndedResult) × Sends sent (TheWorker w) (TheWorker a.object.owner) (Finished a n rs)
 
 -- a worker's attempt
 pub record RunIsRight (log : List Entry) (sent : List Letter) (w : ℕ) (run : Run) : Type 0 where
@@ -47,7 +49,7 @@ pub record RunIsRight (log : List Entry) (sent : List Letter) (w : ℕ) (run : R
   pub needs : (y : Id) → object_needed run.phase ≡ Some y → (y.owner == w) ≡ false → IsBorn (births log) y
   pub holds : (k : Holding) → Among k run.holds → IsBornIn log k.object
   -- once it is over, its owner was told that it ended; main's needs no word
-  pub told : (c : Outcome) → run.phase ≡ HasEnded c → run.is_over ≡ true → same_attempt run.attempt main_attempt ≡ false → IsReported sent w run.attempt
+  pub told : (cs : List Outcome) → run.phase ≡ HasEnded cs → run.is_over ≡ true → same_attempt run.attempt main_attempt ≡ false → IsReported sent w run.attempt
   pub main : same_attempt run.attempt main_attempt ≡ true → run.is_over ≡ true → run.is_acknowledged ≡ true
 
 -- a stopped attempt is over as soon as none of its Holds waits

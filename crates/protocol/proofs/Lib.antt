@@ -1,4 +1,3 @@
-pub mod Entries
 mod Held
 mod Plans
 mod Stops

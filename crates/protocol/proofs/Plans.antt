@@ -9,8 +9,8 @@ use Rattle.meaning.proofs.BirthLaws.{at_test}
 use Rattle.event_log.specs.Breaks.{Among}
 use Rattle.protocol.specs.Numbered.{item_at}
 use Rattle.protocol.specs.Sets.{has, with_number}
-use Rattle.protocol.specs.Steps.{Here, is_own, object_at}
-use Rattle.protocol.specs.Recovery.{counted_from, is_lost_at, made_from, members, members_below, with_lost}
+use Rattle.protocol.specs.Steps.{Here, is_own}
+use Rattle.protocol.specs.Recovery.{counted_from, is_lost_at, is_lost_here, made_from, members, members_below, with_lost}
 use Rattle.protocol.specs.Laws.{AreOlder, IsClosed, IsLostArgument}
 
 same_number : (m n : ℕ) → (m == n) ≡ true → m ≡ n
@@ -78,19 +78,19 @@ below_counted c (suc n) j a b =
 -- ---- the members
 
 module _ (h : Here) where
-  lost_is_numbered : (o : Id) → is_lost_at (object_at h o) ≡ true → 1 ≤ o.serial
+  lost_is_numbered : (o : Id) → is_lost_here h o ≡ true → 1 ≤ o.serial
   lost_is_numbered o e = at_own (is_own h o) o.serial e
     where
-      at_own : (b : Bool) (n : ℕ) → is_lost_at (if b then item_at h.worker.objects n else None) ≡ true → 1 ≤ n
+      at_own : (b : Bool) (n : ℕ) → is_lost_at h.worker.objects (if b then item_at h.worker.objects n else None) ≡ true → 1 ≤ n
       at_own true zero g = absurd (cc)
       at_own true (suc n) g = omega arith
       at_own false n g = absurd (cc)
 
   -- what is added is a lost argument
-  with_lost_least : (P : ℕ → Type 0) (os : List Id) → ((o : Id) → Among o os → is_lost_at (object_at h o) ≡ true → P o.serial) → (ks : List ℕ) → ((j : ℕ) → has ks j ≡ true → P j) → (j : ℕ) → has (with_lost h os ks) j ≡ true → P j
+  with_lost_least : (P : ℕ → Type 0) (os : List Id) → ((o : Id) → Among o os → is_lost_here h o ≡ true → P o.serial) → (ks : List ℕ) → ((j : ℕ) → has ks j ≡ true → P j) → (j : ℕ) → has (with_lost h os ks) j ≡ true → P j
   with_lost_least P [] each ks all j e = all j e
   with_lost_least P (o ∷ os) each ks all j e =
-      at_test (λ t. is_lost_at (object_at h o) ≡ t → has (with_lost h os (if t then with_number ks o.serial else ks)) j ≡ true → P j) (is_lost_at (object_at h o))
+      at_test (λ t. is_lost_here h o ≡ t → has (with_lost h os (if t then with_number ks o.serial else ks)) j ≡ true → P j) (is_lost_here h o)
       (λ t g f. with_lost_least P os (λ z a l. each z (suc a.0, a.1) l) (with_number ks o.serial)
       (λ i r. elim (has_with ks o.serial i r) [ inl old ↦ all i old | inr new ↦ subst (λ (n : ℕ). P n) new (each o (0, refl) g) ]) j f)
       (λ t g f. with_lost_least P os (λ z a l. each z (suc a.0, a.1) l) ks all j f) refl e
@@ -98,19 +98,19 @@ module _ (h : Here) where
   with_lost_keeps : (os : List Id) (ks : List ℕ) (j : ℕ) → has ks j ≡ true → has (with_lost h os ks) j ≡ true
   with_lost_keeps [] ks j e = e
   with_lost_keeps (o ∷ os) ks j e =
-      at_test (λ t. has (with_lost h os (if t then with_number ks o.serial else ks)) j ≡ true) (is_lost_at (object_at h o))
+      at_test (λ t. has (with_lost h os (if t then with_number ks o.serial else ks)) j ≡ true) (is_lost_here h o)
       (λ t. with_lost_keeps os (with_number ks o.serial) j (has_kept ks o.serial j e)) (λ t. with_lost_keeps os ks j e)
 
-  with_lost_adds : (os : List Id) (ks : List ℕ) (o : Id) → Among o os → is_lost_at (object_at h o) ≡ true → has (with_lost h os ks) o.serial ≡ true
+  with_lost_adds : (os : List Id) (ks : List ℕ) (o : Id) → Among o os → is_lost_here h o ≡ true → has (with_lost h os ks) o.serial ≡ true
   with_lost_adds [] ks o (k, e) l = absurd (cc)
   with_lost_adds (p ∷ os) ks o (zero, e) l =
       let same : Some p ≡ Some o = e in
       let it : p ≡ o = cc in
-      at_test (λ t. is_lost_at (object_at h p) ≡ t → has (with_lost h os (if t then with_number ks p.serial else ks)) o.serial ≡ true) (is_lost_at (object_at h p))
+      at_test (λ t. is_lost_here h p ≡ t → has (with_lost h os (if t then with_number ks p.serial else ks)) o.serial ≡ true) (is_lost_here h p)
       (λ t g. subst (λ (z : Id). has (with_lost h os (with_number ks p.serial)) z.serial ≡ true) it (with_lost_keeps os (with_number ks p.serial) p.serial (has_new ks p.serial)))
-      (λ t g. let there : is_lost_at (object_at h p) ≡ true = subst (λ (z : Id). is_lost_at (object_at h z) ≡ true) (sym it) l in absurd (cc)) refl
+      (λ t g. let there : is_lost_here h p ≡ true = subst (λ (z : Id). is_lost_here h z ≡ true) (sym it) l in absurd (cc)) refl
   with_lost_adds (p ∷ os) ks o (suc k, e) l =
-      at_test (λ t. has (with_lost h os (if t then with_number ks p.serial else ks)) o.serial ≡ true) (is_lost_at (object_at h p))
+      at_test (λ t. has (with_lost h os (if t then with_number ks p.serial else ks)) o.serial ≡ true) (is_lost_here h p)
       (λ t. with_lost_adds os (with_number ks p.serial) o (k, e) l) (λ t. with_lost_adds os ks o (k, e) l)
 
   -- the same of any property of serials

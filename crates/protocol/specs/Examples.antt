@@ -15,7 +15,7 @@ use Rattle.protocol.specs.Tables.{ByTask, Object, is_held, new_object, new_task,
 use Rattle.protocol.specs.Tables.{without_holder, without_place, without_places}
 use Rattle.protocol.specs.Steps.{Here}
 use Rattle.protocol.specs.Recovery.{counted_from, first_stop, members}
-use Rattle.protocol.specs.Releases.{releases}
+use Rattle.protocol.specs.Releases.{releases_all}
 use Rattle.protocol.specs.Answers.{Refuses, answer}
 use Rattle.protocol.specs.Plays.{Does, Doing, IsRun, Line, Seen, Settles, first_played, doing, plays}
 
@@ -142,7 +142,7 @@ kept_at_last = with_content 2 3 [] (Some one) (without_places made_twice)
 
 -- what is sent where worker 1's first object is that, and is released
 abbrev pub told_at_release : Object → List Letter
-told_at_release x = (releases (owner_of_these (x ∷ [])) (object_id 1 1) x).there.out.letters
+told_at_release x = (releases_all (owner_of_these (x ∷ [])) 1 1).there.out.letters
 
 -- node n hears that its copies of o1.1 go
 abbrev pub copies_go : ℕ → Letter

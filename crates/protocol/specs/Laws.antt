@@ -6,8 +6,8 @@ use Rattle.event_log.specs.Entries.{Fault}
 use Rattle.event_log.specs.Breaks.{Among}
 use Rattle.protocol.specs.Sets.{has, has_id}
 use Rattle.protocol.specs.Tables.{Object, is_held}
-use Rattle.protocol.specs.Steps.{Here, object_at}
-use Rattle.protocol.specs.Recovery.{first_stop, is_lost_at, made_from, members, stop_at}
+use Rattle.protocol.specs.Steps.{Here}
+use Rattle.protocol.specs.Recovery.{first_stop, is_lost_here, made_from, members, stop_at}
 
 -- ---- holders
 
@@ -26,7 +26,7 @@ pub record HeldMeans : Type 0 where
 -- the own object i was made from o, which is the worker's own and lost
 pub record IsLostArgument (h : Here) (i : ℕ) (o : Id) : Type 0 where
   pub argument : Among o (made_from h i)
-  pub lost : is_lost_at (object_at h o) ≡ true
+  pub lost : is_lost_here h o ≡ true
 
 -- with each object of these serials, its lost arguments are among them
 abbrev pub IsClosed : Here → (ℕ → Bool) → Type 0

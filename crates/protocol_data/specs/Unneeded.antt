@@ -1,11 +1,12 @@
--- Which of its objects an owner has to look at for a release.
+-- Which of its objects an owner has to look at for a release. What is said of an object here is by its own row alone: the objects of one task
+-- are released together, with the first.
 use Rattle.std.specs.Prelude.{Bool, List, None, Option, Some, false, is_some, nat_lt, not, slice_get, true, ℕ, ◌&&◌, ◌<◌, ◌≡◌, ◌≤◌, ◌⊎◌, ◌||◌}
 use Rattle.std.specs.List.{list_any}
 use Rattle.meaning.specs.Births.{same_id}
 use Rattle.event_log.specs.Entries.{Attempt}
 use Rattle.event_log.specs.Words.{same_attempt}
 use Rattle.protocol_data.specs.declared.tables.Maker.{Maker}
-use Rattle.protocol_data.specs.declared.tables.Maker.TheVariants.{ByTask, WasPut}
+use Rattle.protocol_data.specs.declared.tables.Maker.TheVariants.{Beside, ByTask, WasPut}
 use Rattle.protocol_data.specs.declared.tables.Object.{Object}
 use Rattle.protocol_data.specs.declared.tables.Progress.{Progress}
 use Rattle.protocol_data.specs.declared.tables.Progress.TheVariants.{AskedAt, AtRest, RunsOn}
@@ -16,10 +17,11 @@ is_under_way AtRest = false
 is_under_way (AskedAt t n) = true
 is_under_way (RunsOn w n) = true
 
--- an attempt of the task that makes the object is asked for, or runs
+-- it is the first object of a task of which an attempt is asked for, or runs
 abbrev pub is_awaited : Maker → Bool
 is_awaited WasPut = false
 is_awaited (ByTask task) = is_under_way task.progress
+is_awaited (Beside k) = false
 
 -- one of the holders that were added was not removed
 abbrev pub has_holder : Object → Bool

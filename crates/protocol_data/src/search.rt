@@ -48,7 +48,7 @@ fn is_awaited(maker: &Maker) -> bool
     ensures { result ≡ is_awaited maker.now }
 {
     match maker {
-        Maker::WasPut => false,
+        Maker::WasPut | Maker::Beside(_) => false,
         Maker::ByTask(task) => match &task.progress {
             Progress::AtRest => false,
             Progress::AskedAt(..) => true,

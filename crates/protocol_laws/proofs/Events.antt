@@ -26,7 +26,7 @@ use Rattle.protocol.specs.Ticks.{tick_step}
 use Rattle.protocol.specs.Deliveries.{reached}
 use Rattle.protocol.specs.Releases.{release_step}
 use Rattle.protocol.specs.Whole.{Whole, Moved, moved, node_at, worker_at, here, there, after_node, after_worker, worker_does, worker_does_by, worker_does_at, node_does, node_does_by}
-use Rattle.protocol.specs.Events.{is_live_worker, is_live_node, with_committed, with_delivered, delivered_to, delivered_by, committed_by, dead, dies_with, killed, killed_by, happens}
+use Rattle.protocol.specs.Events.{is_live_worker, is_live_node, with_committed, with_delivered, delivered_to, delivered_by, committed_by, dead, dies_with, killed, killed_by, happens, objects_made}
 use Rattle.protocol.specs.Refusals.{no_worker, is_ready_run, has_slot, is_ready_on, commit_refusal, is_out_by, is_dead_worker, is_dead_node, refusal, is_within_limits, unless}
 use Rattle.protocol.specs.Answers.{Answer, Refuses, answer, decided, takes, given_out, whole_after, logged}
 use Rattle.holding.specs.Past.{Fact}
@@ -292,7 +292,7 @@ module _ (s : Setting) (apart : KeepsMainApart s.script) (log : List Entry) (c :
           let claimed : worker_of_job j log ≡ Some g.worker = ap (λ (ws : List ℕ). from_one ws j) b.knows.claims ∙ from_one_of (λ (i : Given). i.worker) c.jobs j g e in
           let done = right g l.worker run.0 e l.at run.1 run.2 in
           worker_event (Commit j) seat g.worker l.worker l.at l.lives (record { own = claimed; spares = λ v n. refl; spares_nodes = λ n. refl; brings_none = refl })
-          (with_committed c j (length o.births)).jobs (with_committed c j (length o.births)).made c.delivered (on_workers.job_committed j g e) (λ k. commit_step k o)
+          (with_committed c j (objects_made o.births)).jobs (with_committed c j (objects_made o.births)).made c.delivered (on_workers.job_committed j g e) (λ k. commit_step k o)
           (λ arrived. steps_stay_legal.steps.commits _ _ j run.0 o refl arrived (on_workers.knows_at_once _ _ _ _ _ arrived (λ u. refl)) (record {
             is = run.1;
             out = run.2;

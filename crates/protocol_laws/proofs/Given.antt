@@ -4,8 +4,7 @@ use Rattle.std.specs.Prelude.{◌&&◌, if◌then◌else◌, slice_get}
 use Rattle.std.proofs.lemmas.Option.{same_Some}
 use Rattle.std.proofs.lemmas.Bool.{and_parts}
 use Rattle.std.proofs.lemmas.List.Concat.{flat_map-append}
-use Rattle.meaning.specs.Values.{Birth, Put, Task, Id, Outcome, main_birth}
-use Rattle.meaning.specs.Singles.{IsSingle}
+use Rattle.meaning.specs.Values.{Birth, Id, Outcome, main_birth}
 use Rattle.meaning.specs.Syntax.{Number}
 use Rattle.meaning.specs.Births.{birth_at, same_id}
 use Rattle.meaning.specs.Kinds.{AnswersFit, IsBirthOf, ScriptChecks}
@@ -19,7 +18,6 @@ use Rattle.event_log.specs.Rules.{Setting, Allowed}
 use Rattle.event_log.specs.Legal.{opening}
 use Rattle.event_log.proofs.Extending.{births-more}
 use Rattle.event_log.proofs.SaneLaws.{always, none_at, one_at, word_last}
-use Rattle.event_log.proofs.SingleLaws.{single_at, legal_logs_are_of_singles}
 use Rattle.kind_laws.proofs.Laws.{legal_logs_keep}
 use Rattle.protocol.specs.Jobs.{Handed}
 use Rattle.protocol.specs.Tables.{Run, Worker}
@@ -48,17 +46,8 @@ use Rattle.protocol_laws.proofs.Tests.{live_worker, or_none, ready_run, unless_n
 
 -- ---- what was begun is a task
 
--- whatever the number of its results
-abbrev IsCall : Birth → Type 0
-IsCall (Put v) = ⊥
-IsCall (Task g args depth retries others) = Unit {0}
-
-call_of_one : (b : Birth) → IsCall b → IsSingle b → IsTask b
-call_of_one (Put v) h one = absurd h
-call_of_one (Task g args depth retries others) h one = one
-
 abbrev IsOfTask : List Entry → Id → Type 0
-IsOfTask log o = (b : Birth) × (birth_at (births log) o ≡ Some b) × IsCall b
+IsOfTask log o = (b : Birth) × (birth_at (births log) o ≡ Some b) × IsTask b
 
 abbrev BegunAreTasks : List Entry → Type 0
 BegunAreTasks log = (o : Id) (k w : ℕ) → slice_get (runs_of o log) k ≡ Some w → IsOfTask log o
@@ -114,8 +103,7 @@ module _ (s : Setting) (checks : ScriptChecks s.script s.script) (main : IsBirth
       let task = always BegunAreTasks task_step S log task_first sound.between.legal run.attempt.object run.attempt.number w k.runs in
       let pace : IsInStep s.script log run.attempt run.spec run.base run.births = attempts_keep_pace S log checks main sound.between.legal run.attempt run.spec run.base run.births k.spec k.own in
       record {
-        task = call_of_one run.spec (subst IsCall (same_Some task.0 run.spec (sym task.1 ∙ k.spec)) task.2)
-            (single_at (births log) (legal_logs_are_of_singles S log sound.between.legal).births run.attempt.object run.spec k.spec);
+        task = subst IsTask (same_Some task.0 run.spec (sym task.1 ∙ k.spec)) task.2;
         kind = (legal_logs_keep S log checks main sound.between.legal).kinds run.attempt.object run.spec k.spec;
         answers = subst (AnswersFit (run_birth s.script run.spec) run.base) k.answers pace.fit;
         births = subst (λ cs. IsFirst run.births (replay s.script run.spec run.base cs).births) k.answers pace.births;

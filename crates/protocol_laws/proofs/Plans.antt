@@ -1,5 +1,5 @@
 -- What an object is made from is older, in every sound run: a birth names what was born before it, and takes its owner's next serial.
-use Rattle.std.proofs.Common.{◌≡◌, ℕ, zero, suc, ◌<◌, ◌≤◌, List, [], ◌∷◌, ◌++◌, Option, Some, None, inl, inr, refl, ap, sym, subst, ◌∙◌, arith, append-nil, append_assoc}
+use Rattle.std.proofs.Common.{◌≡◌, ℕ, zero, suc, ◌+◌, ◌<◌, ◌≤◌, List, [], ◌∷◌, ◌++◌, Option, Some, None, inl, inr, refl, ap, sym, subst, ◌∙◌, arith, append-nil, append_assoc}
 use Rattle.std.specs.Prelude.{Bool, true, false, if◌then◌else◌, ◌==◌}
 use Rattle.std.proofs.lemmas.Bool.Decides.{nat_tests}
 use Rattle.meaning.specs.Births.{Bearing, Part, birth_at, is_made_by, part_at, part_of, same_id}
@@ -19,13 +19,13 @@ use Rattle.event_log.proofs.WordLaws.{births_push, next_serial-push}
 use Rattle.protocol.specs.Laws.{AreOlder}
 use Rattle.protocol.specs.Nodes.{Node}
 use Rattle.protocol.specs.Numbered.{item_at}
-use Rattle.protocol.specs.Recovery.{arguments_by, is_lost_at}
+use Rattle.protocol.specs.Recovery.{arguments_by, is_lost_at, task_for}
 use Rattle.protocol.specs.Sets.{object_id}
 use Rattle.protocol.specs.Steps.{object_at}
-use Rattle.protocol.specs.Tables.{ByTask, Maker, Object, WasPut, Worker, task_in, task_of}
+use Rattle.protocol.specs.Tables.{Beside, ByTask, Maker, Object, OwnTask, WasPut, Worker, task_by, task_in, task_of}
 use Rattle.protocol.specs.Whole.{Whole, here, worker_at}
-use Rattle.protocol_legal.specs.Knows.{KnowsMaker, KnowsObject, KnowsTask}
-use Rattle.protocol_legal.specs.Past.{past}
+use Rattle.protocol_legal.specs.Knows.{IsResultOf, KnowsMaker, KnowsObject, KnowsTask}
+use Rattle.protocol_legal.specs.Past.{Past, past}
 use Rattle.protocol_legal.specs.Whole.{setting_of}
 use Rattle.protocol_owed.proofs.Letters.{among-append_cases, among-nothing}
 use Rattle.meaning_laws.proofs.LogLaw.{legal_logs_read}
@@ -160,27 +160,56 @@ module _ (s : Setting) (log : List Entry) (c : Whole) (sound : IsSound s log c) 
       (object_id w k) b e
 
   -- what is lost is the worker's own
-  own_lost : (o : Id) → is_lost_at (object_at (here c w x node) o) ≡ true → o.owner ≡ w
+  own_lost : (o : Id) → is_lost_at x.objects (object_at (here c w x node) o) ≡ true → o.owner ≡ w
   own_lost o lost = by_test (o.owner == w) refl lost
     where
       same_number : (m n : ℕ) → (m == n) ≡ true → m ≡ n
       same_number m n f = grind (arith, nat_tests)
 
-      by_test : (t : Bool) → (o.owner == w) ≡ t → is_lost_at (if t then item_at x.objects o.serial else None) ≡ true → o.owner ≡ w
+      by_test : (t : Bool) → (o.owner == w) ≡ t → is_lost_at x.objects (if t then item_at x.objects o.serial else None) ≡ true → o.owner ≡ w
       by_test true e f = same_number o.owner w e
       by_test false e f = absurd (cc)
 
-  by_maker : (k : ℕ) (z : Object) → KnowsObject (past log sound.between.asked) x (object_id w k) z → (o : Id) → o.owner ≡ w → (m : Maker) → z.maker ≡ m →
-      Among o (arguments_by (task_in m)) → o.serial < k
-  by_maker k z knows o own WasPut e i = absurd (among-nothing o i)
-  by_maker k z knows o own (ByTask task) e i =
-      let q : KnowsTask (past log sound.between.asked) (object_id w k) z task =
-      subst (KnowsMaker (past log sound.between.asked) x.node (object_id w k) z) e knows.maker in
-      in_birth (IsOlder (object_id w k)) task.spec (named k task.spec q.spec) o i own
+  abbrev p : Past
+  p = past log sound.between.asked
 
-  by_object : (k : ℕ) (o : Id) → o.owner ≡ w → (r : Option Object) → item_at x.objects k ≡ r → Among o (arguments_by (task_of r)) → o.serial < k
+  knows_maker : (k : ℕ) (z : Object) → item_at x.objects k ≡ Some z → (m : Maker) → z.maker ≡ m → KnowsMaker p x.node x.objects (object_id w k) z m
+  knows_maker k z there m e =
+      subst (KnowsMaker p x.node x.objects (object_id w k) z) e ((sound.between.knows.workers w x at live).objects k z there).maker
+
+  -- what the task is made from that stands with the object of that serial
+  by_task : (k : ℕ) (r : Option Object) → item_at x.objects k ≡ r → (task : OwnTask) → task_of r ≡ Some task → (o : Id) → o.owner ≡ w →
+      Among o (dereferenced_in task.spec) → o.serial < k
+  by_task k None there task e o own i = absurd (cc)
+  by_task k (Some z) there task e o own i = by_its z.maker refl e
+    where
+      by_its : (m : Maker) → z.maker ≡ m → task_in m ≡ Some task → o.serial < k
+      by_its WasPut f g = absurd (cc)
+      by_its (Beside n) f g = absurd (cc)
+      by_its (ByTask own_task) f g =
+          let same : own_task ≡ task = some_is own_task task g in
+          let q : KnowsTask p (object_id w k) x.objects own_task × IsResultOf p x.objects (object_id w k) z k own_task =
+          knows_maker k z there (ByTask own_task) f in
+          let spec : birth_at (births log) (object_id w k) ≡ Some task.spec =
+          subst (λ (d : OwnTask). birth_at (births log) (object_id w k) ≡ Some d.spec) same q.0.spec in
+          in_birth (IsOlder (object_id w k)) task.spec (named k task.spec spec) o i own
+
+  by_maker : (k : ℕ) (z : Object) → item_at x.objects k ≡ Some z → (o : Id) → o.owner ≡ w → (m : Maker) → z.maker ≡ m →
+      Among o (arguments_by (task_by x.objects m)) → o.serial < k
+  by_maker k z there o own WasPut e i = absurd (among-nothing o i)
+  by_maker k z there o own (ByTask task) e i = by_task k (Some z) there task (ap task_in e) o own i
+  by_maker k z there o own (Beside n) e i =
+      let q : (task : OwnTask) × (task_of (item_at x.objects n) ≡ Some task) × IsResultOf p x.objects (object_id w k) z n task =
+      knows_maker k z there (Beside n) e in
+      let first : o.serial < n = by_task n (item_at x.objects n) refl q.0 q.1 o own (subst (λ r. Among o (arguments_by r)) q.1 i) in
+      let row : IsResultOf p x.objects (object_id w k) z n q.0 = q.2 in
+      let serial : k ≡ n + row.0 = row.2 in
+      omega (arith, first, serial)
+
+  by_object : (k : ℕ) (o : Id) → o.owner ≡ w → (r : Option Object) → item_at x.objects k ≡ r →
+      Among o (arguments_by (task_for (here c w x node) r)) → o.serial < k
   by_object k o own None e i = absurd (among-nothing o i)
-  by_object k o own (Some z) e i = by_maker k z ((sound.between.knows.workers w x at live).objects k z e) o own z.maker refl i
+  by_object k o own (Some z) e i = by_maker k z e o own z.maker refl i
 
   older : AreOlder (here c w x node)
   older k o lost = by_object k o (own_lost o lost.lost) (item_at x.objects k) refl lost.argument

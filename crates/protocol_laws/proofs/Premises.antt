@@ -15,7 +15,7 @@ use Rattle.protocol.specs.Numbered.{item_at}
 use Rattle.protocol.specs.Sets.{object_id}
 use Rattle.protocol.specs.Messages.{Message, Push, TheWorker}
 use Rattle.protocol.specs.Nodes.{Node}
-use Rattle.protocol.specs.Tables.{RunsOn, Maker, WasPut, ByTask, Object, OwnTask, Worker, task_in, task_of}
+use Rattle.protocol.specs.Tables.{RunsOn, Maker, WasPut, Beside, ByTask, Object, OwnTask, Worker, task_in, task_of}
 use Rattle.protocol.specs.Steps.{Here, own_object}
 use Rattle.protocol.specs.Whole.{Whole, here, node_at, worker_at}
 use Rattle.holding.specs.Past.{Fact, Killed, Has}
@@ -79,9 +79,9 @@ module _ (s : Setting) (log : List Entry) (c : Whole) (b : Between s log c) wher
     runs_as : (k v n : ℕ) (task : OwnTask) (y : Object) → item_at x.objects k ≡ Some y → y.maker ≡ ByTask task → task.progress ≡ RunsOn v n → IsRunning k v n task
     runs_as k v n task y i m p =
         let ko : KnowsObject (past log b.asked) x (object_id w k) y = known.objects k y i in
-        let kt : KnowsTask (past log b.asked) (object_id w k) y task = subst (KnowsMaker (past log b.asked) x.node (object_id w k) y) m ko.maker in
-        let kp : KnowsProgress (past log b.asked) (object_id w k) y task (RunsOn v n) = subst (KnowsProgress (past log b.asked) (object_id w k) y task) p kt.progress in
-        record { runs = ap (λ ws. slice_get ws task.number) kt.begun ∙ kp.2.runs; home = kp.2.home }
+        let kt : KnowsTask (past log b.asked) (object_id w k) x.objects task = (subst (KnowsMaker (past log b.asked) x.node x.objects (object_id w k) y) m ko.maker).0 in
+        let kp : KnowsProgress (past log b.asked) (object_id w k) task (RunsOn v n) = subst (KnowsProgress (past log b.asked) (object_id w k) task) p kt.progress in
+        record { runs = ap (λ ws. slice_get ws task.number) kt.begun ∙ kp.0.runs; home = kp.0.home }
 
     is_running : (k v n : ℕ) (task : OwnTask) → task_of (own_object h k) ≡ Some task → task.progress ≡ RunsOn v n → IsRunning k v n task
     is_running k v n task e p = by_object (item_at x.objects k) refl e
@@ -91,6 +91,7 @@ module _ (s : Setting) (log : List Entry) (c : Whole) (b : Between s log c) wher
 
         by_maker : (y : Object) → item_at x.objects k ≡ Some y → (m : Maker) → y.maker ≡ m → task_in m ≡ Some task → IsRunning k v n task
         by_maker y i WasPut m j = absurd (cc)
+        by_maker y i (Beside u) m j = absurd (cc)
         by_maker y i (ByTask u) m j = runs_as k v n task y i (m ∙ ap ByTask (same u j)) p
 
         by_object : (o : Option Object) → item_at x.objects k ≡ o → task_of o ≡ Some task → IsRunning k v n task

@@ -51,7 +51,7 @@ module _ (j : ℕ) where
     leaves = λ h run next e stopped a q o p. absurd (false≢true (sym (ap has_stopped (phase_of h.worker run e p)) ∙ stopped));
     gets = λ h run c y f e q p. absurd (waits_apart j y f (sym (phase_of h.worker run e p) ∙ q));
     faults = λ h run f y g e q p. absurd (waits_apart j y g (sym (phase_of h.worker run e p) ∙ q));
-    tells_end = λ h run n ids c e o p. p;
+    tells_end = λ h run n rs e o p. p;
     tells_fault = λ h run f e o p. p;
     back = λ h run e o p. p;
     hears = λ h w a t p. p;
@@ -89,7 +89,7 @@ module _ (j : ℕ) where
 
   heard : (h : Here) (w : ℕ) (m : Message) → ((run : Run) → h.worker.run ≡ Some run → run.is_over ≡ true → has_stopped run.phase ≡ true) → IsOutAs j h.worker → IsHeard Told Heard Stays kept h w m
   heard h w (Push a spec) over p = pushed h a spec over p
-  heard h w (Finished a n ids content) over p = tt
+  heard h w (Finished a n rs) over p = tt
   heard h w (Failed a f) over p = tt
   heard h w (FinishedAck a) over p = tt
   heard h w (Ask a t) over p = tt

@@ -18,7 +18,7 @@ use Rattle.protocol_laws.specs.Sound.{IsSound}
 
 -- a job that may be run
 pub record IsGood (script : Script) (job : Job) : Type 0 where
-  -- its attempt is of a task of one result, which makes an object of some kind
+  -- its attempt is of a task, which makes objects of some kinds
   pub task : IsTask job.spec
   pub kind : HasKinds script job.spec
   -- its answers are of the kinds that the task asks for

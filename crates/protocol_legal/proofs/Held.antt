@@ -28,12 +28,12 @@ lost_names log o e x lost k = record { ids = k.ids; holders = k.holders; dead = 
 module _ (f : Frame) (asked : List Asking) (h : Here) (s : SoundHere f asked h) (e o : Id) (same : o ≡ object_id h.me o.serial) where
   pub lost_sound : IsDeadHolder (so_far f h.there.out.entries) e o → SoundHere f asked (changes h o (with_dead_holder e))
   lost_sound lost = subst (λ z. SoundHere f asked (changes h z (with_dead_holder e))) (sym same)
-      (placed_sound f asked h s o.serial (with_dead_holder e) (λ z. refl) (λ z. refl) (λ z. refl) (λ z. refl) (λ z. refl) (λ z. refl) (λ z j number m x made y u v. inl v)
+      (placed_sound f asked h s o.serial (with_dead_holder e) (λ z. refl) (λ z. refl) (λ z. refl) (λ z. refl) (λ z. refl) (λ z. refl) (λ z e. e) (λ z j number m x made y u v. inl v)
       (λ x k. lost_names (so_far f h.there.out.entries) (object_id h.me o.serial) e x (subst (IsDeadHolder (so_far f h.there.out.entries) e) same lost) k))
 
   pub held_sound : HasId (so_far f h.there.out.entries) e o → SoundHere f asked (changes h o (with_holder e))
   held_sound has = subst (λ z. SoundHere f asked (changes h z (with_holder e))) (sym same)
-      (placed_sound f asked h s o.serial (with_holder e) (λ z. refl) (λ z. refl) (λ z. refl) (λ z. refl) (λ z. refl) (λ z. refl) (λ z j number m x made y u v. inl v)
+      (placed_sound f asked h s o.serial (with_holder e) (λ z. refl) (λ z. refl) (λ z. refl) (λ z. refl) (λ z. refl) (λ z. refl) (λ z e. e) (λ z j number m x made y u v. inl v)
       (λ x k. held_names (so_far f h.there.out.entries) (object_id h.me o.serial) e x (subst (HasId (so_far f h.there.out.entries) e) same has) k))
 
 pub adds_sound : (f : Frame) (asked : List Asking) (h : Here) (s : SoundHere f asked h) (e o : Id) → o ≡ object_id h.me o.serial → HasId (so_far f h.there.out.entries) e o → SoundHere f asked (adds_holder h e o)

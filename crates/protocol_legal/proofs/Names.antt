@@ -1,13 +1,15 @@
 -- Names stay true as the past goes on.
-use Rattle.std.proofs.Common.{◌≡◌, Bool, true, List, [], ◌∷◌, ◌++◌, Option, Some, None, refl}
+use Rattle.std.proofs.Common.{◌≡◌, ℕ, Bool, true, List, [], ◌∷◌, ◌++◌, Option, Some, None, refl, subst}
 use Rattle.std.specs.Prelude.{suc, if◌then◌else◌, nat_lt}
 use Rattle.std.specs.List.{AllByRecursion, filter, list_any}
-use Rattle.meaning.specs.Values.{Id}
-use Rattle.meaning.specs.Births.{same_id}
+use Rattle.meaning.specs.Values.{Birth, Id}
+use Rattle.meaning.specs.Births.{Part, part_at, same_id}
+use Rattle.event_log.specs.Entries.{Entry}
+use Rattle.event_log.specs.Words.{attempt, births, ends_of}
 use Rattle.meaning.proofs.BirthLaws.{at_test}
 use Rattle.values.specs.Listed.{without, each_once, adding}
 use Rattle.event_log.specs.Breaks.{Among}
-use Rattle.event_log.specs.Holding.{HasId}
+use Rattle.event_log.specs.Holding.{HasId, InBirth, InContents, ids_of_birth}
 use Rattle.protocol.specs.Tables.{Holding}
 use Rattle.protocol.specs.Holders.{first_born, first_born_first}
 use Rattle.protocol_legal.specs.Past.{Past}
@@ -62,6 +64,17 @@ all_first_born P d (e ∷ es) k h =
 pub all_first_born_first : (P : Id → Type 0) (es : List Id) → AllByRecursion P es → AllByRecursion P (first_born_first es)
 all_first_born_first P [] h = tt
 all_first_born_first P (e ∷ es) h = (all_first_born P e es h.0 h.1, h)
+
+-- ---- of the objects of one birth, each has the ids that the first one has
+
+pub has_beside : (log : List Entry) (first e : Id) (b : Birth) (k place : ℕ) → part_at (births log) first ≡ Some (record { born = record { object = first; birth = b }; place = k }) →
+    part_at (births log) e ≡ Some (record { born = record { object = first; birth = b }; place = place }) → (z : Id) → HasId log first z → HasId log e z
+has_beside log first e b k place at there z (InBirth x born m) =
+    let same : x ≡ record { born = record { object = first; birth = b }; place = k } = cc in
+    InBirth (record { born = record { object = first; birth = b }; place = place }) there (subst (λ (u : Part). Among z (ids_of_birth u.born.birth)) same m)
+has_beside log first e b k place at there z (InContents x number cs born h m) =
+    let same : x ≡ record { born = record { object = first; birth = b }; place = k } = cc in
+    InContents (record { born = record { object = first; birth = b }; place = place }) number cs there (subst (λ (u : Part). Among cs (ends_of (attempt u.born.object number) log)) same h) m
 
 -- ---- growth
 

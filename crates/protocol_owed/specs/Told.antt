@@ -10,7 +10,7 @@ abbrev pub pace_in : Phase → Pace
 pace_in Ready = GoesOn
 pace_in (Out j) = IsOut j
 pace_in (Waits y f) = Rests
-pace_in (HasEnded c) = HasStopped
+pace_in (HasEnded cs) = HasStopped
 pace_in (HasFaulted f) = HasStopped
 
 abbrev pub pace_by : Option Run → Pace

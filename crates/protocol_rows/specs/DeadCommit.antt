@@ -19,7 +19,7 @@ birth_1_1 = Task (codes "one") [] 1 0 0
 abbrev pub dead_commit_doings : List Doing
 dead_commit_doings =
     doing 1 (done (birth_1_1 ∷ []) [] (AtGet o1_1))
-    ∷ doing 2 (done [] [] (AtEnd (Val (int 1))))
+    ∷ doing 2 (done [] [] (AtEnd (Val (int 1) ∷ [])))
     ∷ []
 
 -- the lines of the event file

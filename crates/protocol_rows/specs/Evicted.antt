@@ -8,7 +8,7 @@ use Rattle.event_log.specs.Entries.{NoCopy}
 use Rattle.protocol.specs.Messages.{Ask, Back, CopyOf, Elsewhere, Fetch, Finished, FinishedAck, Give, Push, TheNode, TheWorker, Unhold, WasReleased, letter}
 use Rattle.protocol.specs.Jobs.{AtEnd, AtGet}
 use Rattle.protocol.specs.Plays.{Does, Doing, Line, Seen, Settles, does_all, doing}
-use Rattle.protocol_rows.specs.Writing.{a1_0_0, a1_1_0, a1_2_0, done, given, int, job, nine, o1_1, o1_2, o2_1, o3_1}
+use Rattle.protocol_rows.specs.Writing.{a1_0_0, a1_1_0, a1_2_0, done, given, int, job, nine, o1_1, o1_2, o2_1, o3_1, told}
 
 -- what makes o1.1
 abbrev pub birth_1_1 : Birth
@@ -22,11 +22,11 @@ birth_1_2 = Task (codes "big") (given (int 2) ∷ []) 1 3 0
 abbrev pub evicted_doings : List Doing
 evicted_doings =
     doing 1 (done (birth_1_1 ∷ birth_1_2 ∷ []) [] (AtGet o1_2))
-    ∷ doing 2 (done [] [] (AtEnd (Val (nine (int 1)))))
-    ∷ doing 3 (done [] [] (AtEnd (Val (nine (int 2)))))
+    ∷ doing 2 (done [] [] (AtEnd (Val (nine (int 1)) ∷ [])))
+    ∷ doing 3 (done [] [] (AtEnd (Val (nine (int 2)) ∷ [])))
     ∷ doing 4 (done [] [] (AtGet o1_1))
     ∷ doing 5 (done [] [] (AtGet o1_2))
-    ∷ doing 6 (done [] [] (AtEnd (Val (int 2))))
+    ∷ doing 6 (done [] [] (AtEnd (Val (int 2) ∷ [])))
     ∷ []
 
 -- the lines of the event file
@@ -118,10 +118,10 @@ evicted_run =
           ∷ letter (TheWorker 1) (TheNode 2) (Ask a1_2_0 1)
           ∷ letter (TheNode 2) (TheWorker 1) (Give a1_2_0 1 3)
           ∷ letter (TheWorker 1) (TheWorker 3) (Push a1_2_0 birth_1_2)
-          ∷ letter (TheWorker 2) (TheWorker 1) (Finished a1_1_0 1 [] None)
+          ∷ letter (TheWorker 2) (TheWorker 1) (Finished a1_1_0 1 (told [] None ∷ []))
           ∷ letter (TheWorker 1) (TheWorker 2) (FinishedAck a1_1_0)
           ∷ letter (TheWorker 2) (TheNode 1) (Back a1_1_0)
-          ∷ letter (TheWorker 3) (TheWorker 1) (Finished a1_2_0 2 [] None)
+          ∷ letter (TheWorker 3) (TheWorker 1) (Finished a1_2_0 2 (told [] None ∷ []))
           ∷ letter (TheWorker 1) (TheWorker 3) (FinishedAck a1_2_0)
           ∷ letter (TheWorker 1) (TheNode 2) (Fetch o1_2 0)
           ∷ letter (TheWorker 3) (TheNode 2) (Back a1_2_0)

@@ -7,7 +7,7 @@ use Rattle.event_log.specs.Entries.{Accepted, Begun, Born, Claim, Commit, Delive
 use Rattle.protocol.specs.Messages.{Ask, Back, Elsewhere, Finished, FinishedAck, Give, Push, TheNode, TheWorker, letter}
 use Rattle.protocol.specs.Jobs.{AtEnd, AtGet}
 use Rattle.protocol.specs.Plays.{Does, Doing, Line, Seen, Settles, does_all, doing}
-use Rattle.protocol_rows.specs.Writing.{a1_0_0, a1_1_0, a1_2_0, done, given, int, job, o1_1, o1_2, o2_1, o3_1}
+use Rattle.protocol_rows.specs.Writing.{a1_0_0, a1_1_0, a1_2_0, done, given, int, job, o1_1, o1_2, o2_1, o3_1, told}
 
 -- what makes o1.1
 abbrev pub birth_1_1 : Birth
@@ -21,10 +21,10 @@ birth_1_2 = Task (codes "sq") (given (int 3) ∷ []) 1 3 0
 abbrev pub kept_by_owner_doings : List Doing
 kept_by_owner_doings =
     doing 1 (done (birth_1_1 ∷ birth_1_2 ∷ []) [] (AtGet o1_1))
-    ∷ doing 2 (done [] [] (AtEnd (Val (int 1))))
-    ∷ doing 3 (done [] [] (AtEnd (Val (int 9))))
+    ∷ doing 2 (done [] [] (AtEnd (Val (int 1) ∷ [])))
+    ∷ doing 3 (done [] [] (AtEnd (Val (int 9) ∷ [])))
     ∷ doing 4 (done [] [] (AtGet o1_2))
-    ∷ doing 5 (done [] [] (AtEnd (Val (int 10))))
+    ∷ doing 5 (done [] [] (AtEnd (Val (int 10) ∷ [])))
     ∷ []
 
 -- the lines of the event file
@@ -104,10 +104,10 @@ kept_by_owner_run =
           ∷ letter (TheWorker 1) (TheNode 2) (Ask a1_2_0 1)
           ∷ letter (TheNode 2) (TheWorker 1) (Give a1_2_0 1 3)
           ∷ letter (TheWorker 1) (TheWorker 3) (Push a1_2_0 birth_1_2)
-          ∷ letter (TheWorker 2) (TheWorker 1) (Finished a1_1_0 1 [] (Some (Val (int 1))))
+          ∷ letter (TheWorker 2) (TheWorker 1) (Finished a1_1_0 1 (told [] (Some (Val (int 1))) ∷ []))
           ∷ letter (TheWorker 1) (TheWorker 2) (FinishedAck a1_1_0)
           ∷ letter (TheWorker 2) (TheNode 1) (Back a1_1_0)
-          ∷ letter (TheWorker 3) (TheWorker 1) (Finished a1_2_0 2 [] (Some (Val (int 9))))
+          ∷ letter (TheWorker 3) (TheWorker 1) (Finished a1_2_0 2 (told [] (Some (Val (int 9))) ∷ []))
           ∷ letter (TheWorker 1) (TheWorker 3) (FinishedAck a1_2_0)
           ∷ letter (TheWorker 3) (TheNode 2) (Back a1_2_0)
           ∷ [];

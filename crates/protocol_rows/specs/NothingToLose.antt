@@ -8,7 +8,7 @@ use Rattle.event_log.specs.Entries.{NoCopy}
 use Rattle.protocol.specs.Messages.{Ask, Back, Finished, FinishedAck, Give, Push, TheNode, TheWorker, letter}
 use Rattle.protocol.specs.Jobs.{AtEnd, AtGet}
 use Rattle.protocol.specs.Plays.{Does, Doing, Line, Seen, Settles, does_all, doing}
-use Rattle.protocol_rows.specs.Writing.{a1_0_0, a1_1_0, done, given, int, job, o1_1, o2_1}
+use Rattle.protocol_rows.specs.Writing.{a1_0_0, a1_1_0, done, given, int, job, o1_1, o2_1, told}
 
 -- what makes o1.1
 abbrev pub birth_1_1 : Birth
@@ -18,8 +18,8 @@ birth_1_1 = Task (codes "sq") (given (int 7) ∷ []) 1 3 0
 abbrev pub nothing_to_lose_doings : List Doing
 nothing_to_lose_doings =
     doing 1 (done (birth_1_1 ∷ []) [] (AtGet o1_1))
-    ∷ doing 2 (done [] [] (AtEnd (Val (int 49))))
-    ∷ doing 3 (done [] (int 49 ∷ []) (AtEnd (Val (int 0))))
+    ∷ doing 2 (done [] [] (AtEnd (Val (int 49) ∷ [])))
+    ∷ doing 3 (done [] (int 49 ∷ []) (AtEnd (Val (int 0) ∷ [])))
     ∷ []
 
 -- the lines of the event file
@@ -74,7 +74,7 @@ nothing_to_lose_run =
           letter (TheWorker 1) (TheNode 1) (Ask a1_1_0 0)
           ∷ letter (TheNode 1) (TheWorker 1) (Give a1_1_0 0 2)
           ∷ letter (TheWorker 1) (TheWorker 2) (Push a1_1_0 birth_1_1)
-          ∷ letter (TheWorker 2) (TheWorker 1) (Finished a1_1_0 1 [] (Some (Val (int 49))))
+          ∷ letter (TheWorker 2) (TheWorker 1) (Finished a1_1_0 1 (told [] (Some (Val (int 49))) ∷ []))
           ∷ letter (TheWorker 1) (TheWorker 2) (FinishedAck a1_1_0)
           ∷ letter (TheWorker 2) (TheNode 1) (Back a1_1_0)
           ∷ [];

@@ -7,7 +7,7 @@ use Rattle.event_log.specs.Entries.{Accepted, Begun, Born, Claim, Commit, Delive
 use Rattle.protocol.specs.Messages.{Ask, Back, Finished, FinishedAck, Give, Push, TheNode, TheWorker, Where, letter}
 use Rattle.protocol.specs.Jobs.{AtEnd, AtGet}
 use Rattle.protocol.specs.Plays.{Does, Doing, Line, Seen, Settles, does_all, doing}
-use Rattle.protocol_rows.specs.Writing.{a1_0_0, a1_1_0, a2_1_0, done, int, job, o1_1, o2_1, o3_1}
+use Rattle.protocol_rows.specs.Writing.{a1_0_0, a1_1_0, a2_1_0, done, int, job, o1_1, o2_1, o3_1, told}
 
 -- what makes o1.1
 abbrev pub birth_1_1 : Birth
@@ -21,8 +21,8 @@ birth_2_1 = Task (codes "leaf") [] 2 3 0
 abbrev pub owner_not_known_dead_doings : List Doing
 owner_not_known_dead_doings =
     doing 1 (done (birth_1_1 ∷ []) [] (AtGet o1_1))
-    ∷ doing 2 (done (birth_2_1 ∷ []) [] (AtEnd (Val (Named o2_1))))
-    ∷ doing 3 (done [] [] (AtEnd (Val (int 4))))
+    ∷ doing 2 (done (birth_2_1 ∷ []) [] (AtEnd (Val (Named o2_1) ∷ [])))
+    ∷ doing 3 (done [] [] (AtEnd (Val (int 4) ∷ [])))
     ∷ doing 4 (done [] [] (AtGet o2_1))
     ∷ []
 
@@ -89,12 +89,12 @@ owner_not_known_dead_run =
           ∷ letter (TheNode 1) (TheWorker 1) (Give a1_1_0 0 2)
           ∷ letter (TheWorker 1) (TheWorker 2) (Push a1_1_0 birth_1_1)
           ∷ letter (TheWorker 2) (TheNode 1) (Ask a2_1_0 0)
-          ∷ letter (TheWorker 2) (TheWorker 1) (Finished a1_1_0 1 (o2_1 ∷ []) (Some (Val (Named o2_1))))
+          ∷ letter (TheWorker 2) (TheWorker 1) (Finished a1_1_0 1 (told (o2_1 ∷ []) (Some (Val (Named o2_1))) ∷ []))
           ∷ letter (TheNode 1) (TheWorker 2) (Give a2_1_0 0 3)
           ∷ letter (TheWorker 1) (TheWorker 2) (FinishedAck a1_1_0)
           ∷ letter (TheWorker 2) (TheWorker 3) (Push a2_1_0 birth_2_1)
           ∷ letter (TheWorker 2) (TheNode 1) (Back a1_1_0)
-          ∷ letter (TheWorker 3) (TheWorker 2) (Finished a2_1_0 1 [] (Some (Val (int 4))))
+          ∷ letter (TheWorker 3) (TheWorker 2) (Finished a2_1_0 1 (told [] (Some (Val (int 4))) ∷ []))
           ∷ letter (TheWorker 2) (TheWorker 3) (FinishedAck a2_1_0)
           ∷ letter (TheWorker 3) (TheNode 1) (Back a2_1_0)
           ∷ letter (TheWorker 1) (TheWorker 2) (Where o2_1)

@@ -7,7 +7,7 @@ use Rattle.event_log.specs.Entries.{Accepted, Begun, Born, Claim, Commit, Delive
 use Rattle.protocol.specs.Messages.{Ask, Back, Finished, FinishedAck, Give, Push, TheNode, TheWorker, letter}
 use Rattle.protocol.specs.Jobs.{AtEnd}
 use Rattle.protocol.specs.Plays.{Doing, Line, Seen, Settles, does_all, doing}
-use Rattle.protocol_rows.specs.Writing.{a1_0_0, a1_1_0, done, given, int, job, o1_1, o2_1}
+use Rattle.protocol_rows.specs.Writing.{a1_0_0, a1_1_0, done, given, int, job, o1_1, o2_1, told}
 
 -- what makes o1.1
 abbrev pub birth_1_1 : Birth
@@ -16,8 +16,8 @@ birth_1_1 = Task (codes "div") (given (int 1) ∷ given (int 0) ∷ []) 1 3 0
 -- what each job comes to
 abbrev pub trap_left_doings : List Doing
 trap_left_doings =
-    doing 1 (done (birth_1_1 ∷ []) [] (AtEnd (Val (int 5))))
-    ∷ doing 2 (done [] [] (AtEnd (Trapped DivZero)))
+    doing 1 (done (birth_1_1 ∷ []) [] (AtEnd (Val (int 5) ∷ [])))
+    ∷ doing 2 (done [] [] (AtEnd (Trapped DivZero ∷ [])))
     ∷ []
 
 -- the lines of the event file
@@ -61,7 +61,7 @@ trap_left_run =
           letter (TheWorker 1) (TheNode 1) (Ask a1_1_0 0)
           ∷ letter (TheNode 1) (TheWorker 1) (Give a1_1_0 0 2)
           ∷ letter (TheWorker 1) (TheWorker 2) (Push a1_1_0 birth_1_1)
-          ∷ letter (TheWorker 2) (TheWorker 1) (Finished a1_1_0 1 [] (Some (Trapped DivZero)))
+          ∷ letter (TheWorker 2) (TheWorker 1) (Finished a1_1_0 1 (told [] (Some (Trapped DivZero)) ∷ []))
           ∷ letter (TheWorker 1) (TheWorker 2) (FinishedAck a1_1_0)
           ∷ letter (TheWorker 2) (TheNode 1) (Back a1_1_0)
           ∷ [];

@@ -1,9 +1,10 @@
 -- Short words in which the worked runs are written.
-use Rattle.std.specs.Prelude.{List, false, pos, true, ℕ}
+use Rattle.std.specs.Prelude.{List, Option, false, pos, true, ℕ}
 use Rattle.meaning.specs.Values.{Argument, Birth, Id, Int, Items, Named, Outcome, Value, values_of}
 use Rattle.event_log.specs.Entries.{Attempt}
 use Rattle.event_log.specs.Words.{attempt}
 use Rattle.protocol.specs.Jobs.{Job, Outcomes, Stopped}
+use Rattle.protocol.specs.Messages.{EndedResult}
 use Rattle.protocol.specs.Sets.{object_id, repeated}
 
 -- a number that isn't negative
@@ -29,6 +30,10 @@ dereferenced o = record { value = Named o; marked = true }
 -- what was done on a job
 abbrev pub done : List Birth → List Value → Stopped → Outcomes
 done births prints stop = record { births = births; prints = prints; stop = stop }
+
+-- what the owner is told of a result: the ids in its content, and the content if it is small
+abbrev pub told : List Id → Option Outcome → EndedResult
+told ids kept = record { ids = ids; kept = kept }
 
 -- a job that was given out
 abbrev pub job : ℕ → Attempt → Birth → Id → List Birth → List Value → List Outcome → Job

@@ -1,26 +1,26 @@
 -- What tests tell of own objects, their tasks and the attempt that waits, and what a change leaves of them.
-use Rattle.std.proofs.Common.{◌≡◌, ℕ, suc, ◌+◌, List, [], ◌∷◌, ◌++◌, length, Some, None, Option, refl, ap, sym, ◌∙◌, arith}
-use Rattle.std.specs.Prelude.{true, false, if◌then◌else◌, ◌==◌, ◌&&◌, not, is_none}
+use Rattle.std.proofs.Common.{[], ap, arith, inl, inr, length, length-append, List, None, Option, refl, Some, suc, sym, ℕ, ◌++◌, ◌+◌, ◌∙◌, ◌∷◌, ◌≡◌}
+use Rattle.std.specs.Prelude.{Bool, ◌⊎◌, false, if◌then◌else◌, is_none, not, slice_get, true, zero, ◌&&◌, ◌==◌}
 use Rattle.std.proofs.lemmas.Bool.Decides.{nat_tests}
 use Rattle.std.proofs.lemmas.Bool.{eqb-true, not-true}
-use Rattle.sequence.proofs.Places.{and_left, and_right, slice_get-last}
+use Rattle.sequence.proofs.Places.{and_left, and_right, slice_get-append, slice_get-last}
 use Rattle.meaning.proofs.BirthLaws.{at_test}
-use Rattle.meaning.specs.Values.{Id, Outcome}
+use Rattle.meaning.specs.Values.{Birth, Id, Outcome, results_of}
 use Rattle.event_log.specs.Entries.{Attempt}
-use Rattle.event_log.specs.Words.{attempt}
-use Rattle.numbered.specs.Counting.{item_of, changed}
-use Rattle.numbered.proofs.Places.{counted, item_is, placed_changed, changed_is}
-use Rattle.protocol.specs.Numbered.{item_at, changed_at}
-use Rattle.protocol.specs.Sets.{is_empty}
-use Rattle.protocol.specs.Tables.{AskedAt, AtRest, Fetching, HasEnded, HasFaulted, Object, Out, OwnTask, Phase, Progress, Ready, Run, RunsOn, Waits, Worker}
-use Rattle.protocol.specs.Tables.{has_content, is_nowhere, is_pending_task, is_same_id, is_waiting_for, is_whole, knows_dead, needed_by, object_needed}
-use Rattle.protocol.specs.Tables.{places_for, task_in, task_of, with_dead_holder, with_holder, with_task}
-use Rattle.protocol.specs.Steps.{Here, changes, is_own, object_at, own_id, own_object, with_run, with_task_of}
+use Rattle.event_log.specs.Words.{attempt, same_attempt}
+use Rattle.numbered.specs.Counting.{changed, item_of}
+use Rattle.numbered.proofs.Lists.{counted_repeated_at, joined_cases}
+use Rattle.numbered.proofs.Places.{changed_is, counted, item_is, placed_changed}
+use Rattle.protocol.specs.Numbered.{changed_at, item_at}
+use Rattle.protocol.specs.Sets.{is_empty, repeated}
+use Rattle.protocol.specs.Steps.{changes, each_from, Here, is_own, object_at, own_id, own_object, with_run, with_task_of}
+use Rattle.protocol.specs.Tables.{AskedAt, AtRest, Beside, ByTask, Fetching, has_content, HasEnded, HasFaulted, is_nowhere, is_pending_task, is_same_id}
+use Rattle.protocol.specs.Tables.{is_waiting_for, is_whole, knows_dead, needed_by, new_object, new_task, Object, object_needed, Out, OwnTask, Phase, places_for}
+use Rattle.protocol.specs.Tables.{Progress, Ready, Run, RunsOn, task_in, task_of, Waits, with_dead_holder, with_holder, with_task, Worker}
 use Rattle.protocol.specs.Runs.{hears_by, with_fetching, with_fetching_at, with_fetching_by}
-use Rattle.event_log.specs.Words.{same_attempt}
 use Rattle.protocol.specs.Asking.{if_asked, stands_at}
 use Rattle.protocol.specs.Holders.{adds_holder, awaits_hold_by, holding, holds_id, holds_ids, sends_hold}
-use Rattle.protocol.specs.Commits.{next_id_here, with_object}
+use Rattle.protocol.specs.Commits.{each_holds, next_id_here, task_objects, with_objects}
 use Rattle.protocol.specs.Ends.{if_present}
 use Rattle.protocol.specs.Notices.{runs_on_node, runs_on_worker}
 
@@ -69,6 +69,12 @@ own_at h o task e =
 -- the object at an own id
 pub own_there : (h : Here) (k : ℕ) → task_of (object_at h (own_id h k)) ≡ task_of (own_object h k)
 own_there h k = ap (λ b. task_of (if b then own_object h k else None)) (equal h.me)
+  where
+    equal : (n : ℕ) → (n == n) ≡ true
+    equal n = grind (arith, nat_tests)
+
+pub own_here : (h : Here) (k : ℕ) → object_at h (own_id h k) ≡ own_object h k
+own_here h k = ap (λ b. if b then own_object h k else None) (equal h.me)
   where
     equal : (n : ℕ) → (n == n) ≡ true
     equal n = grind (arith, nat_tests)
@@ -202,5 +208,73 @@ pub held_task : (h : Here) (e o : Id) (ids : List Id) → task_of (object_at (ho
 held_task h e o [] = refl
 held_task h e o (p ∷ ids) = held_task (holds_id h e p) e o ids ∙ held_one h e p o
 
-pub new_there : (h : Here) (x : Object) → task_of (object_at (with_object h x) (next_id_here h)) ≡ task_in x.maker
-new_there h x = own_there (with_object h x) (length h.worker.objects + 1) ∙ ap task_of (item_last h.worker.objects x)
+each_held_from : (h : Here) (k n : ℕ) (ids : List Id) (o : Id) → task_of (object_at (each_from (λ g i. holds_ids g (own_id g i) ids) h k n) o) ≡ task_of (object_at h o)
+each_held_from h k zero ids o = refl
+each_held_from h k (suc n) ids o = each_held_from (holds_ids h (own_id h k) ids) (k + 1) n ids o ∙ held_task h (own_id h k) o ids
+
+pub each_held_task : (h : Here) (e : Id) (task : OwnTask) (ids : List Id) (o : Id) → task_of (object_at (each_holds h e task ids) o) ≡ task_of (object_at h o)
+each_held_task h e task ids o = each_held_from h e.serial (results_of task.spec) ids o
+
+item_behind : {X : Type 0} (xs ys : List X) (x : X) → item_at (xs ++ x ∷ ys) (length xs + 1) ≡ Some x
+item_behind {X} xs ys x =
+    let f : ◌≡◌ {A = ℕ} (length xs + 1) (suc (length xs)) = omega arith in
+    ap (item_at (xs ++ x ∷ ys)) f ∙ first xs
+  where
+    first : (zs : List X) → slice_get (zs ++ x ∷ ys) (length zs) ≡ Some x
+    first [] = refl
+    first (z ∷ zs) = first zs
+
+pub new_there : (h : Here) (a : Attempt) (spec : Birth) (others : ℕ) (ids : List Id) →
+    task_of (object_at (with_objects h (task_objects a (length h.worker.objects + 1) spec others ids)) (next_id_here h)) ≡ Some (new_task spec)
+new_there h a spec others ids =
+    let serial : ℕ = length h.worker.objects + 1 in
+    own_there (with_objects h (task_objects a serial spec others ids)) serial ∙
+    ap task_of (item_behind h.worker.objects (repeated others (new_object (Beside serial) a ids)) (new_object (ByTask (new_task spec)) a ids))
+
+repeated-length : {X : Type 0} (n : ℕ) (x : X) → length (repeated n x) ≡ n
+repeated-length zero x = refl
+repeated-length (suc n) x = ap suc (repeated-length n x)
+
+-- with the objects of a task there are so many more
+pub length-new : (xs : List Object) (a : Attempt) (serial : ℕ) (spec : Birth) (others : ℕ) (ids : List Id) →
+    length (xs ++ task_objects a serial spec others ids) ≡ length xs + suc others
+length-new xs a serial spec others ids =
+    length-append xs (task_objects a serial spec others ids) ∙ ap (λ k. length xs + suc k) (repeated-length others (new_object (Beside serial) a ids))
+
+module _ (xs : List Object) (a : Attempt) (serial : ℕ) (spec : Birth) (others : ℕ) (ids : List Id) where
+  abbrev first : Object
+  first = new_object (ByTask (new_task spec)) a ids
+
+  abbrev beside : Object
+  beside = new_object (Beside serial) a ids
+
+  abbrev ys : List Object
+  ys = task_objects a serial spec others ids
+
+  abbrev Cases : ℕ → Type 0
+  Cases k = (task_of (item_at (xs ++ ys) k) ≡ task_of (item_at xs k)) ⊎
+      ((task_of (item_at xs k) ≡ None) × (task_of (item_at (xs ++ ys) k) ≡ Some (new_task spec)))
+
+  still : (k : ℕ) (u : Object) → item_at xs k ≡ Some u → item_at (xs ++ ys) k ≡ Some u
+  still zero u e = absurd (cc)
+  still (suc k) u e = slice_get-append xs ys k u e
+
+  by_new : (k : ℕ) → item_at xs k ≡ None → (z : Object) → item_at (xs ++ ys) k ≡ Some z → (b : Bool) →
+      (if b then Some first else item_of ((1 + length xs) + 1) (repeated others beside) k) ≡ Some z → Cases k
+  by_new k e z f true g = inr (ap task_of e, ap task_of f ∙ ap task_of (sym g))
+  by_new k e z f false g =
+      let same : beside ≡ z = (counted_repeated_at others beside ((1 + length xs) + 1) k z g).0 in
+      inl (ap task_of f ∙ ap (λ (y : Object). task_in y.maker) (sym same) ∙ ap task_of (sym e))
+
+  by_item : (k : ℕ) (o : Option Object) → item_at xs k ≡ o → (p : Option Object) → item_at (xs ++ ys) k ≡ p → Cases k
+  by_item k (Some u) e p f = inl (ap task_of (still k u e) ∙ ap task_of (sym e))
+  by_item k None e None f = inl (ap task_of f ∙ ap task_of (sym e))
+  by_item k None e (Some z) f = elim (joined_cases xs ys k z f) [
+    | inl old ↦ inl (ap task_of f ∙ ap task_of (sym old))
+    | inr new ↦ by_new k e z f ((1 + length xs) == k) new
+  ]
+
+  -- with the objects of a task each row has the task that it had, or is new and has the new one
+  pub new_tasks : (k : ℕ) → (task_of (item_at (xs ++ task_objects a serial spec others ids) k) ≡ task_of (item_at xs k)) ⊎
+      ((task_of (item_at xs k) ≡ None) × (task_of (item_at (xs ++ task_objects a serial spec others ids) k) ≡ Some (new_task spec)))
+  new_tasks k = by_item k (item_at xs k) refl (item_at (xs ++ ys) k) refl

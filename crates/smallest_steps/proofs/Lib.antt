@@ -1,6 +1,9 @@
 pub mod Known
 pub mod Untouched
 pub mod Smallest
+pub mod Over
+pub mod Needing
+pub mod Contents
 pub mod Moves
 pub mod Plain
 pub mod SlotMoves

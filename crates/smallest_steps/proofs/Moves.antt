@@ -1,150 +1,152 @@
 -- Whatever the smallest steps of a worker keep, each of its steps keeps. How an attempt begins here, is given out and is committed stands apart.
-use Rattle.std.proofs.Common.{refl, ap, sym, subst, ◌∙◌, inl, inr}
-use Rattle.std.specs.Prelude.{◌≡◌, ℕ, zero, suc, ◌+◌, ◌==◌, ◌&&◌, length, not, Bool, true, false, if◌then◌else◌, List, [], ◌∷◌, Option, Some, None, is_some}
-use Rattle.meaning.specs.Values.{Id, Outcome, Birth, Put, Task, Value}
-use Rattle.values.specs.Listed.{each_once}
+use Rattle.std.proofs.Common.{ap, append-nil, append_assoc, arith, inl, inr, refl, subst, sym, ◌∙◌}
+use Rattle.std.specs.Prelude.{[], Bool, false, if◌then◌else◌, is_none, is_some, length, List, map, None, not, Option, Some, suc, true, zero, ℕ, ◌&&◌, ◌+◌}
+use Rattle.std.specs.Prelude.{◌<◌, ◌==◌, ◌∷◌, ◌≡◌, ◌≤◌}
+use Rattle.meaning.specs.Values.{Birth, Id, Outcome, Put, results_of, Task, Value}
+use Rattle.values.specs.Listed.{each_once, ids_in_outcome}
 use Rattle.sequence.proofs.Places.{and_left, and_right}
-use Rattle.event_log.specs.Entries.{Attempt, Fault, main_attempt}
-use Rattle.event_log.specs.Words.{same_attempt, attempt}
+use Rattle.event_log.specs.Entries.{Attempt, Entry, Fault, Released, RetriesUsed}
+use Rattle.event_log.specs.Words.{attempt, same_attempt}
 use Rattle.event_log.specs.Holding.{ids_of_birth}
-use Rattle.protocol.specs.Messages.{Message, Party, TheWorker, TheNode, Ask, Give, Elsewhere, Wait, Back, Push, Finished, FinishedAck, Failed, Where, At}
-use Rattle.protocol.specs.Messages.{Gone, Fetch, CopyOf, Missing, Hold, HoldAck, OwnerIsDead, Reason, Unhold, WasReleased}
-use Rattle.protocol.specs.Stores.{copy_in}
-use Rattle.protocol.specs.Sets.{is_empty}
-use Rattle.protocol.specs.Tables.{has_stopped, owner_of, knows_dead, without_place, new_task, Worker, Run, Phase, Ready, Out, Waits, HasEnded, HasFaulted}
-use Rattle.protocol.specs.Tables.{OwnTask, Object, Progress, AtRest, AskedAt, RunsOn, Fetching, Holding, task_of, live_place, chosen_place, settled_number}
-use Rattle.protocol.specs.Tables.{holders_of, needed_by, with_dead_holder, ByTask, is_waiting_for, new_object, put_object, with_content, with_holder}
-use Rattle.protocol.specs.Tables.{with_place, without_holder, without_places, has_content, is_nowhere, with_task}
-use Rattle.protocol.specs.Steps.{Here, with_task_of, with_phase, with_run, says, says_to_node, each_from, own_id, own_object, object_at, store_here, changes}
-use Rattle.protocol.specs.Steps.{is_own}
-use Rattle.protocol.specs.Runs.{gives_slot_back, tells_stop, is_heard, tells, leaves, leaves_by, leaves_if_free, faults_at, faults_by, faults, gets_at}
-use Rattle.protocol.specs.Runs.{gets_by, gets, with_fetching_at, with_fetching_by, with_fetching, fetches, hears_by, finished_ack_reached}
-use Rattle.protocol.specs.Asking.{rests, next_attempt, resolves, tells_gone, faults_if_waiting, answers_gone, answers_faulted_by, answers_faulted, uses_up}
-use Rattle.protocol.specs.Asking.{breaks, pushes, begins, with_begun, given_by, given_reached, elsewhere_by, elsewhere_reached, asks_next, if_asked}
-use Rattle.protocol.specs.Recovery.{remakes_by, remakes, gives_up, recovers_by, recovers, members, first_stop}
-use Rattle.protocol.specs.Places.{looks_elsewhere_by, looks_elsewhere, looks_here_by, looks_at_places, looks_for_by, looks_for, needs_released}
-use Rattle.protocol.specs.Places.{needs_unresolved, needs_by, needs_at, needs_own, needs_own_if_waiting, tells_places, answers_settled_by, answers_settled}
-use Rattle.protocol.specs.Places.{lets_wait, tells_released, answers_asker, asker_by, where_reached, adds_place_by, adds_place, adds_places, takes_place_by}
-use Rattle.protocol.specs.Places.{takes_place, finds_none, answered_here, goes_to, at_answers, at_reached, makes_copy_known, copy_reached, hands_missing_on}
-use Rattle.protocol.specs.Places.{missing_from, missing_reached, answers_unsettled}
-use Rattle.protocol.specs.Holders.{awaits_hold_by, sends_hold, holds_id, holds_ids, hold_reached_by, hold_reached, hold_ack_by, hold_ack_reached}
-use Rattle.protocol.specs.Holders.{unhold_reached, holding, adds_holder, drops_holders, first_born_first, drops_dead_by, drops_dead, lets_go_of_dead}
-use Rattle.protocol.specs.Holders.{collects, same_holding}
-use Rattle.protocol.specs.Commits.{bears_put, bears_task, bears_as, bears, bears_all, asks_where, rests_if_waiting, needs, next_id_here, with_object}
-use Rattle.protocol.specs.Ends.{finished_by, finished_reached, failed_by, failed_reached, accepts, hears_of_end, if_present}
-use Rattle.protocol.specs.Notices.{is_unheard, runs_on_worker, runs_on_node, with_dead_worker, with_dead_node, breaks_if, breaks_where, loses_owner_of}
-use Rattle.protocol.specs.Notices.{loses_owner, drops_holds_by, drops_holds, drops_stop_by, drops_stop, hears_of_worker, notice_step, loses_places}
-use Rattle.protocol.specs.Notices.{moves_ask_at, moves_ask, moves_asks, loses_fetch_by, loses_fetch_at, loses_fetch_of, loses_fetch, hears_of_node}
-use Rattle.protocol.specs.Notices.{notice_node_step}
-use Rattle.protocol.specs.Ticks.{sends_task_at, sends_task, sends_tasks, asks_place_again, asks_again, sends_holds, sends_stop, sends_run, tick_step}
-use Rattle.protocol.specs.Releases.{lets_go_of, lets_go, drops_copies, releases, releases_by, release_pass, release_passes, release_step, entries_made}
-use Rattle.protocol.specs.Deliveries.{reached_from_worker, reached_from_node, reached}
+use Rattle.protocol.specs.Messages.{Ask, At, Back, CopyOf, Elsewhere, EndedResult, Failed, Fetch, Finished, FinishedAck, Give, Gone, Hold, HoldAck, Message}
+use Rattle.protocol.specs.Messages.{Missing, OwnerIsDead, Party, Push, Reason, TheNode, TheWorker, Unhold, Wait, WasReleased, Where}
+use Rattle.protocol.specs.Stores.{copy_in, with_ended}
+use Rattle.protocol.specs.Holders.{adds_holder, awaits_hold_by, collects, drops_dead, drops_dead_by, drops_holders, first_born_first, hold_ack_by}
+use Rattle.protocol.specs.Holders.{hold_ack_reached, hold_reached, hold_reached_by, holding, holds_id, holds_ids, lets_go_of_dead, passes_on, same_holding}
+use Rattle.protocol.specs.Holders.{sends_hold, unhold_reached}
+use Rattle.protocol.specs.Steps.{changes, each_from, each_result, Here, is_own, logs, logs_all, object_at, own_id, own_object, says, says_to_node, store_here}
+use Rattle.protocol.specs.Steps.{with_phase, with_run, with_store, with_task_of, with_there}
+use Rattle.protocol.specs.Sets.{fault}
+use Rattle.protocol.specs.Tables.{AskedAt, AtRest, chosen_place, Fetching, has_content, HasEnded, HasFaulted, holders_of, Holding}
+use Rattle.protocol.specs.Tables.{is_nowhere, is_waiting_for, is_wanted, knows_dead, needed_by, new_task, Object, Out, owner_of}
+use Rattle.protocol.specs.Tables.{OwnTask, Phase, Progress, put_object, Ready, released, Run, RunsOn, settled_number, task_of, Waits}
+use Rattle.protocol.specs.Tables.{with_dead_holder, with_holder, with_place, without_holder, without_place, Worker}
+use Rattle.meaning.specs.Runs.{ids_from, next_id}
+use Rattle.protocol.specs.Runs.{faults, fetches, finished_ack_reached, gets, gives_slot_back, hears_by, is_heard}
+use Rattle.protocol.specs.Runs.{tells_stop, with_fetching}
+use Rattle.protocol.specs.Asking.{answers_faulted, asks_next, begins, breaks, elsewhere_by, elsewhere_reached}
+use Rattle.protocol.specs.Asking.{faults_if_waiting, given_by, given_reached, if_asked, next_attempt, pushes, resolves_used, resolves_used_by, rests}
+use Rattle.protocol.specs.Asking.{uses_up, with_begun}
+use Rattle.protocol.specs.Recovery.{recovers}
+use Rattle.protocol.specs.Places.{adds_place, adds_place_by, adds_places, answered_here, answers_asker, answers_settled, answers_settled_by, answers_unsettled}
+use Rattle.protocol.specs.Places.{asker_by, at_answers, at_reached, copy_reached, finds_none, goes_to, hands_missing_on, lets_wait}
+use Rattle.protocol.specs.Places.{makes_copy_known, missing_from, missing_reached}
+use Rattle.protocol.specs.Places.{needs_own, needs_own_if_waiting, takes_place, takes_place_by}
+use Rattle.protocol.specs.Places.{tells_released, where_reached}
+use Rattle.protocol.specs.Commits.{asks_where, bears, bears_all, bears_as, bears_put, bears_task, each_holds, keeps_content, keeps_contents, needs}
+use Rattle.protocol.specs.Commits.{next_id_here, rests_if_waiting, task_objects, with_objects}
+use Rattle.protocol.specs.Ends.{accepts, failed_by, failed_reached, fails, finished_by, finished_reached, hears_of_end, if_present, resolves_open}
+use Rattle.protocol.specs.Ends.{resolves_open_by}
+use Rattle.protocol.specs.Notices.{breaks_if, breaks_where, drops_holds, drops_holds_by, drops_stop, drops_stop_by, hears_of_node, hears_of_worker, is_unheard}
+use Rattle.protocol.specs.Notices.{loses_fetch, loses_fetch_at, loses_fetch_by, loses_fetch_of, loses_owner, loses_owner_of, loses_places, moves_ask}
+use Rattle.protocol.specs.Notices.{moves_ask_at, moves_asks, notice_node_step, notice_step, runs_on_node, runs_on_worker, with_dead_node, with_dead_worker}
+use Rattle.protocol.specs.Ticks.{asks_again, asks_place_again, sends_holds, sends_run, sends_stop, sends_task, sends_task_at, sends_tasks, tick_step}
+use Rattle.protocol.specs.Releases.{drops_copies, entries_made, going_with, lets_all_go, lets_go, lets_go_of, marks_released, may_release, release_pass}
+use Rattle.protocol.specs.Releases.{release_passes, release_step, releases_all, releases_by}
+use Rattle.protocol.specs.Deliveries.{reached, reached_from_node, reached_from_worker}
 use Rattle.std.proofs.lemmas.Bool.{eqb-true, not-true}
 use Rattle.event_log.specs.Breaks.{Among}
 use Rattle.smallest_steps.specs.Steps.{IsRunning, Needs}
-use Rattle.smallest_steps.proofs.Known.{asked_where, fetching_foreign, held_task, hears_by-node, new_there, object_now, object_of, on_node, on_worker, own_at}
-use Rattle.smallest_steps.proofs.Known.{own_there, present_is, present_was, some_places, somewhere, task_now, waiting}
-use Rattle.smallest_steps.proofs.Untouched.{asks_again-worker, sends_holds-worker, sends_tasks-worker, tells_stop-worker}
-use Rattle.smallest_steps.proofs.Smallest.{KeepsHere, KeepsAccepted, KeepsBirths, KeepsHeard, KeepsOver, KeepsAnswers}
-
-module _ (P : Here → Type 0) where
-  pub either : (b : Bool) (x y : Here) → P x → P y → P (if b then x else y)
-  either true x y p q = p
-  either false x y p q = q
-
-  pub either_by : (b : Bool) (x y : Here) → (b ≡ true → P x) → (b ≡ false → P y) → P (if b then x else y)
-  either_by true x y p q = p refl
-  either_by false x y p q = q refl
-
-  pub each_from-kept : (f : Here → ℕ → Here) → ((g : Here) (k : ℕ) → P g → P (f g k)) → (h : Here) (k n : ℕ) → P h → P (each_from f h k n)
-  each_from-kept f each h k zero p = p
-  each_from-kept f each h k (suc n) p = each_from-kept f each (f h k) (k + 1) n (each h k p)
-
--- ---- the worker's attempt comes to be over
-
-module _ (P : Here → Type 0) (kept : KeepsOver P) where
-  pub tells_stop-kept : (h : Here) (run : Run) (phase : Phase) → h.worker.run ≡ Some run → run.is_over ≡ true → P h → P (tells_stop h run phase)
-  tells_stop-kept h run (HasEnded c) e o p = kept.end_told h run _ _ _ e o p
-  tells_stop-kept h run (HasFaulted f) e o p = kept.fault_told h run f e o p
-  tells_stop-kept h run Ready e o p = p
-  tells_stop-kept h run (Out j) e o p = p
-  tells_stop-kept h run (Waits y f) e o p = p
-
-  pub is_heard-kept : (h : Here) (run : Run) → h.worker.run ≡ Some run → run.is_over ≡ true → P h → P (is_heard h run)
-  is_heard-kept h run e o p =
-      kept.back (with_run h (record run { is_acknowledged = true })) (record run { is_acknowledged = true }) refl o (kept.heard h run e o p)
-
-  pub leaves-kept : (h : Here) (run : Run) → h.worker.run ≡ Some run → has_stopped run.phase ≡ true → P h → P (leaves h (record run { is_over = true }))
-  leaves-kept h run e s p =
-      let next : Run = record run { is_over = true } in
-      let g : Here = with_run h next in
-      let told : Here = tells h next in
-      let q : P told = tells_stop-kept g next next.phase refl refl (kept.over h run next e s refl refl refl p) in
-      let there : told.worker.run ≡ Some next = ap (λ (x : Worker). x.run) (tells_stop-worker g next next.phase) in
-      either P (same_attempt run.attempt main_attempt) (with_run h (record next { is_acknowledged = true }))
-      (if knows_dead h.worker (owner_of next) then is_heard told next else told)
-      (kept.over h run (record next { is_acknowledged = true }) e s refl refl refl p)
-      (either P (knows_dead h.worker (owner_of next)) (is_heard told next) told (is_heard-kept told next there refl q) q)
-
-  pub leaves_by-kept : (h : Here) (r : Option Run) → h.worker.run ≡ r → P h → P (leaves_by h r)
-  leaves_by-kept h None e p = p
-  leaves_by-kept h (Some run) e p =
-      either_by P (has_stopped run.phase && not run.is_over && is_empty run.holds) (leaves h (record run { is_over = true })) h
-      (λ t. leaves-kept h run e (and_left (has_stopped run.phase) (not run.is_over)
-      (and_left (has_stopped run.phase && not run.is_over) (is_empty run.holds) t)) p) (λ t. p)
-
-  pub leaves_if_free-kept : (h : Here) → P h → P (leaves_if_free h)
-  leaves_if_free-kept h p = leaves_by-kept h h.worker.run refl p
+use Rattle.smallest_steps.proofs.Known.{asked_where, each_held_task, fetching_foreign, hears_by-node, new_there, on_node, on_worker}
+use Rattle.smallest_steps.proofs.Known.{own_at, own_here, own_there, present_is, present_was, some_places, task_now, waiting}
+use Rattle.smallest_steps.proofs.Untouched.{asks_again-worker, sends_holds-worker, sends_tasks-worker}
+use Rattle.smallest_steps.proofs.Contents.{HasContent, others_stay, settled_rows}
+use Rattle.smallest_steps.proofs.Needing as N
+pub use Rattle.smallest_steps.proofs.Over.{each_from-kept, either, either_by, is_heard-kept, leaves_if_free-kept, settles-kept, tells_stop-kept}
+use Rattle.smallest_steps.proofs.Smallest.{AnyPlace, KeepsAccepted, KeepsAnswers, KeepsBirths, KeepsHeard, KeepsHere, KeepsNeeds}
 
 -- ---- answers, places, deaths, ticks, releases
 
 module _ {IsToldBy : ℕ → Attempt → Type 0} {IsPassedBy : Attempt → ℕ → ℕ → Type 0} {MayHold MayPush : Type 0} (P : Here → Type 0)
     (kept : KeepsHere IsToldBy IsPassedBy MayHold MayPush P) where
-  pub faults_at-kept : (h : Here) (run : Run) (f : Fault) (phase : Phase) → h.worker.run ≡ Some run → run.phase ≡ phase → P h → P (faults_at h run f phase)
-  faults_at-kept h run f (Waits y g) e q p = kept.faulted h run f y g e q p
-  faults_at-kept h run f Ready e q p = p
-  faults_at-kept h run f (Out j) e q p = p
-  faults_at-kept h run f (HasEnded c) e q p = p
-  faults_at-kept h run f (HasFaulted g) e q p = p
-
-  pub faults_by-kept : (h : Here) (f : Fault) (r : Option Run) → h.worker.run ≡ r → P h → P (faults_by h f r)
-  faults_by-kept h f None e p = p
-  faults_by-kept h f (Some run) e p = faults_at-kept h run f run.phase e refl p
+  -- an object is looked for, made again or answered
+  needing : KeepsNeeds AnyPlace P
+  needing = record {
+    placed = λ h o f _ same p. kept.alike h o f same p;
+    answered = kept.answered;
+    resolved = kept.resolved;
+    looked = kept.looked;
+    asked_anew = kept.asked_anew;
+    fetching = kept.fetching;
+    got = kept.got;
+    faulted = kept.faulted;
+    place_told = kept.place_told;
+    gone_told = kept.gone_told;
+    copy_asked = kept.copy_asked;
+  }
 
   pub faults-kept : (h : Here) (f : Fault) → P h → P (faults h f)
-  faults-kept h f p = faults_by-kept h f h.worker.run refl p
-
-  pub gets_at-kept : (h : Here) (run : Run) (c : Outcome) (phase : Phase) → h.worker.run ≡ Some run → run.phase ≡ phase → P h → P (gets_at h run c phase)
-  gets_at-kept h run c (Waits y g) e q p = kept.got h run c y g e q p
-  gets_at-kept h run c Ready e q p = p
-  gets_at-kept h run c (Out j) e q p = p
-  gets_at-kept h run c (HasEnded d) e q p = p
-  gets_at-kept h run c (HasFaulted g) e q p = p
-
-  pub gets_by-kept : (h : Here) (c : Outcome) (r : Option Run) → h.worker.run ≡ r → P h → P (gets_by h c r)
-  gets_by-kept h c None e p = p
-  gets_by-kept h c (Some run) e p = gets_at-kept h run c run.phase e refl p
+  faults-kept h f p = N.faults-kept P AnyPlace needing h f p
 
   pub gets-kept : (h : Here) (c : Outcome) → P h → P (gets h c)
-  gets-kept h c p = gets_by-kept h c h.worker.run refl p
-
-  pub with_fetching_at-kept : (h : Here) (run : Run) (f : Option Fetching) (phase : Phase) → h.worker.run ≡ Some run → run.phase ≡ phase → P h →
-      P (with_fetching_at h run f phase)
-  with_fetching_at-kept h run f (Waits y g) e q p = kept.fetching h run y g f e q p
-  with_fetching_at-kept h run f Ready e q p = p
-  with_fetching_at-kept h run f (Out j) e q p = p
-  with_fetching_at-kept h run f (HasEnded d) e q p = p
-  with_fetching_at-kept h run f (HasFaulted g) e q p = p
-
-  pub with_fetching_by-kept : (h : Here) (f : Option Fetching) (r : Option Run) → h.worker.run ≡ r → P h → P (with_fetching_by h f r)
-  with_fetching_by-kept h f None e p = p
-  with_fetching_by-kept h f (Some run) e p = with_fetching_at-kept h run f run.phase e refl p
+  gets-kept h c p = N.gets-kept P AnyPlace needing h c p
 
   pub with_fetching-kept : (h : Here) (f : Option Fetching) → P h → P (with_fetching h f)
-  with_fetching-kept h f p = with_fetching_by-kept h f h.worker.run refl p
+  with_fetching-kept h f p = N.with_fetching-kept P AnyPlace needing h f p
 
   pub fetches-kept : (h : Here) (o : Id) (number n : ℕ) → P h → P (fetches h o number n)
-  fetches-kept h o number n p = kept.copy_asked _ _ _ _ (with_fetching-kept h _ p)
+  fetches-kept h o number n p = N.fetches-kept P AnyPlace needing h o number n p
+
+  pub faults_if_waiting-kept : (h : Here) (o : Id) (f : Fault) → P h → P (faults_if_waiting h o f)
+  faults_if_waiting-kept h o f p = N.faults_if_waiting-kept P AnyPlace needing h o f p
+
+  pub answers_faulted-kept : (h : Here) (o : Id) → P h → P (answers_faulted h o)
+  answers_faulted-kept h o p = N.answers_faulted-kept P AnyPlace needing h o p
+
+  pub recovers-kept : (h : Here) (o : Id) → P h → P (recovers h o)
+  recovers-kept h o p = N.recovers-kept P AnyPlace needing h o p
+
+  pub needs_own-kept : (h : Here) (o : Id) → P h → P (needs_own h o)
+  needs_own-kept h o p = N.needs_own-kept P AnyPlace needing h o tt p
+
+  pub needs_own_if_waiting-kept : (h : Here) (o : Id) → P h → P (needs_own_if_waiting h o)
+  needs_own_if_waiting-kept h o p = N.needs_own_if_waiting-kept P AnyPlace needing h o tt p
+
+  -- of an object that has its content
+  pub answers_settled-kept : (h : Here) (o : Id) (x : Object) → object_at h o ≡ Some x → is_nowhere x ≡ false → is_some x.settled ≡ true → P h →
+      P (answers_settled h o)
+  answers_settled-kept h o x at some settled p = N.answers_settled-kept P AnyPlace needing h o x at some settled tt p
+
+  -- ---- the objects of a task, one after the other
+
+  pub each_result-kept : (f : Here → Id → Here) → ((g : Here) (o : Id) → P g → P (f g o)) → (h : Here) (o : Id) (task : OwnTask) → P h →
+      P (each_result f h o task)
+  each_result-kept f each h o task p = each_from-kept P (λ g k. f g (own_id g k)) (λ g k. each g (own_id g k)) h o.serial (results_of task.spec) p
+
+  resolves_used-kept : (h : Here) (o : Id) → P h → P (resolves_used h o)
+  resolves_used-kept h o p = by_object (object_at h o)
+    where
+      by_object : (x : Option Object) → P (resolves_used_by h o x)
+      by_object None = p
+      by_object (Some x) = either P (is_wanted x) _ _ (kept.resolved h o (fault RetriesUsed o) p) p
+
+  resolves_open-kept : (f : Fault) (h : Here) (o : Id) → P h → P (resolves_open f h o)
+  resolves_open-kept f h o p = by_object (object_at h o)
+    where
+      by_object : (x : Option Object) → P (resolves_open_by h o f x)
+      by_object None = p
+      by_object (Some x) = either P (is_none x.fault) _ _ (kept.resolved h o f p) p
+
+  -- each that has its content is answered
+  answers_row-kept : (h : Here) (k : ℕ) → HasContent k h → P h → P (answers_settled h (own_id h k))
+  answers_row-kept h k has p = by_object (own_object h k) refl
+    where
+      by_object : (x : Option Object) → own_object h k ≡ x → P (answers_settled h (own_id h k))
+      by_object None e = subst (λ y. P (answers_settled_by h (own_id h k) y)) (sym (own_here h k ∙ e)) p
+      by_object (Some x) e = answers_settled-kept h (own_id h k) x (own_here h k ∙ e) (has x e).1 (has x e).0 p
+
+  answers_rows-kept : (n : ℕ) (h : Here) (k : ℕ) → ((i : ℕ) → k ≤ i → i < k + n → HasContent i h) → P h →
+      P (each_from (λ g i. answers_settled g (own_id g i)) h k n)
+  answers_rows-kept zero h k has p = p
+  answers_rows-kept (suc n) h k has p =
+      answers_rows-kept n (answers_settled h (own_id h k)) (k + 1)
+      (λ i low high. others_stay h k i (λ e. omega (arith, low, e)) (has k (omega arith) (omega arith)) (has i (omega (arith, low)) (omega (arith, high))))
+      (answers_row-kept h k (has k (omega arith) (omega arith)) p)
+
+  -- at an acceptance
+  answers_results-kept : (h : Here) (o : Id) (task : OwnTask) → ((i : ℕ) → o.serial ≤ i → i < o.serial + results_of task.spec → HasContent i h) → P h →
+      P (each_result answers_settled h o task)
+  answers_results-kept h o task has p = answers_rows-kept (results_of task.spec) h o.serial has p
 
   pub hears_by-kept : (h : Here) (a : Attempt) (r : Option Run) → h.worker.run ≡ r → P h → P (hears_by h a r)
   hears_by-kept h a None e p = p
@@ -152,105 +154,13 @@ module _ {IsToldBy : ℕ → Attempt → Type 0} {IsPassedBy : Attempt → ℕ �
       either_by P (same_attempt run.attempt a && run.is_over) (with_run h (record run { is_acknowledged = true })) h
       (λ t. kept.heard h run e (and_right (same_attempt run.attempt a) run.is_over t) p) (λ _. p)
 
-  pub tells_gone-kept : (h : Here) (ws : List ℕ) (o : Id) (f : Fault) → P h → P (tells_gone h ws o f)
-  tells_gone-kept h [] o f p = p
-  tells_gone-kept h (w ∷ ws) o f p = tells_gone-kept (says h w (Gone o f)) ws o f (kept.gone_told h w o f p)
-
-  pub faults_if_waiting-kept : (h : Here) (o : Id) (f : Fault) → P h → P (faults_if_waiting h o f)
-  faults_if_waiting-kept h o f p = either P _ _ _ (faults-kept h f p) p
-
-  pub answers_gone-kept : (h : Here) (o : Id) (x : Object) (f : Option Fault) → object_at h o ≡ Some x → x.fault ≡ f → P h → P (answers_gone h o x f)
-  answers_gone-kept h o x None e has p = p
-  answers_gone-kept h o x (Some f) e has p =
-      faults_if_waiting-kept _ o f (tells_gone-kept _ x.askers o f (kept.answered h o x e (inr (ap is_some has)) p))
-
-  pub answers_faulted_by-kept : (h : Here) (o : Id) (x : Option Object) → object_at h o ≡ x → P h → P (answers_faulted_by h o x)
-  answers_faulted_by-kept h o None e p = p
-  answers_faulted_by-kept h o (Some x) e p = answers_gone-kept h o x x.fault e refl p
-
-  pub answers_faulted-kept : (h : Here) (o : Id) → P h → P (answers_faulted h o)
-  answers_faulted-kept h o p = answers_faulted_by-kept h o (object_at h o) refl p
-
   pub uses_up-kept : (h : Here) (o : Id) (task : OwnTask) → task_of (object_at h o) ≡ Some task → IsRunning task → P h → P (uses_up h o task)
-  uses_up-kept h o task at runs p = answers_faulted-kept _ o (kept.resolved _ o _ (kept.rested h o task at (inl runs) p))
+  uses_up-kept h o task at runs p =
+      each_result-kept answers_faulted answers_faulted-kept (each_result resolves_used (with_task_of h o (rests task)) o task) o task
+      (each_result-kept resolves_used resolves_used-kept (with_task_of h o (rests task)) o task (kept.rested h o task at (inl runs) p))
 
   pub breaks-kept : (h : Here) (o : Id) (task : OwnTask) → task_of (object_at h o) ≡ Some task → IsRunning task → P h → P (breaks h o task)
   breaks-kept h o task at runs p = either P _ _ _ (kept.asked_anew h o task (next_attempt task) at (inl refl) p) (uses_up-kept h o task at runs p)
-
-  pub remakes_by-kept : (h : Here) (k : ℕ) (task : Option OwnTask) → task_of (own_object h k) ≡ task → P h → P (remakes_by h k task)
-  remakes_by-kept h k None e p = p
-  remakes_by-kept h k (Some task) e p = kept.asked_anew h (own_id h k) task (next_attempt task) (own_there h k ∙ e) (inl refl) p
-
-  pub remakes-kept : (h : Here) (ks : List ℕ) → P h → P (remakes h ks)
-  remakes-kept h [] p = p
-  remakes-kept h (k ∷ ks) p = remakes-kept (remakes_by h k (task_of (own_object h k))) ks (remakes_by-kept h k (task_of (own_object h k)) refl p)
-
-  pub gives_up-kept : (h : Here) (o : Id) (f : Fault) → P h → P (gives_up h o f)
-  gives_up-kept h o f p = either P _ _ _ (answers_faulted-kept _ o (kept.resolved h o f p))
-      (answers_faulted-kept _ o (answers_faulted-kept _ f.object (kept.resolved _ o f (kept.resolved h f.object f p))))
-
-  pub recovers_by-kept : (h : Here) (o : Id) (ks : List ℕ) (f : Option Fault) → P h → P (recovers_by h o ks f)
-  recovers_by-kept h o ks None p = remakes-kept h ks p
-  recovers_by-kept h o ks (Some f) p = gives_up-kept h o f p
-
-  pub recovers-kept : (h : Here) (o : Id) → P h → P (recovers h o)
-  recovers-kept h o p = recovers_by-kept h o (members h o.serial) (first_stop h (members h o.serial)) p
-
-  pub looks_elsewhere_by-kept : (h : Here) (o : Id) (x : Object) (n : Option ℕ) → P h → P (looks_elsewhere_by h o x n)
-  looks_elsewhere_by-kept h o x None p = recovers-kept _ o (kept.alike h o without_places (λ _. (refl, refl, refl, refl)) p)
-  looks_elsewhere_by-kept h o x (Some n) p = fetches-kept h o _ n p
-
-  pub looks_elsewhere-kept : (h : Here) (o : Id) (x : Object) → P h → P (looks_elsewhere h o x)
-  looks_elsewhere-kept h o x p = looks_elsewhere_by-kept h o x (live_place h.worker x.places) p
-
-  pub looks_here_by-kept : (h : Here) (o : Id) (x : Object) (c : Option Outcome) → P h → P (looks_here_by h o x c)
-  looks_here_by-kept h o x None p = looks_elsewhere-kept (changes h o (without_place h.worker.node)) o (without_place h.worker.node x)
-      (kept.alike h o (without_place h.worker.node) (λ _. (refl, refl, refl, refl)) p)
-  looks_here_by-kept h o x (Some c) p = gets-kept _ c (kept.looked h o (settled_number x) p)
-
-  pub looks_at_places-kept : (h : Here) (o : Id) (x : Object) → P h → P (looks_at_places h o x)
-  looks_at_places-kept h o x p = either P _ _ _ (looks_here_by-kept h o x (copy_in (store_here h) o (settled_number x)) p) (looks_elsewhere-kept h o x p)
-
-  pub looks_for_by-kept : (h : Here) (o : Id) (x : Object) (c : Option Outcome) → P h → P (looks_for_by h o x c)
-  looks_for_by-kept h o x None p = looks_at_places-kept h o x p
-  looks_for_by-kept h o x (Some c) p = gets-kept h c p
-
-  pub looks_for-kept : (h : Here) (o : Id) (x : Object) → P h → P (looks_for h o x)
-  looks_for-kept h o x p = looks_for_by-kept h o x x.kept p
-
-  needs_released-kept : (h : Here) (e : Option Id) → P h → P (needs_released h e)
-  needs_released-kept h None p = p
-  needs_released-kept h (Some e) p = faults-kept h _ p
-
-  pub needs_unresolved-kept : (h : Here) (o : Id) (x : Object) → P h → P (needs_unresolved h o x)
-  needs_unresolved-kept h o x p = either P _ _ _ (looks_for-kept h o x p)
-      (either P _ _ _ (recovers-kept h o p) (either P _ _ _ (needs_released-kept h x.dead_holder p) p))
-
-  pub needs_by-kept : (h : Here) (o : Id) (x : Object) (f : Option Fault) → P h → P (needs_by h o x f)
-  needs_by-kept h o x None p = needs_unresolved-kept h o x p
-  needs_by-kept h o x (Some f) p = faults-kept h f p
-
-  pub needs_at-kept : (h : Here) (o : Id) (x : Option Object) → P h → P (needs_at h o x)
-  needs_at-kept h o None p = p
-  needs_at-kept h o (Some x) p = needs_by-kept h o x x.fault p
-
-  pub needs_own-kept : (h : Here) (o : Id) → P h → P (needs_own h o)
-  needs_own-kept h o p = needs_at-kept _ o (object_at h o) (with_fetching-kept h None p)
-
-  pub needs_own_if_waiting-kept : (h : Here) (o : Id) → P h → P (needs_own_if_waiting h o)
-  needs_own_if_waiting-kept h o p = either P _ _ _ (needs_own-kept h o p) p
-
-  pub tells_places-kept : (h : Here) (ws : List ℕ) (o : Id) (x : Object) → is_nowhere x ≡ false → P h → P (tells_places h ws o x)
-  tells_places-kept h [] o x some p = p
-  tells_places-kept h (w ∷ ws) o x some p = tells_places-kept (says h w (At o (settled_number x) x.places x.kept)) ws o x some
-      (kept.place_told h w o (settled_number x) x.places x.kept some p)
-
-  -- of an object that has its content
-  pub answers_settled-kept : (h : Here) (o : Id) (x : Object) → object_at h o ≡ Some x → is_nowhere x ≡ false → is_some x.settled ≡ true → P h →
-      P (answers_settled h o)
-  answers_settled-kept h o x at some settled p =
-      subst (λ y. P (answers_settled_by h o y)) (sym at)
-      (needs_own_if_waiting-kept _ o (tells_places-kept _ x.askers o x some (kept.answered h o x at (inl settled) p)))
 
   pub lets_wait-kept : (h : Here) (o : Id) (w : ℕ) (x : Object) → P h → P (lets_wait h o w x)
   lets_wait-kept h o w x p = either P _ _ _ (recovers-kept _ o (kept.asker h o w p)) (kept.asker h o w p)
@@ -539,12 +449,32 @@ module _ {IsToldBy : ℕ → Attempt → Type 0} {IsPassedBy : Attempt → ℕ �
   drops_copies-kept h e [] p = p
   drops_copies-kept h e (n ∷ ns) p = drops_copies-kept (says_to_node h n (Unhold e e WasReleased)) e ns (kept.copy_dropped h n e p)
 
-  pub releases-kept : (h : Here) (e : Id) (x : Object) → P h → P (releases h e x)
-  releases-kept h e x p = drops_copies-kept _ e x.ever (lets_go-kept _ e x.ids (kept.freed h e p))
+  -- the worker with these entries logged
+  abbrev logging : Here → List Entry → Here
+  logging h es = with_there h (record h.there { out = record h.there.out { entries = es } })
+
+  logs_released : (h : Here) (os : List Id) → P h → P (logs_all h (map Released os))
+  logs_released h [] p = subst (λ es. P (logging h es)) (sym (append-nil h.there.out.entries)) p
+  logs_released h (o ∷ os) p =
+      subst (λ es. P (logging h es)) (append_assoc h.there.out.entries (Released o ∷ []) (map Released os)) (logs_released (logs h (Released o)) os (kept.freed h o p))
+
+  lets_all_go-kept : (h : Here) (e : Id) (x : Option Object) → P h → P (lets_all_go h e x)
+  lets_all_go-kept h e None p = p
+  lets_all_go-kept h e (Some x) p = drops_copies-kept _ e x.ever (lets_go-kept h e x.ids p)
+
+  marks_released-kept : (h : Here) (k n : ℕ) → P h → P (marks_released h k n)
+  marks_released-kept h k n p =
+      each_from-kept P (λ g i. changes g (own_id g i) released) (λ g i q. kept.alike g (own_id g i) released (λ _. (refl, refl, refl, refl)) q) h k n p
+
+  pub releases_all-kept : (h : Here) (k n : ℕ) → P h → P (releases_all h k n)
+  releases_all-kept h k n p =
+      each_from-kept P (λ g i. lets_all_go g (own_id g i) (own_object g i)) (λ g i q. lets_all_go-kept g (own_id g i) (own_object g i) q)
+      (logs_all (marks_released h k n) (map Released (ids_from (own_id h k) n))) k n
+      (logs_released (marks_released h k n) (ids_from (own_id h k) n) (marks_released-kept h k n p))
 
   pub releases_by-kept : (h : Here) (k : ℕ) (x : Option Object) → P h → P (releases_by h k x)
   releases_by-kept h k None p = p
-  releases_by-kept h k (Some x) p = either P _ _ _ (releases-kept h (own_id h k) x p) p
+  releases_by-kept h k (Some x) p = either P (may_release h.worker k x) _ _ (releases_all-kept h k (going_with x.maker) p) p
 
   pub release_pass-kept : (h : Here) → P h → P (release_pass h)
   release_pass-kept h p = each_from-kept P (λ g k. releases_by g k (own_object g k)) (λ g k q. releases_by-kept g k (own_object g k) q) h 1
@@ -575,22 +505,35 @@ module _ {IsToldBy : ℕ → Attempt → Type 0} {IsPassedBy : Attempt → ℕ �
     holds_ids-kept h e [] p = p
     holds_ids-kept h e (o ∷ os) p = holds_ids-kept (holds_id h e o) e os (holds_id-kept h e o p)
 
+    pub keeps_content-kept : (h : Here) (o : Id) (number : ℕ) (c : Outcome) → P h → P (keeps_content h o number c)
+    keeps_content-kept h o number c p =
+        let ids : List Id = each_once (ids_in_outcome c) in
+        holds_ids-kept (passes_on (with_store h (with_ended (store_here h) o number c)) o ids) o ids (borne.passed _ o ids (borne.ended h o number c p))
+
+    pub keeps_contents-kept : (h : Here) (o : Id) (number : ℕ) (cs : List Outcome) → P h → P (keeps_contents h o number cs)
+    keeps_contents-kept h o number [] p = p
+    keeps_contents-kept h o number (c ∷ cs) p = keeps_contents-kept (keeps_content h o number c) (next_id o) number cs (keeps_content-kept h o number c p)
+
     pub bears_put-kept : (h : Here) (a : Attempt) (o : Id) (v : Value) (ids : List Id) → P h → P (bears_put h a o v ids)
     bears_put-kept h a o v ids p = holds_ids-kept _ o ids (borne.primary _ o v (borne.put h (put_object a ids h.worker.node) refl p))
 
-    pub bears_task-kept : (h : Here) (a : Attempt) (o : Id) (spec : Birth) (ids : List Id) → o ≡ next_id_here h → P h → P (bears_task h a o spec ids)
-    bears_task-kept h a o spec ids next p =
-        let x : Object = new_object (ByTask (new_task spec)) a ids in
-        let g : Here = with_object h x in
-        kept.asked_anew (holds_ids g o ids) o (new_task spec) (new_task spec) (held_task g o o ids ∙ ap (λ i. task_of (object_at g i)) next ∙ new_there h x)
-        (inr (spec, refl, refl)) (holds_ids-kept g o ids (borne.task h x spec refl p))
+    pub each_holds-kept : (h : Here) (o : Id) (task : OwnTask) (ids : List Id) → P h → P (each_holds h o task ids)
+    each_holds-kept h o task ids p = each_result-kept (λ g e. holds_ids g e ids) (λ g e. holds_ids-kept g e ids) h o task p
 
-    pub bears_as-kept : (h : Here) (a : Attempt) (o : Id) (b : Birth) (ids : List Id) → o ≡ next_id_here h → P h → P (bears_as h a o b ids)
-    bears_as-kept h a o (Put v) ids next p = bears_put-kept h a o v ids p
-    bears_as-kept h a o (Task g args depth retries others) ids next p = bears_task-kept h a o (Task g args depth retries others) ids next p
+    pub bears_task-kept : (h : Here) (a : Attempt) (spec : Birth) (others : ℕ) (ids : List Id) → P h → P (bears_task h a (next_id_here h) spec others ids)
+    bears_task-kept h a spec others ids p =
+        let o : Id = next_id_here h in
+        let g : Here = with_objects h (task_objects a o.serial spec others ids) in
+        kept.asked_anew (each_holds g o (new_task spec) ids) o (new_task spec) (new_task spec)
+        (each_held_task g o (new_task spec) ids o ∙ new_there h a spec others ids)
+        (inr (spec, refl, refl)) (each_holds-kept g o (new_task spec) ids (borne.task h a spec others ids p))
+
+    pub bears_as-kept : (h : Here) (a : Attempt) (b : Birth) (ids : List Id) → P h → P (bears_as h a (next_id_here h) b ids)
+    bears_as-kept h a (Put v) ids p = bears_put-kept h a (next_id_here h) v ids p
+    bears_as-kept h a (Task g args depth retries others) ids p = bears_task-kept h a (Task g args depth retries others) others ids p
 
     pub bears-kept : (h : Here) (a : Attempt) (b : Birth) → P h → P (bears h a b)
-    bears-kept h a b p = bears_as-kept h a (next_id_here h) b (each_once (ids_of_birth b)) refl p
+    bears-kept h a b p = bears_as-kept h a b (each_once (ids_of_birth b)) p
 
     pub bears_all-kept : (h : Here) (a : Attempt) (bs : List Birth) → P h → P (bears_all h a bs)
     bears_all-kept h a [] p = p
@@ -627,31 +570,28 @@ module _ {IsToldBy : ℕ → Attempt → Type 0} {IsPassedBy : Attempt → ℕ �
         IsToldBy w a → P h → P (failed_by h w a f task)
     failed_by-kept h w a f None e s p = replies.acked h _ _ s p
     failed_by-kept h w a f (Some task) e s p =
-        either_by P (if_present a task) (answers_faulted (hears_of_end (resolves (with_task_of h a.object (rests task)) a.object f) w a) a.object)
-        (hears_of_end h w a)
-        (λ t. answers_faulted-kept _ a.object (replies.acked _ _ _ s (kept.resolved _ a.object f
+        either_by P (if_present a task) (each_result answers_faulted (hears_of_end (fails h a task f) w a) a.object task) (hears_of_end h w a)
+        (λ t.
+        each_result-kept answers_faulted answers_faulted-kept (hears_of_end (fails h a task f) w a) a.object task
+        (replies.acked _ _ _ s (each_result-kept (resolves_open f) (resolves_open-kept f) (with_task_of h a.object (rests task)) a.object task
         (kept.rested h a.object task e (inr (w, subst (IsToldBy w) (present_was a task t) s)) p)))) (λ _. replies.acked h _ _ s p)
 
     pub failed_reached-kept : (h : Here) (w : ℕ) (a : Attempt) (f : Fault) → IsToldBy w a → P h → P (failed_reached h w a f)
     failed_reached-kept h w a f s p = failed_by-kept h w a f (task_of (object_at h a.object)) refl s p
 
     module _ (accepted : KeepsAccepted IsToldBy P) where
-      finished_by-kept : (h : Here) (w : ℕ) (a : Attempt) (n : ℕ) (ids : List Id) (c : Option Outcome) (task : Option OwnTask) →
-          task_of (object_at h a.object) ≡ task → IsToldBy w a → P h → P (finished_by h w a n ids c task)
-      finished_by-kept h w a n ids c None e s p = replies.acked h _ _ s p
-      finished_by-kept h w a n ids c (Some task) e s p =
-          either_by P (if_present a task) (answers_settled (hears_of_end (accepts h a task n ids c) w a) a.object) (hears_of_end h w a)
+      finished_by-kept : (h : Here) (w : ℕ) (a : Attempt) (n : ℕ) (rs : List EndedResult) (task : Option OwnTask) →
+          task_of (object_at h a.object) ≡ task → IsToldBy w a → P h → P (finished_by h w a n rs task)
+      finished_by-kept h w a n rs None e s p = replies.acked h _ _ s p
+      finished_by-kept h w a n rs (Some task) e s p =
+          either_by P (if_present a task) (each_result answers_settled (hears_of_end (accepts h a task n rs) w a) a.object task) (hears_of_end h w a)
           (λ t.
-          let x = object_of h a.object task e in
-          let rested : Object = with_task (rests task) x.0 in
-          answers_settled-kept (hears_of_end (accepts h a task n ids c) w a) a.object (with_content a.number n ids c rested)
-          (object_now (with_task_of h a.object (rests task)) a.object (with_content a.number n ids c) rested
-          (object_now h a.object (with_task (rests task)) x.0 x.1)) (somewhere n c) refl
-          (replies.acked _ _ _ s (accepted h a task n ids c w e (subst (IsToldBy w) (present_was a task t) s) p))) (λ _. replies.acked h _ _ s p)
+          answers_results-kept (hears_of_end (accepts h a task n rs) w a) a.object task
+          (settled_rows (results_of task.spec) (with_task_of h a.object (rests task)) a.object a.number n rs)
+          (replies.acked _ _ _ s (accepted h a task n rs w e s (subst (IsToldBy w) (present_was a task t) s) p))) (λ _. replies.acked h _ _ s p)
 
-      pub finished_reached-kept : (h : Here) (w : ℕ) (a : Attempt) (n : ℕ) (ids : List Id) (c : Option Outcome) → IsToldBy w a → P h →
-          P (finished_reached h w a n ids c)
-      finished_reached-kept h w a n ids c s p = finished_by-kept h w a n ids c (task_of (object_at h a.object)) refl s p
+      pub finished_reached-kept : (h : Here) (w : ℕ) (a : Attempt) (n : ℕ) (rs : List EndedResult) → IsToldBy w a → P h → P (finished_reached h w a n rs)
+      finished_reached-kept h w a n rs s p = finished_by-kept h w a n rs (task_of (object_at h a.object)) refl s p
 
   pub elsewhere_by-kept : (h : Here) (a : Attempt) (t n : ℕ) (task : Option OwnTask) → task_of (object_at h a.object) ≡ task →
       ((own : OwnTask) (m : ℕ) → a.object.owner ≡ h.me → task_of (object_at h a.object) ≡ Some own → own.progress ≡ AskedAt t m → own.number ≡ a.number →
@@ -681,7 +621,7 @@ module _ {IsToldBy : ℕ → Attempt → Type 0} {IsPassedBy : Attempt → ℕ �
     reached_from_worker-kept h w (Wait a t) s p = p
     reached_from_worker-kept h w (Back a) s p = p
     reached_from_worker-kept h w (Push a spec) s p = heard.push h w a spec s p
-    reached_from_worker-kept h w (Finished a n ids c) s p = heard.finished h w a n ids c s p
+    reached_from_worker-kept h w (Finished a n rs) s p = heard.finished h w a n rs s p
     reached_from_worker-kept h w (FinishedAck a) s p = heard.finished_ack h w a s p
     reached_from_worker-kept h w (Failed a f) s p = heard.failed h w a f s p
     reached_from_worker-kept h w (Where o) s p = where_reached-kept h w o p
@@ -701,7 +641,7 @@ module _ {IsToldBy : ℕ → Attempt → Type 0} {IsPassedBy : Attempt → ℕ �
     reached_from_node-kept h n (Wait a t) s p = p
     reached_from_node-kept h n (Back a) s p = p
     reached_from_node-kept h n (Push a spec) s p = p
-    reached_from_node-kept h n (Finished a m ids c) s p = p
+    reached_from_node-kept h n (Finished a m rs) s p = p
     reached_from_node-kept h n (FinishedAck a) s p = p
     reached_from_node-kept h n (Failed a f) s p = p
     reached_from_node-kept h n (Where o) s p = p

@@ -44,7 +44,7 @@ module _ (Q : There → Type 0) (kept : KeepsThere Q) where
   node_reached_from-kept h w (Elsewhere a t m) p = p
   node_reached_from-kept h w (Wait a t) p = p
   node_reached_from-kept h w (Push a spec) p = p
-  node_reached_from-kept h w (Finished a m ids kept) p = p
+  node_reached_from-kept h w (Finished a m rs) p = p
   node_reached_from-kept h w (FinishedAck a) p = p
   node_reached_from-kept h w (Failed a f) p = p
   node_reached_from-kept h w (Where o) p = p

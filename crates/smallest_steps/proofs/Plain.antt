@@ -1,21 +1,22 @@
 -- Whatever the smallest steps of a worker keep, each of its steps keeps, where nothing needs to be known of the worker's attempt and objects.
 use Rattle.std.proofs.Common.{refl}
-use Rattle.std.specs.Prelude.{◌≡◌, ℕ, filter, List, [], ◌∷◌, Option, Some, None}
-use Rattle.meaning.specs.Values.{Id, Outcome, Val, Value}
-use Rattle.event_log.specs.Entries.{Accepted, Attempt, Begun, Fault, Faulted, Got, Released, Resolved}
+use Rattle.std.specs.Prelude.{[], filter, List, None, Option, Some, ℕ, ◌∷◌, ◌≡◌}
+use Rattle.meaning.specs.Values.{Id, Outcome, results_of, Val, Value}
+use Rattle.event_log.specs.Entries.{Accepted, Attempt, Begun, Fault, Faulted, Got, Released, Resolved, RetriesUsed}
 use Rattle.event_log.specs.Words.{attempt}
 use Rattle.protocol.specs.Messages.{At, Message}
-use Rattle.protocol.specs.Stores.{looked_up, with_primary, with_secondary}
-use Rattle.protocol.specs.Tables.{HasFaulted, Object, OwnTask, Run, Worker, settled_number}
-use Rattle.protocol.specs.Steps.{Here, logs, object_at, says, says_to_node, store_here, with_phase, with_run, with_store, with_task_of, with_worker}
-use Rattle.protocol.specs.Runs.{asks_for_slot, gives_slot_back, leaves_if_free}
-use Rattle.protocol.specs.Asking.{breaks, rests}
+use Rattle.protocol.specs.Stores.{looked_up, with_ended, with_primary, with_secondary}
+use Rattle.protocol.specs.Tables.{HasEnded, HasFaulted, is_wanted, may_try_again, Object, OwnTask, Run, settled_number, Worker}
+use Rattle.protocol.specs.Steps.{each_result, Here, logs, object_at, says, says_to_node, store_here, with_phase, with_run, with_store, with_task_of}
+use Rattle.protocol.specs.Steps.{with_worker}
+use Rattle.protocol.specs.Runs.{asks_for_slot, gives_slot_back}
+use Rattle.protocol.specs.Asking.{answers_faulted, breaks, resolves_used, resolves_used_by, rests}
 use Rattle.protocol.specs.Places.{answers_settled, answers_settled_by, tells_places}
 use Rattle.protocol.specs.Commits.{asks_where, claim_by, claim_step, ends, stops_by}
-use Rattle.protocol.specs.Holders.{holds_ids}
+use Rattle.protocol.specs.Sets.{fault}
 use Rattle.protocol.specs.Jobs.{AtEnd, AtGet, Stopped}
-use Rattle.smallest_steps.proofs.Smallest.{AnyGiven, AnyHeard, AnyOver, AnyPassed, AnyTold, KeepsAccepted, KeepsAnswers, KeepsBirths, KeepsHeard}
-use Rattle.smallest_steps.proofs.Smallest.{KeepsHere, KeepsOver}
+use Rattle.smallest_steps.proofs.Smallest.{AnyGiven, AnyHeard, AnyOver, AnyPassed, AnyTold, KeepsAccepted, KeepsAnswers, KeepsBirths, KeepsHeard, KeepsHere}
+use Rattle.smallest_steps.proofs.Smallest.{KeepsOver}
 use Rattle.smallest_steps.proofs.Moves as S
 
 -- it logs, it says, its tables are changed, its node's store is looked at or has one more copy, and the node is asked for a slot or has one back
@@ -32,6 +33,7 @@ pub record KeepsPlainly (P : Here → Type 0) : Type 0 where
   pub looked : (h : Here) (o : Id) (number : ℕ) → P h → P (with_store h (looked_up (store_here h) o number))
   pub copied : (h : Here) (o : Id) (number : ℕ) (c : Outcome) → P h → P (with_store h (with_secondary (store_here h) o number c))
   pub primary : (h : Here) (o : Id) (v : Value) → P h → P (with_store h (with_primary (store_here h) o 0 (Val v)))
+  pub ended : (h : Here) (o : Id) (number : ℕ) (c : Outcome) → P h → P (with_store h (with_ended (store_here h) o number c))
   pub frees : (h : Here) → P h → P (gives_slot_back h)
   pub asks : (h : Here) → P h → P (asks_for_slot h)
 
@@ -42,7 +44,7 @@ module _ (P : Here → Type 0) (kept : KeepsPlainly P) where
   over = record {
     over = λ h run next _ _ _ _ _ p. kept.worker h _ refl refl p;
     heard = λ h run _ _ p. kept.worker h _ refl refl p;
-    end_told = λ h run n ids c _ _ p. kept.said h _ _ p;
+    end_told = λ h run n rs _ _ p. kept.said h _ _ p;
     fault_told = λ h run f _ _ p. kept.said h _ _ p;
     back = λ h run _ _ p. kept.said_to_node h _ _ p;
   }
@@ -53,7 +55,7 @@ module _ (P : Here → Type 0) (kept : KeepsPlainly P) where
     asker = λ h o w p. kept.worker h _ refl refl p;
     answered = λ h o x _ _ p. kept.worker h _ refl refl p;
     resolved = λ h o f p. kept.resolved _ o f (kept.worker h _ refl refl p);
-    freed = λ h o p. kept.released _ o (kept.worker h _ refl refl p);
+    freed = kept.released;
     places_lost = λ h m p. kept.worker h _ refl refl p;
     worker_dead = λ h v p. kept.worker h _ refl refl p;
     node_dead = λ h m p. kept.worker h _ refl refl p;
@@ -88,7 +90,9 @@ module _ (P : Here → Type 0) (kept : KeepsPlainly P) where
   births = record {
     put = λ h x _ p. kept.worker h _ refl refl p;
     primary = kept.primary;
-    task = λ h x spec _ p. kept.worker h _ refl refl p;
+    task = λ h a spec others ids p. kept.worker h _ refl refl p;
+    ended = kept.ended;
+    passed = λ h o ids p. kept.worker h _ refl refl p;
     awaited = λ h run k _ p. kept.worker h _ refl refl p;
     hold_sent = λ h e o p. kept.said h _ _ p;
   }
@@ -101,12 +105,14 @@ module _ (P : Here → Type 0) (kept : KeepsPlainly P) where
   }
 
   pub accepted : KeepsAccepted AnyTold P
-  accepted h a task n ids c w e s p = kept.accepted _ a (kept.worker (with_task_of h a.object (rests task)) _ refl refl (kept.worker h _ refl refl p))
+  accepted h a task n rs w e _ s p =
+      kept.accepted _ a (S.settles-kept P (λ g o number m r q. kept.worker g _ refl refl q) (results_of task.spec) (with_task_of h a.object (rests task)) a.object
+      a.number n rs (kept.worker h _ refl refl p))
 
   pub heard : KeepsHeard AnyHeard P
   heard = record {
     push = λ h w a spec _ p. S.either P _ _ _ (kept.worker h _ refl refl p) p;
-    finished = λ h w a n ids c s p. S.finished_reached-kept P keeps replies accepted h w a n ids c s p;
+    finished = λ h w a n rs s p. S.finished_reached-kept P keeps replies accepted h w a n rs s p;
     finished_ack = λ h w a s p. S.finished_ack_reached-kept P keeps replies h a s p;
     failed = λ h w a f s p. S.failed_reached-kept P keeps replies h w a f s p;
     given = λ h n a t w s p. S.given_reached-kept P keeps replies h n a t w (λ _. s) p;
@@ -115,9 +121,17 @@ module _ (P : Here → Type 0) (kept : KeepsPlainly P) where
 
   -- ---- each step
 
+  resolves_used-kept : (h : Here) (o : Id) → P h → P (resolves_used h o)
+  resolves_used-kept h o p = by_object (object_at h o)
+    where
+      by_object : (x : Option Object) → P (resolves_used_by h o x)
+      by_object None = p
+      by_object (Some x) = S.either P (is_wanted x) _ _ (kept.resolved _ o (fault RetriesUsed o) (kept.worker h _ refl refl p)) p
+
   pub breaks-kept : (h : Here) (o : Id) (task : OwnTask) → P h → P (breaks h o task)
-  breaks-kept h o task p = S.either P _ _ _ (kept.said_to_node _ _ _ (kept.worker h _ refl refl p))
-      (S.answers_faulted-kept P keeps _ o (kept.resolved _ o _ (kept.worker (with_task_of h o (rests task)) _ refl refl (kept.worker h _ refl refl p))))
+  breaks-kept h o task p = S.either P (may_try_again task) _ _ (kept.said_to_node _ _ _ (kept.worker h _ refl refl p))
+      (S.each_result-kept P keeps answers_faulted (S.answers_faulted-kept P keeps) (each_result resolves_used (with_task_of h o (rests task)) o task) o task
+      (S.each_result-kept P keeps resolves_used resolves_used-kept (with_task_of h o (rests task)) o task (kept.worker h _ refl refl p)))
 
   pub tells_places-kept : (h : Here) (ws : List ℕ) (o : Id) (x : Object) → P h → P (tells_places h ws o x)
   tells_places-kept h [] o x p = p
@@ -140,12 +154,12 @@ module _ (P : Here → Type 0) (kept : KeepsPlainly P) where
   pub claim_step-kept : (h : Here) (j : ℕ) → P h → P (claim_step h j)
   claim_step-kept h j p = claim_by-kept h j h.worker.run p
 
-  -- with the attempt in its new phase, what it ended with in the store, and the ids in that passed on
-  pub ends_after : (h : Here) (o : Id) (ids : List Id) → P h → P (gives_slot_back (leaves_if_free (holds_ids h o ids)))
-  ends_after h o ids p = kept.frees _ (S.leaves_if_free-kept P over _ (S.holds_ids-kept P keeps births h o ids p))
+  pub ends-kept : (h : Here) (run : Run) (cs : List Outcome) → P h → P (ends h run cs)
+  ends-kept h run cs p =
+      kept.frees _ (S.leaves_if_free-kept P over _ (S.keeps_contents-kept P keeps births (with_phase h run (HasEnded cs)) run.attempt.object run.attempt.number cs
+      (kept.worker h _ refl refl p)))
 
-  pub stops_by-kept : ((h : Here) (run : Run) (c : Outcome) → P h → P (ends h run c)) →
-      (h : Here) (stop : Stopped) (r : Option Run) → P h → P (stops_by h stop r)
-  stops_by-kept ended h stop None p = p
-  stops_by-kept ended h (AtGet y) (Some run) p = S.needs-kept P keeps h run y (kept.worker h _ refl refl p)
-  stops_by-kept ended h (AtEnd c) (Some run) p = ended h run c p
+  pub stops_by-kept : (h : Here) (stop : Stopped) (r : Option Run) → P h → P (stops_by h stop r)
+  stops_by-kept h stop None p = p
+  stops_by-kept h (AtGet y) (Some run) p = S.needs-kept P keeps h run y (kept.worker h _ refl refl p)
+  stops_by-kept h (AtEnd cs) (Some run) p = ends-kept h run cs p

@@ -1,21 +1,21 @@
 -- The smallest steps of a worker, each with what is known where it is made. A property that they keep is kept by every step.
-use Rattle.std.specs.Prelude.{◌≡◌, ◌⊎◌, ◌&&◌, ◌+◌, ℕ, Bool, true, false, List, Option, Some, is_none, is_some}
+use Rattle.std.specs.Prelude.{[], Bool, false, is_none, is_some, length, List, Option, Some, true, ℕ, ◌&&◌, ◌+◌, ◌∷◌, ◌≡◌, ◌⊎◌}
 use Rattle.meaning.specs.Values.{Birth, Id, Outcome, Val, Value}
 use Rattle.event_log.specs.Breaks.{Among}
 use Rattle.event_log.specs.Entries.{Attempt, Fault, Faulted, Got, Released}
 use Rattle.event_log.specs.Words.{attempt}
-use Rattle.protocol.specs.Messages.{Ask, At, Back, Elsewhere, Failed, Fetch, Finished, FinishedAck, Give, Gone, Hold, HoldAck, Message, Missing, Party, Push}
-use Rattle.protocol.specs.Messages.{Reason, TheNode, TheWorker, Unhold, WasReleased, Where}
-use Rattle.protocol.specs.Stores.{looked_up, with_primary, with_secondary}
+use Rattle.protocol.specs.Messages.{Ask, At, Back, Elsewhere, EndedResult, Failed, Fetch, Finished, FinishedAck, Give, Gone, Hold, HoldAck, Message, Missing}
+use Rattle.protocol.specs.Messages.{Party, Push, Reason, TheNode, TheWorker, Unhold, WasReleased, Where}
+use Rattle.protocol.specs.Stores.{looked_up, with_ended, with_primary, with_secondary}
 use Rattle.protocol.specs.Sets.{is_empty}
-use Rattle.protocol.specs.Tables.{AskedAt, ByTask, Fetching, HasFaulted, Holding, Object, OwnTask, Run, RunsOn, Waits, WasPut, has_stopped, new_task}
-use Rattle.protocol.specs.Tables.{owner_of, released, task_of, with_asker, without_askers}
-use Rattle.protocol.specs.Steps.{Here, changes, is_own, logs, object_at, own_id, own_object, says, says_to_node, store_here, with_phase, with_run}
-use Rattle.protocol.specs.Steps.{with_store, with_task_of}
+use Rattle.protocol.specs.Tables.{AskedAt, Fetching, has_stopped, HasFaulted, Holding, Object, owner_of, OwnTask, Run, RunsOn}
+use Rattle.protocol.specs.Tables.{task_of, Waits, WasPut, with_asker, without_askers}
+use Rattle.protocol.specs.Steps.{changes, Here, is_own, logs, object_at, own_id, own_object, says, says_to_node, store_here, with_phase, with_run, with_store}
+use Rattle.protocol.specs.Steps.{with_task_of}
 use Rattle.protocol.specs.Runs.{asks_for_slot, finished_ack_reached, gives_slot_back, is_heard, leaves_if_free, push_reached, tells_stop, with_answer}
 use Rattle.protocol.specs.Asking.{asks_at, elsewhere_reached, given_reached, pushes, requests, resolves, rests, with_begun}
-use Rattle.protocol.specs.Holders.{with_holding}
-use Rattle.protocol.specs.Commits.{with_object}
+use Rattle.protocol.specs.Holders.{passes_on, with_holding}
+use Rattle.protocol.specs.Commits.{task_objects, with_objects}
 use Rattle.protocol.specs.Ends.{accepts, failed_reached, finished_reached}
 use Rattle.protocol.specs.Notices.{loses_places, with_dead_node, with_dead_worker}
 use Rattle.std.specs.List.{filter}
@@ -37,6 +37,29 @@ AnyGiven n t a w = Unit {0}
 abbrev pub AnyHeard : Here → Party → Message → Type 0
 AnyHeard h from m = Unit {0}
 
+-- any object's places may change
+abbrev pub AnyPlace : Id → Type 0
+AnyPlace o = Unit {0}
+
+-- the steps by which an object is looked for, made again or answered; MayPlace o: where known copies of o may come and go
+pub record KeepsNeeds (MayPlace : Id → Type 0) (P : Here → Type 0) : Type 0 where
+  pub placed : (h : Here) (o : Id) (f : Object → Object) → MayPlace o → LeavesAlike f → P h → P (changes h o f)
+  pub answered : (h : Here) (o : Id) (x : Object) → object_at h o ≡ Some x →
+      (is_some x.settled ≡ true) ⊎ (is_some x.fault ≡ true) → P h → P (changes h o without_askers)
+  pub resolved : (h : Here) (o : Id) (f : Fault) → P h → P (resolves h o f)
+  pub looked : (h : Here) (o : Id) (number : ℕ) → P h → P (with_store h (looked_up (store_here h) o number))
+  pub asked_anew : (h : Here) (o : Id) (old task : OwnTask) → task_of (object_at h o) ≡ Some old → IsNextOf old task → P h → P (requests h o task)
+  pub fetching : (h : Here) (run : Run) (y : Id) (f g : Option Fetching) → h.worker.run ≡ Some run → run.phase ≡ Waits y f → P h →
+      P (with_phase h run (Waits y g))
+  pub got : (h : Here) (run : Run) (c : Outcome) (y : Id) (f : Option Fetching) → h.worker.run ≡ Some run → run.phase ≡ Waits y f → P h →
+      P (asks_for_slot (logs (with_run h (with_answer run c)) (Got run.attempt y c)))
+  pub faulted : (h : Here) (run : Run) (f : Fault) (y : Id) (g : Option Fetching) → h.worker.run ≡ Some run → run.phase ≡ Waits y g → P h →
+      P (leaves_if_free (gives_slot_back (logs (with_phase h run (HasFaulted f)) (Faulted run.attempt y f))))
+  pub place_told : (h : Here) (w : ℕ) (y : Id) (number : ℕ) (ns : List ℕ) (c : Option Outcome) → (is_empty ns && is_none c) ≡ false → P h →
+      P (says h w (At y number ns c))
+  pub gone_told : (h : Here) (w : ℕ) (y : Id) (f : Fault) → P h → P (says h w (Gone y f))
+  pub copy_asked : (h : Here) (n : ℕ) (y : Id) (number : ℕ) → P h → P (says_to_node h n (Fetch y number))
+
 -- IsToldBy w a: worker w told that attempt a is over there. IsPassedBy a t n: node n passes ask t of attempt a on, or is dead. Where Holds and
 -- Pushes may go out again.
 pub record KeepsHere (IsToldBy : ℕ → Attempt → Type 0) (IsPassedBy : Attempt → ℕ → ℕ → Type 0) (MayHold MayPush : Type 0) (P : Here → Type 0) : Type 0 where
@@ -46,7 +69,7 @@ pub record KeepsHere (IsToldBy : ℕ → Attempt → Type 0) (IsPassedBy : Attem
   pub answered : (h : Here) (o : Id) (x : Object) → object_at h o ≡ Some x →
       (is_some x.settled ≡ true) ⊎ (is_some x.fault ≡ true) → P h → P (changes h o without_askers)
   pub resolved : (h : Here) (o : Id) (f : Fault) → P h → P (resolves h o f)
-  pub freed : (h : Here) (o : Id) → P h → P (logs (changes h o released) (Released o))
+  pub freed : (h : Here) (o : Id) → P h → P (logs h (Released o))
   pub places_lost : (h : Here) (m : ℕ) → P h → P (loses_places h m)
   pub worker_dead : (h : Here) (v : ℕ) → P h → P (with_dead_worker h v)
   pub node_dead : (h : Here) (m : ℕ) → P h → P (with_dead_node h m)
@@ -97,16 +120,19 @@ pub record KeepsOver (P : Here → Type 0) : Type 0 where
   pub over : (h : Here) (run next : Run) → h.worker.run ≡ Some run → has_stopped run.phase ≡ true → next.attempt ≡ run.attempt → next.phase ≡ run.phase →
       next.is_over ≡ true → P h → P (with_run h next)
   pub heard : (h : Here) (run : Run) → h.worker.run ≡ Some run → run.is_over ≡ true → P h → P (with_run h (record run { is_acknowledged = true }))
-  pub end_told : (h : Here) (run : Run) (n : ℕ) (ids : List Id) (c : Option Outcome) → h.worker.run ≡ Some run → run.is_over ≡ true → P h →
-      P (says h (owner_of run) (Finished run.attempt n ids c))
+  pub end_told : (h : Here) (run : Run) (n : ℕ) (rs : List EndedResult) → h.worker.run ≡ Some run → run.is_over ≡ true → P h →
+      P (says h (owner_of run) (Finished run.attempt n rs))
   pub fault_told : (h : Here) (run : Run) (f : Fault) → h.worker.run ≡ Some run → run.is_over ≡ true → P h → P (says h (owner_of run) (Failed run.attempt f))
   pub back : (h : Here) (run : Run) → h.worker.run ≡ Some run → run.is_over ≡ true → P h → P (says_to_node h h.worker.node (Back run.attempt))
 
--- an object is borne; its Holds go out, and the attempt waits for them
+-- objects are borne, what is put or those of a task, and what an attempt ended with is kept; Holds go out, and the attempt waits for them
 pub record KeepsBirths (P : Here → Type 0) : Type 0 where
-  pub put : (h : Here) (x : Object) → x.maker ≡ WasPut → P h → P (with_object h x)
+  pub put : (h : Here) (x : Object) → x.maker ≡ WasPut → P h → P (with_objects h (x ∷ []))
   pub primary : (h : Here) (o : Id) (v : Value) → P h → P (with_store h (with_primary (store_here h) o 0 (Val v)))
-  pub task : (h : Here) (x : Object) (spec : Birth) → x.maker ≡ ByTask (new_task spec) → P h → P (with_object h x)
+  pub task : (h : Here) (a : Attempt) (spec : Birth) (others : ℕ) (ids : List Id) → P h →
+      P (with_objects h (task_objects a (length h.worker.objects + 1) spec others ids))
+  pub ended : (h : Here) (o : Id) (number : ℕ) (c : Outcome) → P h → P (with_store h (with_ended (store_here h) o number c))
+  pub passed : (h : Here) (o : Id) (ids : List Id) → P h → P (passes_on h o ids)
   pub awaited : (h : Here) (run : Run) (k : Holding) → h.worker.run ≡ Some run → P h → P (with_run h (record run { holds = with_holding run.holds k }))
   pub hold_sent : (h : Here) (e o : Id) → P h → P (says h o.owner (Hold e o))
 
@@ -122,14 +148,14 @@ pub record KeepsAnswers (IsToldBy : ℕ → Attempt → Type 0) (IsOverOf : Atte
 -- the end of an own attempt is accepted, of which its worker told
 abbrev pub KeepsAccepted : (ℕ → Attempt → Type 0) → (Here → Type 0) → Type 0
 KeepsAccepted IsToldBy P =
-    (h : Here) (a : Attempt) (task : OwnTask) (n : ℕ) (ids : List Id) (c : Option Outcome) (w : ℕ) → task_of (object_at h a.object) ≡ Some task →
-    IsToldBy w (attempt a.object task.number) → P h → P (accepts h a task n ids c)
+    (h : Here) (a : Attempt) (task : OwnTask) (n : ℕ) (rs : List EndedResult) (w : ℕ) → task_of (object_at h a.object) ≡ Some task →
+    IsToldBy w a → IsToldBy w (attempt a.object task.number) → P h → P (accepts h a task n rs)
 
 -- what is known of a message, where it begins an attempt, tells how one stopped, or answers an ask
 pub record KeepsHeard (IsHeard : Here → Party → Message → Type 0) (P : Here → Type 0) : Type 0 where
   pub push : (h : Here) (w : ℕ) (a : Attempt) (spec : Birth) → IsHeard h (TheWorker w) (Push a spec) → P h → P (push_reached h a spec)
-  pub finished : (h : Here) (w : ℕ) (a : Attempt) (n : ℕ) (ids : List Id) (c : Option Outcome) → IsHeard h (TheWorker w) (Finished a n ids c) → P h →
-      P (finished_reached h w a n ids c)
+  pub finished : (h : Here) (w : ℕ) (a : Attempt) (n : ℕ) (rs : List EndedResult) → IsHeard h (TheWorker w) (Finished a n rs) → P h →
+      P (finished_reached h w a n rs)
   pub finished_ack : (h : Here) (w : ℕ) (a : Attempt) → IsHeard h (TheWorker w) (FinishedAck a) → P h → P (finished_ack_reached h a)
   pub failed : (h : Here) (w : ℕ) (a : Attempt) (f : Fault) → IsHeard h (TheWorker w) (Failed a f) → P h → P (failed_reached h w a f)
   pub given : (h : Here) (n : ℕ) (a : Attempt) (t w : ℕ) → IsHeard h (TheNode n) (Give a t w) → P h → P (given_reached h n a t w)

@@ -1,5 +1,5 @@
 -- What is known where a smallest step is made.
-use Rattle.std.specs.Prelude.{◌≡◌, ◌⊎◌, ℕ, true, Option, Some}
+use Rattle.std.specs.Prelude.{◌≡◌, ◌⊎◌, ℕ, Option, Some}
 use Rattle.meaning.specs.Values.{Birth, Id}
 use Rattle.protocol.specs.Steps.{Here}
 use Rattle.protocol.specs.Asking.{next_attempt}

@@ -1,0 +1,86 @@
+-- A task with two results, both of which are got.
+-- `let a, b = remote two(4); let c = get b; return get a + c[8];`
+-- 15 events, 27 entries, 7 messages, 4 jobs.
+use Rattle.std.specs.Prelude.{List, None, Some, [], codes, ◌∷◌}
+use Rattle.meaning.specs.Values.{Birth, Task, Val, main_birth}
+use Rattle.event_log.specs.Entries.{Accepted, Begun, Born, Claim, Commit, Deliver, Ended, Got, In, Opened, Released}
+use Rattle.protocol.specs.Messages.{Ask, Back, Finished, FinishedAck, Give, Push, TheNode, TheWorker, Unhold, WasReleased, letter}
+use Rattle.protocol.specs.Jobs.{AtEnd, AtGet}
+use Rattle.protocol.specs.Plays.{Doing, Line, Seen, Settles, does_all, doing}
+use Rattle.protocol_rows.specs.Writing.{a1_0_0, a1_1_0, done, given, int, job, nine, o1_1, o1_2, o2_1, told}
+
+-- what makes o1.1
+abbrev pub birth_1_1 : Birth
+birth_1_1 = Task (codes "two") (given (int 4) ∷ []) 1 3 1
+
+-- what each job comes to
+abbrev pub two_results_doings : List Doing
+two_results_doings =
+    doing 1 (done (birth_1_1 ∷ []) [] (AtGet o1_2))
+    ∷ doing 2 (done [] [] (AtEnd (Val (int 5) ∷ Val (nine (int 4)) ∷ [])))
+    ∷ doing 3 (done [] [] (AtGet o1_1))
+    ∷ doing 4 (done [] [] (AtEnd (Val (int 9) ∷ [])))
+    ∷ []
+
+-- the lines of the event file
+abbrev pub two_results_lines : List Line
+two_results_lines =
+    Settles []
+    ∷ []
+
+-- the events, one by one
+abbrev pub two_results_events : List Line
+two_results_events =
+    does_all
+    (Claim 1 ∷ Commit 1 ∷ Deliver 1 ∷ Deliver 2 ∷ Deliver 3 ∷ Claim 2 ∷ Commit 2 ∷ Deliver 4 ∷ Deliver 5 ∷ Deliver 6 ∷ Claim 1 ∷
+    Commit 3 ∷ Claim 1 ∷ Commit 4 ∷ Deliver 7 ∷ [])
+
+-- the log, the messages and the jobs
+abbrev pub two_results_run : Seen
+two_results_run =
+    record {
+      log =
+          Opened 1 1
+          ∷ Begun a1_0_0 1
+          ∷ In (Claim 1) 0
+          ∷ In (Commit 1) 0
+          ∷ Born o1_1 a1_0_0 birth_1_1
+          ∷ In (Deliver 1) 0
+          ∷ Opened 2 1
+          ∷ In (Deliver 2) 0
+          ∷ Begun a1_1_0 2
+          ∷ In (Deliver 3) 0
+          ∷ In (Claim 2) 0
+          ∷ In (Commit 2) 0
+          ∷ Ended a1_1_0 (Val (int 5) ∷ Val (nine (int 4)) ∷ [])
+          ∷ In (Deliver 4) 0
+          ∷ Accepted a1_1_0
+          ∷ Got a1_0_0 o1_2 (Val (nine (int 4)))
+          ∷ In (Deliver 5) 0
+          ∷ In (Deliver 6) 0
+          ∷ In (Claim 1) 0
+          ∷ In (Commit 3) 0
+          ∷ Got a1_0_0 o1_1 (Val (int 5))
+          ∷ In (Claim 1) 0
+          ∷ In (Commit 4) 0
+          ∷ Ended a1_0_0 (Val (int 9) ∷ [])
+          ∷ Released o1_1
+          ∷ Released o1_2
+          ∷ In (Deliver 7) 0
+          ∷ [];
+      letters =
+          letter (TheWorker 1) (TheNode 1) (Ask a1_1_0 0)
+          ∷ letter (TheNode 1) (TheWorker 1) (Give a1_1_0 0 2)
+          ∷ letter (TheWorker 1) (TheWorker 2) (Push a1_1_0 birth_1_1)
+          ∷ letter (TheWorker 2) (TheWorker 1) (Finished a1_1_0 1 (told [] (Some (Val (int 5))) ∷ told [] None ∷ []))
+          ∷ letter (TheWorker 1) (TheWorker 2) (FinishedAck a1_1_0)
+          ∷ letter (TheWorker 2) (TheNode 1) (Back a1_1_0)
+          ∷ letter (TheWorker 1) (TheNode 1) (Unhold o1_2 o1_2 WasReleased)
+          ∷ [];
+      given =
+          job 1 a1_0_0 main_birth o1_1 [] [] []
+          ∷ job 2 a1_1_0 birth_1_1 o2_1 [] [] []
+          ∷ job 3 a1_0_0 main_birth o1_1 (birth_1_1 ∷ []) [] (Val (nine (int 4)) ∷ [])
+          ∷ job 4 a1_0_0 main_birth o1_1 (birth_1_1 ∷ []) [] (Val (nine (int 4)) ∷ Val (int 5) ∷ [])
+          ∷ [];
+    }

@@ -9,8 +9,8 @@ use Rattle.meaning.proofs.BirthLaws.{at_test}
 use Rattle.protocol.specs.Numbered.{item_at}
 use Rattle.protocol.specs.Sets.{has, with_number}
 use Rattle.protocol.specs.Tables.{Object}
-use Rattle.protocol.specs.Steps.{Here, is_own, object_at}
-use Rattle.protocol.specs.Recovery.{counted_from, first_stop, is_lost_at, made_from, members, members_below, with_lost}
+use Rattle.protocol.specs.Steps.{Here, is_own}
+use Rattle.protocol.specs.Recovery.{counted_from, first_stop, is_lost_at, is_lost_here, made_from, members, members_below, with_lost}
 use Rattle.lineage.specs.Plans.{ArgumentsAreOlder, Ascends, CannotBeRemade, IsLeast, IsPlanned, IsRight, IsRightPlan, NoMemory, Plan, Stop, planned_by}
 
 -- ---- what an answer has
@@ -79,7 +79,7 @@ new_number ks n j = at_test (λ b. has (if b then ks else ks ++ n ∷ []) j ≡ 
 
 module _ (h : Here) where
   abbrev lost : Id → Bool
-  lost o = is_lost_at (object_at h o)
+  lost o = is_lost_here h o
 
   abbrev with_one : List ℕ → Id → List ℕ
   with_one ks o = if lost o then with_number ks o.serial else ks
@@ -162,7 +162,7 @@ module _ (h : Here) where
 
   -- ---- the members
 
-  lost_there : (b : Bool) (xs : List Object) (n : ℕ) → is_lost_at (if b then item_at xs n else None) ≡ true → 1 ≤ n
+  lost_there : (b : Bool) (xs : List Object) (n : ℕ) → is_lost_at xs (if b then item_at xs n else None) ≡ true → 1 ≤ n
   lost_there true xs zero e = absurd (cc)
   lost_there true xs (suc n) e = omega arith
   lost_there false xs n e = absurd (cc)

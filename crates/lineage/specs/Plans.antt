@@ -3,8 +3,8 @@ use Rattle.std.specs.Prelude.{Bool, Err, List, None, Ok, Option, Result, Some, [
 use Rattle.std.specs.List.{AllByRecursion}
 use Rattle.event_log.specs.Entries.{Fault}
 use Rattle.protocol.specs.Sets.{has}
-use Rattle.protocol.specs.Steps.{Here, object_at}
-use Rattle.protocol.specs.Recovery.{first_stop, is_lost_at, made_from, members}
+use Rattle.protocol.specs.Steps.{Here}
+use Rattle.protocol.specs.Recovery.{first_stop, is_lost_here, made_from, members}
 pub use Rattle.lineage.specs.declared.recovery.Plan.{Plan}
 pub use Rattle.lineage.specs.declared.recovery.Stop.{Stop}
 pub use Rattle.lineage.specs.declared.recovery.Stop.TheVariants.{CannotBeRemade, NoMemory}
@@ -27,11 +27,11 @@ IsPlanned h k (Err NoMemory) = Unit {0}
 
 -- of the objects that the test names, it names the lost dereferenced arguments too
 abbrev pub IsClosed : Here → (ℕ → Bool) → Type 0
-IsClosed h p = (k : ℕ) → p k ≡ true → AllByRecursion (λ o. is_lost_at (object_at h o) ≡ true → p o.serial ≡ true) (made_from h k)
+IsClosed h p = (k : ℕ) → p k ≡ true → AllByRecursion (λ o. is_lost_here h o ≡ true → p o.serial ≡ true) (made_from h k)
 
 -- what an object is made from is older
 abbrev pub ArgumentsAreOlder : Here → Type 0
-ArgumentsAreOlder h = (k : ℕ) → AllByRecursion (λ o. is_lost_at (object_at h o) ≡ true → o.serial < k) (made_from h k)
+ArgumentsAreOlder h = (k : ℕ) → AllByRecursion (λ o. is_lost_here h o ≡ true → o.serial < k) (made_from h k)
 
 -- each is greater than the one before it
 abbrev pub Ascends : ℕ → List ℕ → Type 0

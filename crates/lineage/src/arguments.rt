@@ -1,14 +1,15 @@
 // What an object is made from.
 
-ghost use Rattle.std.specs.Prelude.{◌≡◌, IfOk};
+ghost use Rattle.std.specs.Prelude.{◌≡◌, IfOk, MatchOption, Some, None};
 ghost use Rattle.task_spec.specs.Dereferenced.{dereferenced_in};
-ghost use Rattle.protocol.specs.Tables.{task_in};
-ghost use Rattle.protocol.specs.Recovery.{arguments_by, made_from};
+ghost use Rattle.protocol.specs.Recovery.{made_from, task_for};
+ghost use Rattle.protocol.specs.Steps.{own_object};
 
+use crate::tables::task_by;
 use held::Origin;
 use ids::ObjectId;
 use number_lists::object_at_number;
-use protocol_data::{Here, Maker};
+use protocol_data::{Here, OwnTask};
 use sequence::Seq;
 use std::alloc::{AllocError, Global};
 use task_spec::dereferenced;
@@ -22,22 +23,24 @@ fn ids_read(alloc: Global, spec: &Origin) -> Result<Seq<ObjectId>, AllocError>
     convert(alloc, &found)
 }
 
-/// What such an object is made from.
-fn arguments_of(alloc: Global, maker: &Maker) -> Result<Seq<ObjectId>, AllocError>
-    ensures { IfOk result (λ ids. ids ≡ arguments_by (task_in maker.now)) }
+/// The task that makes the own object of that serial.
+pub fn task_for(here: &Here, serial: u64) -> Option<&OwnTask>
+    ensures { MatchOption result (task_for here.now (own_object here.now serial) ≡ None)
+        (λ task. task_for here.now (own_object here.now serial) ≡ Some task.now) }
 {
-    match maker {
-        Maker::WasPut => Ok(Seq::new(alloc)),
-        Maker::ByTask(task) => ids_read(alloc, &task.spec),
-    }
+    let objects = &here.worker.objects;
+    let Some(found) = object_at_number(objects, serial) else {
+        return None;
+    };
+    task_by(objects, &found.maker)
 }
 
 /// What the object of that serial is made from.
 pub fn made_from(alloc: Global, here: &Here, serial: u64) -> Result<Seq<ObjectId>, AllocError>
     ensures { IfOk result (λ ids. ids ≡ made_from here.now serial) }
 {
-    let Some(found) = object_at_number(&here.worker.objects, serial) else {
-        return Ok(Seq::new(alloc));
-    };
-    arguments_of(alloc, &found.maker)
+    match task_for(here, serial) {
+        None => Ok(Seq::new(alloc)),
+        Some(task) => ids_read(alloc, &task.spec),
+    }
 }

@@ -9,4 +9,4 @@ mod tables;
 
 pub use planning::plan;
 pub use recovery::{Plan, Stop};
-pub use tables::{has_content, is_lost, may_try_again};
+pub use tables::{first_by, has_content, is_lost, is_lost_here, is_wanted, may_try_again, task_by};

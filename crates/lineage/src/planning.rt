@@ -5,13 +5,12 @@ ghost use Rattle.protocol.specs.Sets.{has};
 ghost use Rattle.protocol.specs.Recovery.{first_stop, made_from, members, members_below, stop_at, with_lost};
 ghost use Rattle.lineage.specs.Plans.{IsPlanned, IsRightPlan};
 
-use crate::arguments::made_from;
+use crate::arguments::{made_from, task_for};
 use crate::recovery::{Plan, Stop};
 use crate::serials::{add_serial, has_serial, in_order};
-use crate::tables::{is_lost_at, may_try_again};
+use crate::tables::{is_lost_here, may_try_again};
 use ids::ObjectId;
-use number_lists::object_at_number;
-use protocol_data::{Here, Maker};
+use protocol_data::Here;
 use sequence::Seq;
 use std::alloc::{AllocError, Global};
 use values::{Fault, FaultKind};
@@ -21,7 +20,7 @@ fn add_lost(here: &Here, objects: &Seq<ObjectId>, serials: &mut Seq<u64>) -> Res
     ensures { OnOk result (serials.new ≡ with_lost here.now objects.now serials.old) }
 {
     for object in &objects.items {
-        if is_lost_at(here, *object) {
+        if is_lost_here(here, *object) {
             add_serial(serials, object.serial)?;
         }
     }
@@ -76,11 +75,7 @@ fn stop_at(here: &Here, serial: u64) -> Option<Fault>
 {
     let owner = here.me;
     let object = ObjectId { owner, serial };
-    let Some(found) = object_at_number(&here.worker.objects, serial) else {
-        let kind = FaultKind::PutLost;
-        return Some(Fault { kind, object });
-    };
-    let Maker::ByTask(task) = &found.maker else {
+    let Some(task) = task_for(here, serial) else {
         let kind = FaultKind::PutLost;
         return Some(Fault { kind, object });
     };

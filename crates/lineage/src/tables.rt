@@ -1,22 +1,23 @@
 // What a plan reads of an owner's tables.
 
-ghost use Rattle.std.specs.Prelude.{◌≡◌, ◌<◌, Some, None, true};
+ghost use Rattle.std.specs.Prelude.{◌≡◌, ◌<◌, Some, None, true, MatchOption};
 ghost use Rattle.protocol.specs.Sets.{retries_in};
-ghost use Rattle.protocol.specs.Tables.{has_content, is_lost, is_nowhere, is_whole, may_try_again};
-ghost use Rattle.protocol.specs.Steps.{object_at};
-ghost use Rattle.protocol.specs.Recovery.{is_lost_at};
+ghost use Rattle.protocol.specs.Numbered.{item_at};
+ghost use Rattle.protocol.specs.Tables.{first_by, has_content, is_lost, is_nowhere, is_wanted, is_whole, may_try_again, task_by, task_in, task_of};
+ghost use Rattle.protocol.specs.Recovery.{is_lost_here};
 
 use held::Origin;
 use ids::ObjectId;
-use protocol_data::{Here, Object, OwnTask};
+use number_lists::object_at_number;
+use protocol_data::{Here, Maker, Object, Objects, OwnTask};
 use task_spec::Birth;
 use worker_steps::{is_pending, object_at};
 
-/// Whether it has a content, which no fault, attempt or release takes from it.
+/// Whether it has a content, which no fault or release takes from it.
 fn is_whole(object: &Object) -> bool
     ensures { result ≡ is_whole object.now }
 {
-    object.settled.is_some() && object.fault.is_none() && !is_pending(object) && !object.is_released
+    object.settled.is_some() && object.fault.is_none() && !object.is_released
 }
 
 /// Whether no place of a copy of its content is known, and the owner doesn't keep it.
@@ -26,14 +27,21 @@ fn is_nowhere(object: &Object) -> bool
     object.places.items.is_empty() && object.kept.is_none()
 }
 
-/// Whether its content can't be had, and none is coming.
-pub fn is_lost(object: &Object) -> bool
-    ensures { result ≡ is_lost object.now }
+/// Whether its content can't be had, and none is coming: it is one of these objects, of which another may have its task.
+pub fn is_lost(objects: &Objects, object: &Object) -> bool
+    ensures { result ≡ is_lost objects.now object.now }
 {
-    is_whole(object) && is_nowhere(object)
+    is_whole(object) && is_nowhere(object) && !is_pending(objects, object)
 }
 
-/// Whether its content can be had.
+/// Whether it has no fault, and its content is nowhere: there is none yet, or it is lost.
+pub fn is_wanted(object: &Object) -> bool
+    ensures { result ≡ is_wanted object.now }
+{
+    object.fault.is_none() && is_nowhere(object)
+}
+
+/// Whether its content can be had, also while a further attempt is under way for the sake of another object of its task.
 pub fn has_content(object: &Object) -> bool
     ensures { result ≡ has_content object.now }
 {
@@ -41,12 +49,53 @@ pub fn has_content(object: &Object) -> bool
 }
 
 /// Whether the own object of that id is lost.
-pub fn is_lost_at(here: &Here, object: ObjectId) -> bool
-    ensures { result ≡ is_lost_at (object_at here.now object) }
+pub fn is_lost_here(here: &Here, object: ObjectId) -> bool
+    ensures { result ≡ is_lost_here here.now object }
 {
     match object_at(here, object) {
         None => false,
-        Some(found) => is_lost(found),
+        Some(found) => is_lost(&here.worker.objects, found),
+    }
+}
+
+/// The task that stands with an object so made.
+fn task_in(maker: &Maker) -> Option<&OwnTask>
+    ensures { MatchOption result (task_in maker.now ≡ None) (λ task. task_in maker.now ≡ Some task.now) }
+{
+    match maker {
+        Maker::WasPut | Maker::Beside(_) => None,
+        Maker::ByTask(task) => Some(task),
+    }
+}
+
+/// The task that stands with the object of that serial.
+fn task_at(objects: &Objects, serial: u64) -> Option<&OwnTask>
+    ensures { MatchOption result (task_of (item_at objects.now serial) ≡ None) (λ task. task_of (item_at objects.now serial) ≡ Some task.now) }
+{
+    let Some(found) = object_at_number(objects, serial) else {
+        return None;
+    };
+    task_in(&found.maker)
+}
+
+/// The task that makes an object so made, which may stand with another one of these.
+pub fn task_by<'a>(objects: &'a Objects, maker: &'a Maker) -> Option<&'a OwnTask>
+    ensures { MatchOption result (task_by objects.now maker.now ≡ None) (λ task. task_by objects.now maker.now ≡ Some task.now) }
+{
+    match maker {
+        Maker::WasPut => None,
+        Maker::ByTask(task) => Some(task),
+        Maker::Beside(first) => task_at(objects, *first),
+    }
+}
+
+/// The serial of the first object of the task that makes the object of that serial; for a put its own.
+pub fn first_by(serial: u64, maker: &Maker) -> u64
+    ensures { result ≡ first_by serial maker.now }
+{
+    match maker {
+        Maker::WasPut | Maker::ByTask(_) => serial,
+        Maker::Beside(first) => *first,
     }
 }
 

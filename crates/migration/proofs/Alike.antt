@@ -41,8 +41,7 @@ same_rest xs ws ys zs same e = cancel xs ys zs (e ∙ ap (λ vs. vs ++ zs) (sym 
 meant_stop : runs.Stop → Stopped
 meant_stop (runs.Needs (Named i)) = AtGet i
 meant_stop (runs.Needs r) = AtGet (record { owner = 0; serial = 0 })
-meant_stop (runs.Over []) = AtGet (record { owner = 0; serial = 0 })
-meant_stop (runs.Over (c ∷ cs)) = AtEnd c
+meant_stop (runs.Over cs) = AtEnd cs
 
 same_stop : (s : PieceStop) → stopped_of s ≡ meant_stop (stop_of s)
 unfolding meant_stop

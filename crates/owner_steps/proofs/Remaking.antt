@@ -1,95 +1,141 @@
--- What is made again may be tried again, and while one is asked for the others still may.
-use Rattle.std.proofs.Common.{◌≡◌, ◌≢◌, ◌<◌, ◌≤◌, ◌+◌, ℕ, zero, suc, Bool, true, false, if◌then◌else◌, List, [], ◌∷◌, Option, None, Some, Result, Ok, drop, length, slice_index_or, ◌∙◌, refl, sym, ap, subst, arith}
+-- What is made again may be tried again, and so may the others still while it is asked for.
+use Rattle.std.proofs.Common.{◌≡◌, ◌<◌, ◌+◌, ◌⊎◌, inl, inr, ℕ, zero, suc, Bool, true, false, if◌then◌else◌, List, [], ◌∷◌, Option, None, Some, Result, Ok, drop, length, slice_index_or, ◌∙◌, refl, sym, ap, subst, arith}
+use Rattle.std.specs.Prelude.{slice_get, slice_set}
 use Rattle.std.proofs.Math.Seq.{drop-cons}
-use Rattle.sequence.proofs.Places.{slice_get-set_other}
 use Rattle.meaning.specs.Values.{Id}
+use Rattle.meaning.proofs.BirthLaws.{at_test}
 use Rattle.event_log.specs.Entries.{Fault}
-use Rattle.protocol.specs.Numbered.{changed_by, item_at}
-use Rattle.protocol.specs.Tables.{Object, OwnTask, may_try_again, task_of}
-use Rattle.protocol.specs.Steps.{Here, own_object}
-use Rattle.protocol.specs.Laws.{CanBeMade, PlanMeans, Rises}
-use Rattle.protocol.specs.Recovery.{first_stop, members, remakes, remakes_by, stop_at, stop_by}
+use Rattle.protocol.specs.Numbered.{changed_at, changed_by, item_at}
+use Rattle.protocol.specs.Tables.{AskedAt, Beside, ByTask, Maker, Object, OwnTask, WasPut, first_by, is_pending_task, may_try_again, task_by, task_in, task_of, with_task}
+use Rattle.protocol.specs.Steps.{Here, own_id, own_object}
+use Rattle.protocol.specs.Asking.{next_attempt, requests}
+use Rattle.protocol.specs.Laws.{CanBeMade, PlanMeans}
+use Rattle.protocol.specs.Recovery.{first_stop, members, remakes, remakes_by, remakes_one, stop_at, stop_by, task_for}
 use Rattle.lineage.specs.Plans.{planned, planned_by}
 use Rattle.lineage.specs.declared.recovery.Plan.{Plan}
 use Rattle.lineage.specs.declared.recovery.Stop.{Stop}
+use Rattle.owner_steps.specs.Made.{AllMayBeMade, MayBeMade}
 
--- ---- what nothing stops
+-- ---- the task of an object
+
+pub has_retries : (h : Here) (k : ℕ) (x : Object) (task : OwnTask) → MayBeMade h k → own_object h k ≡ Some x → task_by h.worker.objects x.maker ≡ Some task →
+    is_pending_task task ≡ false → may_try_again task ≡ true
+has_retries h k x task may own made idle = may task (ap (task_for h) own ∙ made) idle
+
+first_has : (xs : List Object) (k : ℕ) (x : Object) (task : OwnTask) (m : Maker) → x.maker ≡ m → item_at xs k ≡ Some x → task_by xs m ≡ Some task →
+    task_of (item_at xs (first_by k m)) ≡ Some task
+first_has xs k x task WasPut e own made = absurd (cc)
+first_has xs k x task (ByTask t) e own made = ap task_of own ∙ ap task_in e ∙ made
+first_has xs k x task (Beside i) e own made = made
+
+-- the task that makes an object stands with the first of its objects
+pub stands_first : (xs : List Object) (k : ℕ) (x : Object) (task : OwnTask) → item_at xs k ≡ Some x → task_by xs x.maker ≡ Some task →
+    task_of (item_at xs (first_by k x.maker)) ≡ Some task
+stands_first xs k x task own made = first_has xs k x task x.maker refl own made
+
+-- ---- a task that is asked for, and the others
+
+set_item : {X : Type 0} (xs : List X) (i j : ℕ) (x y : X) → slice_get xs i ≡ Some x →
+    (slice_get (slice_set xs i y) j ≡ slice_get xs j) ⊎ (slice_get (slice_set xs i y) j ≡ Some y)
+set_item [] i j x y e = absurd (cc)
+set_item (z ∷ zs) zero zero x y e = inr refl
+set_item (z ∷ zs) zero (suc j) x y e = inl refl
+set_item (z ∷ zs) (suc i) zero x y e = inl refl
+set_item (z ∷ zs) (suc i) (suc j) x y e = set_item zs i j x y e
+
+-- with the task of an item changed, an item is as before, or has that task
+changed_item : (xs : List Object) (n j : ℕ) (t : OwnTask) (o : Option Object) → item_at xs n ≡ o →
+    (item_at (changed_by xs n (with_task t) o) j ≡ item_at xs j) ⊎ ((x : Object) × (item_at (changed_by xs n (with_task t) o) j ≡ Some (with_task t x)))
+changed_item xs zero j t o e = inl refl
+changed_item xs (suc i) j t None e = inl refl
+changed_item xs (suc i) zero t (Some x) e = inl refl
+changed_item xs (suc i) (suc j) t (Some x) e = elim (set_item xs i j x (with_task t x) e) [ inl f ↦ inl f | inr f ↦ inr (x, f) ]
+
+apart : (t u : OwnTask) → is_pending_task t ≡ true → is_pending_task u ≡ false → ◌≡◌ {A = Option OwnTask} (Some t) (Some u) → ⊥
+apart t u asked idle e = absurd (cc)
+
+module _ (xs : List Object) (n : ℕ) (t u : OwnTask) (asked : is_pending_task t ≡ true) (idle : is_pending_task u ≡ false) where
+  abbrev changed : List Object
+  changed = changed_at xs n (with_task t)
+
+  at_item : (j : ℕ) → task_of (item_at changed j) ≡ Some u → task_of (item_at xs j) ≡ Some u
+  at_item j e = elim (changed_item xs n j t (item_at xs n) refl) [
+    | inl same ↦ ap task_of (sym same) ∙ e
+    | inr it ↦ absurd (apart t u asked idle (sym (ap task_of it.1) ∙ e))
+  ]
+
+  by_maker : (m : Maker) → task_by changed m ≡ Some u → task_by xs m ≡ Some u
+  by_maker WasPut e = e
+  by_maker (ByTask v) e = e
+  by_maker (Beside k) e = at_item k e
+
+by_object : (h : Here) (f : ℕ) (t u : OwnTask) → is_pending_task u ≡ false → (o : Option Object) →
+    task_for (requests h (own_id h f) t) o ≡ Some u → task_for h o ≡ Some u
+by_object h f t u idle None e = absurd (cc)
+by_object h f t u idle (Some x) e = by_maker h.worker.objects f (record t { progress = AskedAt 0 h.worker.node }) u refl idle x.maker e
+
+asked_for : (h : Here) (f j : ℕ) (t : OwnTask) → MayBeMade h j → MayBeMade (requests h (own_id h f) t) j
+asked_for h f j t may u e idle =
+    let g : Here = requests h (own_id h f) t in
+    let new : OwnTask = record t { progress = AskedAt 0 h.worker.node } in
+    elim (changed_item h.worker.objects f j new (item_at h.worker.objects f) refl) [
+      | inl same ↦ may u (by_object h f t u idle (own_object h j) (ap (task_for g) (sym same) ∙ e)) idle
+      | inr it ↦ absurd (apart new u refl idle (sym (ap (task_for g) it.1) ∙ e))
+    ]
+
+still_by : (h : Here) (f j : ℕ) (o : Option OwnTask) → MayBeMade h j → MayBeMade (remakes_by h f o) j
+still_by h f j None may = may
+still_by h f j (Some task) may =
+    at_test (λ b. MayBeMade (if b then h else requests h (own_id h f) (next_attempt task)) j) (is_pending_task task)
+    (λ _. may) (λ _. asked_for h f j (next_attempt task) may)
+
+still_one : (h : Here) (k j : ℕ) (o : Option Object) → MayBeMade h j → MayBeMade (remakes_one h k o) j
+still_one h k j None may = may
+still_one h k j (Some x) may = still_by h (first_by k x.maker) j (task_by h.worker.objects x.maker) may
+
+still_all : (h : Here) (k : ℕ) (o : Option Object) (ks : List ℕ) → AllMayBeMade h ks → AllMayBeMade (remakes_one h k o) ks
+still_all h k o [] may = tt
+still_all h k o (j ∷ ks) may = (still_one h k j o may.0, still_all h k o ks may.1)
+
+-- ---- the next of a list is made
+
+made_next : (h g : Here) (k : ℕ) (ks rest : List ℕ) (done : Here) → rest ≡ k ∷ ks → g ≡ remakes_one h k (own_object h k) → remakes h rest ≡ done →
+    AllMayBeMade h rest → (remakes g ks ≡ done) × AllMayBeMade g ks
+made_next h g k ks rest done parts made all left =
+    let later = still_all h k (own_object h k) ks (subst (AllMayBeMade h) parts left).1 in
+    (ap (λ (x : Here). remakes x ks) made ∙ sym (ap (remakes h) parts) ∙ all, subst (λ (x : Here). AllMayBeMade x ks) (sym made) later)
+
+next_of : (xs : List ℕ) (i : ℕ) → i < length xs → drop i xs ≡ slice_index_or xs i 0 ∷ drop (i + 1) xs
+next_of xs i less = let e : suc i ≡ i + 1 = omega arith in subst (λ j. drop i xs ≡ slice_index_or xs i 0 ∷ drop j xs) e (drop-cons xs i 0 less)
+
+pub one_may : (h : Here) (xs : List ℕ) (i : ℕ) → i < length xs → AllMayBeMade h (drop i xs) → MayBeMade h (slice_index_or xs i 0)
+one_may h xs i less left = (subst (AllMayBeMade h) (next_of xs i less) left).0
+
+pub one_made : (h g : Here) (xs : List ℕ) (i : ℕ) (done : Here) → i < length xs →
+    g ≡ remakes_one h (slice_index_or xs i 0) (own_object h (slice_index_or xs i 0)) → remakes h (drop i xs) ≡ done →
+    AllMayBeMade h (drop i xs) → (remakes g (drop (i + 1) xs) ≡ done) × AllMayBeMade g (drop (i + 1) xs)
+one_made h g xs i done less made all left = made_next h g (slice_index_or xs i 0) (drop (i + 1) xs) (drop i xs) done (next_of xs i less) made all left
+
+-- ---- a plan's
 
 unstopped_if : (b : Bool) (f : Fault) → (if b then None else Some f) ≡ None → b ≡ true
 unstopped_if true f e = refl
 unstopped_if false f e = absurd (cc)
 
-pub has_retries : (h : Here) (k : ℕ) (task : OwnTask) → stop_at h k ≡ None → task_of (own_object h k) ≡ Some task → may_try_again task ≡ true
-has_retries h k task e own = unstopped_if (may_try_again task) _ (subst (λ o. stop_by h k o ≡ None) own e)
+unstopped : (h : Here) (k : ℕ) → stop_at h k ≡ None → MayBeMade h k
+unstopped h k e task own idle = unstopped_if (may_try_again task) _ (subst (λ o. stop_by h k o ≡ None) own e)
 
--- ---- the others
-
-other_item : {X : Type 0} (xs : List X) (n m : ℕ) (f : X → X) (o : Option X) → m ≢ n → item_at (changed_by xs n f o) m ≡ item_at xs m
-other_item xs zero m f o apart = refl
-other_item xs (suc i) m f None apart = refl
-other_item xs (suc i) zero f (Some x) apart = refl
-other_item xs (suc i) (suc j) f (Some x) apart = slice_get-set_other xs i j (f x) (λ same. apart (ap suc same))
-
-still_if : (b : Bool) (f g : Fault) → (if b then None else Some f) ≡ None → (if b then None else Some g) ≡ None
-still_if true f g e = refl
-still_if false f g e = absurd (cc)
-
-still_by : (h g : Here) (k : ℕ) (o : Option OwnTask) → stop_by h k o ≡ None → stop_by g k o ≡ None
-still_by h g k None e = absurd (cc)
-still_by h g k (Some task) e = still_if (may_try_again task) _ _ e
-
-other_own : (h : Here) (k j : ℕ) (o : Option OwnTask) → j ≢ k → own_object (remakes_by h k o) j ≡ own_object h j
-other_own h k j None apart = refl
-other_own h k j (Some task) apart = other_item h.worker.objects k j _ (item_at h.worker.objects k) apart
-
-still_one : (h : Here) (k j : ℕ) (o : Option OwnTask) → j ≢ k → stop_at h j ≡ None → stop_at (remakes_by h k o) j ≡ None
-still_one h k j o apart e =
-    let g : Here = remakes_by h k o in
-    subst (λ (x : Option Object). stop_by g j (task_of x) ≡ None) (sym (other_own h k j o apart)) (still_by h g j (task_of (own_object h j)) e)
-
-still_all : (h : Here) (k : ℕ) (o : Option OwnTask) (low : ℕ) (ks : List ℕ) → k < low → Rises low ks → CanBeMade h ks → CanBeMade (remakes_by h k o) ks
-still_all h k o low [] below rises made = tt
-still_all h k o low (j ∷ ks) below rises made =
-    let later : low ≤ j = rises.0 in
-    let apart : j ≢ k = λ same. omega (arith, below, later, same) in
-    (still_one h k j o apart made.0, still_all h k o (j + 1) ks (omega (arith, below, later)) rises.1 made.1)
-
-from_lower : (low high : ℕ) (ks : List ℕ) → low ≤ high → Rises high ks → Rises low ks
-from_lower low high [] less rises = tt
-from_lower low high (k ∷ ks) less rises = let later : high ≤ k = rises.0 in (omega (arith, less, later), rises.1)
-
-pub still : (h : Here) (k : ℕ) (ks : List ℕ) → CanBeMade h (k ∷ ks) × Rises 0 (k ∷ ks) →
-    CanBeMade (remakes_by h k (task_of (own_object h k))) ks × Rises 0 ks
-still h k ks (made, rises) =
-    (still_all h k (task_of (own_object h k)) (k + 1) ks (omega arith) rises.1 made.1, from_lower 0 (k + 1) ks (omega arith) rises.1)
-
--- the next of a list is made
-made_next : (h g : Here) (k : ℕ) (ks rest : List ℕ) (done : Here) → rest ≡ k ∷ ks → g ≡ remakes_by h k (task_of (own_object h k)) → remakes h rest ≡ done →
-    CanBeMade h rest × Rises 0 rest → (remakes g ks ≡ done) × (CanBeMade g ks × Rises 0 ks)
-made_next h g k ks rest done parts made all left =
-    let first = subst (λ (js : List ℕ). CanBeMade h js × Rises 0 js) parts left in
-    let later = still h k ks first in
-    (ap (λ (x : Here). remakes x ks) made ∙ sym (ap (remakes h) parts) ∙ all, subst (λ (x : Here). CanBeMade x ks × Rises 0 ks) (sym made) later)
-
-next_of : (xs : List ℕ) (i : ℕ) → i < length xs → drop i xs ≡ slice_index_or xs i 0 ∷ drop (i + 1) xs
-next_of xs i less = let e : suc i ≡ i + 1 = omega arith in subst (λ j. drop i xs ≡ slice_index_or xs i 0 ∷ drop j xs) e (drop-cons xs i 0 less)
-
-pub one_made : (h g : Here) (xs : List ℕ) (i : ℕ) (done : Here) → i < length xs →
-    g ≡ remakes_by h (slice_index_or xs i 0) (task_of (own_object h (slice_index_or xs i 0))) → remakes h (drop i xs) ≡ done →
-    CanBeMade h (drop i xs) × Rises 0 (drop i xs) → (remakes g (drop (i + 1) xs) ≡ done) × (CanBeMade g (drop (i + 1) xs) × Rises 0 (drop (i + 1) xs))
-one_made h g xs i done less made all left = made_next h g (slice_index_or xs i 0) (drop (i + 1) xs) (drop i xs) done (next_of xs i less) made all left
-
--- ---- a plan's
+all_unstopped : (h : Here) (ks : List ℕ) → CanBeMade h ks → AllMayBeMade h ks
+all_unstopped h [] e = tt
+all_unstopped h (k ∷ ks) e = (unstopped h k e.0, all_unstopped h ks e.1)
 
 serials_in : (p q : Plan) → ◌≡◌ {A = Result Plan Stop} (Ok p) (Ok q) → p.serials ≡ q.serials
 serials_in p q e = cc
 
-by_stop : PlanMeans → (h : Here) (ks : List ℕ) (plan : Plan) (f : Option Fault) → first_stop h ks ≡ f → Rises 1 ks → Ok plan ≡ planned_by ks f →
-    CanBeMade h plan.serials × Rises 0 plan.serials
-by_stop means h ks plan None stop rises e =
-    subst (λ (js : List ℕ). CanBeMade h js × Rises 0 js) (sym (serials_in plan (record { serials = ks }) e)) (means.unstopped h ks stop, from_lower 0 1 ks (omega arith) rises)
-by_stop means h ks plan (Some f) stop rises e = absurd (cc)
+by_stop : PlanMeans → (h : Here) (ks : List ℕ) (plan : Plan) (f : Option Fault) → first_stop h ks ≡ f → Ok plan ≡ planned_by ks f → AllMayBeMade h plan.serials
+by_stop means h ks plan None stop e =
+    subst (AllMayBeMade h) (sym (serials_in plan (record { serials = ks }) e)) (all_unstopped h ks (means.unstopped h ks stop))
+by_stop means h ks plan (Some f) stop e = absurd (cc)
 
-pub can_be_remade : PlanMeans → (h : Here) (o : Id) (plan : Plan) → Ok plan ≡ planned h o.serial → CanBeMade h plan.serials × Rises 0 plan.serials
-can_be_remade means h o plan e =
-    by_stop means h (members h o.serial) plan (first_stop h (members h o.serial)) refl (means.in_birth_order h o.serial) e
+pub can_be_remade : PlanMeans → (h : Here) (o : Id) (plan : Plan) → Ok plan ≡ planned h o.serial → AllMayBeMade h plan.serials
+can_be_remade means h o plan e = by_stop means h (members h o.serial) plan (first_stop h (members h o.serial)) refl e

@@ -4,12 +4,12 @@ ghost use Rattle.std.specs.Prelude.{◌≡◌, ◌+◌, ◌≤◌, ◌^◌, ◌+
 ghost use Rattle.protocol.specs.Numbered.{changed_at, item_at};
 ghost use Rattle.protocol.specs.Tables.{task_of, with_task};
 ghost use Rattle.protocol.specs.Steps.{object_at};
-ghost use Rattle.protocol.specs.Asking.{asks_next, begins, breaks, elsewhere_reached, first_live, given_reached, if_asked, pushes, with_begun};
+ghost use Rattle.protocol.specs.Asking.{asks_next, begins, breaks, elsewhere_reached, first_live, given_reached, if_asked, pushes, uses_up, with_begun};
 ghost use Rattle.protocol_data.specs.declared.tables.OwnTask.{OwnTask};
 ghost use Rattle.owner_steps.specs.Asked.{has_ask};
 
 use crate::ends::rest;
-use crate::faulted::answer_faulted;
+use crate::results::{answer_all_faulted, resolve_all_used};
 use ids::{AttemptId, NodeId, ObjectId, WorkerId};
 use lease::next_in_circle;
 use lineage::may_try_again;
@@ -18,11 +18,23 @@ use number_lists::{has_node, object_at_number, row_of};
 use protocol_data::{Here, Maker, Message, Object, Objects, OwnTask, Progress, Worker};
 use sequence::refused_growth;
 use std::alloc::{AllocError, Global};
-use values::{Fault, FaultKind};
-use worker_steps::{ask_at, is_own, knows_dead, log, request, resolve, say};
+use worker_steps::{ask_at, end_of, is_own, knows_dead, log, request, say};
 
-/// The present attempt of the pending task that makes the object is broken: its worker or its node is dead. While there are retries left the
-/// next attempt is asked for, at the own node; else the object is resolved by RetriesUsed, and whoever waits for it is answered.
+/// The task has no retries left: those of its objects that have no copy are resolved by RetriesUsed, and whoever waits for one of them is answered.
+#[tactic(auto, using(crate::proofs::Each::used_up))]
+fn use_up(alloc: Global, here: &mut Here, object: ObjectId, number: u32) -> Result<(), AllocError>
+    ensures { (task : OwnTask) → task_of (item_at here.old.worker.objects object.serial) ≡ Some task → task.number ≡ number
+        → OnOk result (here.new ≡ uses_up here.old object task) }
+{
+    let end = end_of(&here.worker.objects, object.serial);
+    rest(here, object, number);
+    resolve_all_used(here, object.serial, end)?;
+    answer_all_faulted(alloc, here, object.serial, end)
+}
+
+/// The present attempt of the pending task that stands with the object is broken: its worker or its node is dead. While there are retries left the
+/// next attempt is asked for, at the own node; else those of the task's objects that have no copy are resolved by RetriesUsed, and whoever waits for
+/// one of them is answered.
 pub fn break_attempt(alloc: Global, here: &mut Here, object: ObjectId) -> Result<(), AllocError>
     ensures { (task : OwnTask) → task_of (item_at here.old.worker.objects object.serial) ≡ Some task
         → OnOk result (here.new ≡ breaks here.old object task) }
@@ -37,10 +49,7 @@ pub fn break_attempt(alloc: Global, here: &mut Here, object: ObjectId) -> Result
     if may_try_again(task) {
         return request(here, object, number + 1);
     }
-    rest(here, object, number);
-    let kind = FaultKind::RetriesUsed;
-    resolve(here, object, Fault { kind, object })?;
-    answer_faulted(alloc, here, object)
+    use_up(alloc, here, object, number)
 }
 
 /// The task's present attempt runs on the worker.

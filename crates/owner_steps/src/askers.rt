@@ -84,7 +84,7 @@ pub fn where_reached(
         let dead_holder = found.dead_holder;
         return tell_released(here, worker, object, dead_holder);
     }
-    if is_lost(found) {
+    if is_lost(&here.worker.objects, found) {
         add_asker(here, object, worker)?;
         return recover(alloc, here, object);
     }

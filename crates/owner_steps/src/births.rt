@@ -1,14 +1,16 @@
 // What a commit bears.
 
-ghost use Rattle.std.specs.Prelude.{◌≡◌, ◌≤◌, ◌^◌, ◌++◌, ◌∷◌, [], IfOk, OnOk, Some, None};
-ghost use Rattle.meaning.specs.Values.{Val};
+ghost use Rattle.std.specs.Prelude.{◌≡◌, ◌+◌, ◌≤◌, ◌^◌, ◌++◌, ◌∷◌, [], IfOk, OnOk, Some, None};
+ghost use Rattle.meaning.specs.Values.{Val, results_of};
 ghost use Rattle.values.specs.Values.{value_of};
 ghost use Rattle.protocol.specs.Numbered.{changed_at};
-ghost use Rattle.protocol.specs.Tables.{ByTask, new_object, new_task, put_object, with_task};
+ghost use Rattle.protocol.specs.Sets.{repeated};
+ghost use Rattle.protocol.specs.Tables.{Beside, ByTask, new_object, new_task, put_object, with_task};
 ghost use Rattle.protocol.specs.Asking.{requests};
-ghost use Rattle.protocol.specs.Commits.{bears, bears_all, bears_put, bears_task, next_id_here, with_object};
+ghost use Rattle.protocol.specs.Commits.{bears, bears_all, bears_put, bears_task, next_id_here, with_objects};
 
 use crate::birth_ids::ids_in_birth;
+use crate::results::hold_all;
 use held::{Origin, SharedContent};
 use ids::{AttemptId, NodeId, ObjectId};
 use number_lists::row_of;
@@ -35,7 +37,7 @@ pub fn next_id(here: &Here) -> ObjectId
 
 /// One more own object.
 fn add_own(here: &mut Here, object: Object) -> Result<(), AllocError>
-    ensures { OnOk result (here.new ≡ with_object here.old object) }
+    ensures { OnOk result (here.new ≡ with_objects here.old (object ∷ [])) }
 {
     here.worker.objects.push(object)?;
     Ok(())
@@ -70,24 +72,18 @@ fn put_object(
     })
 }
 
-/// A task that wasn't asked for yet.
+/// An object of a task that wasn't asked for yet.
 fn task_object(
     alloc: Global,
-    spec: &Origin,
+    maker: Maker,
     bearer: AttemptId,
-    ids: Seq<ObjectId>,
+    ids: &Seq<ObjectId>,
 ) -> Result<Object, AllocError>
-    ensures { IfOk result (λ x. x ≡ new_object (ByTask (new_task spec.now)) bearer ids) }
+    ensures { IfOk result (λ x. x ≡ new_object maker bearer ids.now) }
 {
-    let spec = spec.copy(alloc)?;
-    let task = OwnTask {
-        spec,
-        begun: Seq::new(alloc),
-        number: 0,
-        progress: Progress::AtRest,
-    };
+    let ids = ids.copy(alloc)?;
     Ok(Object {
-        maker: Maker::ByTask(task),
+        maker,
         bearer,
         settled: None,
         places: Seq::new(alloc),
@@ -101,6 +97,47 @@ fn task_object(
         is_released: false,
         askers: Seq::new(alloc),
     })
+}
+
+/// The first object of such a task.
+fn add_first(
+    alloc: Global,
+    here: &mut Here,
+    bearer: AttemptId,
+    spec: &Origin,
+    ids: &Seq<ObjectId>,
+) -> Result<(), AllocError>
+    ensures { OnOk result (here.new ≡ with_objects here.old (new_object (ByTask (new_task spec.now)) bearer ids.now ∷ [])) }
+{
+    let spec = spec.copy(alloc)?;
+    let task = OwnTask {
+        spec,
+        begun: Seq::new(alloc),
+        number: 0,
+        progress: Progress::AtRest,
+    };
+    let made = task_object(alloc, Maker::ByTask(task), bearer, ids)?;
+    add_own(here, made)
+}
+
+/// So many others, of the task that stands with the object of that serial.
+#[tactic(auto, using(crate::proofs::Borne::one_beside, crate::proofs::Borne::all_beside))]
+fn add_others(
+    alloc: Global,
+    here: &mut Here,
+    bearer: AttemptId,
+    first: u64,
+    others: u8,
+    ids: &Seq<ObjectId>,
+) -> Result<(), AllocError>
+    ensures { OnOk result (here.new ≡ with_objects here.old (repeated others (new_object (Beside first) bearer ids.now))) }
+{
+    for turn in 0..others {
+        let _ = turn;
+        let made = task_object(alloc, Maker::Beside(first), bearer, ids)?;
+        add_own(here, made)?;
+    }
+    Ok(())
 }
 
 /// The content that was put.
@@ -163,21 +200,22 @@ fn request_first(
     say_to_node(here, node, Message::Ask(AttemptId { object, number: 0 }, 0))
 }
 
-/// A task is born and asked for.
+/// A task is born, with an object for each result, and asked for.
 fn bear_task(
     alloc: Global,
     here: &mut Here,
     bearer: AttemptId,
     object: ObjectId,
     spec: &Origin,
+    others: u8,
     ids: &Seq<ObjectId>,
 ) -> Result<(), AllocError>
-    ensures { OnOk result (here.new ≡ bears_task here.old bearer object spec.now ids.now) }
+    requires { object.serial ≤ 2 ^ 63 }
+    ensures { results_of spec.now ≡ 1 + others → OnOk result (here.new ≡ bears_task here.old bearer object spec.now others ids.now) }
 {
-    let kept = ids.copy(alloc)?;
-    let made = task_object(alloc, spec, bearer, kept)?;
-    add_own(here, made)?;
-    hold_ids(here, object, ids)?;
+    add_first(alloc, here, bearer, spec, ids)?;
+    add_others(alloc, here, bearer, object.serial, others, ids)?;
+    hold_all(here, object.serial, object.serial + 1 + others as u64, ids)?;
     request_first(alloc, here, object, spec)
 }
 
@@ -189,7 +227,7 @@ fn bear(alloc: Global, here: &mut Here, bearer: AttemptId, spec: &Origin) -> Res
     let ids = ids_in_birth(alloc, spec)?;
     match &spec.inner {
         Birth::Put(value) => bear_put(alloc, here, bearer, object, value, &ids),
-        Birth::Task { .. } => bear_task(alloc, here, bearer, object, spec, &ids),
+        Birth::Task { others, .. } => bear_task(alloc, here, bearer, object, spec, *others, &ids),
     }
 }
 

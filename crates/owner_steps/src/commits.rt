@@ -1,20 +1,19 @@
 // A commit: what a job came to.
 
-ghost use Rattle.std.specs.Prelude.{◌≡◌, ◌++◌, IfOk, OnOk, Some, None};
-ghost use Rattle.protocol.specs.Stores.{with_ended};
-ghost use Rattle.protocol.specs.Steps.{store_here, with_phase, with_run, with_store};
-ghost use Rattle.protocol.specs.Tables.{HasEnded, Out};
-ghost use Rattle.protocol.specs.Holders.{holds_ids, passes_on};
-ghost use Rattle.protocol.specs.Commits.{asks_where, claim_step, commit_step, ends, needs, rests_if_waiting, stops, with_outcomes};
+ghost use Rattle.std.specs.Prelude.{◌≡◌, ◌+◌, ◌++◌, IfOk, OnOk, Some, None};
+ghost use Rattle.protocol.specs.Steps.{with_run};
+ghost use Rattle.protocol.specs.Tables.{Out};
+ghost use Rattle.protocol.specs.Commits.{asks_where, claim_step, commit_step, ends, keeps_content, keeps_contents, needs, rests_if_waiting, stops, with_outcomes};
 ghost use Rattle.protocol_data.specs.declared.tables.Run.{Run};
 
 use crate::births::{bear_all, next_id};
 use crate::logged::log_outcomes;
 use crate::needs::need_own;
+use crate::results::id_behind;
 use held::{Births, Origin, Printed, Prints, SharedContent};
 use ids::ObjectId;
 use object_store::put_end;
-use protocol_data::{Here, Message, Outcomes, Phase, Stopped};
+use protocol_data::{Here, Message, Outcomes, Phase, Stopped, copy_contents};
 use sequence::Seq;
 use std::alloc::{AllocError, Global};
 use values::{Fault, FaultKind};
@@ -58,45 +57,58 @@ fn need(alloc: Global, here: &mut Here, object: ObjectId) -> Result<(), AllocErr
     rest_if_waiting(alloc, here, object)
 }
 
-/// The attempt has ended with the content, which goes into the node's store, unless it is small.
-fn keep_end(alloc: Global, here: &mut Here, content: &SharedContent) -> Result<(), AllocError>
-    ensures { (run : Run) → here.old.worker.run ≡ Some run → OnOk result (here.new ≡ with_store (with_phase here.old run (HasEnded content.now))
-        (with_ended (store_here here.old) run.attempt.object run.attempt.number content.now)) }
+/// The content of the object by the attempt of that number goes into the node's store, unless it is small, and the object holds the ids in it.
+fn keep_content(
+    alloc: Global,
+    here: &mut Here,
+    object: ObjectId,
+    number: u32,
+    content: &SharedContent,
+) -> Result<(), AllocError>
+    ensures { OnOk result (here.new ≡ keeps_content here.old object number content.now) }
+{
+    let ids = ids_in_content(alloc, content)?;
+    let stored = content.copy(alloc)?;
+    put_end(&mut here.there.node.store, object, number, stored)?;
+    pass_on(here, object, &ids)?;
+    hold_ids(here, object, &ids)
+}
+
+/// So each of these, which are of the object and of those behind it.
+#[tactic(auto, using(crate::proofs::Contents::first_kept))]
+fn keep_contents(
+    alloc: Global,
+    here: &mut Here,
+    object: ObjectId,
+    number: u32,
+    contents: &[SharedContent],
+) -> Result<(), AllocError>
+    ensures { OnOk result (here.new ≡ keeps_contents here.old object number contents.now) }
+{
+    for i in 0..contents.len() {
+        let result = id_behind(alloc, object, i as u64)?;
+        keep_content(alloc, here, result, number, &contents[i])?;
+    }
+    Ok(())
+}
+
+/// The attempt ends, with a content for each result.
+fn end(alloc: Global, here: &mut Here, contents: &Seq<SharedContent>) -> Result<(), AllocError>
+    ensures { (run : Run) → here.old.worker.run ≡ Some run → OnOk result (here.new ≡ ends here.old run contents.now) }
 {
     let Some(run) = &here.worker.run else {
         return Ok(());
     };
     let attempt = run.attempt;
-    let kept = content.copy(alloc)?;
-    let stored = content.copy(alloc)?;
+    let kept = copy_contents(contents, alloc)?;
     set_phase(here, Phase::HasEnded(kept));
-    put_end(
-        &mut here.there.node.store,
+    keep_contents(
+        alloc,
+        here,
         attempt.object,
         attempt.number,
-        stored,
-    )
-}
-
-/// The object holds the ids in a content of it, which came from here.
-fn hold_content(here: &mut Here, object: ObjectId, ids: &Seq<ObjectId>) -> Result<(), AllocError>
-    ensures { OnOk result (here.new ≡ holds_ids (passes_on here.old object ids.now) object ids.now) }
-{
-    pass_on(here, object, ids)?;
-    hold_ids(here, object, ids)
-}
-
-/// The attempt ends with a content.
-fn end(alloc: Global, here: &mut Here, content: &SharedContent) -> Result<(), AllocError>
-    ensures { (run : Run) → here.old.worker.run ≡ Some run → OnOk result (here.new ≡ ends here.old run content.now) }
-{
-    let Some(run) = &here.worker.run else {
-        return Ok(());
-    };
-    let attempt = run.attempt;
-    let ids = ids_in_content(alloc, content)?;
-    keep_end(alloc, here, content)?;
-    hold_content(here, attempt.object, &ids)?;
+        contents.as_slice(),
+    )?;
     leave_if_free(alloc, here)?;
     give_slot_back(alloc, here)
 }
@@ -110,7 +122,7 @@ fn stop(alloc: Global, here: &mut Here, stop: &Stopped) -> Result<(), AllocError
     }
     match stop {
         Stopped::AtGet(object) => need(alloc, here, *object),
-        Stopped::AtEnd(content) => end(alloc, here, content),
+        Stopped::AtEnd(contents) => end(alloc, here, contents),
     }
 }
 
@@ -150,7 +162,7 @@ fn add_outcomes(alloc: Global, here: &mut Here, outcomes: &Outcomes) -> Result<(
 }
 
 /// What was done on the attempt's job is committed. Its births, prints and end are logged; each birth enters the table, holds the ids in it, and
-/// is stored or asked for; then the attempt waits for what it needs, unless it is answered at once, or stores the content with which it ends,
+/// is stored or asked for; then the attempt waits for what it needs, unless it is answered at once, or stores each content with which it ends,
 /// unless that is small.
 pub fn commit_step(alloc: Global, here: &mut Here, outcomes: &Outcomes) -> Result<(), AllocError>
     ensures { OnOk result (here.new ≡ commit_step here.old outcomes.now) }

@@ -1,24 +1,25 @@
 // The owner hears how an attempt stopped.
 
-ghost use Rattle.std.specs.Prelude.{◌≡◌, ◌&&◌, ◌==◌, IfOk, OnOk, [], ◌∷◌, ◌++◌, Some, None};
+ghost use Rattle.std.specs.Prelude.{◌≡◌, ◌&&◌, ◌-◌, ◌==◌, IfOk, OnOk, [], ◌∷◌, ◌++◌, Some, None, drop, true};
 ghost use Rattle.protocol.specs.Numbered.{changed_at, item_at};
 ghost use Rattle.protocol.specs.Tables.{ever_for, is_pending_task, places_for, task_of, with_content};
 ghost use Rattle.protocol.specs.Steps.{changes, with_task_of};
 ghost use Rattle.protocol.specs.Asking.{rests};
-ghost use Rattle.protocol.specs.Ends.{accepts, failed_reached, finished_reached, hears_of_end, if_present};
+ghost use Rattle.protocol.specs.Ends.{accepts, failed_by, failed_reached, fails, finished_by, finished_reached, first_result, hears_of_end, if_present, settles};
 ghost use Rattle.protocol_data.specs.declared.tables.OwnTask.{OwnTask};
 
-use crate::answers::answer_settled;
-use crate::faulted::answer_faulted;
+use crate::results::{answer_all_faulted, answer_all_settled, resolve_all_open};
 use held::SharedContent;
 use ids::{AttemptId, NodeId, ObjectId, WorkerId};
 use log_entries::Entry;
 use number_lists::{add_node, add_objects, object_at_number, row_of};
-use protocol_data::{Here, Maker, Message, Object, Objects, OwnTask, Progress, copy_of};
+use protocol_data::{
+    EndedResult, Here, Maker, Message, Object, Objects, OwnTask, Progress, copy_of,
+};
 use sequence::Seq;
 use std::alloc::{AllocError, Global};
 use values::Fault;
-use worker_steps::{is_own, log, resolve, say, set_progress_at};
+use worker_steps::{end_of, is_own, log, say, set_progress_at};
 
 /// Whether it is the present attempt of a pending task.
 fn is_present_attempt(attempt: AttemptId, task: &OwnTask) -> bool
@@ -107,44 +108,116 @@ fn set_content_at(
     Ok(())
 }
 
+/// The object of that serial has the content that the result in that place tells of; where there is none, one of which nothing is told.
+#[tactic(auto, using(crate::proofs::Told::one_told, crate::proofs::Told::none_told))]
+fn set_told_content_at(
+    alloc: Global,
+    objects: &mut Objects,
+    serial: u64,
+    number: u32,
+    node: NodeId,
+    results: &Seq<EndedResult>,
+    place: usize,
+) -> Result<(), AllocError>
+    ensures { OnOk result (objects.new ≡ changed_at objects.old serial
+        (with_content number node (first_result (drop place results.now)).ids (first_result (drop place results.now)).kept)) }
+{
+    if place >= results.len() {
+        let ids = Seq::new(alloc);
+        let kept = None;
+        return set_content_at(alloc, objects, serial, number, node, &ids, &kept);
+    }
+    let told = results.get(place);
+    set_content_at(alloc, objects, serial, number, node, &told.ids, &told.kept)
+}
+
+/// The object and each behind it, to before that serial, have the contents that these results tell of, in order.
+#[tactic(auto, using(crate::proofs::Told::first_settled, crate::proofs::Told::next_settled, crate::proofs::Told::all_settled))]
+fn settle_all(
+    alloc: Global,
+    here: &mut Here,
+    object: ObjectId,
+    end: u64,
+    number: u32,
+    node: NodeId,
+    results: &Seq<EndedResult>,
+) -> Result<(), AllocError>
+    ensures { OnOk result (here.new ≡ settles here.old object number node (end - object.serial) results.now) }
+{
+    let mut place = 0;
+    for serial in object.serial..end {
+        set_told_content_at(
+            alloc,
+            &mut here.worker.objects,
+            serial,
+            number,
+            node,
+            results,
+            place,
+        )?;
+        place += 1;
+    }
+    Ok(())
+}
+
 /// The attempt's end is accepted.
+#[tactic(auto, using(crate::proofs::Each::accepted))]
 fn accept(
     alloc: Global,
     here: &mut Here,
     attempt: AttemptId,
     node: NodeId,
-    ids: &Seq<ObjectId>,
-    kept: &Option<SharedContent>,
+    results: &Seq<EndedResult>,
 ) -> Result<(), AllocError>
     ensures { (task : OwnTask) → task_of (item_at here.old.worker.objects attempt.object.serial) ≡ Some task → task.number ≡ attempt.number
-        → OnOk result (here.new ≡ accepts here.old attempt task node ids.now kept.now) }
+        → OnOk result (here.new ≡ accepts here.old attempt task node results.now) }
 {
+    let end = end_of(&here.worker.objects, attempt.object.serial);
     rest(here, attempt.object, attempt.number);
-    let serial = attempt.object.serial;
-    set_content_at(
+    settle_all(
         alloc,
-        &mut here.worker.objects,
-        serial,
+        here,
+        attempt.object,
+        end,
         attempt.number,
         node,
-        ids,
-        kept,
+        results,
     )?;
     log(here, Entry::Accepted(attempt))
 }
 
-/// The worker tells that the attempt has ended, with a content at the node that has these ids, and that comes along if it is small. If it is the
-/// present attempt of a pending task it is accepted, and whoever waits for the object is answered. Of any attempt the worker is told that its end was heard.
+/// The attempt under way has ended: that is accepted, and whoever waits for one of the task's objects is answered.
+#[tactic(auto, using(crate::proofs::Each::finished))]
+fn take_end(
+    alloc: Global,
+    here: &mut Here,
+    worker: WorkerId,
+    attempt: AttemptId,
+    node: NodeId,
+    results: &Seq<EndedResult>,
+) -> Result<(), AllocError>
+    ensures { (task : OwnTask) → task_of (item_at here.old.worker.objects attempt.object.serial) ≡ Some task → task.number ≡ attempt.number
+        → if_present attempt task ≡ true
+        → OnOk result (here.new ≡ finished_by here.old worker attempt node results.now (Some task)) }
+{
+    let end = end_of(&here.worker.objects, attempt.object.serial);
+    accept(alloc, here, attempt, node, results)?;
+    hear_of_end(here, worker, attempt)?;
+    answer_all_settled(alloc, here, attempt.object.serial, end)
+}
+
+/// The worker tells that the attempt has ended, with contents at the node of which this is told, a small one with its content. If it is the
+/// present attempt of a pending task it is accepted, and whoever waits for one of the task's objects is answered. Of any attempt the worker is told
+/// that its end was heard.
 pub fn finished_reached(
     alloc: Global,
     here: &mut Here,
     worker: WorkerId,
     attempt: AttemptId,
     node: NodeId,
-    ids: &Seq<ObjectId>,
-    kept: &Option<SharedContent>,
+    results: &Seq<EndedResult>,
 ) -> Result<(), AllocError>
-    ensures { OnOk result (here.new ≡ finished_reached here.old worker attempt node ids.now kept.now) }
+    ensures { OnOk result (here.new ≡ finished_reached here.old worker attempt node results.now) }
 {
     if !is_own(here, attempt.object) {
         return hear_of_end(here, worker, attempt);
@@ -158,13 +231,31 @@ pub fn finished_reached(
     if !is_present_attempt(attempt, task) {
         return hear_of_end(here, worker, attempt);
     }
-    accept(alloc, here, attempt, node, ids, kept)?;
-    hear_of_end(here, worker, attempt)?;
-    answer_settled(alloc, here, attempt.object)
+    take_end(alloc, here, worker, attempt, node, results)
 }
 
-/// The worker tells that the attempt has ended by a fault. If it is the present attempt of a pending task its object is resolved to that fault,
-/// and whoever waits for it is answered. Of any attempt the worker is told that its end was heard.
+/// The attempt under way has that fault: those of the task's objects that have none are resolved to it, and whoever waits for one of them is answered.
+#[tactic(auto, using(crate::proofs::Each::failed))]
+fn take_fault(
+    alloc: Global,
+    here: &mut Here,
+    worker: WorkerId,
+    attempt: AttemptId,
+    why: Fault,
+) -> Result<(), AllocError>
+    ensures { (task : OwnTask) → task_of (item_at here.old.worker.objects attempt.object.serial) ≡ Some task → task.number ≡ attempt.number
+        → if_present attempt task ≡ true
+        → OnOk result (here.new ≡ failed_by here.old worker attempt why (Some task)) }
+{
+    let end = end_of(&here.worker.objects, attempt.object.serial);
+    rest(here, attempt.object, attempt.number);
+    resolve_all_open(here, attempt.object.serial, end, why)?;
+    hear_of_end(here, worker, attempt)?;
+    answer_all_faulted(alloc, here, attempt.object.serial, end)
+}
+
+/// The worker tells that the attempt has ended by a fault. If it is the present attempt of a pending task those of the task's objects that have no
+/// fault are resolved to this one, and whoever waits for one of them is answered. Of any attempt the worker is told that its end was heard.
 pub fn failed_reached(
     alloc: Global,
     here: &mut Here,
@@ -186,8 +277,5 @@ pub fn failed_reached(
     if !is_present_attempt(attempt, task) {
         return hear_of_end(here, worker, attempt);
     }
-    rest(here, attempt.object, attempt.number);
-    resolve(here, attempt.object, why)?;
-    hear_of_end(here, worker, attempt)?;
-    answer_faulted(alloc, here, attempt.object)
+    take_fault(alloc, here, worker, attempt, why)
 }

@@ -14,6 +14,7 @@ mod faulted;
 mod logged;
 mod needs;
 mod recovery;
+mod results;
 
 pub use again::{ask_next, break_attempt, elsewhere_reached, given_reached};
 pub use answers::answer_settled;

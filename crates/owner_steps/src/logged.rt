@@ -1,22 +1,23 @@
 // What a commit logs.
 
-ghost use Rattle.std.specs.Prelude.{◌≡◌, ◌≤◌, ◌^◌, ◌++◌, ◌∷◌, [], IfOk, OnOk, map};
+ghost use Rattle.std.specs.Prelude.{◌≡◌, ◌++◌, ◌∷◌, [], IfOk, OnOk, map};
 ghost use Rattle.event_log.specs.Entries as logged;
-ghost use Rattle.protocol.specs.Commits.{single_entries};
+ghost use Rattle.event_log.specs.Commits.{commit_entries};
 ghost use Rattle.protocol.specs.Jobs.{stop_of};
 ghost use Rattle.protocol.specs.Steps.{logs_all};
 ghost use Rattle.owner_steps.specs.Logged.{born, ended};
 
+use crate::results::id_behind;
 use held::{Origin, Printed};
 use ids::{AttemptId, ObjectId};
-use log_entries::{Entry, only_content};
-use protocol_data::{Here, Outcomes, Stopped};
+use log_entries::Entry;
+use protocol_data::{Here, Outcomes, Stopped, copy_contents};
 use sequence::Seq;
 use std::alloc::{AllocError, Global};
-use worker_steps::log;
+use worker_steps::{log, results_of};
 
-/// Logs the births, which take ids from `first` on.
-#[tactic(auto, using(crate::proofs::LogLaws::one_logged, crate::proofs::LogLaws::none_logged))]
+/// Logs the births, which take ids from `first` on, one a result.
+#[tactic(auto, using(crate::proofs::LogLaws::next_born, crate::proofs::LogLaws::none_logged))]
 fn log_births(
     alloc: Global,
     here: &mut Here,
@@ -24,15 +25,11 @@ fn log_births(
     first: ObjectId,
     births: &[Origin],
 ) -> Result<(), AllocError>
-    requires { first.serial ≤ 2 ^ 63 }
     ensures { OnOk result (here.new ≡ logs_all here.old (born attempt first births.now)) }
 {
-    for i in 0..births.len() {
-        let object = ObjectId {
-            owner: first.owner,
-            serial: first.serial + i as u64,
-        };
-        let birth = births[i].copy(alloc)?;
+    let mut object = first;
+    for spec in births {
+        let birth = spec.copy(alloc)?;
         log(
             here,
             Entry::Born {
@@ -41,6 +38,7 @@ fn log_births(
                 birth,
             },
         )?;
+        object = id_behind(alloc, object, results_of(spec))?;
     }
     Ok(())
 }
@@ -69,9 +67,8 @@ fn log_end(
 {
     match stop {
         Stopped::AtGet(_) => Ok(()),
-        Stopped::AtEnd(content) => {
-            let content = content.copy(alloc)?;
-            let contents = only_content(alloc, content)?;
+        Stopped::AtEnd(contents) => {
+            let contents = copy_contents(contents, alloc)?;
             log(here, Entry::Ended { attempt, contents })
         }
     }
@@ -86,8 +83,7 @@ pub fn log_outcomes(
     first: ObjectId,
     outcomes: &Outcomes,
 ) -> Result<(), AllocError>
-    requires { first.serial ≤ 2 ^ 63 }
-    ensures { OnOk result (here.new ≡ logs_all here.old (single_entries attempt first outcomes.now.births outcomes.now.prints (stop_of outcomes.now.stop))) }
+    ensures { OnOk result (here.new ≡ logs_all here.old (commit_entries attempt first outcomes.now.births outcomes.now.prints (stop_of outcomes.now.stop))) }
 {
     log_births(alloc, here, attempt, first, outcomes.births.as_slice())?;
     log_prints(alloc, here, outcomes.prints.as_slice())?;

@@ -10,7 +10,7 @@ ghost use Rattle.protocol.specs.Places.{looks_at_places, looks_elsewhere, looks_
 ghost use Rattle.protocol.specs.Places.{needs_own, needs_own_if_waiting, needs_released, needs_unresolved};
 ghost use Rattle.protocol_data.specs.declared.tables.Object.{Object};
 
-use crate::recovery::recover;
+use crate::recovery::{recover, recover_if_lost};
 use held::SharedContent;
 use ids::{NodeId, ObjectId};
 use lineage::{has_content, is_lost};
@@ -65,7 +65,7 @@ fn clear_places(alloc: Global, here: &mut Here, object: ObjectId)
     clear_places_at(alloc, &mut here.worker.objects, object.serial);
 }
 
-/// The first place that isn't known dead; where there is none, the content is lost.
+/// The first place that isn't known dead; where there is none, the content is lost, and made again unless an attempt is under way.
 fn look_elsewhere(
     alloc: Global,
     here: &mut Here,
@@ -79,7 +79,7 @@ fn look_elsewhere(
         return fetch(here, object, number, node);
     }
     clear_places(alloc, here, object);
-    recover(alloc, here, object)
+    recover_if_lost(alloc, here, object)
 }
 
 /// The own node turns out to have no copy.
@@ -183,7 +183,7 @@ pub fn need_own(alloc: Global, here: &mut Here, object: ObjectId) -> Result<(), 
         let kept = copy_of(&found.kept, alloc)?;
         return look_for(alloc, here, object, number, &places, &kept);
     }
-    if is_lost(found) {
+    if is_lost(&here.worker.objects, found) {
         return recover(alloc, here, object);
     }
     if found.is_released {

@@ -1,45 +1,49 @@
 // A lost object is made again.
 
 ghost use Rattle.std.specs.Prelude.{◌≡◌, Err, OnOk, Some, None};
-ghost use Rattle.protocol.specs.Tables.{task_of};
 ghost use Rattle.protocol.specs.Steps.{own_object};
-ghost use Rattle.protocol.specs.Recovery.{gives_up, recovers, remakes, remakes_by, stop_at};
-ghost use Rattle.protocol.specs.Laws.{CanBeMade, Rises};
+ghost use Rattle.protocol.specs.Recovery.{gives_up, recovers, recovers_if_lost, remakes, remakes_one};
 ghost use Rattle.lineage.specs.Plans.{IsPlanned};
+ghost use Rattle.owner_steps.specs.Made.{AllMayBeMade, MayBeMade};
 
 use crate::faulted::answer_faulted;
 use ids::ObjectId;
-use lineage::{Stop, may_try_again, plan};
+use lineage::{Stop, first_by, is_lost_here, may_try_again, plan, task_by};
 use number_lists::object_at_number;
 use protocol::laws::plans_are_least_closed_sets;
-use protocol_data::{Here, Maker};
+use protocol_data::Here;
 use sequence::Seq;
 use std::alloc::{AllocError, Global};
 use values::Fault;
-use worker_steps::{request, resolve};
+use worker_steps::{is_pending_task, request, resolve};
 
-/// The object of that serial is asked for again.
-#[tactic(auto, using(crate::proofs::Remaking::has_retries))]
+/// The next attempt of the task that makes the object of that serial is asked for, unless one is under way already.
+#[tactic(auto, using(crate::proofs::Remaking::has_retries, crate::proofs::Remaking::stands_first))]
 fn remake(here: &mut Here, serial: u64) -> Result<(), AllocError>
-    requires { stop_at here.old serial ≡ None }
-    ensures { OnOk result (here.new ≡ remakes_by here.old serial (task_of (own_object here.old serial))) }
+    requires { MayBeMade here.old serial }
+    ensures { OnOk result (here.new ≡ remakes_one here.old serial (own_object here.old serial)) }
 {
-    let Some(found) = object_at_number(&here.worker.objects, serial) else {
+    let objects = &here.worker.objects;
+    let Some(found) = object_at_number(objects, serial) else {
         return Ok(());
     };
-    let Maker::ByTask(task) = &found.maker else {
+    let Some(task) = task_by(objects, &found.maker) else {
         return Ok(());
     };
+    if is_pending_task(task) {
+        return Ok(());
+    }
     // It may be tried again, so the next number fits.
     let _ = may_try_again(task);
     let number = task.number + 1;
     let owner = here.me;
+    let serial = first_by(serial, &found.maker);
     request(here, ObjectId { owner, serial }, number)
 }
 
-/// These are asked for again, each once.
+/// These are asked for again, each once, and of the objects of one task one attempt.
 fn remake_all(here: &mut Here, serials: &Seq<u64>) -> Result<(), AllocError>
-    requires { CanBeMade here.old serials.now × Rises 0 serials.now }
+    requires { AllMayBeMade here.old serials.now }
     ensures { OnOk result (here.new ≡ remakes here.old serials.now) }
 {
     for serial in &serials.items {
@@ -89,4 +93,14 @@ pub fn recover(alloc: Global, here: &mut Here, object: ObjectId) -> Result<(), A
         Ok(plan) => remake_all(here, &plan.serials),
         Err(stop) => give_up_by(alloc, here, object, stop),
     }
+}
+
+/// So where the own object is lost.
+pub fn recover_if_lost(alloc: Global, here: &mut Here, object: ObjectId) -> Result<(), AllocError>
+    ensures { OnOk result (here.new ≡ recovers_if_lost here.old object) }
+{
+    if is_lost_here(here, object) {
+        return recover(alloc, here, object);
+    }
+    Ok(())
 }

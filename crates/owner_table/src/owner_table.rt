@@ -8,12 +8,12 @@ ghost use Rattle.protocol.specs.Notices.{notice_node_step, notice_step};
 ghost use Rattle.protocol.specs.Places.{adds_places, missing_reached, where_reached};
 ghost use Rattle.protocol.specs.Releases.{release_step};
 
-use held::{Origin, SharedContent};
+use held::Origin;
 use ids::{AttemptId, NodeId, ObjectId, WorkerId};
 use owner_steps::{
     bear_all, failed_reached, finished_reached, given_reached, missing_reached, where_reached,
 };
-use protocol_data::{Here, Party};
+use protocol_data::{EndedResult, Here, Party};
 use sequence::Seq;
 use std::alloc::{AllocError, Global};
 use values::Fault;
@@ -23,7 +23,8 @@ use worker_steps::{add_places_of, release_all};
 /// A worker's own objects in an event: what is told of them, and what is done then. An error is want of memory; then nothing is said of
 /// the tables.
 pub trait OwnerTable {
-    /// The attempt bears these objects: each enters the table, holds the ids in it, and is stored or asked for.
+    /// The attempt bears what these births make: each object enters the table and holds the ids in its birth; a put value is stored, and of
+    /// a task, which may make several objects, the first attempt is asked for.
     fn born(
         &mut self,
         alloc: Global,
@@ -41,18 +42,17 @@ pub trait OwnerTable {
         worker: WorkerId,
     ) -> Result<(), AllocError>;
 
-    /// The attempt has ended with a content at the node, that has these ids, and that comes along if it is small: it is accepted if it is the present one.
+    /// The attempt has ended at the node, with this for each result of its task: it is accepted if it is the present one.
     fn accepted(
         &mut self,
         alloc: Global,
         worker: WorkerId,
         attempt: AttemptId,
         node: NodeId,
-        ids: &Seq<ObjectId>,
-        kept: &Option<SharedContent>,
+        results: &Seq<EndedResult>,
     ) -> Result<(), AllocError>;
 
-    /// The attempt has ended by a fault: its object is resolved to that fault if it is the present one.
+    /// The attempt has ended by a fault: if it is the present one, the objects of its task are resolved to that fault, but those that have one.
     fn failed(
         &mut self,
         alloc: Global,
@@ -128,12 +128,11 @@ impl OwnerTable for Here {
         worker: WorkerId,
         attempt: AttemptId,
         node: NodeId,
-        ids: &Seq<ObjectId>,
-        kept: &Option<SharedContent>,
+        results: &Seq<EndedResult>,
     ) -> Result<(), AllocError>
-        ensures { OnOk result (self.new ≡ finished_reached self.old worker attempt node ids.now kept.now) }
+        ensures { OnOk result (self.new ≡ finished_reached self.old worker attempt node results.now) }
     {
-        finished_reached(alloc, self, worker, attempt, node, ids, kept)
+        finished_reached(alloc, self, worker, attempt, node, results)
     }
 
     fn failed(

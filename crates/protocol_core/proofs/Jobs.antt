@@ -50,7 +50,7 @@ main_kind script typed =
 
 task_of : (script : Script) (b : meant.Birth) → IsTask b → HasKinds script b → IsTaskOf script b
 task_of script (Put v) t k = absurd t
-task_of script (Task g args depth retries others) t k = let h = k.1 in (h.0, h.1, h.2, h.4, t)
+task_of script (Task g args depth retries others) t k = let h = k.1 in (h.0, h.1, h.2, h.4)
 
 -- a good job is one that may be run
 pub begun : (script : Script) (d : JobParts) → IsGood script d → IsBegun script d

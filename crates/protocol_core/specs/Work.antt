@@ -8,10 +8,10 @@ use Rattle.evaluation.specs.declared.piece.PieceStop.{PieceStop}
 use Rattle.evaluation.specs.declared.piece.PieceStop.TheVariants as stops
 use Rattle.protocol.specs.Jobs.{Outcomes, Stopped, AtGet, AtEnd}
 
--- where a job stopped
+-- where a job stopped; an end has a content for each of its results
 abbrev pub stopped_of : PieceStop → Stopped
 stopped_of (stops.Needs y) = AtGet y
-stopped_of (stops.Ends c) = AtEnd (content_of c)
+stopped_of (stops.Ends contents) = AtEnd (map content_of contents.items)
 
 -- what was done on a job, as the pure steps take it
 abbrev pub work_of : List Birth → List RunValue → PieceStop → Outcomes

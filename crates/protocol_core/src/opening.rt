@@ -48,6 +48,7 @@ fn main_task(alloc: Global) -> Result<Origin, AllocError>
         arguments: Vec::new(alloc),
         depth: 0,
         retries: 0,
+        others: 0,
     };
     Ok(Origin { inner })
 }

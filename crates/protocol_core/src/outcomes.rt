@@ -1,7 +1,7 @@
 // What was done on a job.
 
 ghost use Rattle.std.specs.Prelude.{◌≡◌, IfOk, map};
-ghost use Rattle.values.specs.Values.{value_of};
+ghost use Rattle.values.specs.Values.{content_of, value_of};
 ghost use Rattle.task_spec.specs.Births.{birth_of};
 ghost use Rattle.protocol_core.specs.Work.{stopped_of, work_of};
 
@@ -11,7 +11,7 @@ use protocol_data::{Outcomes, Stopped};
 use sequence::Seq;
 use std::alloc::{AllocError, Global};
 use task_spec::Birth;
-use values::RunValue;
+use values::{Content, RunValue};
 
 fn origins(alloc: Global, births: Vec<Birth>) -> Result<Seq<Origin>, AllocError>
     ensures { IfOk result (λ all. all ≡ map birth_of births.items) }
@@ -33,12 +33,22 @@ fn printed(alloc: Global, values: Vec<RunValue>) -> Result<Seq<Printed>, AllocEr
     Ok(all)
 }
 
+fn ended(alloc: Global, contents: Vec<Content>) -> Result<Seq<SharedContent>, AllocError>
+    ensures { IfOk result (λ all. all ≡ map content_of contents.items) }
+{
+    let mut all = Seq::new(alloc);
+    for content in contents {
+        all.push(SharedContent::new(alloc, content)?)?;
+    }
+    Ok(all)
+}
+
 fn stopped(alloc: Global, stop: PieceStop) -> Result<Stopped, AllocError>
     ensures { IfOk result (λ s. s ≡ stopped_of stop) }
 {
     match stop {
         PieceStop::Needs(object) => Ok(Stopped::AtGet(object)),
-        PieceStop::Ends(content) => Ok(Stopped::AtEnd(SharedContent::new(alloc, content)?)),
+        PieceStop::Ends(contents) => Ok(Stopped::AtEnd(ended(alloc, contents)?)),
     }
 }
 

@@ -17,7 +17,7 @@ use Rattle.protocol.specs.Notices.{notice_step, notice_node_step}
 use Rattle.protocol.specs.Ticks.{tick_step}
 use Rattle.protocol.specs.Deliveries.{reached}
 use Rattle.protocol.specs.Whole.{Whole, Moved, moved, node_at, worker_at, node_does, node_does_by, worker_does, worker_does_by, worker_does_at}
-use Rattle.protocol.specs.Events.{as_committed, committed_by, with_committed, delivered_by, delivered_to}
+use Rattle.protocol.specs.Events.{as_committed, committed_by, objects_made, with_committed, delivered_by, delivered_to}
 use Rattle.protocol.specs.Events.{with_delivered, is_live_worker, is_live_node, killed_by, dead, happens}
 use Rattle.protocol.specs.Refusals.{has_slot, is_ready, is_ready_on, is_ready_run, or_refusal, refusal, unless}
 use Rattle.protocol.specs.Answers.{given_out, job_at, job_by, job_of}
@@ -45,7 +45,7 @@ if_jobs c true x y e f = e
 if_jobs c false x y e f = f
 
 committed_by-jobs : (c : Whole) (j : ℕ) (handed : Handed) (g : Option Given) → length (committed_by c j handed g).whole.jobs ≡ length c.jobs
-committed_by-jobs c j (OfJob d) (Some g) = ap length (worker_does-jobs (with_committed c j (length d.births)) g.worker (λ h. commit_step h d))
+committed_by-jobs c j (OfJob d) (Some g) = ap length (worker_does-jobs (with_committed c j (objects_made d.births)) g.worker (λ h. commit_step h d))
     ∙ changed-length c.jobs j as_committed
 committed_by-jobs c j (OfJob d) None = refl
 committed_by-jobs c j Nothing g = refl

@@ -16,7 +16,7 @@ use Rattle.protocol.specs.Notices.{notice_step, notice_node_step}
 use Rattle.protocol.specs.Ticks.{tick_step}
 use Rattle.protocol.specs.Deliveries.{reached}
 use Rattle.protocol.specs.Whole.{Whole, Moved, moved, node_at, worker_at, node_does, node_does_by, worker_does, worker_does_by, worker_does_at}
-use Rattle.protocol.specs.Events.{committed_by, with_committed, delivered_by, delivered_to, with_delivered, is_live_worker, is_live_node, killed_by, dead, happens}
+use Rattle.protocol.specs.Events.{committed_by, objects_made, with_committed, delivered_by, delivered_to, with_delivered, is_live_worker, is_live_node, killed_by, dead, happens}
 use Rattle.protocol.specs.Refusals.{is_within_limits, refusal}
 use Rattle.protocol.specs.Answers.{decided, given_out, whole_after, takes}
 use Rattle.protocol.specs.Answers as answers
@@ -49,7 +49,7 @@ if_slots c true x y e f = e
 if_slots c false x y e f = f
 
 committed_by-slots : (c : Whole) (j : ℕ) (handed : Handed) (g : Option Given) → (committed_by c j handed g).whole.slots ≡ c.slots
-committed_by-slots c j (OfJob d) (Some g) = worker_does-slots (with_committed c j (length d.births)) g.worker (λ h. commit_step h d)
+committed_by-slots c j (OfJob d) (Some g) = worker_does-slots (with_committed c j (objects_made d.births)) g.worker (λ h. commit_step h d)
 committed_by-slots c j (OfJob d) None = refl
 committed_by-slots c j Nothing g = refl
 committed_by-slots c j OfAnother g = refl

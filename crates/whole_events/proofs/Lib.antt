@@ -1,4 +1,5 @@
 pub mod Dying
+pub mod Counted
 pub mod Made
 pub mod Nodes
 pub mod Room

@@ -7,7 +7,7 @@ use Rattle.limit_laws.specs.Limits.{entries_limited, is_within, whole_limited}
 use Rattle.limit_laws.proofs.Later.{made_kept}
 use Rattle.limit_laws.proofs.Taken.{refused_entries, refused_whole}
 use Rattle.protocol.specs.Commits.{commit_step}
-use Rattle.protocol.specs.Events.{as_committed, committed, committed_by}
+use Rattle.protocol.specs.Events.{as_committed, committed, committed_by, objects_made}
 use Rattle.protocol.specs.Jobs.{Given, OfJob, Outcomes}
 use Rattle.protocol.specs.Numbered.{changed_at, item_at}
 use Rattle.protocol.specs.Whole.{Moved, Whole, worker_does}
@@ -26,22 +26,22 @@ past c k l =
 
 -- what the commit comes to
 abbrev comes_to : Whole → ℕ → Outcomes → Given → Moved
-comes_to c j d g = worker_does (counted (c.made + length d.births) (changed_at c.jobs j as_committed) c) g.worker (λ h. commit_step h d)
+comes_to c j d g = worker_does (counted (c.made + objects_made d.births) (changed_at c.jobs j as_committed) c) g.worker (λ h. commit_step h d)
 
-made_then : (c : Whole) (j : ℕ) (d : Outcomes) (g : Given) → item_at c.jobs j ≡ Some g → (committed c j (OfJob d)).whole.made ≡ c.made + length d.births
+made_then : (c : Whole) (j : ℕ) (d : Outcomes) (g : Given) → item_at c.jobs j ≡ Some g → (committed c j (OfJob d)).whole.made ≡ c.made + objects_made d.births
 made_then c j d g e =
     ap (λ o. (committed_by c j (OfJob d) o).whole.made) e
-    ∙ made_kept (counted (c.made + length d.births) (changed_at c.jobs j as_committed) c) g.worker (λ h. commit_step h d)
+    ∙ made_kept (counted (c.made + objects_made d.births) (changed_at c.jobs j as_committed) c) g.worker (λ h. commit_step h d)
 
-not_within : (c : Whole) (j : ℕ) (d : Outcomes) (g : Given) → item_at c.jobs j ≡ Some g → 1000001 ≤ c.made + length d.births
+not_within : (c : Whole) (j : ℕ) (d : Outcomes) (g : Given) → item_at c.jobs j ≡ Some g → 1000001 ≤ c.made + objects_made d.births
     → is_within (committed c j (OfJob d)).whole.made (committed c j (OfJob d)).whole ≡ false
 not_within c j d g e l =
-    ap (λ k. is_within k (committed c j (OfJob d)).whole) (made_then c j d g e) ∙ past (committed c j (OfJob d)).whole (c.made + length d.births) l
+    ap (λ k. is_within k (committed c j (OfJob d)).whole) (made_then c j d g e) ∙ past (committed c j (OfJob d)).whole (c.made + objects_made d.births) l
 
-pub past_whole : (c : Whole) (j : ℕ) (d : Outcomes) (g : Given) → item_at c.jobs j ≡ Some g → 1000001 ≤ c.made + length d.births
+pub past_whole : (c : Whole) (j : ℕ) (d : Outcomes) (g : Given) → item_at c.jobs j ≡ Some g → 1000001 ≤ c.made + objects_made d.births
     → whole_limited c (committed c j (OfJob d)) ≡ c
 past_whole c j d g e l = refused_whole c (committed c j (OfJob d)).whole.made (committed c j (OfJob d)) (not_within c j d g e l)
 
-pub past_entries : (c : Whole) (j : ℕ) (d : Outcomes) (g : Given) → item_at c.jobs j ≡ Some g → 1000001 ≤ c.made + length d.births
+pub past_entries : (c : Whole) (j : ℕ) (d : Outcomes) (g : Given) → item_at c.jobs j ≡ Some g → 1000001 ≤ c.made + objects_made d.births
     → entries_limited (committed c j (OfJob d)) ≡ None
 past_entries c j d g e l = refused_entries (committed c j (OfJob d)).whole.made (committed c j (OfJob d)) (not_within c j d g e l)

@@ -7,6 +7,7 @@ ghost use Rattle.protocol.specs.Jobs.{OfJob};
 ghost use Rattle.protocol.specs.Numbered.{changed_at};
 ghost use Rattle.protocol.specs.Whole.{moved};
 
+use crate::births::with_made;
 use crate::counting::nothing;
 use crate::within_limits::let_act;
 use ids::WorkerId;
@@ -79,7 +80,7 @@ fn commit_outcomes(
         return Ok(nothing(alloc, whole, whole.made));
     };
     let worker = whole.jobs.get(place).worker;
-    let Some(made) = whole.made.checked_add(outcomes.births.len() as u64) else {
+    let Some(made) = with_made(whole.made, &outcomes.births) else {
         return Ok(None);
     };
     let Some(entries) = let_act(alloc, whole, worker, &Act::Commit(outcomes), made)? else {

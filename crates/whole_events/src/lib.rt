@@ -2,6 +2,7 @@
 #![tactic(auto, unfolding(meaning::specs::Births::same_id, ids::specs::Attempts::same_attempt))]
 
 mod acting;
+mod births;
 mod counting;
 mod deaths;
 mod deliveries;

@@ -26,8 +26,8 @@ fn reached_from_worker(
 {
     match message {
         Message::Push(attempt, spec) => push_reached(alloc, here, *attempt, spec),
-        Message::Finished(attempt, node, ids, kept) => {
-            finished_reached(alloc, here, worker, *attempt, *node, ids, kept)
+        Message::Finished(attempt, node, results) => {
+            finished_reached(alloc, here, worker, *attempt, *node, results)
         }
         Message::FinishedAck(attempt) => finished_ack_reached(here, *attempt),
         Message::Failed(attempt, why) => failed_reached(alloc, here, worker, *attempt, *why),

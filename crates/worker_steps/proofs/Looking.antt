@@ -4,11 +4,13 @@ use Rattle.std.specs.Prelude.{not, ◌&&◌, ◌||◌, if◌then◌else◌, slic
 use Rattle.event_log.specs.Words.{same_attempt}
 use Rattle.protocol_data.specs.Unneeded.{AllStay, is_awaited, is_borne_by, stays}
 use Rattle.protocol.specs.Numbered.{item_at}
-use Rattle.protocol.specs.Releases.{may_release, releases, releases_by}
+use Rattle.protocol.specs.Releases.{are_unneeded, going_with, is_unneeded_at, may_release, releases_by}
 use Rattle.protocol.specs.Steps.{Here, each_from, own_id, own_object}
-use Rattle.protocol.specs.Tables.{AskedAt, AtRest, ByTask, Maker, Object, Run, RunsOn, WasPut, Worker, is_bearer_over, is_going_on, is_held, is_pending_by, is_under_way, Progress}
+use Rattle.protocol.specs.Tables.{AskedAt, AtRest, Beside, ByTask, Maker, Object, Run, RunsOn, WasPut, Worker, is_bearer_over, is_going_on, is_held, is_pending_by, is_under_way, Progress, task_in}
+use Rattle.meaning.specs.Values.{others_of}
 use Rattle.protocol_data.specs.Unneeded.{is_under_way as is_on_its_way}
 use Rattle.worker_steps.proofs.EachLaws.{each_step}
+use Rattle.worker_steps.proofs.Goings.{none_released, stays_held}
 use Rattle.worker_steps.specs.Looking.{NoneGoes, attempt_going_on}
 
 on_its_way : (p : Progress) → is_on_its_way p ≡ is_under_way p
@@ -16,9 +18,10 @@ on_its_way AtRest = refl
 on_its_way (AskedAt t n) = refl
 on_its_way (RunsOn w n) = refl
 
-awaited : (m : Maker) → is_awaited m ≡ is_pending_by m
+awaited : (m : Maker) → is_awaited m ≡ is_pending_by (task_in m)
 awaited WasPut = refl
 awaited (ByTask task) = on_its_way task.progress
+awaited (Beside k) = refl
 
 borne_goes_on : (run : Option Run) (x : Object) → is_borne_by (attempt_going_on run) x ≡ true → not (is_going_on run x.bearer) ≡ false
 borne_goes_on None x h = absurd cc
@@ -28,37 +31,58 @@ borne_goes_on (Some run) x h = either run.is_over h
     either true h = absurd cc
     either false h = ap (λ b. not (b && true)) h
 
-none_of : (free full idle over unheld borne : Bool) → (not (free && full && idle && unheld) || borne) ≡ true → (borne ≡ true → over ≡ false) →
-    (free && full && idle && over && unheld) ≡ false
-none_of false full idle over unheld borne h g = refl
-none_of true false idle over unheld borne h g = refl
-none_of true true false over unheld borne h g = refl
-none_of true true true false unheld borne h g = refl
-none_of true true true true false borne h g = refl
-none_of true true true true true borne h g = g h
+none_of : (free full idle over unheld borne rest : Bool) → (not (free && full && idle && unheld) || borne) ≡ true → (borne ≡ true → over ≡ false) →
+    (idle && over && ((free && full && unheld) && rest)) ≡ false
+none_of free full false over unheld borne rest h g = refl
+none_of free full true false unheld borne rest h g = refl
+none_of false full true true unheld borne rest h g = refl
+none_of true false true true unheld borne rest h g = refl
+none_of true true true true false borne rest h g = refl
+none_of true true true true true borne rest h g = absurd (differ (sym (g h)))
+  where
+    differ : false ≡ true → ⊥
+    differ e = absurd cc
 
-pub staying : (w : Worker) (x : Object) → stays (attempt_going_on w.run) x ≡ true → may_release w x ≡ false
-staying w x h =
-    none_of (not x.is_released) (is_some x.settled || is_some x.fault) (not (is_pending_by x.maker)) (is_bearer_over w x) (not (is_held x)) (is_borne_by (attempt_going_on w.run) x)
+-- an object whose row says that it is needed isn't released, whatever goes with it
+row_stays : (w : Worker) (k n : ℕ) (x : Object) → item_at w.objects k ≡ Some x → stays (attempt_going_on w.run) x ≡ true →
+    (not (is_pending_by (task_in x.maker)) && is_bearer_over w x && are_unneeded w.objects k (suc n)) ≡ false
+row_stays w k n x there h =
+    ap (λ o. not (is_pending_by (task_in x.maker)) && is_bearer_over w x && (is_unneeded_at o && are_unneeded w.objects (k + 1) n)) there
+    ∙ none_of (not x.is_released) (is_some x.settled || is_some x.fault) (not (is_pending_by (task_in x.maker))) (is_bearer_over w x) (not (is_held x))
+    (is_borne_by (attempt_going_on w.run) x) (are_unneeded w.objects (k + 1) n)
     (ap (λ b. not (not x.is_released && (is_some x.settled || is_some x.fault) && not b && not (is_held x)) || is_borne_by (attempt_going_on w.run) x) (sym (awaited x.maker)) ∙ h)
     (borne_goes_on w.run x)
 
+by_maker : (w : Worker) (i : ℕ) (x : Object) (m : Maker) → x.maker ≡ m → slice_get w.objects i ≡ Some x → stays (attempt_going_on w.run) x ≡ true →
+    (may_release w (suc i) x ≡ false) ⊎ (going_with x.maker ≡ 0)
+by_maker w i x WasPut e there h =
+    inl (ap (λ m. not (is_pending_by (task_in x.maker)) && is_bearer_over w x && are_unneeded w.objects (suc i) (going_with m)) e ∙ row_stays w (suc i) 0 x there h)
+by_maker w i x (ByTask task) e there h =
+    inl (ap (λ m. not (is_pending_by (task_in x.maker)) && is_bearer_over w x && are_unneeded w.objects (suc i) (going_with m)) e
+    ∙ row_stays w (suc i) (others_of task.spec) x there h)
+by_maker w i x (Beside k) e there h = inr (ap going_with e)
+
+pub staying : (w : Worker) (i : ℕ) (x : Object) → slice_get w.objects i ≡ Some x → stays (attempt_going_on w.run) x ≡ true →
+    (may_release w (suc i) x ≡ false) ⊎ (going_with x.maker ≡ 0)
+staying w i x there h = by_maker w i x x.maker refl there h
+
 pub none_goes : (w : Worker) (from to : ℕ) → AllStay w.objects from to (attempt_going_on w.run) → NoneGoes w from to
-none_goes w from to p i x low less e = staying w x (p i x low less e)
+none_goes w from to p i x low less e = staying w i x e (p i x low less e)
 
 -- ---- a way through the objects
 
 abbrev release_at : Here → ℕ → Here
 release_at g k = releases_by g k (own_object g k)
 
-by_row : (h : Here) (k : ℕ) (o : Option Object) → ((x : Object) → o ≡ Some x → may_release h.worker x ≡ false) → releases_by h k o ≡ h
-by_row h k None g = refl
-by_row h k (Some x) g = ap (λ b. if b then releases h (own_id h k) x else h) (g x refl)
-
-none_here : (h : Here) (p : ℕ) → ((x : Object) → slice_get h.worker.objects p ≡ Some x → may_release h.worker x ≡ false) → release_at h (p + 1) ≡ h
+none_here : (h : Here) (p : ℕ) → ((x : Object) → slice_get h.worker.objects p ≡ Some x → (may_release h.worker (suc p) x ≡ false) ⊎ (going_with x.maker ≡ 0)) →
+    release_at h (p + 1) ≡ h
 none_here h p g =
     let s : p + 1 ≡ suc p = omega arith in
-    ap (λ n. releases_by h (p + 1) (item_at h.worker.objects n)) s ∙ by_row h (p + 1) (slice_get h.worker.objects p) g
+    ap (λ n. release_at h n) s ∙ by_row (slice_get h.worker.objects p) refl
+  where
+    by_row : (o : Option Object) → slice_get h.worker.objects p ≡ o → release_at h (suc p) ≡ h
+    by_row None e = ap (releases_by h (suc p)) e
+    by_row (Some x) e = elim (g x e) [ inl stays ↦ stays_held h (suc p) x e stays | inr none ↦ none_released h (suc p) x e none ]
 
 nothing_left : (h : Here) (k n : ℕ) → n ≡ 0 → each_from (λ g k. releases_by g k (own_object g k)) h k n ≡ h
 nothing_left h k n e = ap (λ m. each_from release_at h k m) e

@@ -1,0 +1,10 @@
+use Rattle.std.proofs.Common.{◌≡◌, ◌-◌}
+use Rattle.protocol.specs.Sets.{repeated}
+use Rattle.protocol.specs.Tables.{Beside, new_object}
+use Rattle.protocol.specs.Commits.{with_objects}
+use Rattle.owner_steps.proofs.births.add_others.Given as goal
+
+abbrev pub invariant-loop-turn : goal.invariant-loop-turn
+invariant-loop-turn l =
+    with_objects l.here (repeated (l.others - l.turn) (new_object (Beside l.fn.first) l.bearer l.ids))
+    ≡ with_objects l.initial.here (repeated l.others (new_object (Beside l.fn.first) l.bearer l.ids))

@@ -1,10 +1,7 @@
 // The node of an attempt, joined to the objects of its task.
 
-ghost use Rattle.std.specs.Prelude.{◌≡◌, ◌++◌, IfOk, List, OnOk, Some, option_copied, string_bytes};
+ghost use Rattle.std.specs.Prelude.{◌≡◌, ◌++◌, IfOk, List, OnOk, Some, string_bytes};
 ghost use Rattle.std.specs.List.{flat_map};
-ghost use Rattle.std.specs.Option.{option_map};
-ghost use Rattle.meaning.specs.Births.{objects_with};
-ghost use Rattle.task_spec.specs.Births.{birth_of};
 ghost use Rattle.values.specs.Values.{content_of};
 ghost use Rattle.event_log.specs.Entries.{Entry as Logged};
 ghost use Rattle.history.specs.Attempts.{AreStatesOf};
@@ -17,10 +14,9 @@ use held::SharedContent;
 use history::{AttemptStates, kind_name};
 use ids::{AttemptId, ObjectId, WorkerId};
 use log_entries::Entry;
-use log_words::{BirthIndex, Contents, add_objects, write_content};
+use log_words::{BirthIndex, Contents, objects_at, write_content};
 use sequence::Seq;
 use std::alloc::{AllocError, Global};
-use task_spec::Birth;
 use values::{Content, Fault, FaultKind, ids_in};
 
 #[tactic(auto, unfolding(crate::specs::Attempts::attempt_node))]
@@ -40,22 +36,6 @@ fn write_attempt_node(
     )
 }
 
-#[tactic(auto, unfolding(log_words::specs::Tasks::objects_made))]
-fn objects_with(
-    alloc: Global,
-    first: ObjectId,
-    birth: Option<&Birth>,
-) -> Result<Vec<ObjectId>, AllocError>
-    ensures { IfOk result (λ objects. objects.items ≡ objects_with first (option_map birth_of (option_copied birth.entry))) }
-{
-    let mut objects = Vec::new(alloc);
-    let Some(birth) = birth else {
-        return Ok(objects);
-    };
-    add_objects(&mut objects, first, birth)?;
-    Ok(objects)
-}
-
 /// The objects of the attempt's task, by the log of which that is the index.
 fn task_objects(
     alloc: Global,
@@ -65,7 +45,7 @@ fn task_objects(
 ) -> Result<Vec<ObjectId>, AllocError>
     ensures { IsIndexOf index.now log.now → IfOk result (λ objects. objects.items ≡ task_objects log.now attempt) }
 {
-    objects_with(alloc, attempt.object, index.birth(log, attempt.object))
+    objects_at(alloc, index, log, attempt.object)
 }
 
 #[tactic(auto, unfolding(crate::specs::Attempts::attempt_edge))]

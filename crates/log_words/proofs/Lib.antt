@@ -1,3 +1,4 @@
+pub mod Behind
 pub mod Cutting
 pub mod Indexed
 pub mod Making

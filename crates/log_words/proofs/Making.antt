@@ -10,9 +10,6 @@ use Rattle.meaning.proofs.BirthLaws.{same_id-true, at_test, made_owner, made_fro
 use Rattle.event_log.specs.Entries.{Entry, Born, main_object}
 use Rattle.event_log.specs.Words as said
 use Rattle.event_log.specs.Words.{born_in, main_bearing}
-use Rattle.task_spec.specs.declared.birth.Birth.{Birth}
-use Rattle.task_spec.specs.declared.birth.Birth.TheVariants as births
-use Rattle.task_spec.specs.Births.{birth_of}
 use Rattle.history.specs.Main.{first}
 use Rattle.log_words.specs.Tasks.{first_or, task_in, task_of}
 
@@ -21,18 +18,13 @@ unfolding same_id
 is_same p o e f = grind (arith, nat_tests)
 
 -- a birth of one result makes its first object alone
-pub made_alone : (p o : Id) (b : meant.Birth) → others_of b ≡ 0 → same_id p o ≡ is_made_by (record { object = p; birth = b }) o
+made_alone : (p o : Id) (b : meant.Birth) → others_of b ≡ 0 → same_id p o ≡ is_made_by (record { object = p; birth = b }) o
 made_alone p o b one =
     let x : Bearing = record { object = p; birth = b } in
     at_test (λ t. is_made_by x o ≡ t → same_id p o ≡ t) (is_made_by x o)
     (λ _ m. is_same p o (made_owner x o m) (omega (arith, made_from x o m, made_below x o m, one)))
     (λ _ m. at_test (λ s. same_id p o ≡ s → s ≡ false) (same_id p o)
     (λ _ e. let made : is_made_by x o ≡ true = subst (λ q. is_made_by x q ≡ true) (same_id-true p o e) (first_is_made x) in absurd (cc)) (λ _ e. refl) refl) refl
-
--- those that the code knows have one
-pub one_result : (b : Birth) → others_of (birth_of b) ≡ 0
-one_result (births.Put v) = refl
-one_result (births.Task g args d k) = refl
 
 abbrev or_itself : Id → Option Id → Id
 or_itself o None = o

@@ -90,6 +90,7 @@ fn main_birth(alloc: Global) -> Result<Birth, AllocError>
         arguments: Vec::new(alloc),
         depth: 0,
         retries: 0,
+        others: 0,
     })
 }
 

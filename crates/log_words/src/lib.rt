@@ -15,5 +15,5 @@ pub use calls::{write_birth, write_call};
 pub use contents::{Contents, write_content, write_contents, write_value};
 pub use faults::{kind_words, write_fault};
 pub use objects::ids_of;
-pub use tasks::{add_objects, task_of, write_objects};
+pub use tasks::{add_objects, objects_at, task_of, write_objects};
 pub use told::{Told, is_refusal_at, worker_of_job};

@@ -1,36 +1,65 @@
-// The task of which an object is a result, and the objects that a birth makes: one so far, which this file alone says.
+// The task of which an object is a result, and the objects that a birth makes.
 
-ghost use Rattle.std.specs.Prelude.{◌≡◌, ◌++◌, OnOk, string_bytes};
+ghost use Rattle.std.specs.Prelude.{◌≡◌, ◌++◌, IfOk, OnOk, option_copied, string_bytes};
 ghost use Rattle.std.specs.List.{flat_map};
+ghost use Rattle.std.specs.Option.{option_map};
+ghost use Rattle.meaning.specs.Values.{others_of};
+ghost use Rattle.meaning.specs.Births.{is_made_by, objects_at, objects_with};
+ghost use Rattle.meaning.specs.Runs.{ids_from, past};
 ghost use Rattle.task_spec.specs.Births.{birth_of};
-ghost use Rattle.meaning.specs.Births.{is_made_by};
 ghost use Rattle.event_log.specs.Words.{births};
 ghost use Rattle.history.specs.Main.{first};
-ghost use Rattle.log_words.specs.Tasks.{objects_made, objects_text, task_in, task_of};
+ghost use Rattle.log_words.specs.Index.{IsIndexOf};
+ghost use Rattle.log_words.specs.Tasks.{listed_text, objects_made, objects_text, other_object, task_in, task_of};
 
-use crate::births::is_main;
+use crate::births::{BirthIndex, is_main};
 use ids::ObjectId;
 use log_entries::Entry;
-use std::alloc::AllocError;
+use sequence::refused_growth;
+use std::alloc::{AllocError, Global};
 use task_spec::Birth;
 
-/// Whether the birth whose first object is that one makes the object.
-fn is_made_by(object: ObjectId, first: ObjectId, birth: &Birth) -> bool
-    ensures { result ≡ is_made_by (record { object = first; birth = birth_of birth.now }) object }
+/// How many objects the birth makes beside the first.
+fn others_of(birth: &Birth) -> u8
+    ensures { result ≡ others_of (birth_of birth.now) }
 {
     match birth {
-        Birth::Put(_) | Birth::Task { .. } => first.is(object),
+        Birth::Put(_) => 0,
+        Birth::Task { others, .. } => *others,
     }
 }
 
-/// Writes the objects of the birth whose first object is this, in order, such as `o1.2, o1.3`.
-#[tactic(auto, unfolding(crate::specs::Tasks::objects_text, crate::specs::Tasks::objects_made))]
-pub fn write_objects(text: &mut String, object: ObjectId, birth: &Birth) -> Result<(), AllocError>
-    ensures { OnOk result (string_bytes text.new ≡ string_bytes text.old ++ objects_text object (birth_of birth.now)) }
+/// Whether the birth whose first object is that one makes the object.
+#[tactic(auto, unfolding(meaning::specs::Births::is_made_by))]
+fn is_made_by(object: ObjectId, first: ObjectId, birth: &Birth) -> bool
+    ensures { result ≡ is_made_by (record { object = first; birth = birth_of birth.now }) object }
 {
-    match birth {
-        Birth::Put(_) | Birth::Task { .. } => write!(text, "{object}"),
+    let others = u64::from(others_of(birth));
+    first.owner.0 == object.owner.0
+        && object.serial >= first.serial
+        && object.serial - first.serial <= others
+}
+
+/// The object so many behind that one. None has a serial past 2^64 - 1, where no task comes.
+fn object_behind(alloc: Global, object: ObjectId, count: u64) -> Result<ObjectId, AllocError>
+    ensures { IfOk result (λ o. o ≡ past object count) }
+{
+    let owner = object.owner;
+    match object.serial.checked_add(count) {
+        Some(serial) => Ok(ObjectId { owner, serial }),
+        None => Err(refused_growth(alloc)),
     }
+}
+
+/// Adds so many objects, from one on.
+fn add_from(objects: &mut Vec<ObjectId>, first: ObjectId, count: u64) -> Result<(), AllocError>
+    ensures { OnOk result (objects.new.items ≡ objects.old.items ++ ids_from first count) }
+{
+    let alloc = *objects.allocator();
+    for place in 0..count {
+        objects.push(object_behind(alloc, first, place)?)?;
+    }
+    Ok(())
 }
 
 /// Adds the objects of the birth whose first object is this, in order.
@@ -42,9 +71,68 @@ pub fn add_objects(
 ) -> Result<(), AllocError>
     ensures { OnOk result (objects.new.items ≡ objects.old.items ++ objects_made object (birth_of birth.now)) }
 {
-    match birth {
-        Birth::Put(_) | Birth::Task { .. } => Ok(objects.push(object)?),
+    let others = u64::from(others_of(birth));
+    add_from(objects, object, others + 1)
+}
+
+#[tactic(auto, unfolding(crate::specs::Tasks::objects_made))]
+fn objects_with(
+    alloc: Global,
+    first: ObjectId,
+    birth: Option<&Birth>,
+) -> Result<Vec<ObjectId>, AllocError>
+    ensures { IfOk result (λ objects. objects.items ≡ objects_with first (option_map birth_of (option_copied birth.entry))) }
+{
+    let mut objects = Vec::new(alloc);
+    let Some(birth) = birth else {
+        return Ok(objects);
+    };
+    add_objects(&mut objects, first, birth)?;
+    Ok(objects)
+}
+
+/// The objects of what was born with this first object, in order, by the log of which that is the index; none where nothing was.
+pub fn objects_at(
+    alloc: Global,
+    index: &BirthIndex,
+    log: &[Entry],
+    first: ObjectId,
+) -> Result<Vec<ObjectId>, AllocError>
+    ensures { IsIndexOf index.now log.now → IfOk result (λ objects. objects.items ≡ objects_at (births log.now) first) }
+{
+    objects_with(alloc, first, index.birth(log, first))
+}
+
+/// Writes the objects behind the first.
+fn write_other_objects(text: &mut String, others: &[ObjectId]) -> Result<(), AllocError>
+    ensures { OnOk result (string_bytes text.new ≡ string_bytes text.old ++ flat_map other_object others.now) }
+{
+    for object in others {
+        let object = *object;
+        write!(text, ", {object}")?;
     }
+    Ok(())
+}
+
+fn write_listed(text: &mut String, objects: &[ObjectId]) -> Result<(), AllocError>
+    ensures { OnOk result (string_bytes text.new ≡ string_bytes text.old ++ listed_text objects.now) }
+{
+    let [first, others @ ..] = objects else {
+        return Ok(());
+    };
+    let object = *first;
+    write!(text, "{object}")?;
+    write_other_objects(text, others)
+}
+
+/// Writes the objects of the birth whose first object is this, in order, such as `o1.2, o1.3`.
+#[tactic(auto, unfolding(crate::specs::Tasks::objects_text))]
+pub fn write_objects(text: &mut String, object: ObjectId, birth: &Birth) -> Result<(), AllocError>
+    ensures { OnOk result (string_bytes text.new ≡ string_bytes text.old ++ objects_text object (birth_of birth.now)) }
+{
+    let mut objects = Vec::new(*text.allocator());
+    add_objects(&mut objects, object, birth)?;
+    write_listed(text, &objects)
 }
 
 fn task_in(object: ObjectId, entry: &Entry) -> Option<ObjectId>

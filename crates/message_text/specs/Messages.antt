@@ -11,6 +11,7 @@ use Rattle.log_words.specs.Calls.{birth_text}
 use Rattle.log_words.specs.Contents.{content_text}
 use Rattle.protocol_data.specs.declared.message.Party.{Party}
 use Rattle.protocol_data.specs.declared.message.Party.TheVariants.{TheWorker, TheNode}
+use Rattle.protocol_data.specs.declared.message.EndedResult.{EndedResult}
 use Rattle.protocol_data.specs.declared.message.Message.{Message}
 use Rattle.protocol_data.specs.declared.message.Message.TheVariants.{Ask, Give, Elsewhere, Wait, Back, Push, Finished, FinishedAck, Failed}
 use Rattle.protocol_data.specs.declared.message.Message.TheVariants.{Where, At, Gone, Fetch, CopyOf, Missing, Hold, HoldAck, Unhold}
@@ -54,7 +55,7 @@ kind_text (Elsewhere a t n) = codes "Elsewhere"
 kind_text (Wait a t) = codes "Wait"
 kind_text (Back a) = codes "Back"
 kind_text (Push a b) = codes "Push"
-kind_text (Finished a n ids kept) = codes "Finished"
+kind_text (Finished a n rs) = codes "Finished"
 kind_text (FinishedAck a) = codes "FinishedAck"
 kind_text (Failed a f) = codes "Failed"
 kind_text (Where o) = codes "Where"
@@ -76,10 +77,23 @@ abbrev pub kept_text : Contents → Option Outcome → List ℕ
 kept_text how None = []
 kept_text how (Some c) = codes ", " ++ content_text how c
 
--- Finished(a1.1#0, n1, [], 49), or without the content
-abbrev pub finished_text : Contents → Attempt → ℕ → List Id → Option Outcome → List ℕ
-finished_text how a n ids kept =
-    codes "Finished(" ++ (attempt_text a ++ (codes ", n" ++ (decimal n ++ (codes ", " ++ (objects_text ids ++ (kept_text how kept ++ codes ")"))))))
+-- what is told of a result: [], 49, or without the content
+abbrev pub result_text : Contents → EndedResult → List ℕ
+result_text how r = objects_text r.ids ++ kept_text how r.kept
+
+-- so of a result behind the first
+abbrev pub other_result : Contents → EndedResult → List ℕ
+other_result how r = codes "; " ++ result_text how r
+
+-- [], 49; [o1.2]
+abbrev pub results_text : Contents → List EndedResult → List ℕ
+results_text how [] = []
+results_text how (r ∷ rs) = result_text how r ++ flat_map (other_result how) rs
+
+-- Finished(a1.1#0, n1, [], 49), or with more results: Finished(a1.1#0, n1, [], 49; [o1.2])
+abbrev pub finished_text : Contents → Attempt → ℕ → List EndedResult → List ℕ
+finished_text how a n rs =
+    codes "Finished(" ++ (attempt_text a ++ (codes ", n" ++ (decimal n ++ (codes ", " ++ (results_text how rs ++ codes ")")))))
 
 -- At(o1.1, 0, [n1, n2]), or At(o1.1, 0, [], 49)
 abbrev pub at_text : Contents → Id → ℕ → List ℕ → Option Outcome → List ℕ
@@ -92,7 +106,7 @@ copy_text how o k c = codes "Copy(" ++ (id_text o ++ (codes ", " ++ (decimal k +
 -- what carries a task, objects, nodes or a content
 abbrev pub carrying_text : Contents → Message → List ℕ
 carrying_text how (Push a b) = push_text how a b
-carrying_text how (Finished a n ids kept) = finished_text how a n ids kept
+carrying_text how (Finished a n rs) = finished_text how a n rs
 carrying_text how (At o k ns kept) = at_text how o k ns kept
 carrying_text how (CopyOf o k c) = copy_text how o k c
 carrying_text how _ = []

@@ -1,15 +1,17 @@
 // Messages.
 
 ghost use Rattle.std.specs.Prelude.{◌≡◌, ◌++◌, OnOk, string_bytes};
+ghost use Rattle.std.specs.List.{flat_map};
 ghost use Rattle.message_text.specs.Messages.{at_text, carrying_text, closed_text, copy_text, finished_ack_text, finished_text, hold_text, kept_text};
-ghost use Rattle.message_text.specs.Messages.{kind_text, message_text, place_text, push_text, reason_text, stop_text, unhold_text};
+ghost use Rattle.message_text.specs.Messages.{kind_text, message_text, other_result, place_text, push_text, reason_text, result_text, results_text};
+ghost use Rattle.message_text.specs.Messages.{stop_text, unhold_text};
 
 use crate::lists::{write_nodes, write_objects};
 use held::{Origin, SharedContent};
 use history::kind_name;
 use ids::{AttemptId, NodeId, ObjectId};
 use log_words::{Contents, write_birth, write_content};
-use protocol_data::{Message, Reason};
+use protocol_data::{EndedResult, Message, Reason};
 use sequence::Seq;
 use std::alloc::AllocError;
 
@@ -40,20 +42,69 @@ fn write_kept(
     write_content(text, contents, &content.inner)
 }
 
+fn write_result(
+    text: &mut String,
+    contents: Contents,
+    ended: &EndedResult,
+) -> Result<(), AllocError>
+    ensures { OnOk result (string_bytes text.new ≡ string_bytes text.old ++ result_text contents ended.now) }
+{
+    write_objects(text, ended.ids.as_slice())?;
+    write_kept(text, contents, &ended.kept)
+}
+
+/// Writes what is told of a result behind the first.
+fn write_other_result(
+    text: &mut String,
+    contents: Contents,
+    ended: &EndedResult,
+) -> Result<(), AllocError>
+    ensures { OnOk result (string_bytes text.new ≡ string_bytes text.old ++ other_result contents ended.now) }
+{
+    text.push_str("; ")?;
+    write_result(text, contents, ended)
+}
+
+/// So of each of these.
+fn write_other_results(
+    text: &mut String,
+    contents: Contents,
+    results: &[EndedResult],
+) -> Result<(), AllocError>
+    ensures { OnOk result (string_bytes text.new ≡ string_bytes text.old ++ flat_map (other_result contents) results.now) }
+{
+    for ended in results {
+        write_other_result(text, contents, ended)?;
+    }
+    Ok(())
+}
+
+fn write_results(
+    text: &mut String,
+    contents: Contents,
+    results: &[EndedResult],
+) -> Result<(), AllocError>
+    ensures { OnOk result (string_bytes text.new ≡ string_bytes text.old ++ results_text contents results.now) }
+{
+    let [first, others @ ..] = results else {
+        return Ok(());
+    };
+    write_result(text, contents, first)?;
+    write_other_results(text, contents, others)
+}
+
 fn write_finished(
     text: &mut String,
     contents: Contents,
     attempt: AttemptId,
     node: NodeId,
-    ids: &Seq<ObjectId>,
-    kept: &Option<SharedContent>,
+    results: &Seq<EndedResult>,
 ) -> Result<(), AllocError>
-    ensures { OnOk result (string_bytes text.new ≡ string_bytes text.old ++ finished_text contents attempt node ids.now kept.now) }
+    ensures { OnOk result (string_bytes text.new ≡ string_bytes text.old ++ finished_text contents attempt node results.now) }
 {
     let node = node.0;
     write!(text, "Finished({attempt}, n{node}, ")?;
-    write_objects(text, ids.as_slice())?;
-    write_kept(text, contents, kept)?;
+    write_results(text, contents, results.as_slice())?;
     text.push_str(")")
 }
 
@@ -97,8 +148,8 @@ fn write_carrying(
 {
     match message {
         Message::Push(attempt, birth) => write_push(text, contents, *attempt, birth),
-        Message::Finished(attempt, node, ids, kept) => {
-            write_finished(text, contents, *attempt, *node, ids, kept)
+        Message::Finished(attempt, node, results) => {
+            write_finished(text, contents, *attempt, *node, results)
         }
         Message::At(object, number, nodes, kept) => write_at(
             text, contents, *object, *number, nodes, kept,

@@ -119,7 +119,10 @@ function readAct(line, attempt, from) {
   let name = '';
   if (line[from] === '(') { const close = line.indexOf(')', from); name = line.slice(from + 1, close); from = close + 2; }
   const rest = line.slice(from), colon = rest.indexOf(':');
-  if (rest.startsWith('makes ')) return { kind: 'makes', attempt, name, object: rest.slice(6, colon), text: rest.slice(colon + 2), line };
+  if (rest.startsWith('makes ')) {
+    const objects = rest.slice(6, colon).split(', ');
+    return { kind: 'makes', attempt, name, object: objects[0], objects, text: rest.slice(colon + 2), line };
+  }
   if (rest.startsWith('gets ')) return { kind: 'gets', attempt, name, object: rest.slice(5, colon), text: rest.slice(colon + 2), line };
   if (rest.startsWith('ends with a fault at get ')) {
     return { kind: 'faults', attempt, name, object: rest.slice(25, colon), text: rest.slice(colon + 2), line };
@@ -179,6 +182,18 @@ function readEvent(line) {
 const objectOf = (attempt) => 'o' + attempt.slice(1, attempt.indexOf('#'));
 const ownerOf = (object) => 'w' + object.slice(1, object.indexOf('.'));
 const idsIn = (text) => text.match(/\bo\d+\.\d+/g) || [];
+
+// The contents with which an attempt ended, one for each result: what stands between the commas that are in no list.
+function contentsIn(text) {
+  const found = [];
+  let depth = 0, from = 0;
+  for (let at = 0; at < text.length; at++) {
+    if (text[at] === '[') depth++;
+    if (text[at] === ']') depth--;
+    if (text[at] === ',' && depth === 0) { found.push(text.slice(from, at)); from = at + 2; }
+  }
+  return [...found, text.slice(from)];
+}
 const FAULTS = new Set(['kill', 'kill-node', 'lose', 'evict']);
 
 class Run {
@@ -239,12 +254,7 @@ class Run {
     const attempt = entry.attempt && this.attempts.get(entry.attempt);
     if (entry.kind === 'opens') this.workers.set(entry.worker, { id: entry.worker, node: entry.node, opened: at, attempts: [] });
     if (entry.kind === 'begins') this.begins(at, entry);
-    if (entry.kind === 'makes') {
-      this.objects.set(entry.object, { id: entry.object, born: at, by: entry.attempt, byName: entry.name, text: entry.text, needs: idsIn(entry.text),
-        usedBy: [], attempts: [], asks: [], released: 0, resolved: null, accepted: [], call: /^remote\(\d+\) (\w+)/.exec(entry.text) });
-      for (const id of idsIn(entry.text)) { const used = this.objects.get(id); if (used) used.usedBy.push(entry.object); }
-      this.noteBirth(this.objects.get(entry.object));
-    }
+    if (entry.kind === 'makes') this.born(at, entry);
     if (entry.kind === 'gets' && attempt) attempt.gets.push({ at, object: entry.object, text: entry.text });
     if (entry.kind === 'faults') {
       if (attempt) attempt.fault = { at, object: entry.object, text: entry.text };
@@ -267,6 +277,19 @@ class Run {
       this.mainEnd = { at, fault: entry.kind === 'faults', text: entry.text };
     }
   }
+
+  // The results of a call have its attempts in common, which are named by the first.
+  born(at, entry) {
+    const common = { born: at, by: entry.attempt, byName: entry.name, text: entry.text, needs: idsIn(entry.text), results: entry.objects, attempts: [],
+      asks: [], accepted: [], call: /^remote\(\d+\) (\w+)/.exec(entry.text) };
+    entry.objects.forEach((id, place) => this.objects.set(id, { ...common, id, place, usedBy: [], released: 0, resolved: null }));
+    for (const id of common.needs) { const used = this.objects.get(id); if (used) used.usedBy.push(...entry.objects); }
+    this.noteBirth(this.objects.get(entry.object));
+  }
+
+  // The objects that an attempt makes, and the one by which the attempts of an object's task are named.
+  resultsOf(attempt) { const first = objectOf(attempt), object = this.objects.get(first); return object ? object.results : [first]; }
+  taskOf(id) { const object = this.objects.get(id); return object ? object.results[0] : id; }
 
   // A Push begins its attempt where it is the first that reaches its worker alive.
   arrives(event, message) {
@@ -309,17 +332,19 @@ class Run {
     const before = this.attempts.get(attempt.id.replace(/#\d+$/, '#' + (attempt.number - 1)));
     if (!before) return 'the attempt before never began';
     const node = this.workers.get(before.worker).node, worker = this.deaths.get(before.worker), died = this.deaths.get(node);
-    const lost = this.lostAt(object.id, node, before.end ? before.end.at : 0, attempt.begun);
-    if (lost) return `${node} lost its copy in event ${lost}`;
-    if (died) return `${node} died in event ${died}, ` + (before.end ? `and the result of ${before.id} with it` : `with ${before.id} on it`);
+    const lost = this.lostAt(object.results, node, before.end ? before.end.at : 0, attempt.begun), isOne = object.results.length === 1;
+    if (lost) return `${node} lost its copy ${isOne ? '' : `of ${this.events[lost].args[1]} `}in event ${lost}`;
+    if (died) {
+      return `${node} died in event ${died}, ` + (before.end ? `and ${isOne ? 'the' : 'a'} result of ${before.id} with it` : `with ${before.id} on it`);
+    }
     if (worker) return `${before.worker} died in event ${worker}, with ${before.id} on it`;
     return 'the attempt before broke';
   }
 
-  lostAt(object, node, from, until) {
+  lostAt(objects, node, from, until) {
     for (let at = until; at > from; at--) {
       const event = this.events[at];
-      if (event.kind === 'lose' && !event.refused && 'n' + event.args[0] === node && event.args[1] === object) return at;
+      if (event.kind === 'lose' && !event.refused && 'n' + event.args[0] === node && objects.includes(event.args[1])) return at;
     }
     return 0;
   }
@@ -330,7 +355,7 @@ class Run {
   }
 
   linesOf(entry) {
-    const object = entry.kind === 'makes' && this.objects.get(entry.object);
+    const object = entry.kind === 'makes' && this.objects.get(this.taskOf(entry.object));
     return object ? this.places.ofBirth(object, this.births.get(`${object.by} ${object.call ? object.call[1] : ''}`)) : this.places.of(entry);
   }
 
@@ -488,7 +513,8 @@ class State {
     if (entry.kind === 'makes' && entry.text.startsWith('put ')) node.primaries.add(entry.object + '#0');
     if (entry.kind === 'ends') {
       worker.phase = 'ended';
-      if (!isSmall(entry.text)) node.primaries.add(objectOf(entry.attempt) + '#' + attempt.number);
+      const contents = contentsIn(entry.text);
+      this.run.resultsOf(entry.attempt).forEach((id, k) => { if (!isSmall(contents[k] || '')) node.primaries.add(id + '#' + attempt.number); });
     }
     if (entry.kind === 'faults') { worker.phase = 'faulted'; this.frees(node, worker.id); }
     if (entry.kind === 'gets') this.gets(node, worker, entry);
@@ -547,7 +573,7 @@ class State {
 
   copyLine(node, kind, copy) {
     const [object, number] = copy.split('#'), known = this.run.objects.get(object), isPut = known && !known.call;
-    return `${node.id}: ${kind} copy of ${object}` + (isPut ? '' : ` by a${object.slice(1)}#${number}`);
+    return `${node.id}: ${kind} copy of ${object}` + (isPut ? '' : ` by a${this.run.taskOf(object).slice(1)}#${number}`);
   }
 
   workerLine(worker) {
@@ -579,10 +605,23 @@ class State {
     if (!object.call) return 'settled';
     const ask = last(object.asks, (it) => it.sent <= this.at), accepted = last(object.accepted, (it) => it.at <= this.at);
     const asked = ask ? parts(ask)[0] : '';
-    if (accepted && accepted.attempt === asked) return 'settled by ' + asked;
+    if (accepted && (accepted.attempt === asked || this.isSpent(object))) return 'settled by ' + accepted.attempt;
+    if (object.place > 0) return this.besideStands(object, accepted);
     const attempt = this.run.attempts.get(asked);
     if (attempt && attempt.begun <= this.at) return `pending: ${asked} began on ${attempt.worker}`;
     return ask ? `pending: ${asked} asked ${ask.to} for a worker` : '';
+  }
+
+  // A result of its task was given up: no attempt comes any more, and the other results stay as they are.
+  isSpent(object) { return object.results.some((id) => { const { resolved } = this.run.objects.get(id); return resolved && resolved.at <= this.at; }); }
+
+  // A further result: it may be there while another one, which was lost, is made again. Its owner keeps a small content.
+  besideStands(object, accepted) {
+    const coming = 'comes with ' + object.results[0];
+    if (!accepted) return coming;
+    const settled = 'settled by ' + accepted.attempt, copy = object.id + accepted.attempt.slice(accepted.attempt.indexOf('#'));
+    if (isSmall(contentsIn(this.run.attempts.get(accepted.attempt).end.text)[object.place])) return settled;
+    return [...this.nodes.values()].some((node) => node.primaries.has(copy) || node.secondaries.includes(copy)) ? settled : coming;
   }
 }
 
@@ -657,13 +696,17 @@ function reportLines(run) {
   return lines.concat(...sections);
 }
 
+// What makes an object; of several results, which one it is, behind the first.
+const toldOf = (object) => object.text + (object.place > 0 ? `, result ${object.place + 1}` : '');
+
 // The sentences of an object's card: what became of it up to an event, and why.
 function sentences(run, id, at) {
   const object = run.objects.get(id), all = [];
   const say = (when, text) => { if (when <= at) all.push({ at: when, text }); };
   const lines = run.linesOf({ kind: 'makes', object: id }).map((line) => line + 1);
-  const where = lines.length > 0 ? `, line ${lines.join(' or ')}` : '';
-  say(object.born, `${object.by} (${object.byName}) made it${where}: ${object.text}`);
+  const where = lines.length > 0 ? `, line ${lines.join(' or ')}` : '', others = without(object.results, id);
+  const beside = others.length > 0 ? ` with ${others.join(', ')}` : '';
+  say(object.born, `${object.by} (${object.byName}) made it${beside}${where}: ${toldOf(object)}`);
   for (const attempt of object.attempts) {
     const node = run.workers.get(attempt.worker).node, again = attempt.again ? ` again, since ${attempt.again}` : '';
     say(attempt.begun, `${attempt.id} began on ${attempt.worker} of ${node}${again}`);
@@ -706,7 +749,7 @@ function family(run, id, most) {
 }
 
 if (typeof module !== 'undefined') {
-  module.exports = { Run, State, ScriptPlaces, readEntry, readEvent, readMessage, readLog, isSmall, reportLines, sentences, family, idsIn };
+  module.exports = { Run, State, ScriptPlaces, readEntry, readEvent, readMessage, readLog, isSmall, contentsIn, reportLines, sentences, family, idsIn };
 }
 
 // ---- the view
@@ -762,7 +805,7 @@ class View {
     if (dead.length > 6) said.push(`and ${dead.length - 6} more died`);
     const again = [...run.attempts.values()].filter((it) => it.again);
     if (again.length > 0) {
-      const shown = again.slice(0, 6).map((it) => `${this.linked(objectOf(it.id))} (${it.name}, event ${this.eventLink(it.begun)})`);
+      const shown = again.slice(0, 6).map((it) => `${this.linked(run.resultsOf(it.id).join(', '))} (${it.name}, event ${this.eventLink(it.begun)})`);
       said.push('<span class="again">made again</span>: ' + shown.join(', ') + (again.length > 6 ? ` and ${again.length - 6} more` : ''));
     }
     const isSame = end && !end.fault && (dead.length > 0 || again.length > 0);
@@ -946,8 +989,9 @@ class View {
 
   lineageHtml(id, spot, isPicked) {
     const object = this.run.objects.get(id), again = last(object.attempts, (it) => it.again);
-    const name = object.call ? object.call[1] : 'put', told = object.text + (again ? '\nagain, since ' + again.again : '');
-    const below = again ? 'again: ' + again.again.replace(/ in event.*$/, '').replace('the attempt before', 'it') : object.text.replace(/^remote\(\d+\) /, '');
+    const name = object.call ? object.call[1] : 'put', told = toldOf(object) + (again ? '\nagain, since ' + again.again : '');
+    const call = (object.place > 0 ? `result ${object.place + 1} of ` : '') + object.text.replace(/^remote\(\d+\) /, '');
+    const below = again ? 'again: ' + again.again.replace(/ in event.*$/, '').replace('the attempt before', 'it') : call;
     const text = (kind, y, said, most) => `<text class="${kind}" x="${spot.x + 7}" y="${spot.y + y}">${escapeText(said.slice(0, most))}</text>`;
     return `<g class="${again ? 'again' : ''} ${isPicked ? 'picked' : ''}" data-object="${id}"><title>${escapeText(told)}</title>`
       + `<rect x="${spot.x}" y="${spot.y}" width="106" height="40"/>`
@@ -969,8 +1013,8 @@ class View {
   }
 
   nextMessage() {
-    const own = 'a' + this.picked.slice(1) + '#', has = (message) => message.text.includes(this.picked + ',') || message.text.includes(this.picked + ')')
-      || message.text.includes(own);
+    const own = 'a' + this.run.taskOf(this.picked).slice(1) + '#', ends = [',', ')', ']'];
+    const has = (message) => ends.some((end) => message.text.includes(this.picked + end)) || message.text.includes(own);
     this.find((event) => event.sent.some(has) || (event.kind === 'deliver' && !event.refused && has(this.run.messages[+event.args[0]])));
   }
 
@@ -1165,7 +1209,8 @@ class Lanes {
   }
 
   drawSpan(span, from, to, y) {
-    const pen = this.pen, ink = this.ink, high = this.high - 5, attempt = span.attempt, isPicked = objectOf(attempt.id) === this.picked;
+    const pen = this.pen, ink = this.ink, high = this.high - 5, attempt = span.attempt;
+    const isPicked = objectOf(attempt.id) === this.run.taskOf(this.picked);
     pen.fillStyle = attempt.again ? ink.again : ink.main;
     pen.globalAlpha = attempt.end || attempt.fault ? 0.75 : 0.4;
     pen.fillRect(from, y + 2, to - from, high);

@@ -1,4 +1,5 @@
 pub mod Below
+pub mod Tasks
 pub mod Copies
 pub mod Nodes
 pub mod Workers

@@ -1,5 +1,5 @@
 -- What is said of objects.
-use Rattle.std.specs.Prelude.{Bool, List, None, Option, Some, [], codes, if◌then◌else◌, false, length, slice_get, true, ℕ, ◌+◌, ◌++◌, ◌∷◌}
+use Rattle.std.specs.Prelude.{Bool, List, None, Option, Some, [], codes, if◌then◌else◌, false, length, not, slice_get, true, ℕ, ◌&&◌, ◌+◌, ◌++◌, ◌∷◌}
 use Rattle.std.specs.Fmt.{decimal}
 use Rattle.meaning.specs.Births.{birth_at}
 use Rattle.meaning.specs.Values.{Birth, Id, Name, Outcome, Task}
@@ -8,7 +8,7 @@ use Rattle.event_log.specs.Entries.{Entry, Fault}
 use Rattle.event_log.specs.Words.{attempt, births}
 use Rattle.log_words.specs.Faults.{fault_words}
 use Rattle.protocol_data.specs.declared.tables.Maker.{Maker}
-use Rattle.protocol_data.specs.declared.tables.Maker.TheVariants.{ByTask, WasPut}
+use Rattle.protocol_data.specs.declared.tables.Maker.TheVariants.{Beside, ByTask, WasPut}
 use Rattle.protocol_data.specs.declared.tables.Object.{Object}
 use Rattle.protocol_data.specs.declared.tables.Progress.{Progress}
 use Rattle.protocol_data.specs.declared.tables.Progress.TheVariants.{AskedAt, AtRest, RunsOn}
@@ -16,18 +16,29 @@ use Rattle.protocol_data.specs.declared.tables.Worker.{Worker}
 use Rattle.protocol_data.specs.declared.whole.Whole.{Whole}
 use Rattle.state_text.specs.Below.{below, node_words, worker_count}
 use Rattle.state_text.specs.Holders.{askers_text, frame_line, holders_text}
+use Rattle.state_text.specs.Tasks.{is_pending_at}
 
 abbrev pub function_name : Option Birth → Name
 function_name (Some (Task g args depth retries others)) = g
 function_name _ = []
 
+-- the first object of the task that makes it too
+abbrev pub first_of : Id → ℕ → Id
+first_of o serial = record { owner = o.owner; serial = serial }
+
 abbrev pub maker_text : List Entry → Id → Maker → List ℕ
 maker_text log o WasPut = codes "put"
 maker_text log o (ByTask task) = codes "made by " ++ function_name (birth_at (births log) o)
+maker_text log o (Beside serial) = codes "made by " ++ function_name (birth_at (births log) (first_of o serial))
+
+-- settled by attempt k of the task that stands with the object
+abbrev pub settled_by : Id → ℕ → List ℕ
+settled_by o k = codes ", settled by " ++ (attempt_text (attempt o k) ++ codes "\n")
 
 abbrev pub settled_note : Id → Maker → ℕ → List ℕ
 settled_note o WasPut k = codes ", settled\n"
-settled_note o (ByTask task) k = codes ", settled by " ++ (attempt_text (attempt o k) ++ codes "\n")
+settled_note o (ByTask task) k = settled_by o k
+settled_note o (Beside serial) k = settled_by (first_of o serial) k
 
 -- the content is with the owner, or at a node
 abbrev pub is_somewhere : List ℕ → Option Outcome → Bool
@@ -52,19 +63,28 @@ progress_text o x k (AskedAt t n) =
     codes ", pending: " ++ (attempt_text (attempt o k) ++ (codes " asked n" ++ (decimal n ++ codes " for a worker\n")))
 progress_text o x k (RunsOn v n) = codes ", pending: " ++ (attempt_text (attempt o k) ++ (codes " began on w" ++ (decimal v ++ codes "\n")))
 
-abbrev pub made_state : Id → Object → Maker → List ℕ
-made_state o x WasPut = rest_text o x
-made_state o x (ByTask task) = progress_text o x task.number task.progress
+abbrev pub comes_with : Id → List ℕ
+comes_with o = codes ", comes with " ++ (object_text o ++ codes "\n")
+
+-- a further result whose content isn't there comes with the first, where an attempt is asked for or under way
+abbrev pub beside_state : Id → Object → Id → Bool → List ℕ
+beside_state o x first pending = if pending && not (is_somewhere x.places x.kept) then comes_with first else rest_text o x
+
+-- beside the objects of its owner
+abbrev pub made_state : List Object → Id → Object → Maker → List ℕ
+made_state objects o x WasPut = rest_text o x
+made_state objects o x (ByTask task) = progress_text o x task.number task.progress
+made_state objects o x (Beside serial) = beside_state o x (first_of o serial) (is_pending_at objects serial)
 
 abbrev pub resolved_note : Fault → List ℕ
 resolved_note f = codes ", resolved: " ++ (fault_words f ++ codes "\n")
 
-abbrev pub end_text : Id → Object → Option Fault → List ℕ
-end_text o x None = made_state o x x.maker
-end_text o x (Some f) = resolved_note f
+abbrev pub end_text : List Object → Id → Object → Option Fault → List ℕ
+end_text objects o x None = made_state objects o x x.maker
+end_text objects o x (Some f) = resolved_note f
 
-unfoldable pub stands_text : Id → Object → List ℕ
-stands_text o x = if x.is_released then codes ", released\n" else end_text o x x.fault
+unfoldable pub stands_text : List Object → Id → Object → List ℕ
+stands_text objects o x = if x.is_released then codes ", released\n" else end_text objects o x x.fault
 
 unfoldable pub dead_note : Id → List ℕ
 dead_note o = codes ", owner w" ++ (decimal o.owner ++ codes ", dead\n")
@@ -73,12 +93,12 @@ unfoldable pub owner_head : Id → List ℕ
 owner_head o = codes ", owner w" ++ decimal o.owner
 
 -- what a dead owner knew is gone with it
-abbrev pub owner_note : Bool → Id → Object → List ℕ
-owner_note is_live o x = if is_live then owner_head o ++ stands_text o x else dead_note o
+abbrev pub owner_note : Worker → Id → Object → List ℕ
+owner_note w o x = if w.is_live then owner_head o ++ stands_text w.objects o x else dead_note o
 
 -- o1.2: made by f, owner w1, pending: a1.2#0 began on w2
-unfoldable pub object_head : List Entry → Bool → Id → Object → List ℕ
-object_head log is_live o x = object_text o ++ codes ": " ++ (maker_text log o x.maker ++ owner_note is_live o x)
+unfoldable pub object_head : List Entry → Worker → Id → Object → List ℕ
+object_head log w o x = object_text o ++ codes ": " ++ (maker_text log o x.maker ++ owner_note w o x)
 
 -- o1.2: 1 of 3 retries used
 abbrev pub used_line : Id → ℕ → Option Birth → List ℕ
@@ -89,6 +109,7 @@ used_line o k _ = []
 abbrev pub retries_line : List Entry → Id → Maker → List ℕ
 retries_line log o WasPut = []
 retries_line log o (ByTask task) = used_line o task.number (birth_at (births log) o)
+retries_line log o (Beside serial) = []
 
 unfoldable pub placed_head : Id → List ℕ
 placed_head o = object_text o ++ codes ": copies at"
@@ -114,7 +135,7 @@ live_lines log w o x =
     ++ (holders_text log o x.removed x.added ++ (frame_line log w o x.bearer ++ askers_text o x.askers))))
 
 abbrev pub object_text_of : List Entry → Worker → Id → Object → List ℕ
-object_text_of log w o x = object_head log w.is_live o x ++ (if w.is_live then live_lines log w o x else [])
+object_text_of log w o x = object_head log w o x ++ (if w.is_live then live_lines log w o x else [])
 
 abbrev pub row_lines_of : List Entry → Worker → Id → Option Object → List ℕ
 row_lines_of log w o None = []

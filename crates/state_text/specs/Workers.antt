@@ -76,7 +76,7 @@ abbrev pub phase_text : Whole → ℕ → ℕ → Bool → Phase → List ℕ
 phase_text c w n acknowledged Ready = ready_note n (has_slot w (node_at c n))
 phase_text c w n acknowledged (Out j) = codes " took job " ++ (decimal j ++ codes "\n")
 phase_text c w n acknowledged (Waits o f) = wait_note o f
-phase_text c w n acknowledged (HasEnded content) = ended_note acknowledged
+phase_text c w n acknowledged (HasEnded contents) = ended_note acknowledged
 phase_text c w n acknowledged (HasFaulted fault) = faulted_note acknowledged
 
 -- w3: waits until w4 knows that o1.2 has o4.1

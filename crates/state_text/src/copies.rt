@@ -2,13 +2,15 @@
 
 ghost use Rattle.std.specs.Prelude.{◌≡◌, ◌++◌, OnOk, Some, string_bytes, ◌<◌};
 ghost use Rattle.std.specs.List.{find};
-ghost use Rattle.state_text.specs.Copies.{copies_of, copies_text, copy_lines, copy_note, has_primary};
+ghost use Rattle.state_text.specs.Below.{below};
+ghost use Rattle.state_text.specs.Copies.{beside_copies, copies_of, copies_text, copy_lines, copy_note, has_primary};
 ghost use Rattle.state_text.specs.Copies.{has_secondary, made_copies, object_copies, owned_copies, primary_line};
 ghost use Rattle.state_text.specs.Copies.{row_copies, secondary_line, worker_copies};
 
 use crate::standing::worker_count;
+use crate::tasks::number_at;
 use ids::{AttemptId, ObjectId, WorkerId};
-use protocol_data::{Maker, Object, Store, Whole, Worker};
+use protocol_data::{Maker, Objects, Store, Whole, Worker};
 use std::alloc::AllocError;
 
 fn has_primary(store: &Store, object: ObjectId, number: u32) -> bool
@@ -33,15 +35,17 @@ fn has_secondary(store: &Store, object: ObjectId, number: u32) -> bool
 #[tactic(auto, unfolding(crate::specs::Copies::copy_note))]
 fn write_note(
     text: &mut String,
-    is_made: bool,
+    first: Option<u64>,
     object: ObjectId,
     number: u32,
 ) -> Result<(), AllocError>
-    ensures { OnOk result (string_bytes text.new ≡ string_bytes text.old ++ copy_note is_made object number) }
+    ensures { OnOk result (string_bytes text.new ≡ string_bytes text.old ++ copy_note first object number) }
 {
-    if !is_made {
+    let Some(serial) = first else {
         return text.push_str("\n");
-    }
+    };
+    let owner = object.owner;
+    let object = ObjectId { owner, serial };
     let attempt = AttemptId { object, number };
     write!(text, " by {attempt}\n")
 }
@@ -50,34 +54,34 @@ fn write_primary(
     text: &mut String,
     node: usize,
     store: &Store,
-    is_made: bool,
+    first: Option<u64>,
     object: ObjectId,
     number: u32,
 ) -> Result<(), AllocError>
-    ensures { OnOk result (string_bytes text.new ≡ string_bytes text.old ++ primary_line node store.now is_made object number) }
+    ensures { OnOk result (string_bytes text.new ≡ string_bytes text.old ++ primary_line node store.now first object number) }
 {
     if !has_primary(store, object, number) {
         return Ok(());
     }
     write!(text, "n{node}: primary copy of {object}")?;
-    write_note(text, is_made, object, number)
+    write_note(text, first, object, number)
 }
 
 fn write_secondary(
     text: &mut String,
     node: usize,
     store: &Store,
-    is_made: bool,
+    first: Option<u64>,
     object: ObjectId,
     number: u32,
 ) -> Result<(), AllocError>
-    ensures { OnOk result (string_bytes text.new ≡ string_bytes text.old ++ secondary_line node store.now is_made object number) }
+    ensures { OnOk result (string_bytes text.new ≡ string_bytes text.old ++ secondary_line node store.now first object number) }
 {
     if !has_secondary(store, object, number) {
         return Ok(());
     }
     write!(text, "n{node}: secondary copy of {object}")?;
-    write_note(text, is_made, object, number)
+    write_note(text, first, object, number)
 }
 
 /// Writes the copies of that attempt's content.
@@ -86,14 +90,14 @@ fn write_copy(
     text: &mut String,
     node: usize,
     store: &Store,
-    is_made: bool,
+    first: Option<u64>,
     object: ObjectId,
     number: u32,
 ) -> Result<(), AllocError>
-    ensures { OnOk result (string_bytes text.new ≡ string_bytes text.old ++ copy_lines node store.now is_made object number) }
+    ensures { OnOk result (string_bytes text.new ≡ string_bytes text.old ++ copy_lines node store.now first object number) }
 {
-    write_primary(text, node, store, is_made, object, number)?;
-    write_secondary(text, node, store, is_made, object, number)
+    write_primary(text, node, store, first, object, number)?;
+    write_secondary(text, node, store, first, object, number)
 }
 
 /// Writes the copies of the contents of the attempts below that number.
@@ -101,31 +105,70 @@ fn write_earlier(
     text: &mut String,
     node: usize,
     store: &Store,
+    first: u64,
     object: ObjectId,
     number: u32,
 ) -> Result<(), AllocError>
-    ensures { OnOk result (string_bytes text.new ≡ string_bytes text.old ++ made_copies node store.now object number) }
+    ensures { OnOk result (string_bytes text.new ≡ string_bytes text.old ++ below (copy_lines node store.now (Some first) object) number) }
 {
     for earlier in 0..number {
-        write_copy(text, node, store, true, object, earlier)?;
+        write_copy(text, node, store, Some(first), object, earlier)?;
     }
     Ok(())
 }
 
+/// Writes the copies of the contents of the attempts up to that number.
+fn write_made(
+    text: &mut String,
+    node: usize,
+    store: &Store,
+    first: u64,
+    object: ObjectId,
+    number: u32,
+) -> Result<(), AllocError>
+    ensures { OnOk result (string_bytes text.new ≡ string_bytes text.old ++ made_copies node store.now first object number) }
+{
+    write_earlier(text, node, store, first, object, number)?;
+    write_copy(text, node, store, Some(first), object, number)
+}
+
+/// Writes those of a further result, whose task has that number.
+fn write_beside(
+    text: &mut String,
+    node: usize,
+    store: &Store,
+    first: u64,
+    object: ObjectId,
+    number: Option<u32>,
+) -> Result<(), AllocError>
+    ensures { OnOk result (string_bytes text.new ≡ string_bytes text.old ++ beside_copies node store.now first object number) }
+{
+    match number {
+        None => Ok(()),
+        Some(number) => write_made(text, node, store, first, object, number),
+    }
+}
+
+/// Writes those of an object that is made so.
 fn write_object_copies(
     text: &mut String,
     node: usize,
     store: &Store,
+    objects: &Objects,
     object: ObjectId,
-    row: &Object,
+    maker: &Maker,
 ) -> Result<(), AllocError>
-    ensures { OnOk result (string_bytes text.new ≡ string_bytes text.old ++ object_copies node store.now object row.now.maker) }
+    ensures { OnOk result (string_bytes text.new ≡ string_bytes text.old ++ object_copies node store.now objects.now object maker.now) }
 {
-    match &row.maker {
-        Maker::WasPut => write_copy(text, node, store, false, object, 0),
+    match maker {
+        Maker::WasPut => write_copy(text, node, store, None, object, 0),
         Maker::ByTask(task) => {
-            write_earlier(text, node, store, object, task.number)?;
-            write_copy(text, node, store, true, object, task.number)
+            let first = object.serial;
+            write_made(text, node, store, first, object, task.number)
+        }
+        Maker::Beside(first) => {
+            let number = number_at(objects, *first);
+            write_beside(text, node, store, *first, object, number)
         }
     }
 }
@@ -149,7 +192,8 @@ fn write_row_copies(
         owner,
         serial: place as u64 + 1,
     };
-    write_object_copies(text, node, store, object, worker.objects.row(place))
+    let row = worker.objects.row(place);
+    write_object_copies(text, node, store, &worker.objects, object, &row.maker)
 }
 
 fn write_copies_of(
@@ -213,6 +257,7 @@ pub fn write_copies(
         owner: WorkerId(1),
         serial: 0,
     };
-    write_copy(text, node, store, true, main, 0)?;
+    let first = main.serial;
+    write_copy(text, node, store, Some(first), main, 0)?;
     write_owned_copies(text, node, store, whole)
 }

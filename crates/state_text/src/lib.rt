@@ -6,6 +6,7 @@ mod holders;
 mod nodes;
 mod objects;
 mod standing;
+mod tasks;
 mod text;
 mod workers;
 

@@ -1,22 +1,25 @@
 // What is said of objects.
 
-ghost use Rattle.std.specs.Prelude.{◌≡◌, ◌++◌, ◌<◌, OnOk, option_copied, string_bytes};
+ghost use Rattle.std.specs.Prelude.{◌≡◌, ◌++◌, ◌<◌, OnOk, codes, option_copied, string_bytes};
 ghost use Rattle.std.specs.Option.{option_map};
+ghost use Rattle.meaning.specs.Births.{birth_at};
+ghost use Rattle.event_log.specs.Words.{births};
 ghost use Rattle.task_spec.specs.Births.{birth_of};
 ghost use Rattle.log_words.specs.Index.{IsIndexOf};
-ghost use Rattle.state_text.specs.Objects.{all_objects_text, copies_line, dead_note, function_name};
+ghost use Rattle.state_text.specs.Objects.{all_objects_text, beside_state, copies_line, dead_note, first_of, function_name};
 ghost use Rattle.state_text.specs.Objects.{is_somewhere, kept_line, live_lines, made_state, maker_text};
 ghost use Rattle.state_text.specs.Objects.{object_head, object_text_of, objects_text, owner_head, owner_note, placed_head};
 ghost use Rattle.state_text.specs.Objects.{placed_text, progress_text, resolved_note, rest_text, retries_line, row_lines};
-ghost use Rattle.state_text.specs.Objects.{settled_note, stands_text, used_line, worker_objects};
+ghost use Rattle.state_text.specs.Objects.{settled_by, settled_note, stands_text, used_line, worker_objects};
 
 use crate::holders::{write_askers, write_frame, write_holders};
 use crate::standing::{worker_count, write_node_words};
+use crate::tasks::is_pending_at;
 use held::SharedContent;
 use ids::{AttemptId, NodeId, ObjectId, WorkerId};
 use log_entries::Entry;
 use log_words::{BirthIndex, write_fault};
-use protocol_data::{Maker, Object, Progress, Whole, Worker};
+use protocol_data::{Maker, Object, Objects, Progress, Whole, Worker};
 use std::alloc::{AllocError, Global};
 use task_spec::Birth;
 use values::Fault;
@@ -29,6 +32,28 @@ fn write_function(text: &mut String, birth: Option<&Birth>) -> Result<(), AllocE
         return Ok(());
     };
     text.push_str(function.as_str())
+}
+
+/// The first object of the task that makes it too.
+fn first_of(object: ObjectId, serial: u64) -> ObjectId
+    ensures { result ≡ first_of object serial }
+{
+    let owner = object.owner;
+    ObjectId { owner, serial }
+}
+
+/// Writes the function of the object's task.
+fn write_task(
+    text: &mut String,
+    index: &BirthIndex,
+    log: &[Entry],
+    object: ObjectId,
+) -> Result<(), AllocError>
+    ensures { IsIndexOf index.now log.now → OnOk result
+        (string_bytes text.new ≡ string_bytes text.old ++ (codes "made by " ++ function_name (birth_at (births log.now) object))) }
+{
+    text.push_str("made by ")?;
+    write_function(text, index.birth(log, object))
 }
 
 /// Writes what makes the object.
@@ -44,11 +69,17 @@ fn write_maker(
 {
     match maker {
         Maker::WasPut => text.push_str("put"),
-        Maker::ByTask(_) => {
-            text.push_str("made by ")?;
-            write_function(text, index.birth(log, object))
-        }
+        Maker::ByTask(_) => write_task(text, index, log, object),
+        Maker::Beside(serial) => write_task(text, index, log, first_of(object, *serial)),
     }
+}
+
+/// Writes of which attempt of the task that stands with the object the content is.
+fn write_settled_by(text: &mut String, object: ObjectId, number: u32) -> Result<(), AllocError>
+    ensures { OnOk result (string_bytes text.new ≡ string_bytes text.old ++ settled_by object number) }
+{
+    let attempt = AttemptId { object, number };
+    write!(text, ", settled by {attempt}\n")
 }
 
 /// Writes of which attempt the content is; nothing for what was put.
@@ -62,10 +93,8 @@ fn write_settled(
 {
     match maker {
         Maker::WasPut => text.push_str(", settled\n"),
-        Maker::ByTask(_) => {
-            let attempt = AttemptId { object, number };
-            write!(text, ", settled by {attempt}\n")
-        }
+        Maker::ByTask(_) => write_settled_by(text, object, number),
+        Maker::Beside(serial) => write_settled_by(text, first_of(object, *serial), number),
     }
 }
 
@@ -108,13 +137,38 @@ fn write_progress(
     }
 }
 
-/// Writes how an object stands that is neither released nor resolved.
-fn write_made(text: &mut String, object: ObjectId, row: &Object) -> Result<(), AllocError>
-    ensures { OnOk result (string_bytes text.new ≡ string_bytes text.old ++ made_state object row.now row.now.maker) }
+/// Writes how a further result of a task stands, of which an attempt may be asked for or under way.
+fn write_beside(
+    text: &mut String,
+    object: ObjectId,
+    row: &Object,
+    first: ObjectId,
+    is_pending: bool,
+) -> Result<(), AllocError>
+    ensures { OnOk result (string_bytes text.new ≡ string_bytes text.old ++ beside_state object row.now first is_pending) }
+{
+    if is_pending && !is_somewhere(row.places.as_slice(), &row.kept) {
+        return write!(text, ", comes with {first}\n");
+    }
+    write_rest(text, object, row)
+}
+
+/// Writes how an object stands that is neither released nor resolved, beside the objects of its owner.
+fn write_made(
+    text: &mut String,
+    objects: &Objects,
+    object: ObjectId,
+    row: &Object,
+) -> Result<(), AllocError>
+    ensures { OnOk result (string_bytes text.new ≡ string_bytes text.old ++ made_state objects.now object row.now row.now.maker) }
 {
     match &row.maker {
         Maker::WasPut => write_rest(text, object, row),
         Maker::ByTask(task) => write_progress(text, object, row, task.number, task.progress),
+        Maker::Beside(serial) => {
+            let is_pending = is_pending_at(objects, *serial);
+            write_beside(text, object, row, first_of(object, *serial), is_pending)
+        }
     }
 }
 
@@ -146,14 +200,19 @@ fn write_owner_head(text: &mut String, object: ObjectId) -> Result<(), AllocErro
 
 /// Writes how an object stands.
 #[tactic(auto, unfolding(crate::specs::Objects::stands_text))]
-fn write_stand(text: &mut String, object: ObjectId, row: &Object) -> Result<(), AllocError>
-    ensures { OnOk result (string_bytes text.new ≡ string_bytes text.old ++ stands_text object row.now) }
+fn write_stand(
+    text: &mut String,
+    objects: &Objects,
+    object: ObjectId,
+    row: &Object,
+) -> Result<(), AllocError>
+    ensures { OnOk result (string_bytes text.new ≡ string_bytes text.old ++ stands_text objects.now object row.now) }
 {
     if row.is_released {
         return text.push_str(", released\n");
     }
     let Some(fault) = row.fault else {
-        return write_made(text, object, row);
+        return write_made(text, objects, object, row);
     };
     write_resolved(text, fault)
 }
@@ -164,31 +223,31 @@ fn write_head(
     text: &mut String,
     index: &BirthIndex,
     log: &[Entry],
-    is_live: bool,
+    worker: &Worker,
     object: ObjectId,
     row: &Object,
 ) -> Result<(), AllocError>
     ensures { IsIndexOf index.now log.now → OnOk result
-        (string_bytes text.new ≡ string_bytes text.old ++ object_head log.now is_live object row.now) }
+        (string_bytes text.new ≡ string_bytes text.old ++ object_head log.now worker.now object row.now) }
 {
     write!(text, "{object}: ")?;
     write_maker(text, index, log, object, &row.maker)?;
-    write_owner(text, is_live, object, row)
+    write_owner(text, worker, object, row)
 }
 
 fn write_owner(
     text: &mut String,
-    is_live: bool,
+    worker: &Worker,
     object: ObjectId,
     row: &Object,
 ) -> Result<(), AllocError>
-    ensures { OnOk result (string_bytes text.new ≡ string_bytes text.old ++ owner_note is_live object row.now) }
+    ensures { OnOk result (string_bytes text.new ≡ string_bytes text.old ++ owner_note worker.now object row.now) }
 {
-    if !is_live {
+    if !worker.is_live {
         return write_dead(text, object);
     }
     write_owner_head(text, object)?;
-    write_stand(text, object, row)
+    write_stand(text, &worker.objects, object, row)
 }
 
 fn write_used(
@@ -219,7 +278,7 @@ fn write_retries(
         (string_bytes text.new ≡ string_bytes text.old ++ retries_line log.now object maker.now) }
 {
     match maker {
-        Maker::WasPut => Ok(()),
+        Maker::WasPut | Maker::Beside(_) => Ok(()),
         Maker::ByTask(task) => write_used(text, index.birth(log, object), object, task.number),
     }
 }
@@ -299,7 +358,7 @@ fn write_object(
     ensures { IsIndexOf index.now log.now → OnOk result
         (string_bytes text.new ≡ string_bytes text.old ++ object_text_of log.now worker.now object row.now) }
 {
-    write_head(text, index, log, worker.is_live, object, row)?;
+    write_head(text, index, log, worker, object, row)?;
     if !worker.is_live {
         return Ok(());
     }

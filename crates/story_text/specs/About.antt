@@ -1,16 +1,17 @@
 -- What is said of an object.
 use Rattle.std.specs.Prelude.{ℕ, Bool, false, not, ◌&&◌, ◌||◌, ◌==◌, List, [], ◌∷◌}
 use Rattle.std.specs.List.{list_any}
+use Rattle.meaning.specs.Values.{Id}
 use Rattle.meaning.specs.Births.{same_id}
 use Rattle.event_log.specs.Entries.{Event, Notice, NoticeNode, Evict, Lose, Kill, KillNode, Entry, In, Begun, Born, Got, Ended, Accepted, Faulted}
 use Rattle.event_log.specs.Entries.{Resolved, Released}
 use Rattle.event_log.specs.Events.{refused_next}
-use Rattle.story_text.specs.Mentions.{is_in_birth, is_in_content, is_in_contents}
+use Rattle.story_text.specs.Mentions.{is_among, is_in_birth, is_in_content, is_in_contents}
 use Rattle.story_text.specs.Runners.{Subject}
 use Rattle.story_text.specs.declared.runners.Subject.{Subject as CodeSubject}
 
 abbrev pub seen_of : CodeSubject → Subject
-seen_of s = record { object = s.object; task = s.task; workers = s.workers.items; nodes = s.nodes.items }
+seen_of s = record { object = s.object; task = s.task; results = s.results.items; workers = s.workers.items; nodes = s.nodes.items }
 
 -- the entry names the object, or an attempt of its task; a birth is named by its first object, as the attempts are
 unfoldable pub is_about : Subject → Entry → Bool
@@ -27,14 +28,18 @@ is_about s _ = false
 abbrev pub is_one : List ℕ → ℕ → Bool
 is_one ns n = list_any (λ m. m == n) ns
 
--- the event befalls the object, a worker that ran an attempt of its task, or the node of one
+-- it is the object, or another result of its task, with which the object is made again
+unfoldable pub is_of_task : Subject → Id → Bool
+is_of_task s o = same_id o s.object || is_among o s.results
+
+-- the event befalls the object, another result of its task, a worker that ran an attempt of it, or the node of one
 unfoldable pub befalls : Subject → Event → Bool
 befalls s (Kill w) = is_one s.workers w
 befalls s (KillNode n) = is_one s.nodes n
 befalls s (Notice w v) = is_one s.workers v
 befalls s (NoticeNode w n) = is_one s.nodes n
 befalls s (Evict n o) = same_id o s.object
-befalls s (Lose n o) = same_id o s.object
+befalls s (Lose n o) = is_of_task s o
 befalls s _ = false
 
 -- something about the object came of the event to which these entries belong

@@ -1,6 +1,7 @@
 -- The workers that ran attempts of an object's task, and their nodes.
 use Rattle.std.specs.Prelude.{ℕ, List, [], ◌∷◌, Option, Some, None}
 use Rattle.std.specs.List.{flat_map}
+use Rattle.meaning.specs.Births.{objects_at}
 use Rattle.meaning.specs.Values.{Id}
 use Rattle.event_log.specs.Entries.{Entry}
 use Rattle.event_log.specs.Words.{births, runs_of, opened}
@@ -15,15 +16,22 @@ one (Some n) = n ∷ []
 abbrev pub nodes_in : List ℕ → List ℕ → List ℕ
 nodes_in nodes workers = flat_map (λ w. one (from_one nodes w)) workers
 
--- an object, the one by which the attempts of its task are named, and the workers and nodes on which these ran
+-- an object, the one by which the attempts of its task are named, the objects of that task, and the workers and nodes on which the attempts ran
 pub record Subject : Type 0 where
   pub object : Id
   pub task : Id
+  pub results : List Id
   pub workers : List ℕ
   pub nodes : List ℕ
 
 abbrev pub subject_from : Id → Id → List Entry → Subject
-subject_from o task log = record { object = o; task = task; workers = runs_of task log; nodes = nodes_in (opened log) (runs_of task log) }
+subject_from o task log = record {
+  object = o;
+  task = task;
+  results = objects_at (births log) task;
+  workers = runs_of task log;
+  nodes = nodes_in (opened log) (runs_of task log);
+}
 
 abbrev pub subject_of : Id → List Entry → Subject
 subject_of o log = subject_from o (task_of (births log) o) log

@@ -1,10 +1,11 @@
 // What is said of an object.
 
 ghost use Rattle.std.specs.Prelude.{◌≡◌, IfOk};
-ghost use Rattle.story_text.specs.About.{befalls, is_about, is_ahead, is_event_shown, is_shown, seen_of};
+ghost use Rattle.story_text.specs.About.{befalls, is_about, is_ahead, is_event_shown, is_of_task, is_shown, seen_of};
 
-use crate::mentions::{is_in_birth, is_in_content, is_in_contents};
+use crate::mentions::{is_among, is_in_birth, is_in_content, is_in_contents};
 use crate::runners::{Subject, is_one};
+use ids::ObjectId;
 use log_entries::{Entry, Event};
 use log_words::is_refusal_at;
 use std::alloc::{AllocError, Global};
@@ -74,7 +75,15 @@ fn is_about(alloc: Global, subject: &Subject, entry: &Entry) -> Result<bool, All
     }
 }
 
-/// Whether the event befalls the object, a worker that ran an attempt of its task, or the node of one.
+/// Whether it is the object, or another result of its task, with which the object is made again.
+#[tactic(auto, unfolding(crate::specs::About::is_of_task))]
+fn is_of_task(subject: &Subject, object: ObjectId) -> bool
+    ensures { result ≡ is_of_task (seen_of subject.now) object }
+{
+    object.is(subject.object) || is_among(object, &subject.results)
+}
+
+/// Whether the event befalls the object, another result of its task, a worker that ran an attempt of it, or the node of one.
 #[tactic(auto, unfolding(crate::specs::About::befalls))]
 fn befalls(subject: &Subject, event: &Event) -> bool
     ensures { result ≡ befalls (seen_of subject.now) event.now }
@@ -84,7 +93,8 @@ fn befalls(subject: &Subject, event: &Event) -> bool
         Event::KillNode(node) => is_one(&subject.nodes, node.0),
         Event::Notice { dead, .. } => is_one(&subject.workers, dead.0),
         Event::NoticeNode { dead, .. } => is_one(&subject.nodes, dead.0),
-        Event::Evict { object, .. } | Event::Lose { object, .. } => { object.is(subject.object) }
+        Event::Evict { object, .. } => object.is(subject.object),
+        Event::Lose { object, .. } => is_of_task(subject, *object),
         _ => false,
     }
 }

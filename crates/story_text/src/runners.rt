@@ -4,19 +4,22 @@ ghost use Rattle.std.specs.Prelude.{◌≡◌, ◌++◌, ◌==◌, IfOk, OnOk};
 ghost use Rattle.std.specs.List.{list_any};
 ghost use Rattle.event_log.specs.Events.{from_one};
 ghost use Rattle.event_log.specs.Words.{opened, opened_in, run_in, runs_of};
+ghost use Rattle.log_words.specs.Index.{IsIndexOf};
 ghost use Rattle.story_text.specs.Runners.{nodes_in, one, subject_of};
 ghost use Rattle.story_text.specs.About.{seen_of};
 
 use ids::ObjectId;
 use log_entries::Entry;
-use log_words::task_of;
+use log_words::{BirthIndex, objects_at, task_of};
 use std::alloc::{AllocError, Global};
 
-/// An object, the one by which the attempts of its task are named, and the numbers of the workers and nodes on which these ran.
+/// An object, the one by which the attempts of its task are named, the objects of that task, and the numbers of the workers and nodes on which the
+/// attempts ran.
 #[derive(Drop)]
 pub struct Subject {
     pub object: ObjectId,
     pub task: ObjectId,
+    pub results: Vec<ObjectId>,
     pub workers: Vec<u32>,
     pub nodes: Vec<u32>,
 }
@@ -97,17 +100,24 @@ fn nodes_in(alloc: Global, nodes: &[u32], workers: &[u32]) -> Result<Vec<u32>, A
 }
 
 impl Subject {
-    /// The object with what the log says of the attempts of its task.
-    pub fn of(alloc: Global, object: ObjectId, log: &[Entry]) -> Result<Subject, AllocError>
-        ensures { IfOk result (λ subject. seen_of subject ≡ subject_of object log.now) }
+    /// The object with what the log, of which that is the index, says of its task.
+    pub fn of(
+        alloc: Global,
+        index: &BirthIndex,
+        log: &[Entry],
+        object: ObjectId,
+    ) -> Result<Subject, AllocError>
+        ensures { IsIndexOf index.now log.now → IfOk result (λ subject. seen_of subject ≡ subject_of object log.now) }
     {
         let task = task_of(log, object);
+        let results = objects_at(alloc, index, log, task)?;
         let workers = workers_of(alloc, task, log)?;
         let opened = opened(alloc, log)?;
         let nodes = nodes_in(alloc, &opened, &workers)?;
         Ok(Subject {
             object,
             task,
+            results,
             workers,
             nodes,
         })

@@ -36,8 +36,8 @@ fn write_line_if(
 }
 
 /// What a log says of one object: of its lines in words those that name the object or an attempt of its task, each below its
-/// event; with them the kills of workers that ran an attempt of it and of their nodes, the notices of these, and the losses
-/// and evictions of its copies. Events keep their numbers.
+/// event; with them the kills of workers that ran an attempt of it and of their nodes, the notices of these, the losses of the copies of every result of
+/// its task, with which it is made again, and the evictions of its own. Events keep their numbers.
 ///
 /// It is made of any log, a legal one or not; an object that the log does not name has no lines.
 pub fn story_text(
@@ -50,7 +50,7 @@ pub fn story_text(
 {
     let mut text = String::new(alloc);
     let index = BirthIndex::of(alloc, log)?;
-    let subject = Subject::of(alloc, object, log)?;
+    let subject = Subject::of(alloc, &index, log, object)?;
     let mut told = Told::new(alloc);
     for (place, entry) in log.iter().enumerate() {
         let is_refused = is_refusal_at(log, place + 1);

@@ -8,7 +8,7 @@ use Rattle.event_log.specs.Words.{attempt}
 use Rattle.protocol_data.specs.declared.tables.Fetching.{Fetching}
 use Rattle.protocol_data.specs.declared.tables.Holding.{Holding}
 use Rattle.protocol_data.specs.declared.tables.Maker.{Maker}
-use Rattle.protocol_data.specs.declared.tables.Maker.TheVariants.{ByTask, WasPut}
+use Rattle.protocol_data.specs.declared.tables.Maker.TheVariants.{Beside, ByTask, WasPut}
 use Rattle.protocol_data.specs.declared.tables.Object.{Object}
 use Rattle.protocol_data.specs.declared.tables.Phase.{Phase}
 use Rattle.protocol_data.specs.declared.tables.Phase.TheVariants.{HasEnded, HasFaulted, Out, Ready, Waits}
@@ -44,7 +44,7 @@ abbrev pub phase_link : Whole → ℕ → ℕ → Attempt → Phase → Link
 phase_link c w n a Ready = ready_link w n (is_one w (holders_at c n))
 phase_link c w n a (Out j) = HasJob w j
 phase_link c w n a (Waits o f) = waiting_link w a o f
-phase_link c w n a (HasEnded x) = HasStopped w a
+phase_link c w n a (HasEnded xs) = HasStopped w a
 phase_link c w n a (HasFaulted f) = HasStopped w a
 
 abbrev pub run_link : Whole → ℕ → ℕ → Option Run → Link
@@ -67,39 +67,55 @@ progress_link w a AtRest = Resting w
 progress_link w a (AskedAt t n) = AskedFor a t n
 progress_link w a (RunsOn v n) = RunsAt a v n
 
-abbrev pub maker_link : ℕ → Id → Maker → Link
-maker_link w o WasPut = Resting w
-maker_link w o (ByTask task) = progress_link w (attempt o task.number) task.progress
+-- so of the task that stands with an object
+abbrev pub task_link : ℕ → Id → Maker → Link
+task_link w o WasPut = Resting w
+task_link w o (ByTask task) = progress_link w (attempt o task.number) task.progress
+task_link w o (Beside k) = Resting w
 
-abbrev pub made_link : ℕ → Id → Object → Link
-made_link w o x = if x.is_released then WasReleased o else maker_link w o x.maker
-
-abbrev pub own_link : ℕ → Id → Option Object → Link
-own_link w o None = Resting w
-own_link w o (Some x) = made_link w o x
-
--- a worker that its owner doesn't know to wait for it
-abbrev pub unknown_link : ℕ → Id → Object → Link
-unknown_link w o x = if x.is_released then WasReleased o else Resting w
-
-abbrev pub asker_link : Whole → ℕ → Id → Object → Bool → Link
-asker_link c w o x asked = if asked then made_link w o x else under_way_or (sent c (SoughtBy w o)) (unknown_link w o x)
-
-abbrev pub foreign_link : Whole → ℕ → Id → Option Object → Link
-foreign_link c w o None = Resting w
-foreign_link c w o (Some x) = asker_link c w o x (is_one w x.askers)
+-- so of the task that stands with the object of its owner, if there is one
+abbrev pub first_link : ℕ → Id → Option Object → Link
+first_link w o None = Resting w
+first_link w o (Some x) = task_link w o x.maker
 
 -- the object, in the table of its owner
 abbrev pub object_of : Id → Option Worker → Option Object
 object_of o None = None
 object_of o (Some x) = from_one x.objects o.serial
 
+-- the first object of the task that makes it too
+abbrev pub first_of : Id → ℕ → Id
+first_of o k = record { owner = o.owner; serial = k }
+
+abbrev pub maker_link : Whole → ℕ → Id → Maker → Link
+maker_link c w o WasPut = task_link w o WasPut
+maker_link c w o (ByTask task) = task_link w o (ByTask task)
+maker_link c w o (Beside k) = first_link w (first_of o k) (object_of (first_of o k) (worker_at c o.owner))
+
+abbrev pub made_link : Whole → ℕ → Id → Object → Link
+made_link c w o x = if x.is_released then WasReleased o else maker_link c w o x.maker
+
+abbrev pub own_link : Whole → ℕ → Id → Option Object → Link
+own_link c w o None = Resting w
+own_link c w o (Some x) = made_link c w o x
+
+-- a worker that its owner doesn't know to wait for it
+abbrev pub unknown_link : ℕ → Id → Object → Link
+unknown_link w o x = if x.is_released then WasReleased o else Resting w
+
+abbrev pub asker_link : Whole → ℕ → Id → Object → Bool → Link
+asker_link c w o x asked = if asked then made_link c w o x else under_way_or (sent c (SoughtBy w o)) (unknown_link w o x)
+
+abbrev pub foreign_link : Whole → ℕ → Id → Option Object → Link
+foreign_link c w o None = Resting w
+foreign_link c w o (Some x) = asker_link c w o x (is_one w x.askers)
+
 abbrev pub owner_link : Whole → ℕ → Id → Bool → Link
 owner_link c w o lives = if lives then foreign_link c w o (object_of o (worker_at c o.owner)) else Untold w o.owner
 
 unfoldable pub asked_link : Whole → ℕ → Id → Link
 asked_link c w o =
-    if o.owner == w then own_link w o (object_of o (worker_at c w)) else owner_link c w o (is_live (worker_at c o.owner))
+    if o.owner == w then own_link c w o (object_of o (worker_at c w)) else owner_link c w o (is_live (worker_at c o.owner))
 
 -- a worker that waits for an object
 unfoldable pub wait_link : Whole → ℕ → Id → Link

@@ -1,15 +1,12 @@
 -- What the tables of a run say.
 use Rattle.std.specs.Prelude.{Bool, List, None, Option, Some, [], false, ℕ, ◌&&◌, ◌==◌, ◌∷◌}
 use Rattle.std.specs.List.{list_any}
-use Rattle.meaning.specs.Births.{same_id}
-use Rattle.meaning.specs.Values.{Id}
 use Rattle.event_log.specs.Entries.{Attempt}
 use Rattle.event_log.specs.Events.{from_one}
 use Rattle.event_log.specs.Words.{same_attempt}
 use Rattle.protocol_data.specs.declared.node.AskKey.{AskKey}
 use Rattle.protocol_data.specs.declared.node.Node.{Node}
 use Rattle.protocol_data.specs.declared.tables.Holding.{Holding}
-use Rattle.protocol_data.specs.declared.tables.Object.{Object}
 use Rattle.protocol_data.specs.declared.tables.Run.{Run}
 use Rattle.protocol_data.specs.declared.tables.Worker.{Worker}
 use Rattle.protocol_data.specs.declared.whole.Whole.{Whole}

@@ -41,7 +41,7 @@ is_push_of a (Push b spec) = same_attempt b a
 is_push_of a _ = false
 
 abbrev pub is_end_of : Attempt → Message → Bool
-is_end_of a (Finished b n ids c) = same_attempt b a
+is_end_of a (Finished b n rs) = same_attempt b a
 is_end_of a (Failed b f) = same_attempt b a
 is_end_of a _ = false
 

@@ -1,8 +1,8 @@
 // What keeps an object from coming for which a worker waits.
 
 ghost use Rattle.std.specs.Prelude.{◌≡◌, MatchOption, None, Some};
-ghost use Rattle.waits.specs.Links.{asked_link, asker_link, fetch_link, foreign_link, made_link, maker_link, object_of, own_link, progress_link};
-ghost use Rattle.waits.specs.Links.{wait_link};
+ghost use Rattle.waits.specs.Links.{asked_link, asker_link, fetch_link, first_link, foreign_link, made_link, maker_link, object_of, own_link};
+ghost use Rattle.waits.specs.Links.{progress_link, task_link, wait_link};
 ghost use Rattle.waits.specs.Tables.{worker_at};
 
 use crate::link::Link;
@@ -22,11 +22,12 @@ fn progress_link(worker: WorkerId, attempt: AttemptId, progress: Progress) -> Li
     }
 }
 
-fn maker_link(worker: WorkerId, object: ObjectId, maker: &Maker) -> Link
-    ensures { result ≡ maker_link worker object maker.now }
+/// How far its owner is with the task that stands with the object.
+fn task_link(worker: WorkerId, object: ObjectId, maker: &Maker) -> Link
+    ensures { result ≡ task_link worker object maker.now }
 {
     match maker {
-        Maker::WasPut => Link::Resting(worker),
+        Maker::WasPut | Maker::Beside(_) => Link::Resting(worker),
         Maker::ByTask(task) => {
             let attempt = AttemptId {
                 object,
@@ -35,31 +36,6 @@ fn maker_link(worker: WorkerId, object: ObjectId, maker: &Maker) -> Link
             progress_link(worker, attempt, task.progress)
         }
     }
-}
-
-fn made_link(worker: WorkerId, object: ObjectId, made: &Object) -> Link
-    ensures { result ≡ made_link worker object made.now }
-{
-    if made.is_released {
-        return Link::WasReleased(object);
-    }
-    maker_link(worker, object, &made.maker)
-}
-
-/// A worker that waits for the object, which its owner knows or not.
-fn asker_link(whole: &Whole, worker: WorkerId, object: ObjectId, made: &Object) -> Link
-    ensures { result ≡ foreign_link whole.now worker object (Some made.now) }
-{
-    if is_one(made.askers.as_slice(), worker) {
-        return made_link(worker, object, made);
-    }
-    if let Some(number) = sent(whole, &Topic::SoughtBy(worker, object)) {
-        return Link::UnderWay(number);
-    }
-    if made.is_released {
-        return Link::WasReleased(object);
-    }
-    Link::Resting(worker)
 }
 
 /// The object, in the table of its owner.
@@ -74,12 +50,60 @@ fn object_of(whole: &Whole, object: ObjectId) -> Option<&Object>
     object_at(&owner.objects, object.serial)
 }
 
+fn first_link(whole: &Whole, worker: WorkerId, first: ObjectId) -> Link
+    ensures { result ≡ first_link worker first (object_of first (worker_at whole.now first.owner)) }
+{
+    match object_of(whole, first) {
+        None => Link::Resting(worker),
+        Some(found) => task_link(worker, first, &found.maker),
+    }
+}
+
+/// How far its owner is with the task that makes it, which may stand with another object.
+fn maker_link(whole: &Whole, worker: WorkerId, object: ObjectId, maker: &Maker) -> Link
+    ensures { result ≡ maker_link whole.now worker object maker.now }
+{
+    match maker {
+        Maker::WasPut | Maker::ByTask(_) => task_link(worker, object, maker),
+        Maker::Beside(serial) => {
+            let owner = object.owner;
+            let serial = *serial;
+            first_link(whole, worker, ObjectId { owner, serial })
+        }
+    }
+}
+
+fn made_link(whole: &Whole, worker: WorkerId, object: ObjectId, made: &Object) -> Link
+    ensures { result ≡ made_link whole.now worker object made.now }
+{
+    if made.is_released {
+        return Link::WasReleased(object);
+    }
+    maker_link(whole, worker, object, &made.maker)
+}
+
+/// A worker that waits for the object, which its owner knows or not.
+fn asker_link(whole: &Whole, worker: WorkerId, object: ObjectId, made: &Object) -> Link
+    ensures { result ≡ foreign_link whole.now worker object (Some made.now) }
+{
+    if is_one(made.askers.as_slice(), worker) {
+        return made_link(whole, worker, object, made);
+    }
+    if let Some(number) = sent(whole, &Topic::SoughtBy(worker, object)) {
+        return Link::UnderWay(number);
+    }
+    if made.is_released {
+        return Link::WasReleased(object);
+    }
+    Link::Resting(worker)
+}
+
 fn own_link(whole: &Whole, object: ObjectId) -> Link
-    ensures { result ≡ own_link object.owner object (object_of object (worker_at whole.now object.owner)) }
+    ensures { result ≡ own_link whole.now object.owner object (object_of object (worker_at whole.now object.owner)) }
 {
     match object_of(whole, object) {
         None => Link::Resting(object.owner),
-        Some(made) => made_link(object.owner, object, made),
+        Some(made) => made_link(whole, object.owner, object, made),
     }
 }
 

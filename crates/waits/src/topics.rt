@@ -91,7 +91,7 @@ fn is_end_of(message: &Message, attempt: AttemptId) -> bool
     ensures { result ≡ is_end_of attempt message.now }
 {
     match message {
-        Message::Finished(ended, _, _, _) => ended.is(attempt),
+        Message::Finished(ended, _, _) => ended.is(attempt),
         Message::Failed(ended, _) => ended.is(attempt),
         _ => false,
     }

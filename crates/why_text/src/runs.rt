@@ -6,10 +6,9 @@ ghost use Rattle.event_log.specs.Words.{opened};
 ghost use Rattle.log_words.specs.Index.{IsIndexOf};
 ghost use Rattle.why_text.specs.Runs.{is_end_of, is_kill, is_killed_in, is_node, run_in, run_of, run_seen, runs_of, seen_of, subject_of};
 
-use crate::results::objects_with;
 use ids::{AttemptId, ObjectId};
 use log_entries::{Entry, Event};
-use log_words::{BirthIndex, is_refusal_at};
+use log_words::{BirthIndex, is_refusal_at, objects_at};
 use std::alloc::{AllocError, Global};
 use story_text::{node_of, opened};
 
@@ -142,7 +141,7 @@ impl Subject { /// The object, whose task is named by that one, with what the lo
     {
         let nodes = opened(alloc, log)?;
         let home = node_of(&nodes, object.owner.0);
-        let results = objects_with(alloc, task, index.birth(log, task))?;
+        let results = objects_at(alloc, index, log, task)?;
         let runs = runs_of(alloc, log, &nodes, task)?;
         Ok(Subject {
             object,

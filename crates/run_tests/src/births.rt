@@ -34,6 +34,7 @@ fn task(alloc: Global, arguments: Vec<Argument>) -> Result<Birth, Fail> {
         arguments,
         depth: 3,
         retries: 2,
+        others: 0,
     })
 }
 

@@ -1,5 +1,5 @@
 -- What is answered where a limit may be passed.
-use Rattle.std.proofs.Common.{◌≡◌, ℕ, Bool, true, false, List, Option, Some, None, refl, ap, ◌∙◌}
+use Rattle.std.proofs.Common.{◌≡◌, Bool, true, false, List, Option, Some, None, refl, ap, ◌∙◌}
 use Rattle.std.specs.Prelude.{if◌then◌else◌}
 use Rattle.event_log.specs.Entries.{Entry, Event}
 use Rattle.event_log.specs.Entries.{Refusal, Limit}
@@ -24,33 +24,33 @@ tried_whole c e handed r =
 some_is : {X : Type 0} (x y : X) → Some x ≡ Some y → x ≡ y
 some_is x y e = cc
 
-taken_by : (e : Event) (seat : ℕ) (m : Moved) (given : Option Job) (es : List Entry) (b : Bool) → (if b then Some m.out.entries else None) ≡ Some es
-    → reply_of e seat (if b then takes m given else Refuses Limit) ≡ taken_reply e seat es given
-taken_by e seat m given es true h = ap (λ xs. taken_reply e seat xs given) (some_is m.out.entries es h)
-taken_by e seat m given es false h = absurd cc
+taken_by : (m : Moved) (given : Option Job) (es : List Entry) (b : Bool) → (if b then Some m.out.entries else None) ≡ Some es
+    → reply_of (if b then takes m given else Refuses Limit) ≡ taken_reply es given
+taken_by m given es true h = ap (λ xs. taken_reply xs given) (some_is m.out.entries es h)
+taken_by m given es false h = absurd cc
 
-refused_by : (e : Event) (seat : ℕ) (m : Moved) (given : Option Job) (b : Bool) → (if b then Some m.out.entries else None) ≡ None
-    → reply_of e seat (if b then takes m given else Refuses Limit) ≡ reply_of e seat (Refuses Limit)
-refused_by e seat m given true h = absurd cc
-refused_by e seat m given false h = refl
+refused_by : (m : Moved) (given : Option Job) (b : Bool) → (if b then Some m.out.entries else None) ≡ None
+    → reply_of (if b then takes m given else Refuses Limit) ≡ reply_of (Refuses Limit)
+refused_by m given true h = absurd cc
+refused_by m given false h = refl
 
 -- it is taken
-pub tried_taken : (c : Whole) (e : Event) (seat : ℕ) (handed : Handed) (es : List Entry) → refusal c e handed ≡ None
+pub tried_taken : (c : Whole) (e : Event) (handed : Handed) (es : List Entry) → refusal c e handed ≡ None
     → entries_limited (happens c e handed) ≡ Some es
-    → reply_of e seat (answer c e handed) ≡ taken_reply e seat es (given_out c e)
-tried_taken c e seat handed es r h =
-    ap (λ o. reply_of e seat (decided c e handed o)) r ∙ taken_by e seat (happens c e handed) (given_out c e) es (is_within_limits (happens c e handed).whole) h
+    → reply_of (answer c e handed) ≡ taken_reply es (given_out c e)
+tried_taken c e handed es r h =
+    ap (λ o. reply_of (decided c e handed o)) r ∙ taken_by (happens c e handed) (given_out c e) es (is_within_limits (happens c e handed).whole) h
 
 -- it would pass a limit
-pub tried_refused : (c : Whole) (e : Event) (seat : ℕ) (handed : Handed) → refusal c e handed ≡ None → entries_limited (happens c e handed) ≡ None
-    → reply_of e seat (answer c e handed) ≡ reply_of e seat (Refuses Limit)
-tried_refused c e seat handed r h =
-    ap (λ o. reply_of e seat (decided c e handed o)) r ∙ refused_by e seat (happens c e handed) (given_out c e) (is_within_limits (happens c e handed).whole) h
+pub tried_refused : (c : Whole) (e : Event) (handed : Handed) → refusal c e handed ≡ None → entries_limited (happens c e handed) ≡ None
+    → reply_of (answer c e handed) ≡ reply_of (Refuses Limit)
+tried_refused c e handed r h =
+    ap (λ o. reply_of (decided c e handed o)) r ∙ refused_by (happens c e handed) (given_out c e) (is_within_limits (happens c e handed).whole) h
 
 -- it is refused beforehand
-pub refused_first : (c : Whole) (e : Event) (seat : ℕ) (code : Refusal) (handed : Handed) → refusal c e handed ≡ Some code
-    → reply_of e seat (answer c e handed) ≡ reply_of e seat (Refuses code)
-refused_first c e seat code handed r = ap (λ o. reply_of e seat (decided c e handed o)) r
+pub refused_first : (c : Whole) (e : Event) (code : Refusal) (handed : Handed) → refusal c e handed ≡ Some code
+    → reply_of (answer c e handed) ≡ reply_of (Refuses code)
+refused_first c e code handed r = ap (λ o. reply_of (decided c e handed o)) r
 
 pub refused_whole : (c : Whole) (e : Event) (code : Refusal) (handed : Handed) → refusal c e handed ≡ Some code → whole_after c (answer c e handed) ≡ c
 refused_whole c e code handed r = ap (λ o. whole_after c (decided c e handed o)) r

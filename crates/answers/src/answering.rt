@@ -12,27 +12,25 @@ use refusals::refusal;
 use std::alloc::{AllocError, Global};
 use whole_events::happen;
 
-/// One event of the whole run, with the seat from which it came and what is handed in. It is refused, and nothing changes; or it is taken.
-/// After an error, which is want of memory or of a number, nothing is said of the whole.
+/// One event of the whole run, with what is handed in. It is refused, and nothing changes; or it is taken. After an error, which is want of
+/// memory or of a number, nothing is said of the whole.
 pub fn answer(
     alloc: Global,
     whole: &mut Whole,
     event: &Event,
-    seat: u8,
     handed: Handed,
 ) -> Result<Answered, AllocError>
     ensures whole { OnOk result (whole.new ≡ whole_after whole.old (answer whole.old event.now handed)) }
-    ensures reply { IfOk result (λ reply. reply ≡ reply_of event.now seat (answer whole.old event.now handed)) }
+    ensures reply { IfOk result (λ reply. reply ≡ reply_of (answer whole.old event.now handed)) }
 {
     if let Some(code) = refusal(whole, event, &handed) {
-        let reply = refused(alloc, event, seat, code)?;
+        let reply = refused(alloc, code)?;
         return Ok(reply);
     }
     let given = given_out(alloc, whole, event)?;
     let Some(entries) = happen(alloc, whole, event, handed)? else {
-        let reply = refused(alloc, event, seat, Refusal::Limit)?;
+        let reply = refused(alloc, Refusal::Limit)?;
         return Ok(reply);
     };
-    let reply = taken(alloc, event, seat, entries, given)?;
-    Ok(reply)
+    Ok(taken(entries, given))
 }

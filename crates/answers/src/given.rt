@@ -10,25 +10,48 @@ use log_entries::Event;
 use number_lists::item_at_number;
 use protocol_data::{Run, Whole};
 use std::alloc::{AllocError, Global};
+use std::marker::Model;
 use whole_events::next_job;
 
+/// A job that is given out, which contracts see as its parts. It is handed on as a pointer.
+#[derive(Drop)]
+pub struct GivenJob {
+    pub inner: Box<JobParts>,
+}
+
+impl Model for GivenJob {
+    ghost use Rattle.std.specs.Coded.{codes};
+    ghost use Rattle.held.specs.Codes.{birth_code, outcome_code, value_code};
+    ghost use Rattle.protocol.specs.Jobs.{Job};
+
+    ghost Value = { Job };
+
+    ghost coded = { Prim.hlevel (codes, birth_code, value_code, outcome_code) };
+
+    ghost view = { λ g. g.inner.value };
+}
+
 /// The job of that number, of the attempt.
-fn job_of(alloc: Global, number: u64, run: &Run) -> Result<JobParts, AllocError>
+fn job_of(alloc: Global, number: u64, run: &Run) -> Result<GivenJob, AllocError>
     ensures { IfOk result (λ job. job ≡ job_of number run.now) }
 {
     let spec = run.spec.copy(alloc)?;
     let births = run.births.copy(alloc)?;
     let prints = run.prints.copy(alloc)?;
     let answers = run.answers.copy(alloc)?;
-    Ok(JobParts {
-        number,
-        attempt: run.attempt,
-        spec,
-        base: run.base,
-        births,
-        prints,
-        answers,
-    })
+    let inner = Box::new(
+        alloc,
+        JobParts {
+            number,
+            attempt: run.attempt,
+            spec,
+            base: run.base,
+            births,
+            prints,
+            answers,
+        },
+    )?;
+    Ok(GivenJob { inner })
 }
 
 /// The job of that number, of the worker's attempt.
@@ -37,7 +60,7 @@ fn job_at(
     whole: &Whole,
     number: u64,
     worker: WorkerId,
-) -> Result<Option<JobParts>, AllocError>
+) -> Result<Option<GivenJob>, AllocError>
     ensures { IfOk result (λ job. job ≡ job_at number (worker_at whole.now worker)) }
 {
     let Some(found) = item_at_number(&whole.workers, u64::from(worker.0)) else {
@@ -54,7 +77,7 @@ pub fn given_out(
     alloc: Global,
     whole: &Whole,
     event: &Event,
-) -> Result<Option<JobParts>, AllocError>
+) -> Result<Option<GivenJob>, AllocError>
     ensures { IfOk result (λ job. job ≡ given_out whole.now event.now) }
 {
     match event {

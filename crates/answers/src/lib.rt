@@ -6,4 +6,5 @@ mod given;
 mod reply;
 
 pub use answering::answer;
+pub use given::GivenJob;
 pub use reply::{Answered, Verdict};

@@ -1,12 +1,11 @@
 // Replies.
 
-ghost use Rattle.std.specs.Prelude.{◌≡◌, ◌∷◌, IfOk};
-ghost use Rattle.event_log.specs.Entries.{In};
+ghost use Rattle.std.specs.Prelude.{◌≡◌, IfOk};
 ghost use Rattle.answers.specs.Replies.{reply_of, taken_reply};
 ghost use Rattle.protocol.specs.Answers.{Refuses};
 
-use held::JobParts;
-use log_entries::{Entry, Event, Refusal};
+use crate::given::GivenJob;
+use log_entries::{Entry, Refusal};
 use sequence::Seq;
 use std::alloc::{AllocError, Global};
 
@@ -14,7 +13,7 @@ use std::alloc::{AllocError, Global};
 #[derive(Drop)]
 pub enum Verdict {
     /// It was taken; a claim gives out a job.
-    Taken(Option<JobParts>),
+    Taken(Option<GivenJob>),
     /// It was refused, and nothing changed.
     Refused(Refusal),
 }
@@ -22,56 +21,25 @@ pub enum Verdict {
 /// What is answered to an event.
 #[derive(Drop)]
 pub struct Answered {
-    /// What it adds to the log: itself, and its entries or its refusal.
+    /// What comes of it in the log, behind the event itself: its entries, or its refusal.
     pub entries: Seq<Entry>,
     pub outcome: Verdict,
 }
 
-/// The event's own entry, and then what it adds.
-fn with_event(
-    alloc: Global,
-    event: &Event,
-    seat: u8,
-    more: Seq<Entry>,
-) -> Result<Seq<Entry>, AllocError>
-    ensures { IfOk result (λ entries. entries ≡ In event.now seat ∷ more) }
+/// The event was refused.
+pub fn refused(alloc: Global, refusal: Refusal) -> Result<Answered, AllocError>
+    ensures { IfOk result (λ reply. reply ≡ reply_of (Refuses refusal)) }
 {
     let mut entries = Seq::new(alloc);
-    entries.push(Entry::In {
-        event: *event,
-        seat,
-    })?;
-    entries.append(more)?;
-    Ok(entries)
-}
-
-/// The event was refused.
-pub fn refused(
-    alloc: Global,
-    event: &Event,
-    seat: u8,
-    refusal: Refusal,
-) -> Result<Answered, AllocError>
-    ensures { IfOk result (λ reply. reply ≡ reply_of event.now seat (Refuses refusal)) }
-{
-    let mut more = Seq::new(alloc);
-    more.push(Entry::Refused(refusal))?;
-    let entries = with_event(alloc, event, seat, more)?;
+    entries.push(Entry::Refused(refusal))?;
     let outcome = Verdict::Refused(refusal);
     Ok(Answered { entries, outcome })
 }
 
 /// The event was taken.
-pub fn taken(
-    alloc: Global,
-    event: &Event,
-    seat: u8,
-    more: Seq<Entry>,
-    given: Option<JobParts>,
-) -> Result<Answered, AllocError>
-    ensures { IfOk result (λ reply. reply ≡ taken_reply event.now seat more given) }
+pub fn taken(entries: Seq<Entry>, given: Option<GivenJob>) -> Answered
+    ensures { result ≡ taken_reply entries given }
 {
-    let entries = with_event(alloc, event, seat, more)?;
     let outcome = Verdict::Taken(given);
-    Ok(Answered { entries, outcome })
+    Answered { entries, outcome }
 }

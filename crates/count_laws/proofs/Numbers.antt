@@ -5,7 +5,7 @@ use Rattle.std.specs.Prelude.{◌≡◌, ℕ, ◌++◌, Bool, true, false, if◌
 use Rattle.std.specs.List.{list_any}
 use Rattle.meaning.specs.Values.{Id}
 use Rattle.event_log.specs.Causes as causes
-use Rattle.event_log.specs.Causes.{is_there, shown}
+use Rattle.event_log.specs.Causes.{shown}
 use Rattle.event_log.specs.Entries.{Claim, Commit, Deliver, Entry, Event, Evict, Join, Kill, KillNode, Lose, Notice, NoticeNode, Tick}
 use Rattle.event_log.specs.Entries.{Refusal, Pinned, NoCopy, NoWorker, NotReady, NoJob, Stale, NoMessage, NotDead, NoNode, Limit}
 use Rattle.event_log.specs.Events.{has_job_out, is_committed, is_killed, is_live, node_is_killed, node_lives, worker_of_job, worker_lives}
@@ -37,8 +37,8 @@ of_job a b d g = by_log a NoJob _ refl (by_log b NoJob _ refl (by_log d NoJob _ 
 
 shows_none : (s : Setting) (log : List Entry) (handed : Bool) (e : Event) → is_limit (shown s log handed e) ≡ false
 shows_none s log handed (Claim w) = by_log (is_live w log) NoWorker _ refl (by_log (not (has_job_out w log)) NotReady _ refl refl)
-shows_none s log handed (Commit j) = of_job (is_there (worker_of_job j log)) (not (is_committed j log)) handed (worker_lives (worker_of_job j log) log)
-shows_none s log handed (Deliver k) = by_log (is_there (s.receiver k)) NoMessage _ refl refl
+shows_none s log handed (Commit j) = of_job (is_some (worker_of_job j log)) (not (is_committed j log)) handed (worker_lives (worker_of_job j log) log)
+shows_none s log handed (Deliver k) = by_log (is_some (s.receiver k)) NoMessage _ refl refl
 shows_none s log handed (Tick w) = by_log (is_live w log) NoWorker _ refl refl
 shows_none s log handed (Notice w v) = by_log (is_live w log) NoWorker _ refl (by_log (is_killed v log) NotDead _ refl refl)
 shows_none s log handed (NoticeNode w n) = by_log (is_live w log) NoWorker _ refl (by_log (node_is_killed n log) NotDead _ refl refl)

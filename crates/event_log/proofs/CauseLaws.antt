@@ -1,6 +1,6 @@
 -- The causes of refusals are what accepted events need.
 use Rattle.std.proofs.Common.{◌≡◌, ℕ, ◌<◌, Bool, true, false, List, Option, Some, None, refl, sym, ap, ◌∙◌, subst, arith}
-use Rattle.std.specs.Prelude.{not}
+use Rattle.std.specs.Prelude.{is_some, not}
 use Rattle.meaning.specs.Values.{Id}
 use Rattle.meaning.specs.Births.{same_id}
 use Rattle.meaning.proofs.BirthLaws.{at_test, same_id-true}
@@ -10,7 +10,7 @@ use Rattle.event_log.specs.Entries.{Refusal, NoWorker, NotReady, NoJob, Stale, N
 use Rattle.event_log.specs.Events.{worker_of_job, is_committed, has_job_out, is_live, worker_lives}
 use Rattle.event_log.specs.Rules.{Setting}
 use Rattle.event_log.specs.Legal.{Happens}
-use Rattle.event_log.specs.Causes.{unless, is_there, shown, unseen, IsCauseOf, IsRefusal}
+use Rattle.event_log.specs.Causes.{unless, shown, unseen, IsCauseOf, IsRefusal}
 use Rattle.event_log.specs.Laws.{is_commit, LawOfCauses}
 
 none_shown : (b : Bool) (code : Refusal) (o : Option Refusal) → unless b code o ≡ None → (b ≡ true) × (o ≡ None)
@@ -21,7 +21,7 @@ shows_none : (b : Bool) (code : Refusal) (o : Option Refusal) → b ≡ true →
 shows_none true code o e h = h
 shows_none false code o e h = absurd (cc)
 
-there : {X : Type 0} (o : Option X) → is_there o ≡ true → (x : X) × (o ≡ Some x)
+there : {X : Type 0} (o : Option X) → is_some o ≡ true → (x : X) × (o ≡ Some x)
 there None h = absurd (cc)
 there (Some x) h = (x, refl)
 
@@ -50,9 +50,9 @@ unrefused : (s : Setting) (log : List Entry) (e : Event) (es : List Entry) → H
 unrefused s log (Claim w) es h = shows_none _ NoWorker _ h.0 (shows_none _ NotReady None (not_false (has_job_out w log) h.1) refl)
 unrefused s log (Commit j) es h =
     let k = h.1 in
-    shows_none _ NoJob _ (ap is_there k.claimed) (shows_none _ NoJob _ (not_false (is_committed j log) k.once)
+    shows_none _ NoJob _ (ap is_some k.claimed) (shows_none _ NoJob _ (not_false (is_committed j log) k.once)
     (shows_none _ Stale None (ap (λ o. worker_lives o log) k.claimed ∙ k.lives) refl))
-unrefused s log (Deliver m) es h = shows_none _ NoMessage None (ap is_there h.1) refl
+unrefused s log (Deliver m) es h = shows_none _ NoMessage None (ap is_some h.1) refl
 unrefused s log (Tick w) es h = shows_none _ NoWorker None h refl
 unrefused s log (Notice w v) es h = shows_none _ NoWorker _ h.0 (shows_none _ NotDead None h.1 refl)
 unrefused s log (NoticeNode w n) es h = shows_none _ NoWorker _ h.0 (shows_none _ NotDead None h.1 refl)
@@ -86,7 +86,7 @@ not_ready s log w h = (false, subst (λ b. IsCauseOf (unless b NoWorker (unless 
 
 -- the log doesn't show what was handed in
 pub no_job : (s : Setting) (log : List Entry) (j : ℕ) → IsRefusal s log (Commit j) NoJob
-no_job s log j = as_shown s log (Commit j) NoJob false (first (is_there (worker_of_job j log)) (not (is_committed j log)) (worker_lives (worker_of_job j log) log))
+no_job s log j = as_shown s log (Commit j) NoJob false (first (is_some (worker_of_job j log)) (not (is_committed j log)) (worker_lives (worker_of_job j log) log))
   where
     first : (b c d : Bool) → unless b NoJob (unless c NoJob (unless false NoJob (unless d Stale None))) ≡ Some NoJob
     first true true d = refl

@@ -1,12 +1,13 @@
 -- A log stays legal beside a larger network.
 use Rattle.std.proofs.Common.{◌≡◌, ℕ, Bool, true, false, List, [], ◌∷◌, ◌++◌, Option, Some, None, inl, inr, refl, sym, ap, ◌∙◌, subst}
+use Rattle.std.specs.Prelude.{is_some}
 use Rattle.meaning.specs.Values.{Id}
 use Rattle.meaning.specs.Runs.{Stop, Piece}
 use Rattle.event_log.specs.Entries.{Attempt, Event, Commit, Deliver, Entry, In, Refused, Opened, Begun, Born, Got, Printed, Ended, Accepted, Faulted, Resolved, Released}
 use Rattle.event_log.specs.Entries.{Refusal, NoMessage}
 use Rattle.event_log.specs.Events.{refused_next}
 use Rattle.event_log.specs.Rules.{Receiver, ToWorker, ToNode, worker_to, IsHeard, Setting, actor, IsOwn, Replays, Stops, Allowed}
-use Rattle.event_log.specs.Causes.{unless, is_there, IsCauseOf, IsRefusal}
+use Rattle.event_log.specs.Causes.{unless, IsCauseOf, IsRefusal}
 use Rattle.event_log.specs.Legal.{Happens, of_event, Unless, Answered, LegalFrom, opening}
 use Rattle.event_log.specs.Laws.{with_receiver, LegalInLargerNetworks}
 
@@ -38,11 +39,11 @@ module _ (s : Setting) (receiver : ℕ → Option Receiver) (larger : (m : ℕ) 
   stops before a stop h = record { base = h.base; p = h.p; replays = replays before a h.base h.p h.replays; own = h.own; prints = h.prints; stopped = h.stopped }
 
   -- the number of a refusal, where the network knows of more
-  delivers : (m : ℕ) (code : Refusal) (handed : Bool) (o : Option Receiver) → s.receiver m ≡ o → IsCauseOf (unless (is_there o) NoMessage None) (Deliver m) code → IsCauseOf (unless (is_there (receiver m)) NoMessage None) (Deliver m) code
-  delivers m code handed (Some r) e h = subst (λ o. IsCauseOf (unless (is_there o) NoMessage None) (Deliver m) code) (sym (larger m r e)) h
+  delivers : (m : ℕ) (code : Refusal) (handed : Bool) (o : Option Receiver) → s.receiver m ≡ o → IsCauseOf (unless (is_some o) NoMessage None) (Deliver m) code → IsCauseOf (unless (is_some (receiver m)) NoMessage None) (Deliver m) code
+  delivers m code handed (Some r) e h = subst (λ o. IsCauseOf (unless (is_some o) NoMessage None) (Deliver m) code) (sym (larger m r e)) h
   delivers m code handed None e h = go (receiver m)
     where
-      go : (o : Option Receiver) → IsCauseOf (unless (is_there o) NoMessage None) (Deliver m) code
+      go : (o : Option Receiver) → IsCauseOf (unless (is_some o) NoMessage None) (Deliver m) code
       go None = h
       go (Some r) = (0, ap Some (sym h))
 

@@ -1,8 +1,8 @@
 -- The objects of one birth were borne by the same attempts.
-use Rattle.std.proofs.Common.{◌≡◌, Bool, true, false, List, [], ◌∷◌, ◌++◌, Option, Some, None, refl, sym, ap, ◌∙◌, subst, append-nil}
+use Rattle.std.proofs.Common.{◌≡◌, Bool, true, false, List, [], ◌∷◌, ◌++◌, Some, None, refl, sym, ap, ◌∙◌, subst, append-nil}
 use Rattle.std.specs.Prelude.{if◌then◌else◌, slice_get}
 use Rattle.meaning.specs.Values.{Birth, Id}
-use Rattle.meaning.specs.Births.{Bearing, is_made_by, IsNew, Part, part_of, part_at}
+use Rattle.meaning.specs.Births.{Bearing, is_made_by, IsNew, Part, part_at}
 use Rattle.meaning.specs.Readings.{IsBorn}
 use Rattle.meaning.proofs.BirthLaws.{first_is_made, part_by}
 use Rattle.event_log.specs.Entries.{Attempt, Entry, Born}

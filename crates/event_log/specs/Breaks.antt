@@ -45,12 +45,8 @@ is_some (x ∷ xs) = true
 
 -- the places of the events that break the attempt, by all that the log says
 unfoldable pub breaks_of : Attempt → List Entry → List ℕ
-breaks_of a log =
-    at_worker (worker_of a log) [] (λ w.
-    at_worker (node_of w log) [] (λ n.
-    breaks_from
-    (record { attempt = a; worker = w; node = n; is_accepted = is_some (accepts_of a log); objects = objects_at (births log) a.object })
-    0 false log))
+breaks_of a log = at_worker (worker_of a log) [] (λ w. at_worker (node_of w log) [] (λ n. breaks_from
+    (record { attempt = a; worker = w; node = n; is_accepted = is_some (accepts_of a log); objects = objects_at (births log) a.object }) 0 false log))
 
 abbrev pub Broken : List Entry → Attempt → Type 0
 Broken log a = (place : ℕ) × Among place (breaks_of a log)

@@ -1,5 +1,5 @@
 -- Why an event is refused.
-use Rattle.std.specs.Prelude.{◌≡◌, ℕ, Bool, true, false, List, [], ◌∷◌, ◌++◌, Option, Some, None, not}
+use Rattle.std.specs.Prelude.{◌≡◌, ℕ, Bool, true, false, List, [], ◌∷◌, ◌++◌, Option, Some, None, is_some, not}
 use Rattle.event_log.specs.Entries.{Event, Claim, Commit, Deliver, Tick, Notice, NoticeNode, Evict, Lose, Kill, KillNode, Join, Entry, In}
 use Rattle.event_log.specs.Entries.{Refusal, Pinned, NoCopy, NoWorker, NotReady, NoJob, Stale, NoMessage, NotDead, NoNode, Limit}
 use Rattle.event_log.specs.Events.{worker_of_job, is_committed, has_job_out, node_is_killed, node_lives, is_killed, is_live, worker_lives}
@@ -11,23 +11,13 @@ abbrev pub unless : Bool → Refusal → Option Refusal → Option Refusal
 unless true refusal others = others
 unless false refusal others = Some refusal
 
-abbrev pub is_there : {X : Type 0} → Option X → Bool
-is_there None = false
-is_there (Some x) = true
-
--- the job was given out and isn't committed, what was done on it comes with its commit, and its worker lives
-abbrev pub shown_of_job : List Entry → Bool → ℕ → Option Refusal
-shown_of_job log handed j =
-    unless (is_there (worker_of_job j log)) NoJob
-    (unless (not (is_committed j log)) NoJob
-    (unless handed NoJob
-    (unless (worker_lives (worker_of_job j log) log) Stale None)))
-
--- the least of the causes that log, cluster and network show; `handed` says whether what was done on its job comes with a commit
+-- the least of the causes that log, cluster and network show; `handed` says whether what was done on its job comes with a commit, which
+-- also needs that the job was given out and isn't committed, and that its worker lives
 abbrev pub shown : Setting → List Entry → Bool → Event → Option Refusal
 shown s log handed (Claim w) = unless (is_live w log) NoWorker (unless (not (has_job_out w log)) NotReady None)
-shown s log handed (Commit j) = shown_of_job log handed j
-shown s log handed (Deliver m) = unless (is_there (s.receiver m)) NoMessage None
+shown s log handed (Commit j) = unless (is_some (worker_of_job j log)) NoJob (unless (not (is_committed j log)) NoJob
+    (unless handed NoJob (unless (worker_lives (worker_of_job j log) log) Stale None)))
+shown s log handed (Deliver m) = unless (is_some (s.receiver m)) NoMessage None
 shown s log handed (Tick w) = unless (is_live w log) NoWorker None
 shown s log handed (Notice w v) = unless (is_live w log) NoWorker (unless (is_killed v log) NotDead None)
 shown s log handed (NoticeNode w n) = unless (is_live w log) NoWorker (unless (node_is_killed n log) NotDead None)

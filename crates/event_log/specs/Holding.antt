@@ -1,5 +1,5 @@
 -- Which objects are held, and so are not released.
-use Rattle.std.specs.Prelude.{◌≡◌, ℕ, Bool, true, false, ◌&&◌, ◌||◌, if◌then◌else◌, List, [], ◌∷◌, ◌++◌, Option, Some, None, slice_get, not}
+use Rattle.std.specs.Prelude.{◌≡◌, ℕ, Bool, true, false, ◌&&◌, ◌||◌, if◌then◌else◌, List, [], ◌∷◌, ◌++◌, Some, slice_get, not}
 use Rattle.std.specs.List.{list_any}
 use Rattle.meaning.specs.Values.{Value, Outcome, Val, Argument, Birth, Put, Task, Id}
 use Rattle.meaning.specs.Births.{same_id, is_made_by, Part, part_at, objects_in, objects_at}
@@ -45,24 +45,21 @@ ids_of_outcomes (c ∷ cs) = ids_in_outcome c ++ ids_of_outcomes cs
 -- the object's put value or arguments have the id, or one of the contents with which an attempt of its task ended
 pub data HasId (log : List Entry) (e z : Id) : Type 0 where
   InBirth : (part : Part) → part_at (births log) e ≡ Some part → Among z (ids_of_birth part.born.birth) → HasId log e z
-  InContents :
-      (part : Part) (number : ℕ) (cs : List Outcome) → part_at (births log) e ≡ Some part → Among cs (ends_of (attempt part.born.object number) log) →
-      Among z (ids_of_outcomes cs) → HasId log e z
+  InContents : (part : Part) (number : ℕ) (cs : List Outcome) → part_at (births log) e ≡ Some part →
+      Among cs (ends_of (attempt part.born.object number) log) → Among z (ids_of_outcomes cs) → HasId log e z
 
 -- ---- safe ids
 
 -- the attempt made that content of the object: it put it, or ended with it in its place
 pub data Makes (log : List Entry) (b : Attempt) (y : Id) : Outcome → Type 0 where
   ByPut : (v : Value) → Among (Born y b (Put v)) log → Makes log b y (Val v)
-  ByEnd :
-      (part : Part) (cs : List Outcome) (c : Outcome) → part_at (births log) y ≡ Some part → b.object ≡ part.born.object → Among (Ended b cs) log →
-      slice_get cs part.place ≡ Some c → Makes log b y c
+  ByEnd : (part : Part) (cs : List Outcome) (c : Outcome) → part_at (births log) y ≡ Some part → b.object ≡ part.born.object →
+      Among (Ended b cs) log → slice_get cs part.place ≡ Some c → Makes log b y c
 
 -- an id is safe in an attempt where the owners of all objects by which it came there live
 pub data Safe (log : List Entry) : Attempt → Id → Type 0 where
   -- the attempt bore it
-  Bore :
-      (a : Attempt) (z o : Id) (birth : Birth) → Among (Born o a birth) log → is_made_by (record { object = o; birth = birth }) z ≡ true → Safe log a z
+  Bore : (a : Attempt) (z o : Id) (birth : Birth) → Among (Born o a birth) log → is_made_by (record { object = o; birth = birth }) z ≡ true → Safe log a z
   -- it stands in the arguments, the owner of the attempt's object lives, and it is safe in the attempt that bore that object
   Given : (a b : Attempt) (z : Id) (birth : Birth) → Among (Born a.object b birth) log → Among z (ids_of_birth birth) → is_live a.object.owner log ≡ true →
       Safe log b z → Safe log a z
@@ -72,20 +69,13 @@ pub data Safe (log : List Entry) : Attempt → Id → Type 0 where
 
 -- ---- held objects
 
-abbrev pub is_released : Id → List Entry → Bool
-is_released o log = is_some (releases_of o log)
-
 abbrev pub are_released : List Id → List Entry → Bool
 are_released [] log = true
-are_released (o ∷ os) log = is_released o log && are_released os log
+are_released (o ∷ os) log = is_some (releases_of o log) && are_released os log
 
 -- the attempt neither ended nor has a fault
 abbrev pub is_open : Attempt → List Entry → Bool
 is_open a log = not (is_some (ends_of a log)) && not (is_some (faults_of a log))
-
--- the attempt was accepted, or its worker lives
-abbrev pub may_count : Attempt → List Entry → Bool
-may_count a log = is_some (accepts_of a log) || worker_lives (worker_of a log) log
 
 pub data IsHeld (z : Id) (log : List Entry) : Type 0 where
   -- by an open attempt of an anchored object, on a live worker, in which it is safe
@@ -94,7 +84,7 @@ pub data IsHeld (z : Id) (log : List Entry) : Type 0 where
   -- by an anchored object that has it in its birth, until all of that birth's objects are released, where it is safe in what bore that object
   ByBirth : (e : Id) (b : Attempt) (birth : Birth) → Among (Born e b birth) log → is_anchored e log ≡ true →
       are_released (objects_in (record { object = e; birth = birth })) log ≡ false → Among z (ids_of_birth birth) → Safe log b z → IsHeld z log
-  -- by contents of an attempt of an anchored object, until all its objects are released, where it is safe there and the attempt may count
+  -- by contents of an attempt of an anchored object, until all its objects are released, where it is safe there, and accepted or its worker lives
   ByContents : (a : Attempt) (cs : List Outcome) → Among (Ended a cs) log → is_anchored a.object log ≡ true →
-      are_released (objects_at (births log) a.object) log ≡ false → may_count a log ≡ true → Among z (ids_of_outcomes cs) → Safe log a z →
-      IsHeld z log
+      are_released (objects_at (births log) a.object) log ≡ false → (is_some (accepts_of a log) || worker_lives (worker_of a log) log) ≡ true →
+      Among z (ids_of_outcomes cs) → Safe log a z → IsHeld z log

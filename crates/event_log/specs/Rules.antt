@@ -87,8 +87,7 @@ IsLast before a = length (runs_of a.object before) ≡ a.number + 1
 -- steps from an object to one from which a call computes it, by arguments that are dereferenced
 abbrev pub AreSteps : List Entry → Id → List Id → Id → Type 0
 AreSteps before o [] x = o ≡ x
-AreSteps before o (p ∷ ps) x =
-    ((q : Part) × (part_at (births before) o ≡ Some q) × Among p (dereferenced_in q.born.birth)) × AreSteps before p ps x
+AreSteps before o (p ∷ ps) x = ((q : Part) × (part_at (births before) o ≡ Some q) × Among p (dereferenced_in q.born.birth)) × AreSteps before p ps x
 
 -- one of the objects of the birth with this first object isn't resolved
 abbrev pub IsUnresolved : List Entry → Id → Type 0
@@ -169,8 +168,7 @@ pub record MayGet (s : Setting) (before : List Entry) (a : Attempt) (y : Id) (c 
   pub content : HasContent before y c
   pub untold : was_told worker y.owner before ≡ false
 
--- in an own event of the owner, once: the attempt, which isn't main's, ended and is the last one begun; one of its objects isn't resolved, and
--- none is because its retries are used up
+-- in an own event of the owner, once: the attempt, not main's, ended and is the last begun; one of its objects isn't resolved, and none for want of retries
 pub record MayAccept (s : Setting) (before : List Entry) (a : Attempt) : Type 0 where
   pub own : IsOwn s before a.object.owner
   pub not_main : same_id a.object main_object ≡ false

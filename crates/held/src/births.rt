@@ -44,11 +44,11 @@ impl Births {
         self.inner.len()
     }
 
-    /// Adds a birth at the end. After an error, which is want of memory, there are none.
+    /// Adds a birth at the end, which stays shared. After an error, which is want of memory, there are none.
     pub fn push(&mut self, alloc: Global, birth: Origin) -> Result<(), AllocError>
         ensures { OnOk result (self.new ≡ self.old ++ birth ∷ []) }
     {
-        self.inner.push(alloc, birth.inner)
+        self.inner.push_shared(alloc, birth.inner)
     }
 
     /// Equal births, the same in memory.

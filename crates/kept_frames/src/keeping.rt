@@ -58,7 +58,7 @@ impl<S: ScriptName> Frames<S> {
     fn hand(&mut self, job: Job<S>, is_own: bool) -> Ready<S>
         requires { is_own ≡ true → AllAgree self.old job }
         ensures job { result.job ≡ job }
-        ensures known { IfSome result.known (λ known. IsNext (data_of known) job) }
+        ensures known { IfSome result.known (λ known. IsNext (data_of known.value) job) }
         ensures kept { KeepsWith job self.old self.new }
     {
         let place = place_of(job.base());
@@ -106,8 +106,8 @@ impl<S: ScriptName> Frames<S> {
 
     #[tactic(auto, using(crate::proofs::Fitting::waits_after))]
     /// Keeps the frame of what was done, if it has one.
-    fn keep(&mut self, alloc: Global, known: Option<Known>, done: &mut Done<S>)
-        requires { IfSome known (λ known. IsNext (data_of known) done.old.job) }
+    fn keep(&mut self, alloc: Global, known: Option<Box<Known>>, done: &mut Done<S>)
+        requires { IfSome known (λ known. IsNext (data_of known.value) done.old.job) }
         ensures done { done.new ≡ done.old }
         ensures kept { KeepsWith done.old.job self.old self.new }
     {
@@ -115,6 +115,9 @@ impl<S: ScriptName> Frames<S> {
             return;
         };
         let place = place_of(done.job().base());
+        let Ok(frame) = Box::new(alloc, frame) else {
+            return;
+        };
         if let Some(known) = known_after(alloc, known, done) {
             self.put(place, Waiting::new(known, frame));
         }

@@ -36,30 +36,34 @@ fn add_answers(alloc: Global, to: &mut Vec<Content>, more: &[Content]) -> Result
 }
 
 /// The job's attempt, before what the job does.
-fn read<S: ScriptName>(alloc: Global, job: &Job<S>) -> Result<Known, AllocError>
-    ensures { IfOk result (λ known. IsAt (data_of known) job.now) }
+fn read<S: ScriptName>(alloc: Global, job: &Job<S>) -> Result<Box<Known>, AllocError>
+    ensures { IfOk result (λ known. IsAt (data_of known.value) job.now) }
 {
     let spec = job.spec().copy(alloc)?;
     let mut answers = Vec::new(alloc);
     add_answers(alloc, &mut answers, &job.answers().inner)?;
-    Ok(Known {
-        attempt: job.attempt(),
-        spec,
-        base: job.base(),
-        births: job.births().len(),
-        prints: job.printed().len(),
-        answers,
-    })
+    let known = Box::new(
+        alloc,
+        Known {
+            attempt: job.attempt(),
+            spec,
+            base: job.base(),
+            births: job.births().len(),
+            prints: job.printed().len(),
+            answers,
+        },
+    )?;
+    Ok(known)
 }
 
 /// The job's attempt, before what the job does; from what was known before its last answer, if anything was.
 fn known_at<S: ScriptName>(
     alloc: Global,
-    known: Option<Known>,
+    known: Option<Box<Known>>,
     job: &Job<S>,
-) -> Result<Known, AllocError>
-    requires { IfSome known (λ known. IsNext (data_of known) job.now) }
-    ensures { IfOk result (λ known. IsAt (data_of known) job.now) }
+) -> Result<Box<Known>, AllocError>
+    requires { IfSome known (λ known. IsNext (data_of known.value) job.now) }
+    ensures { IfOk result (λ known. IsAt (data_of known.value) job.now) }
 {
     let Some(known) = known else {
         return read(alloc, job);
@@ -75,35 +79,22 @@ fn known_at<S: ScriptName>(
 /// The attempt, once the job was run. None where there is no memory for it, or where what it bore or printed can't be counted.
 pub(crate) fn known_after<S: ScriptName>(
     alloc: Global,
-    known: Option<Known>,
+    known: Option<Box<Known>>,
     done: &Done<S>,
-) -> Option<Known>
-    requires { IfSome known (λ known. IsNext (data_of known) done.now.job) }
-    ensures { IfSome result (λ known. IsAfter (data_of known) done.now) }
+) -> Option<Box<Known>>
+    requires { IfSome known (λ known. IsNext (data_of known.value) done.now.job) }
+    ensures { IfSome result (λ known. IsAfter (data_of known.value) done.now) }
 {
-    let Ok(known) = known_at(alloc, known, done.job()) else {
+    let Ok(mut known) = known_at(alloc, known, done.job()) else {
         return None;
     };
-    let Known {
-        attempt,
-        spec,
-        base,
-        births,
-        prints,
-        answers,
-    } = known;
-    let Some(births) = births.checked_add(done.births().len()) else {
+    let Some(births) = known.births.checked_add(done.births().len()) else {
         return None;
     };
-    let Some(prints) = prints.checked_add(done.prints().len()) else {
+    let Some(prints) = known.prints.checked_add(done.prints().len()) else {
         return None;
     };
-    Some(Known {
-        attempt,
-        spec,
-        base,
-        births,
-        prints,
-        answers,
-    })
+    known.births = births;
+    known.prints = prints;
+    Some(known)
 }

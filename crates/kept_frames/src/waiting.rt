@@ -10,11 +10,12 @@ use segment::{Frame, Job, ScriptName};
 use std::marker::{Model, PhantomData};
 use values::{Content, are_same_contents};
 
-/// An attempt of the script `S` that waits for its next answer, with its frame.
+/// An attempt of the script `S` that waits for its next answer, with its frame. Both stand behind pointers, so that they are handed on at the
+/// cost of a few words.
 #[derive(Drop)]
 pub(crate) struct Waiting<S: ScriptName> {
-    known: Known,
-    frame: Frame,
+    known: Box<Known>,
+    frame: Box<Frame>,
     script: PhantomData<S>,
 }
 
@@ -28,16 +29,16 @@ impl<S: ScriptName> Model for Waiting<S> {
 
     ghost coded = { Prim.hlevel (codes, birth_code, outcome_code) };
 
-    ghost view = { λ w. data_of w.known };
+    ghost view = { λ w. data_of w.known.value };
 
-    ghost invariant = { λ w. WaitsFor S.script (data_of w.known) w.frame };
+    ghost invariant = { λ w. WaitsFor S.script (data_of w.known.value) w.frame.value };
 }
 
 /// A job, and what was known of its attempt before its last answer, if it has the attempt's frame.
 #[derive(Drop)]
 pub(crate) struct Ready<S: ScriptName> {
     pub job: Job<S>,
-    pub known: Option<Known>,
+    pub known: Option<Box<Known>>,
 }
 
 /// Whether the job's attempt is the known one, as far as one sees without reading the answers.
@@ -68,9 +69,9 @@ fn is_next<S: ScriptName>(known: &Known, job: &Job<S>, is_own: bool) -> bool
 }
 
 impl<S: ScriptName> Waiting<S> {
-    pub(crate) fn new(known: Known, frame: Frame) -> Waiting<S>
-        requires { WaitsFor S.script (data_of known) frame }
-        ensures { result ≡ data_of known }
+    pub(crate) fn new(known: Box<Known>, frame: Box<Frame>) -> Waiting<S>
+        requires { WaitsFor S.script (data_of known.value) frame.value }
+        ensures { result ≡ data_of known.value }
     {
         Waiting {
             known,
@@ -83,7 +84,7 @@ impl<S: ScriptName> Waiting<S> {
     pub(crate) fn hand(self, job: Job<S>, is_own: bool) -> Ready<S>
         requires { is_own ≡ true → Agrees self job }
         ensures job { result.job ≡ job }
-        ensures known { IfSome result.known (λ known. IsNext (data_of known) job) }
+        ensures known { IfSome result.known (λ known. IsNext (data_of known.value) job) }
     {
         let Waiting {
             known,

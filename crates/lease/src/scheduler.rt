@@ -20,7 +20,8 @@ pub fn ask(alloc: Global, there: &mut There, key: &AskKey) -> Result<(), AllocEr
     ensures again { (x : AskReply) → reply_to there.old.node.scheduler key.now ≡ Some x → OnOk result (there.new ≡ replies there.old key.now x) }
     ensures slots { IsWithinSlots there.old → OnOk result (IsWithinSlots there.new) }
 {
-    asked(alloc, there, key)?;
+    let _ = alloc;
+    asked(there, key)?;
     Ok(())
 }
 
@@ -52,7 +53,8 @@ pub fn unblocked(alloc: Global, there: &mut There, worker: WorkerId) -> Result<(
     ensures err { OnErr result (there.new ≡ there.old) }
     ensures slots { IsWithinSlots there.old → OnOk result (IsWithinSlots there.new) }
 {
-    ask_slot(alloc, there, worker)?;
+    let _ = alloc;
+    ask_slot(there, worker)?;
     Ok(())
 }
 

@@ -103,7 +103,7 @@ pub fn first_by(serial: u64, maker: &Maker) -> u64
 fn retries_in(spec: &Origin) -> u8
     ensures { result ≡ retries_in spec.now }
 {
-    match &spec.inner {
+    match &*spec.inner {
         Birth::Put(_) => 0,
         Birth::Task { retries, .. } => *retries,
     }

@@ -225,7 +225,7 @@ fn bear(alloc: Global, here: &mut Here, bearer: AttemptId, spec: &Origin) -> Res
 {
     let object = next_id(here);
     let ids = ids_in_birth(alloc, spec)?;
-    match &spec.inner {
+    match &*spec.inner {
         Birth::Put(value) => bear_put(alloc, here, bearer, object, value, &ids),
         Birth::Task { others, .. } => bear_task(alloc, here, bearer, object, spec, *others, &ids),
     }

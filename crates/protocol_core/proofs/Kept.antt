@@ -1,11 +1,11 @@
 -- What is kept of a run, event by event.
-use Rattle.std.proofs.Common.{◌≡◌, ℕ, ◌<◌, ◌≤◌, true, false, List, [], ◌++◌, Option, Some, None, IfSome, refl, sym, ap, ◌∙◌, subst}
+use Rattle.std.proofs.Common.{◌≡◌, ℕ, ◌<◌, ◌≤◌, true, false, List, [], ◌∷◌, ◌++◌, Option, Some, None, IfSome, refl, sym, ap, ◌∙◌, subst}
 use Rattle.meaning.specs.Syntax.{Script}
 use Rattle.script_check.specs.Scripts.{IsWellTyped}
-use Rattle.event_log.specs.Entries.{Entry, Event}
+use Rattle.event_log.specs.Entries.{Entry, Event, In}
 use Rattle.log_entries.specs.declared.refusal.Refusal.{Refusal}
 use Rattle.segment.specs.Jobs.{JobParts, Done, IsBegun, IsTrueOf}
-use Rattle.answers.specs.Replies.{outcome_of, reply_of}
+use Rattle.answers.specs.Replies.{come_of, outcome_of, reply_of}
 use Rattle.answers.specs.declared.reply.Answered.{Answered}
 use Rattle.answers.specs.declared.reply.Verdict.{Verdict}
 use Rattle.answers.specs.declared.reply.Verdict.TheVariants.{Taken, Refused}
@@ -192,14 +192,20 @@ pub record Came (script : Script) (before after : RunState) (e : Event) (seat : 
   pub goes_on : after.is_halted ≡ false
   pub outcome_is : outcome ≡ outcome_of (answer before.whole e handed)
 
+-- the event's own entry, and then what comes of it
+logged_so : (e : Event) (seat : ℕ) (a : Answer) → In e seat ∷ come_of a ≡ logged e seat a
+logged_so e seat (Takes s) = refl
+logged_so e seat (Refuses why) = refl
+
 -- what the whole answered to the event as it takes it
 pub came : (script : Script) (before after : RunState) (e taken : Event) (seat : ℕ) (work : Option Done) (handed : Handed) (reply : Answered) →
     taken ≡ e → IsHanded before.whole e work handed → IfSome work (λ d. IsTrueOf script d) →
-    reply ≡ reply_of taken seat (answer before.whole taken handed) →
-    after.log ≡ before.log ++ reply.entries → after.whole ≡ whole_after before.whole (answer before.whole taken handed) →
+    reply ≡ reply_of (answer before.whole taken handed) →
+    after.log ≡ before.log ++ In taken seat ∷ reply.entries → after.whole ≡ whole_after before.whole (answer before.whole taken handed) →
     after.first_nodes ≡ before.first_nodes → after.is_halted ≡ false → Came script before after e seat work reply.outcome
 came script before after e taken seat work handed reply same is_handed is_true replied log whole nodes goes_on =
-    let entries : reply.entries ≡ logged taken seat (answer before.whole taken handed) = ap (λ (r : Answered). r.entries) replied in
+    let a : Answer = answer before.whole taken handed in
+    let entries : In taken seat ∷ reply.entries ≡ logged taken seat a = ap (λ (r : Answered). In taken seat ∷ r.entries) replied ∙ logged_so taken seat a in
     record {
       handed = handed;
       is_handed = is_handed;

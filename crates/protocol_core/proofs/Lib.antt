@@ -1,3 +1,4 @@
+mod Adding
 mod Cursors
 mod Jobs
 mod Kept

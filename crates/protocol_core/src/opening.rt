@@ -43,14 +43,14 @@ fn main_task(alloc: Global) -> Result<Origin, AllocError>
     ensures { IfOk result (λ spec. spec ≡ main_birth) }
 {
     let function = String::from_str(alloc, "main")?;
-    let inner = Birth::Task {
+    let birth = Birth::Task {
         function,
         arguments: Vec::new(alloc),
         depth: 0,
         retries: 0,
         others: 0,
     };
-    Ok(Origin { inner })
+    Origin::new(alloc, birth)
 }
 
 /// Main's attempt as it begins.

@@ -17,8 +17,8 @@ fn origins(alloc: Global, births: Vec<Birth>) -> Result<Seq<Origin>, AllocError>
     ensures { IfOk result (λ all. all ≡ map birth_of births.items) }
 {
     let mut all = Seq::new(alloc);
-    for inner in births {
-        all.push(Origin { inner })?;
+    for birth in births {
+        all.push(Origin::new(alloc, birth)?)?;
     }
     Ok(all)
 }

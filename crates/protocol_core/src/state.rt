@@ -1,6 +1,6 @@
 // The state of a run.
 
-ghost use Rattle.std.specs.Prelude.{◌≡◌, ◌++◌, IfOk, OnOk, OnErr, true};
+ghost use Rattle.std.specs.Prelude.{◌≡◌, ◌++◌, ◌∷◌, IfOk, OnOk, OnErr, take, true};
 ghost use Rattle.event_log.specs.Legal.{opening};
 ghost use Rattle.protocol_core.specs.Clusters.{IsCluster};
 ghost use Rattle.protocol_core.specs.States.{first_state};
@@ -43,6 +43,28 @@ fn opening(alloc: Global) -> Result<Seq<Entry>, AllocError>
     Ok(log)
 }
 
+/// Leaves so many items.
+fn cut(log: &mut Seq<Entry>, count: usize)
+    ensures { log.new ≡ take count log.old }
+{
+    log.items.truncate(count);
+}
+
+/// Adds an entry and more of them at the end. On an error the log is as it was.
+#[tactic(auto, using(crate::proofs::Adding::added, crate::proofs::Adding::cut_back))]
+fn add_both(log: &mut Seq<Entry>, own: Entry, more: Seq<Entry>) -> Result<(), AllocError>
+    ensures ok { OnOk result (log.new ≡ log.old ++ own ∷ more) }
+    ensures err { OnErr result (log.new ≡ log.old) }
+{
+    let count = log.len();
+    log.push(own)?;
+    if let Err(error) = log.append(more) {
+        cut(log, count);
+        return Err(error);
+    }
+    Ok(())
+}
+
 impl State {
     /// A run that begins, on these nodes.
     pub fn new(alloc: Global, cluster: Cluster) -> Result<State, AllocError>
@@ -59,15 +81,15 @@ impl State {
         })
     }
 
-    /// Adds an event and what comes of it at the log's end, or leaves the log as it is.
-    pub fn add(&mut self, entries: Seq<Entry>) -> Result<(), AllocError>
-        ensures ok { OnOk result (self.new.log ≡ self.old.log ++ entries) }
+    /// Adds an event's own entry and what comes of the event at the log's end, or leaves the log as it is.
+    pub fn add(&mut self, own: Entry, more: Seq<Entry>) -> Result<(), AllocError>
+        ensures ok { OnOk result (self.new.log ≡ self.old.log ++ own ∷ more) }
         ensures err { OnErr result (self.new.log ≡ self.old.log) }
         ensures whole { self.new.whole ≡ self.old.whole }
         ensures nodes { self.new.first_nodes ≡ self.old.first_nodes }
         ensures halted { self.new.is_halted ≡ self.old.is_halted }
     {
-        self.log.append(entries)
+        add_both(&mut self.log, own, more)
     }
 
     /// An event found no memory.

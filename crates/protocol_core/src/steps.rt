@@ -16,7 +16,7 @@ use crate::handed::handed_with;
 use crate::reply::Reply;
 use crate::state::State;
 use answers::{Answered, Verdict, answer};
-use log_entries::{Event, Refusal};
+use log_entries::{Entry, Event, Refusal};
 use meaning_laws::law::{legal_logs_read_as_serial, main_begins_the_serial_run};
 use protocol_laws::law::{
     claims_give_good_jobs, claims_give_jobs_of_the_log, event_keeps_sound, jobs_stay_of_the_log,
@@ -60,21 +60,13 @@ fn try_step<S: ScriptName>(
     runs_have_the_logs_answers();
     sound_is_legal();
     let handed = handed_with(alloc, &state.whole, &event, done, is_own)?;
-    let reply = answer(alloc, &mut state.whole, &event, seat, handed)?;
+    let reply = answer(alloc, &mut state.whole, &event, handed)?;
     let Answered { entries, outcome } = reply;
+    state.add(Entry::In { event, seat }, entries)?;
     match outcome {
-        Verdict::Refused(refusal) => {
-            state.add(entries)?;
-            Ok(Reply::Refused(refusal))
-        }
-        Verdict::Taken(None) => {
-            state.add(entries)?;
-            Ok(Reply::Ok)
-        }
-        Verdict::Taken(Some(job)) => {
-            state.add(entries)?;
-            Ok(Reply::Job(Job::new(job)))
-        }
+        Verdict::Refused(refusal) => Ok(Reply::Refused(refusal)),
+        Verdict::Taken(None) => Ok(Reply::Ok),
+        Verdict::Taken(Some(job)) => Ok(Reply::Job(Job::new(job.inner))),
     }
 }
 

@@ -1,7 +1,7 @@
--- What was surely never noted isn't among the asks, and an ask that is found is the only one of its key.
-use Rattle.std.proofs.Common.{◌≡◌, ℕ, zero, suc, ◌+◌, ◌<◌, ◌≤◌, ◌⊎◌, inl, inr, ◌∷◌, ◌++◌, [], Bool, true, false, List, Some, None, refl, sym, ap, ◌∙◌, arith, cond, length, length-append, subst}
+-- What was surely never asked for isn't among the asks, and an ask that is found is the only one of its key.
+use Rattle.std.proofs.Common.{◌≡◌, ℕ, zero, suc, ◌+◌, ◌<◌, ◌≤◌, ◌∷◌, ◌++◌, [], Bool, true, false, List, Some, None, refl, sym, ap, ◌∙◌, arith, cond, length, length-append, subst}
 use Rattle.std.proofs.lemmas.Bool.Decides.{nat_tests}
-use Rattle.std.specs.Prelude.{not, ◌||◌, ◌==◌, slice_get, remove}
+use Rattle.std.specs.Prelude.{Option, nat_lt, not, ◌||◌, ◌==◌, slice_get, slice_set}
 use Rattle.std.specs.List.{filter, find, list_any}
 use Rattle.std.specs.Option.{option_map}
 use Rattle.meaning.specs.Values.{Id}
@@ -12,7 +12,8 @@ use Rattle.sequence.proofs.Places.{and_left, and_right, or_left, or_right}
 use Rattle.protocol_data.specs.declared.node.AskKey.{AskKey}
 use Rattle.protocol_data.specs.declared.node.Asked.{Asked}
 use Rattle.protocol_data.specs.declared.node.AskReply.{AskReply}
-use Rattle.protocol_data.specs.Noted.{AreBounded, AreDistinct, AreNoted, is_that_ask, may_be_noted}
+use Rattle.protocol_data.specs.Marked.{AreMarked, can_be_marked, is_that_row, marks_or, may_be_marked, there}
+use Rattle.protocol_data.specs.Noted.{AreBounded, AreDistinct, is_that_ask, may_be_noted, serial_or}
 
 true_false : true ≡ false → ⊥
 true_false e = cc
@@ -40,14 +41,18 @@ key_is k x h =
     key_parts x.key.attempt k.attempt x.key.t k.t (same_attempt-true x.key.attempt k.attempt (and_left (same_attempt x.key.attempt k.attempt) (x.key.t == k.t) h))
     (same_number x.key.t k.t (and_right (same_attempt x.key.attempt k.attempt) (x.key.t == k.t) h))
 
--- one that passes its bound isn't there
-pub unnoted : (bounds : List ℕ) (xs : List Asked) (k : AskKey) → AreNoted bounds xs → may_be_noted bounds k.attempt.object ≡ false → list_any (is_that_ask k) xs ≡ false
-unnoted bounds [] k n h = refl
-unnoted bounds (x ∷ xs) k n h = neither (is_that_ask k x) (list_any (is_that_ask k) xs) (other (is_that_ask k x) refl) (unnoted bounds xs k n.1 h)
+-- one without a mark isn't there
+pub unmarked : (marks : List (List ℕ)) (xs : List Asked) (k : AskKey) → AreMarked marks xs → may_be_marked marks k.attempt.object ≡ false → list_any (is_that_ask k) xs ≡ false
+unmarked marks [] k n h = refl
+unmarked marks (x ∷ xs) k n h = neither (is_that_ask k x) (list_any (is_that_ask k) xs) (other (is_that_ask k x) refl) (unmarked marks xs k n.1 h)
   where
     other : (b : Bool) → is_that_ask k x ≡ b → b ≡ false
     other false e = refl
-    other true e = absurd (true_false (sym n.0 ∙ ap (λ j. may_be_noted bounds j.attempt.object) (key_is k x e) ∙ h))
+    other true e = absurd (true_false (sym n.0 ∙ ap (λ j. may_be_marked marks j.attempt.object) (key_is k x e) ∙ h))
+
+pub without_mark : (marks : List (List ℕ)) (o p : Id) (m : ℕ) (b : Bool) → o ≡ p → m ≡ serial_or (slice_get (marks_or (slice_get marks o.owner)) o.serial) →
+    b ≡ (not (can_be_marked o) || nat_lt 0 m) → b ≡ false → may_be_marked marks p ≡ false
+without_mark marks o p m b s e t h = ap (may_be_marked marks) (sym s) ∙ ap (λ n. not (can_be_marked o) || nat_lt 0 n) (sym e) ∙ sym t ∙ h
 
 pub none_found : (p : Asked → Bool) (xs : List Asked) → list_any p xs ≡ false → find p xs ≡ None
 none_found p [] h = refl
@@ -59,45 +64,55 @@ none_taken p (x ∷ xs) h =
     ap (λ b. cond (not b) (x ∷ filter (λ r. not (p r)) xs) (filter (λ r. not (p r)) xs)) (left_false (p x) (list_any p xs) h)
     ∙ ap (λ ys. x ∷ ys) (none_taken p xs (right_false (p x) (list_any p xs) h))
 
-any_at : (p : Asked → Bool) (xs : List Asked) (i : ℕ) (x : Asked) → slice_get xs i ≡ Some x → p x ≡ true → list_any p xs ≡ true
-any_at p [] i x e h = absurd cc
-any_at p (y ∷ ys) zero x e h = let same : y ≡ x = some_is y x e in or_left (p y) (list_any p ys) (ap p same ∙ h)
-  where
-    some_is : (y x : Asked) → Some y ≡ Some x → y ≡ x
-    some_is y x e = cc
-any_at p (y ∷ ys) (suc i) x e h = or_right (p y) (list_any p ys) (any_at p ys i x e h)
+some_is : {X : Type 0} (x y : X) → Some x ≡ Some y → x ≡ y
+some_is x y e = cc
+
+none_is : {X : Type 0} (x : X) → ◌≡◌ {A = Option (Option X)} (Some None) (Some (Some x)) → ⊥
+none_is x e = absurd cc
+
+some_row_is : {X : Type 0} (x y : X) → Some (Some x) ≡ Some (Some y) → x ≡ y
+some_row_is x y e = cc
+
+any_there : (p : Asked → Bool) (rows : List (Option Asked)) (i : ℕ) (x : Asked) → slice_get rows i ≡ Some (Some x) → p x ≡ true → list_any p (there rows) ≡ true
+any_there p [] i x e h = absurd cc
+any_there p (None ∷ rows) zero x e h = absurd (none_is x e)
+any_there p (None ∷ rows) (suc i) x e h = any_there p rows i x e h
+any_there p (Some y ∷ rows) zero x e h = or_left (p y) (list_any p (there rows)) (ap p (some_row_is y x e) ∙ h)
+any_there p (Some y ∷ rows) (suc i) x e h = or_right (p y) (list_any p (there rows)) (any_there p rows i x e h)
 
 -- one that stands further on is another
-first_is_other : (y : Asked) (xs : List Asked) (i : ℕ) (x : Asked) (k : AskKey) → list_any (is_that_ask y.key) xs ≡ false → slice_get xs i ≡ Some x → is_that_ask k x ≡ true →
-    is_that_ask k y ≡ false
-first_is_other y xs i x k d e h = other (is_that_ask k y) refl
+first_is_other : (y : Asked) (rows : List (Option Asked)) (i : ℕ) (x : Asked) (k : AskKey) → list_any (is_that_ask y.key) (there rows) ≡ false → slice_get rows i ≡ Some (Some x) →
+    is_that_ask k x ≡ true → is_that_ask k y ≡ false
+first_is_other y rows i x k d e h = other (is_that_ask k y) refl
   where
     other : (b : Bool) → is_that_ask k y ≡ b → b ≡ false
     other false g = refl
-    other true g = absurd (true_false (sym (any_at (is_that_ask k) xs i x e h) ∙ ap (λ j. list_any (is_that_ask j) xs) (sym (key_is k y g)) ∙ d))
+    other true g = absurd (true_false (sym (any_there (is_that_ask k) rows i x e h) ∙ ap (λ j. list_any (is_that_ask j) (there rows)) (sym (key_is k y g)) ∙ d))
 
-the_same : (y x : Asked) → Some y ≡ Some x → y ≡ x
-the_same y x e = cc
-
-pub found_at : (xs : List Asked) (i : ℕ) (x : Asked) (k : AskKey) → AreDistinct xs → slice_get xs i ≡ Some x → is_that_ask k x ≡ true → find (is_that_ask k) xs ≡ Some x
+pub found_at : (rows : List (Option Asked)) (i : ℕ) (x : Asked) (k : AskKey) → AreDistinct (there rows) → slice_get rows i ≡ Some (Some x) → is_that_ask k x ≡ true →
+    find (is_that_ask k) (there rows) ≡ Some x
 found_at [] i x k d e h = absurd cc
-found_at (y ∷ ys) zero x k d e h =
-    let same : y ≡ x = the_same y x e in
-    ap (λ b. cond b (Some y) (find (is_that_ask k) ys)) (ap (is_that_ask k) same ∙ h) ∙ e
-found_at (y ∷ ys) (suc i) x k d e h =
-    ap (λ b. cond b (Some y) (find (is_that_ask k) ys)) (first_is_other y ys i x k d.0 e h) ∙ found_at ys i x k d.1 e h
+found_at (None ∷ rows) zero x k d e h = absurd (none_is x e)
+found_at (None ∷ rows) (suc i) x k d e h = found_at rows i x k d e h
+found_at (Some y ∷ rows) zero x k d e h =
+    let same : y ≡ x = some_row_is y x e in
+    ap (λ b. cond b (Some y) (find (is_that_ask k) (there rows))) (ap (is_that_ask k) same ∙ h) ∙ ap Some same
+found_at (Some y ∷ rows) (suc i) x k d e h =
+    ap (λ b. cond b (Some y) (find (is_that_ask k) (there rows))) (first_is_other y rows i x k d.0 e h) ∙ found_at rows i x k d.1 e h
 
-pub taken_at : (xs : List Asked) (i : ℕ) (x : Asked) (k : AskKey) → AreDistinct xs → slice_get xs i ≡ Some x → is_that_ask k x ≡ true →
-    filter (λ r. not (is_that_ask k r)) xs ≡ remove xs i
+pub taken_at : (rows : List (Option Asked)) (i : ℕ) (x : Asked) (k : AskKey) → AreDistinct (there rows) → slice_get rows i ≡ Some (Some x) → is_that_ask k x ≡ true →
+    filter (λ r. not (is_that_ask k r)) (there rows) ≡ there (slice_set rows i None)
 taken_at [] i x k d e h = absurd cc
-taken_at (y ∷ ys) zero x k d e h =
-    let same : y ≡ x = the_same y x e in
+taken_at (None ∷ rows) zero x k d e h = absurd (none_is x e)
+taken_at (None ∷ rows) (suc i) x k d e h = taken_at rows i x k d e h
+taken_at (Some y ∷ rows) zero x k d e h =
+    let same : y ≡ x = some_row_is y x e in
     let that : is_that_ask k y ≡ true = ap (is_that_ask k) same ∙ h in
-    ap (λ b. cond (not b) (y ∷ filter (λ r. not (is_that_ask k r)) ys) (filter (λ r. not (is_that_ask k r)) ys)) that
-    ∙ none_taken (is_that_ask k) ys (ap (λ j. list_any (is_that_ask j) ys) (sym (key_is k y that)) ∙ d.0)
-taken_at (y ∷ ys) (suc i) x k d e h =
-    ap (λ b. cond (not b) (y ∷ filter (λ r. not (is_that_ask k r)) ys) (filter (λ r. not (is_that_ask k r)) ys)) (first_is_other y ys i x k d.0 e h)
-    ∙ ap (λ zs. y ∷ zs) (taken_at ys i x k d.1 e h)
+    ap (λ b. cond (not b) (y ∷ filter (λ r. not (is_that_ask k r)) (there rows)) (filter (λ r. not (is_that_ask k r)) (there rows))) that
+    ∙ none_taken (is_that_ask k) (there rows) (ap (λ j. list_any (is_that_ask j) (there rows)) (sym (key_is k y that)) ∙ d.0)
+taken_at (Some y ∷ rows) (suc i) x k d e h =
+    ap (λ b. cond (not b) (y ∷ filter (λ r. not (is_that_ask k r)) (there rows)) (filter (λ r. not (is_that_ask k r)) (there rows))) (first_is_other y rows i x k d.0 e h)
+    ∙ ap (λ zs. y ∷ zs) (taken_at rows i x k d.1 e h)
 
 none_in_filter : (p q : Asked → Bool) (xs : List Asked) → list_any p xs ≡ false → list_any p (filter q xs) ≡ false
 none_in_filter p q [] h = refl
@@ -115,11 +130,11 @@ distinct_filter q (x ∷ xs) d = by_test (distinct_filter q xs d.1) (q x)
     by_test rest true = (none_in_filter (is_that_ask x.key) q xs d.0, rest)
     by_test rest false = rest
 
-pub noted_filter : (bounds : List ℕ) (q : Asked → Bool) (xs : List Asked) → AreNoted bounds xs → AreNoted bounds (filter q xs)
-noted_filter bounds q [] d = tt
-noted_filter bounds q (x ∷ xs) d = by_test (noted_filter bounds q xs d.1) (q x)
+pub marked_filter : (marks : List (List ℕ)) (q : Asked → Bool) (xs : List Asked) → AreMarked marks xs → AreMarked marks (filter q xs)
+marked_filter marks q [] d = tt
+marked_filter marks q (x ∷ xs) d = by_test (marked_filter marks q xs d.1) (q x)
   where
-    by_test : AreNoted bounds (filter q xs) → (b : Bool) → AreNoted bounds (cond b (x ∷ filter q xs) (filter q xs))
+    by_test : AreMarked marks (filter q xs) → (b : Bool) → AreMarked marks (cond b (x ∷ filter q xs) (filter q xs))
     by_test rest true = (d.0, rest)
     by_test rest false = rest
 
@@ -147,13 +162,13 @@ distinct_push (x ∷ xs) y d h =
     other false e = refl
     other true e = absurd (true_false (sym (back e) ∙ left_false (is_that_ask y.key x) (list_any (is_that_ask y.key) xs) h))
 
-noted_push : (bounds : List ℕ) (xs : List Asked) (y : Asked) → AreNoted bounds xs → may_be_noted bounds y.key.attempt.object ≡ true → AreNoted bounds (xs ++ y ∷ [])
-noted_push bounds [] y n h = (h, tt)
-noted_push bounds (x ∷ xs) y n h = (n.0, noted_push bounds xs y n.1 h)
+marked_push : (marks : List (List ℕ)) (xs : List Asked) (y : Asked) → AreMarked marks xs → may_be_marked marks y.key.attempt.object ≡ true → AreMarked marks (xs ++ y ∷ [])
+marked_push marks [] y n h = (h, tt)
+marked_push marks (x ∷ xs) y n h = (n.0, marked_push marks xs y n.1 h)
 
-pub noted_more : (bounds wider : List ℕ) (xs : List Asked) → ((o : Id) → may_be_noted bounds o ≡ true → may_be_noted wider o ≡ true) → AreNoted bounds xs → AreNoted wider xs
-noted_more bounds wider [] f n = tt
-noted_more bounds wider (x ∷ xs) f n = (f x.key.attempt.object n.0, noted_more bounds wider xs f n.1)
+pub marked_more : (marks wider : List (List ℕ)) (xs : List Asked) → ((o : Id) → may_be_marked marks o ≡ true → may_be_marked wider o ≡ true) → AreMarked marks xs → AreMarked wider xs
+marked_more marks wider [] f n = tt
+marked_more marks wider (x ∷ xs) f n = (f x.key.attempt.object n.0, marked_more marks wider xs f n.1)
 
 -- the asks but that one, and then that one
 pub distinct_put : (k : AskKey) (xs : List Asked) (y : Asked) → y.key ≡ k → AreDistinct xs → AreDistinct (filter (λ r. not (is_that_ask k r)) xs ++ y ∷ [])
@@ -161,10 +176,10 @@ distinct_put k xs y e d =
     distinct_push (filter (λ r. not (is_that_ask k r)) xs) y (distinct_filter (λ r. not (is_that_ask k r)) xs d)
     (ap (λ j. list_any (is_that_ask j) (filter (λ r. not (is_that_ask k r)) xs)) e ∙ none_left k xs)
 
-pub noted_put : (bounds : List ℕ) (k : AskKey) (xs : List Asked) (y : Asked) → y.key ≡ k → AreNoted bounds xs → may_be_noted bounds k.attempt.object ≡ true →
-    AreNoted bounds (filter (λ r. not (is_that_ask k r)) xs ++ y ∷ [])
-noted_put bounds k xs y e n h =
-    noted_push bounds (filter (λ r. not (is_that_ask k r)) xs) y (noted_filter bounds (λ r. not (is_that_ask k r)) xs n) (ap (λ j. may_be_noted bounds j.attempt.object) e ∙ h)
+pub marked_put : (marks : List (List ℕ)) (k : AskKey) (xs : List Asked) (y : Asked) → y.key ≡ k → AreMarked marks xs → may_be_marked marks k.attempt.object ≡ true →
+    AreMarked marks (filter (λ r. not (is_that_ask k r)) xs ++ y ∷ [])
+marked_put marks k xs y e n h =
+    marked_push marks (filter (λ r. not (is_that_ask k r)) xs) y (marked_filter marks (λ r. not (is_that_ask k r)) xs n) (ap (λ j. may_be_marked marks j.attempt.object) e ∙ h)
 
 -- ---- what the code looks up
 
@@ -173,91 +188,67 @@ within [] i x e = absurd cc
 within (y ∷ ys) zero x e = omega arith
 within (y ∷ ys) (suc i) x e = omega (arith, within ys i x e)
 
-pub is_within : (xs : List Asked) (i : ℕ) (k : AskKey) → (x : Asked) × (slice_get xs i ≡ Some x) × (is_that_ask k x ≡ true) → i < length xs
-is_within xs i k f = within xs i f.0 f.1
+pub is_within : (rows : List (Option Asked)) (i : ℕ) (k : AskKey) → (x : Asked) × (slice_get rows i ≡ Some (Some x)) × (is_that_ask k x ≡ true) → i < length rows
+is_within rows i k f = within rows i (Some f.0) f.1
 
-pub none_anywhere : (xs : List Asked) (k : AskKey) → ((i : ℕ) (x : Asked) → slice_get xs i ≡ Some x → is_that_ask k x ≡ false) → list_any (is_that_ask k) xs ≡ false
-none_anywhere [] k f = refl
-none_anywhere (x ∷ xs) k f = neither (is_that_ask k x) (list_any (is_that_ask k) xs) (f 0 x refl) (none_anywhere xs k (λ i y e. f (suc i) y e))
+pub none_there : (rows : List (Option Asked)) (k : AskKey) → ((i : ℕ) (r : Option Asked) → slice_get rows i ≡ Some r → is_that_row k r ≡ false) → list_any (is_that_ask k) (there rows) ≡ false
+none_there [] k f = refl
+none_there (None ∷ rows) k f = none_there rows k (λ i r e. f (suc i) r e)
+none_there (Some x ∷ rows) k f = neither (is_that_ask k x) (list_any (is_that_ask k) (there rows)) (f 0 (Some x) refl) (none_there rows k (λ i r e. f (suc i) r e))
 
--- one more of them isn't that ask
-pub none_before : (xs : List Asked) (k : AskKey) (n : ℕ) (y : Asked) → ((i : ℕ) (x : Asked) → i < n → slice_get xs i ≡ Some x → is_that_ask k x ≡ false) →
-    slice_get xs n ≡ Some y → is_that_ask k y ≡ false → (i : ℕ) (x : Asked) → i < n + 1 → slice_get xs i ≡ Some x → is_that_ask k x ≡ false
-none_before xs k n y p g h i x less e =
-    elim (here i n less) [ inl l ↦ p i x l e | inr s ↦ ap (is_that_ask k) (sym (the_same y x (sym g ∙ ap (slice_get xs) (sym s) ∙ e))) ∙ h ]
-  where
-    here : (i n : ℕ) → i < n + 1 → (i < n) ⊎ (i ≡ n)
-    here zero zero l = inr refl
-    here zero (suc q) l = inl (omega arith)
-    here (suc j) zero l = absurd (omega (arith, l))
-    here (suc j) (suc q) l = elim (here j q (omega (arith, l))) [ inl m ↦ inl (omega (arith, m)) | inr s ↦ inr (ap suc s) ]
-
-pub none_behind : (xs : List Asked) (k : AskKey) (n m : ℕ) (y : Asked) → ((i : ℕ) (x : Asked) → m ≤ i → slice_get xs i ≡ Some x → is_that_ask k x ≡ false) →
-    m ≤ n + 1 → slice_get xs n ≡ Some y → is_that_ask k y ≡ false → (i : ℕ) (x : Asked) → n ≤ i → slice_get xs i ≡ Some x → is_that_ask k x ≡ false
-none_behind xs k n m y p q g h i x low e =
-    elim (here i n low) [ inl l ↦ p i x (omega (arith, q, l)) e | inr s ↦ ap (is_that_ask k) (sym (the_same y x (sym g ∙ ap (slice_get xs) (sym s) ∙ e))) ∙ h ]
-  where
-    here : (i n : ℕ) → n ≤ i → (n + 1 ≤ i) ⊎ (i ≡ n)
-    here zero zero l = inr refl
-    here zero (suc q) l = absurd (omega (arith, l))
-    here (suc j) zero l = inl (omega arith)
-    here (suc j) (suc q) l = elim (here j q (omega (arith, l))) [ inl m ↦ inl (omega (arith, m)) | inr s ↦ inr (ap suc s) ]
-
--- that is all of them, where the two meet
-pub none_in_all : (xs : List Asked) (k : AskKey) (n m : ℕ) → ((i : ℕ) (x : Asked) → i < n → slice_get xs i ≡ Some x → is_that_ask k x ≡ false) →
-    ((i : ℕ) (x : Asked) → m ≤ i → slice_get xs i ≡ Some x → is_that_ask k x ≡ false) → m ≤ n → list_any (is_that_ask k) xs ≡ false
-none_in_all xs k n m p q l = none_anywhere xs k (λ i x e. elim (split i n) [ inl r ↦ p i x r e | inr r ↦ q i x (omega (arith, l, r)) e ])
-  where
-    split : (i k : ℕ) → (i < k) ⊎ (k ≤ i)
-    split i zero = inr (omega arith)
-    split zero (suc k) = inl (omega arith)
-    split (suc i) (suc k) = elim (split i k) [ inl m ↦ inl (omega (arith, m)) | inr m ↦ inr (omega (arith, m)) ]
+pub none_up_to : (rows : List (Option Asked)) (k : AskKey) (n : ℕ) → ((i : ℕ) (r : Option Asked) → i < n → slice_get rows i ≡ Some r → is_that_row k r ≡ false) → length rows ≤ n →
+    list_any (is_that_ask k) (there rows) ≡ false
+none_up_to rows k n f l = none_there rows k (λ i r e. let m = within rows i r e in f i r (omega (arith, l, m)) e)
 
 pub no_reply : (xs : List Asked) (k : AskKey) → list_any (is_that_ask k) xs ≡ false → option_map (λ r. r.reply) (find (is_that_ask k) xs) ≡ None
 no_reply xs k h = ap (option_map (λ r. r.reply)) (none_found (is_that_ask k) xs h)
 
-pub reply_at : (xs : List Asked) (i : ℕ) (k : AskKey) (y : Asked) → AreDistinct xs → (x : Asked) × (slice_get xs i ≡ Some x) × (is_that_ask k x ≡ true) → slice_get xs i ≡ Some y →
-    option_map (λ r. r.reply) (find (is_that_ask k) xs) ≡ Some y.reply
-reply_at xs i k y d f e = ap (option_map (λ r. r.reply)) (found_at xs i f.0 k d f.1 f.2 ∙ sym f.1 ∙ e)
+pub reply_at : (rows : List (Option Asked)) (i : ℕ) (k : AskKey) (r : Option Asked) → AreDistinct (there rows) →
+    (x : Asked) × (slice_get rows i ≡ Some (Some x)) × (is_that_ask k x ≡ true) → slice_get rows i ≡ Some r →
+    option_map (λ r. r.reply) (find (is_that_ask k) (there rows)) ≡ option_map (λ r. r.reply) r
+reply_at rows i k r d f e = ap (option_map (λ r. r.reply)) (found_at rows i f.0 k d f.1 f.2 ∙ some_is (Some f.0) r (sym f.1 ∙ e))
 
-pub taken_there : (xs : List Asked) (i : ℕ) (k : AskKey) → AreDistinct xs → (x : Asked) × (slice_get xs i ≡ Some x) × (is_that_ask k x ≡ true) →
-    filter (λ r. not (is_that_ask k r)) xs ≡ remove xs i
-taken_there xs i k d f = taken_at xs i f.0 k d f.1 f.2
+pub there_pushed : (rows : List (Option Asked)) (y : Asked) → there (rows ++ Some y ∷ []) ≡ there rows ++ y ∷ []
+there_pushed [] y = refl
+there_pushed (None ∷ rows) y = there_pushed rows y
+there_pushed (Some x ∷ rows) y = ap (λ ys. x ∷ ys) (there_pushed rows y)
 
-pub noted_wider : (bounds wider : List ℕ) (xs : List Asked) → AreDistinct xs × AreNoted bounds xs → ((o : Id) → may_be_noted bounds o ≡ true → may_be_noted wider o ≡ true) →
-    AreDistinct xs × AreNoted wider xs
-noted_wider bounds wider xs d f = (d.0, noted_more bounds wider xs f d.1)
+pub marked_wider : (marks wider : List (List ℕ)) (xs : List Asked) → AreDistinct xs × AreMarked marks xs → ((o : Id) → may_be_marked marks o ≡ true → may_be_marked wider o ≡ true) →
+    AreDistinct xs × AreMarked wider xs
+marked_wider marks wider xs d f = (d.0, marked_more marks wider xs f d.1)
 
-pub put_right : (bounds wider : List ℕ) (k : AskKey) (o : Id) (x : AskReply) (xs after : List Asked) → AreDistinct xs × AreNoted bounds xs →
-    after ≡ filter (λ r. not (is_that_ask k r)) xs ++ record { key = k; reply = x } ∷ [] → ((o : Id) → may_be_noted bounds o ≡ true → may_be_noted wider o ≡ true) →
-    o ≡ k.attempt.object → may_be_noted wider o ≡ true → AreDistinct after × AreNoted wider after
-put_right bounds wider k o x xs after d e f s h =
-    subst (λ ys. AreDistinct ys × AreNoted wider ys) (sym e) (
+pub put_right : (marks wider : List (List ℕ)) (k : AskKey) (o : Id) (x : AskReply) (xs after : List Asked) → AreDistinct xs × AreMarked marks xs →
+    after ≡ filter (λ r. not (is_that_ask k r)) xs ++ record { key = k; reply = x } ∷ [] → ((o : Id) → may_be_marked marks o ≡ true → may_be_marked wider o ≡ true) →
+    o ≡ k.attempt.object → may_be_marked wider o ≡ true → AreDistinct after × AreMarked wider after
+put_right marks wider k o x xs after d e f s h =
+    subst (λ ys. AreDistinct ys × AreMarked wider ys) (sym e) (
       distinct_put k xs _ refl d.0,
-      noted_put wider k xs _ refl (noted_more bounds wider xs f d.1) (ap (may_be_noted wider) (sym s) ∙ h),
+      marked_put wider k xs _ refl (marked_more marks wider xs f d.1) (ap (may_be_marked wider) (sym s) ∙ h),
     )
 
 -- where it never stood, the row is pushed
-pub pushed_anew : (k : AskKey) (x : AskReply) (xs after : List Asked) (y : Asked) → list_any (is_that_ask k) xs ≡ false → after ≡ xs ++ y ∷ [] → y ≡ record { key = k; reply = x } →
-    after ≡ filter (λ r. not (is_that_ask k r)) xs ++ record { key = k; reply = x } ∷ []
-pushed_anew k x xs after y n a r = a ∙ ap (λ ys. ys ++ y ∷ []) (sym (none_taken (is_that_ask k) xs n)) ∙ ap (λ z. filter (λ r. not (is_that_ask k r)) xs ++ z ∷ []) r
+pub pushed_anew : (k : AskKey) (x : AskReply) (rows after : List (Option Asked)) (y : Option Asked) → list_any (is_that_ask k) (there rows) ≡ false → after ≡ rows ++ y ∷ [] →
+    y ≡ Some (record { key = k; reply = x }) → there after ≡ filter (λ r. not (is_that_ask k r)) (there rows) ++ record { key = k; reply = x } ∷ []
+pushed_anew k x rows after y n a r =
+    ap there (a ∙ ap (λ z. rows ++ z ∷ []) r) ∙ there_pushed rows (record { key = k; reply = x }) ∙ ap (λ ys. ys ++ record { key = k; reply = x } ∷ []) (sym (none_taken (is_that_ask k) (there rows) n))
 
-remove_before : (xs : List Asked) (y : Asked) (i : ℕ) → i < length xs → remove (xs ++ y ∷ []) i ≡ remove xs i ++ y ∷ []
-remove_before [] y i l = absurd (omega (arith, l))
-remove_before (x ∷ xs) y zero l = refl
-remove_before (x ∷ xs) y (suc i) l = ap (λ zs. x ∷ zs) (remove_before xs y i (omega (arith, l)))
+set_before : {X : Type 0} (xs : List X) (y z : X) (i : ℕ) → i < length xs → slice_set (xs ++ y ∷ []) i z ≡ slice_set xs i z ++ y ∷ []
+set_before [] y z i l = absurd (omega (arith, l))
+set_before (x ∷ xs) y z zero l = refl
+set_before (x ∷ xs) y z (suc i) l = ap (λ zs. x ∷ zs) (set_before xs y z i (omega (arith, l)))
 
-pub is_within_pushed : (xs pushed : List Asked) (i : ℕ) (k : AskKey) (y : Asked) → (x : Asked) × (slice_get xs i ≡ Some x) × (is_that_ask k x ≡ true) → pushed ≡ xs ++ y ∷ [] →
-    i < length pushed
-is_within_pushed xs pushed i k y f e = let l = is_within xs i k f in let m = ap length e ∙ length-append xs (y ∷ []) in omega (arith, l, m)
+pub is_within_pushed : (rows pushed : List (Option Asked)) (i : ℕ) (k : AskKey) (y : Option Asked) → (x : Asked) × (slice_get rows i ≡ Some (Some x)) × (is_that_ask k x ≡ true) →
+    pushed ≡ rows ++ y ∷ [] → i < length pushed
+is_within_pushed rows pushed i k y f e = let l = is_within rows i k f in let m = ap length e ∙ length-append rows (y ∷ []) in omega (arith, l, m)
 
 -- where it stood, the row is pushed, and then the one that stood before goes
-pub pushed_again : (k : AskKey) (x : AskReply) (xs pushed after : List Asked) (i : ℕ) (y : Asked) → AreDistinct xs → (x : Asked) × (slice_get xs i ≡ Some x) × (is_that_ask k x ≡ true) →
-    pushed ≡ xs ++ y ∷ [] → y ≡ record { key = k; reply = x } → after ≡ remove pushed i →
-    after ≡ filter (λ r. not (is_that_ask k r)) xs ++ record { key = k; reply = x } ∷ []
-pushed_again k x xs pushed after i y d f p r a =
-    a ∙ ap (λ ys. remove ys i) p ∙ remove_before xs y i (is_within xs i k f) ∙ ap (λ ys. ys ++ y ∷ []) (sym (taken_there xs i k d f))
-    ∙ ap (λ z. filter (λ r. not (is_that_ask k r)) xs ++ z ∷ []) r
+pub pushed_again : (k : AskKey) (x : AskReply) (rows pushed after : List (Option Asked)) (i : ℕ) (y : Option Asked) → AreDistinct (there rows) →
+    (x : Asked) × (slice_get rows i ≡ Some (Some x)) × (is_that_ask k x ≡ true) → pushed ≡ rows ++ y ∷ [] → y ≡ Some (record { key = k; reply = x }) → after ≡ slice_set pushed i None →
+    there after ≡ filter (λ r. not (is_that_ask k r)) (there rows) ++ record { key = k; reply = x } ∷ []
+pushed_again k x rows pushed after i y d f p r a =
+    ap there (a ∙ ap (λ ys. slice_set ys i None) (p ∙ ap (λ z. rows ++ z ∷ []) r) ∙ set_before rows (Some (record { key = k; reply = x })) None i (is_within rows i k f))
+    ∙ there_pushed (slice_set rows i None) (record { key = k; reply = x })
+    ∙ ap (λ ys. ys ++ record { key = k; reply = x } ∷ []) (sym (taken_at rows i f.0 k d f.1 f.2))
 
 pub put_viewed : (k : AskKey) (x : AskReply) (seen xs after : List Asked) → xs ≡ seen →
     after ≡ filter (λ r. not (is_that_ask k r)) xs ++ record { key = k; reply = x } ∷ [] → after ≡ filter (λ r. not (is_that_ask k r)) seen ++ record { key = k; reply = x } ∷ []

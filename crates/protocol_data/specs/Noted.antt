@@ -25,11 +25,6 @@ abbrev pub AreDistinct : List Asked → Type 0
 AreDistinct [] = Unit {0}
 AreDistinct (x ∷ xs) = (list_any (is_that_ask x.key) xs ≡ false) × AreDistinct xs
 
--- each ask may have been noted
-abbrev pub AreNoted : List ℕ → List Asked → Type 0
-AreNoted bounds [] = Unit {0}
-AreNoted bounds (x ∷ xs) = (may_be_noted bounds x.key.attempt.object ≡ true) × AreNoted bounds xs
-
 -- each attempt's object may have been noted
 abbrev pub AreBounded : List ℕ → List Attempt → Type 0
 AreBounded bounds [] = Unit {0}

@@ -1,12 +1,14 @@
 // The asks that a node answered, with an index that tells what was surely never asked.
 
-ghost use Rattle.std.specs.Prelude.{◌≡◌, ◌++◌, ◌∷◌, [], ◌<◌, ℕ, List, IfOk, IfSome, IfNone, OnErr, OnOk, length, not, remove, slice_get, true, false};
+ghost use Rattle.std.specs.Prelude.{◌≡◌, ◌++◌, ◌∷◌, [], ◌<◌, ℕ, List, IfOk, IfSome, IfNone, OnErr, OnOk, length, not, slice_get, slice_set, true, false};
 ghost use Rattle.std.specs.List.{filter, find, list_any};
 ghost use Rattle.std.specs.Option.{option_map};
 ghost use Rattle.event_log.specs.Words.{same_attempt};
 ghost use Rattle.meaning.specs.Values.{Id};
-ghost use Rattle.protocol_data.specs.Noted.{AreDistinct, AreNoted, is_that_ask, may_be_noted, serial_or};
+ghost use Rattle.protocol_data.specs.Noted.{AreDistinct, is_that_ask, may_be_noted, serial_or};
+ghost use Rattle.protocol_data.specs.Marked.{AreMarked, is_that_row, there};
 
+use crate::marks::{copy_marks, mark, mark_of, may_be_marked};
 use crate::node::{AskKey, AskReply, Asked};
 use ids::ObjectId;
 use sequence::Seq;
@@ -69,13 +71,13 @@ fn object_of(key: &AskKey) -> ObjectId
     key.attempt.object
 }
 
-fn answered(key: &AskKey, reply: &AskReply) -> Asked
-    ensures { result ≡ record { key = key.now; reply = reply.now } }
+fn answered(key: &AskKey, reply: &AskReply) -> Option<Asked>
+    ensures { result ≡ Some (record { key = key.now; reply = reply.now }) }
 {
-    Asked {
+    Some(Asked {
         key: *key,
         reply: *reply,
-    }
+    })
 }
 
 /// Whether it is that ask.
@@ -85,68 +87,92 @@ fn is_that_ask(key: &AskKey, asked: &Asked) -> bool
     asked.key.attempt.is(key.attempt) && asked.key.t == key.t
 }
 
-/// The place of that ask, looked for from both ends.
-fn place_of(rows: &Seq<Asked>, key: &AskKey) -> Option<usize>
-    ensures found { IfSome result (λ p. (x : Asked) × (slice_get rows.now p ≡ Some x) × (is_that_ask key.now x ≡ true)) }
-    ensures none { IfNone result (list_any (is_that_ask key.now) rows.now ≡ false) }
+/// Whether the row is of that ask.
+fn is_that_row(key: &AskKey, row: &Option<Asked>) -> bool
+    ensures { result ≡ is_that_row key.now row.now }
 {
-    let count = rows.len();
-    for step in 0..count {
-        let back = count - 1 - step;
-        if back < step {
-            return None;
-        }
-        // An ask that comes again is among the newest; one that waited, among the oldest.
-        if is_that_ask(key, rows.get(back)) {
-            return Some(back);
-        }
-        if is_that_ask(key, rows.get(step)) {
-            return Some(step);
+    match row {
+        None => false,
+        Some(asked) => is_that_ask(key, asked),
+    }
+}
+
+/// The place of that ask, looked for among all rows.
+fn place_of(rows: &Seq<Option<Asked>>, key: &AskKey) -> Option<usize>
+    ensures found { IfSome result (λ p. (x : Asked) × (slice_get rows.now p ≡ Some (Some x)) × (is_that_ask key.now x ≡ true)) }
+    ensures none { IfNone result (list_any (is_that_ask key.now) (there rows.now) ≡ false) }
+{
+    for place in 0..rows.len() {
+        if is_that_row(key, rows.get(place)) {
+            return Some(place);
         }
     }
     None
 }
 
-/// The place of that ask; one that was surely never noted isn't looked for.
-fn known_place(rows: &Seq<Asked>, bounds: &Seq<u64>, key: &AskKey) -> Option<usize>
-    requires noted { AreNoted bounds.now rows.now }
-    ensures found { IfSome result (λ p. (x : Asked) × (slice_get rows.now p ≡ Some x) × (is_that_ask key.now x ≡ true)) }
-    ensures none { IfNone result (list_any (is_that_ask key.now) rows.now ≡ false) }
+/// The place that the mark names, if that ask stands there.
+fn marked_place(rows: &Seq<Option<Asked>>, mark: u32, key: &AskKey) -> Option<usize>
+    ensures found { IfSome result (λ p. (x : Asked) × (slice_get rows.now p ≡ Some (Some x)) × (is_that_ask key.now x ≡ true)) }
+{
+    if mark == 0 {
+        return None;
+    }
+    let place = mark as usize - 1;
+    if place >= rows.len() {
+        return None;
+    }
+    if is_that_row(key, rows.get(place)) {
+        return Some(place);
+    }
+    None
+}
+
+/// The place of that ask. One that was surely never noted isn't looked for, and only one that isn't the latest of its object is looked for among all.
+fn known_place(rows: &Seq<Option<Asked>>, marks: &Seq<Seq<u32>>, key: &AskKey) -> Option<usize>
+    requires marked { AreMarked marks.now (there rows.now) }
+    ensures found { IfSome result (λ p. (x : Asked) × (slice_get rows.now p ≡ Some (Some x)) × (is_that_ask key.now x ≡ true)) }
+    ensures none { IfNone result (list_any (is_that_ask key.now) (there rows.now) ≡ false) }
 {
     let object = object_of(key);
-    if !may_be_noted(bounds, object) {
+    let mark = mark_of(marks, object);
+    if !may_be_marked(object, mark) {
         return None;
+    }
+    if let Some(place) = marked_place(rows, mark, key) {
+        return Some(place);
     }
     place_of(rows, key)
 }
 
-/// What was answered to the ask.
-fn reply_in(rows: &Seq<Asked>, bounds: &Seq<u64>, key: &AskKey) -> Option<AskReply>
-    requires distinct { AreDistinct rows.now }
-    requires noted { AreNoted bounds.now rows.now }
-    ensures { result ≡ option_map (λ r. r.reply) (find (is_that_ask key.now) rows.now) }
+fn reply_of(row: &Option<Asked>) -> Option<AskReply>
+    ensures { result ≡ option_map (λ r. r.reply) row.now }
 {
-    let Some(place) = known_place(rows, bounds, key) else {
-        return None;
-    };
-    Some(rows.get(place).reply)
+    match row {
+        None => None,
+        Some(asked) => Some(asked.reply),
+    }
 }
 
-fn take_at(rows: &mut Seq<Asked>, place: usize)
-    requires { place < length rows.old }
-    ensures { rows.new ≡ remove rows.old place }
+/// What was answered to the ask.
+fn reply_in(rows: &Seq<Option<Asked>>, marks: &Seq<Seq<u32>>, key: &AskKey) -> Option<AskReply>
+    requires distinct { AreDistinct (there rows.now) }
+    requires marked { AreMarked marks.now (there rows.now) }
+    ensures { result ≡ option_map (λ r. r.reply) (find (is_that_ask key.now) (there rows.now)) }
 {
-    let _ = rows.items.remove(place);
+    let Some(place) = known_place(rows, marks, key) else {
+        return None;
+    };
+    reply_of(rows.get(place))
 }
 
 /// The asks that were answered, each once, with the answers that stand. Contracts see the list, in order of answering.
 ///
-/// Beside it stands of each owner a serial that none of its objects among them passes: what passes it is asked for anew, and any other is looked
-/// for from both ends.
+/// An answer that is put anew stands at the end, and where it stood nothing does: so what it costs does not grow with how many there are. Beside the
+/// rows stands of each object, by its owner and serial, a mark of where the latest row of it is: what has none is asked for anew.
 #[derive(Drop, Debug)]
 pub struct Asks {
-    rows: Seq<Asked>,
-    bounds: Seq<u64>,
+    rows: Seq<Option<Asked>>,
+    marks: Seq<Seq<u32>>,
 }
 
 impl Model for Asks {
@@ -160,11 +186,12 @@ impl Model for Asks {
 
     ghost coded = { Prim.hlevel (codes, id_code, attempt_code) };
 
-    ghost use Rattle.protocol_data.specs.Noted.{AreDistinct, AreNoted};
+    ghost use Rattle.protocol_data.specs.Noted.{AreDistinct};
+    ghost use Rattle.protocol_data.specs.Marked.{AreMarked, there};
 
-    ghost view = { λ a. a.rows };
+    ghost view = { λ a. there a.rows };
 
-    ghost invariant = { λ a. AreDistinct a.rows × AreNoted a.bounds a.rows };
+    ghost invariant = { λ a. AreDistinct (there a.rows) × AreMarked a.marks (there a.rows) };
 }
 
 impl Asks {
@@ -174,7 +201,7 @@ impl Asks {
     {
         Asks {
             rows: Seq::new(alloc),
-            bounds: Seq::new(alloc),
+            marks: Seq::new(alloc),
         }
     }
 
@@ -182,7 +209,7 @@ impl Asks {
     pub fn reply_to(&self, key: &AskKey) -> Option<AskReply>
         ensures { result ≡ option_map (λ r. r.reply) (find (is_that_ask key.now) self.now) }
     {
-        reply_in(&self.rows, &self.bounds, key)
+        reply_in(&self.rows, &self.marks, key)
     }
 
     /// The answer to the ask stands from now on. An error is want of memory, and leaves the answers as they were.
@@ -190,16 +217,17 @@ impl Asks {
         ensures ok { OnOk result (self.new ≡ filter (λ r. not (is_that_ask key.now r)) self.old ++ record { key = key.now; reply = reply.now } ∷ []) }
         ensures err { OnErr result (self.new ≡ self.old) }
     {
-        let known = known_place(&self.rows, &self.bounds, key);
+        let known = known_place(&self.rows, &self.marks, key);
         let object = object_of(key);
-        note(&mut self.bounds, object)?;
+        let last = self.rows.len();
+        mark(&mut self.marks, object, last)?;
         let row = answered(key, reply);
         self.rows.push(row)?;
         // The row that stood before goes once nothing can fail any more.
         let Some(place) = known else {
             return Ok(());
         };
-        take_at(&mut self.rows, place);
+        self.rows.set(place, None);
         Ok(())
     }
 
@@ -208,7 +236,7 @@ impl Asks {
         ensures { IfOk result (λ a. a ≡ self.now) }
     {
         let rows = self.rows.copy(alloc)?;
-        let bounds = self.bounds.copy(alloc)?;
-        Ok(Asks { rows, bounds })
+        let marks = copy_marks(alloc, &self.marks)?;
+        Ok(Asks { rows, marks })
     }
 }

@@ -7,7 +7,7 @@ use Rattle.std.proofs.lemmas.Bool.{and_parts, not-true}
 use Rattle.meaning.specs.Values.{Id}
 use Rattle.meaning.proofs.BirthLaws.{at_test}
 use Rattle.event_log.specs.Breaks.{Among}
-use Rattle.event_log.specs.Causes.{IsRefusal, is_there, shown, unseen}
+use Rattle.event_log.specs.Causes.{IsRefusal, shown, unseen}
 use Rattle.event_log.specs.Causes as causes
 use Rattle.event_log.specs.Entries.{Event, Claim, Commit, Deliver, Tick, Notice, NoticeNode, Evict, Lose, Kill, KillNode, Join, Entry}
 use Rattle.event_log.specs.Entries.{Refusal, Pinned, NoCopy, NoWorker, NotReady, NoJob, Stale, NoMessage, NotDead, NoNode, Limit}
@@ -206,7 +206,7 @@ module _ (s : Setting) (log : List Entry) (c : Whole) (b : Between s log c) wher
   deliver_refused m code h = let k = one (is_some (item_at c.network m)) NoMessage code h in
       is_code (Deliver m) NoMessage code k.1 (as_shown S log (Deliver m) NoMessage false (ap (λ t. causes.unless t NoMessage None) (none (item_at c.network m) k.0)))
     where
-      none : (o : Option Letter) → is_some o ≡ false → is_there (goes_to_by o) ≡ false
+      none : (o : Option Letter) → is_some o ≡ false → is_some (goes_to_by o) ≡ false
       none None e = refl
       none (Some l) e = absurd (cc)
 
@@ -256,7 +256,7 @@ module _ (s : Setting) (log : List Entry) (c : Whole) (b : Between s log c) wher
 
   shown_job : (j : ℕ) (g : Given) → item_at c.jobs j ≡ Some g → g.is_committed ≡ false → shown S log true (Commit j) ≡ causes.unless (is_live_worker (worker_at c g.worker)) Stale None
   shown_job j g e fresh =
-      ap (λ o. causes.unless (is_there o) NoJob (causes.unless (not (is_committed j log)) NoJob (causes.unless (worker_lives o log) Stale None))) (claimed_as j g e)
+      ap (λ o. causes.unless (is_some o) NoJob (causes.unless (not (is_committed j log)) NoJob (causes.unless (worker_lives o log) Stale None))) (claimed_as j g e)
       ∙ ap (λ t. causes.unless (not t) NoJob (causes.unless (is_live g.worker log) Stale None)) (b.knows.commits j ∙ ap committed_in e ∙ fresh)
       ∙ ap (λ t. causes.unless t Stale None) (lives_as g.worker)
 
@@ -325,7 +325,7 @@ module _ (s : Setting) (log : List Entry) (c : Whole) (b : Between s log c) wher
   limited_for_cause (Commit j) handed h idle = commit_limited j handed (item_at c.jobs j) refl h
   limited_for_cause (Deliver m) handed h idle = as_unseen S log (Deliver m) Limit false (ap (λ t. causes.unless t NoMessage None) (some (item_at c.network m) (unless_none (is_some (item_at c.network m)) NoMessage h))) (1, refl)
     where
-      some : (o : Option Letter) → is_some o ≡ true → is_there (goes_to_by o) ≡ true
+      some : (o : Option Letter) → is_some o ≡ true → is_some (goes_to_by o) ≡ true
       some None e = absurd (cc)
       some (Some l) e = refl
   limited_for_cause (Tick w) handed h idle = as_unseen S log (Tick w) Limit false (ap (λ t. causes.unless t NoWorker None) (live_there w h)) (0, refl)

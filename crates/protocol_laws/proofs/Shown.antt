@@ -6,7 +6,7 @@ use Rattle.std.proofs.lemmas.Bool.{and_parts, eq-eqb, true≢false}
 use Rattle.std.proofs.lemmas.Option.{same_Some}
 use Rattle.meaning.specs.Values.{Id}
 use Rattle.event_log.specs.Breaks.{Among}
-use Rattle.event_log.specs.Causes.{is_there, shown}
+use Rattle.event_log.specs.Causes.{shown}
 use Rattle.event_log.specs.Causes as causes
 use Rattle.event_log.specs.Entries.{Event, Claim, Commit, Deliver, Tick, Notice, NoticeNode, Evict, Lose, Kill, KillNode, Join, Entry}
 use Rattle.event_log.specs.Entries.{Refusal, Pinned, NoCopy, NoWorker, NotReady, NoJob, Stale, NoMessage, NotDead, NoNode, Limit}
@@ -94,7 +94,7 @@ lose_codes n o st code h = by_copy (list_any (is_of o) (st.primaries ++ st.secon
     by_copy true k = absurd (cc)
     by_copy false k = (1, k)
 
-is_sent : (o : Option Letter) → is_there (goes_to_by o) ≡ is_some o
+is_sent : (o : Option Letter) → is_some (goes_to_by o) ≡ is_some o
 is_sent None = refl
 is_sent (Some l) = refl
 
@@ -126,13 +126,13 @@ module _ (s : Setting) (log : List Entry) (c : Whole) (sound : IsSound s log c) 
       let x = item_some c.workers g.worker (sound.jobs.named j g e) (sound.jobs.given j g e) in
       ap (λ o. is_out_by o j) x.1 ∙ out_by j x.0 (sound.jobs.out j g x.0 e fresh x.1)
 
-  never_given : (j : ℕ) → item_at c.jobs j ≡ None → is_there (worker_of_job j log) ≡ false
+  never_given : (j : ℕ) → item_at c.jobs j ≡ None → is_some (worker_of_job j log) ≡ false
   never_given j none = go (worker_of_job j log) refl
     where
       clash : (g : Given) → Some g ≡ None → ⊥
       clash g e = cc
 
-      go : (o : Option ℕ) → worker_of_job j log ≡ o → is_there o ≡ false
+      go : (o : Option ℕ) → worker_of_job j log ≡ o → is_some o ≡ false
       go None e = refl
       go (Some w) e =
           let r = from_one_from (λ (g : Given). g.worker) c.jobs j w (sym (ap (λ (ws : List ℕ). from_one ws j) b.knows.claims) ∙ e) in
@@ -148,14 +148,14 @@ module _ (s : Setting) (log : List Entry) (c : Whole) (sound : IsSound s log c) 
     where
       by_tables : shown S log (is_of_job handed) (Commit j) ≡ causes.unless (not g.is_committed) NoJob (causes.unless (is_of_job handed) NoJob (causes.unless (is_live g.worker log) Stale None))
       by_tables =
-          ap (λ o. causes.unless (is_there o) NoJob (causes.unless (not (is_committed j log)) NoJob (causes.unless (is_of_job handed) NoJob (causes.unless (worker_lives o log) Stale None)))) (claimed_as s log c b j g e)
+          ap (λ o. causes.unless (is_some o) NoJob (causes.unless (not (is_committed j log)) NoJob (causes.unless (is_of_job handed) NoJob (causes.unless (worker_lives o log) Stale None)))) (claimed_as s log c b j g e)
           ∙ ap (λ t. causes.unless (not t) NoJob (causes.unless (is_of_job handed) NoJob (causes.unless (is_live g.worker log) Stale None))) (b.knows.commits j ∙ ap committed_in e)
 
   refused_as_shown : (e : Event) (handed : Handed) → IsAsShown e (shown S log (is_of_job handed) e) (refusal c e handed)
   refused_as_shown (Claim w) handed = first (Claim w) (is_live w log) (is_live_worker (worker_at c w)) NoWorker _ (tables.unless (is_ready c w) NotReady) (lives w)
       (λ live. claim_by w (has_job_out w log) (is_ready c w) (idle w live))
   refused_as_shown (Commit j) handed = commit_shown j handed (item_at c.jobs j) refl
-  refused_as_shown (Deliver k) handed = one (Deliver k) (is_there (S.receiver k)) (is_some (item_at c.network k)) NoMessage (is_sent (item_at c.network k))
+  refused_as_shown (Deliver k) handed = one (Deliver k) (is_some (S.receiver k)) (is_some (item_at c.network k)) NoMessage (is_sent (item_at c.network k))
   refused_as_shown (Tick w) handed = one (Tick w) (is_live w log) (is_live_worker (worker_at c w)) NoWorker (lives w)
   refused_as_shown (Notice w v) handed = first (Notice w v) (is_live w log) (is_live_worker (worker_at c w)) NoWorker _ (tables.unless (is_dead_worker (worker_at c v)) NotDead) (lives w)
       (λ live. one (Notice w v) (is_killed v log) (is_dead_worker (worker_at c v)) NotDead (killed_as s log c b v))

@@ -13,8 +13,7 @@ end_data (Trapped t) = object (member (codes "end") (string (codes "trap")) (mem
 
 -- of a main that didn't end
 abbrev pub unended_data : Option Fault → Data
-unended_data (Some f) =
-    object (member (codes "end") (string (codes "fault")) (member (codes "fault") (string (kind_name f.kind))
+unended_data (Some f) = object (member (codes "end") (string (codes "fault")) (member (codes "fault") (string (kind_name f.kind))
     (member (codes "named") (id_data f.object) no_members)))
 unended_data None = object (member (codes "end") (string (codes "open")) no_members)
 

@@ -114,8 +114,8 @@ report_begins script log typed m = go (ends_of main_attempt log) refl
         let begins = begins_so log prints (unended_line fault) refl (ap (λ o. main_line o fault) ended) in
         let says = says_so log prints None fault refl (ap (λ o. main_data o fault) ended) in
         record {
-          text = inr (record { prints = prints; fault = fault; begins = begins; first = first; cause = cause }, ap status ended);
-          json = inr (record { prints = prints; fault = fault; says = says; first = first; cause = cause }, ap status ended);
+          text = inr (record { prints = prints; fault = fault; said = begins; first = first; cause = cause }, ap status ended);
+          json = inr (record { prints = prints; fault = fault; said = says; first = first; cause = cause }, ap status ended);
         }
     go (cs ∷ ends) e =
         let w = whole_at script log typed m cs ends e in

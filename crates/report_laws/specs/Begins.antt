@@ -23,15 +23,18 @@ abbrev pub HasCause : List Entry → Option Fault → Type 0
 HasCause log None = Unit {0}
 HasCause log (Some f) = (o : Id) × IsCaused log (record { object = o; fault = f })
 
--- first prints of the serial run, line by line, and then that main is open, or its fault
-pub record IsPart (script : Script) (log : List Entry) (text : List ℕ) : Type 0 where
+-- main didn't end: first prints of the serial run, and its fault, if it has one, with its cause, are said so
+pub record IsPart (IsSaid : List Value → Option Fault → Type 0) (script : Script) (log : List Entry) : Type 0 where
   pub prints : List Value
   pub fault : Option Fault
-  pub begins : BeginsWith text (print_lines prints ++ unended_line fault)
+  pub said : IsSaid prints fault
   pub first : IsFirst prints (serial_prints script)
   pub cause : HasCause log fault
 
--- the whole output of the serial run, with its status; or such a part of it, with status 2
+-- the whole of the serial run is said, with its status; or a part of it is said so, with status 2
+abbrev pub IsAsSerial : Type 0 → (List Value → Option Fault → Type 0) → Script → List Entry → ℕ → Type 0
+IsAsSerial IsWhole IsSaid script log status = (IsWhole × (status ≡ serial_status script)) ⊎ (IsPart IsSaid script log × (status ≡ 2))
+
+-- the whole output of the serial run; or prints line by line, and then that main is open, or its fault
 abbrev pub BeginsAsSerial : Script → List Entry → List ℕ → ℕ → Type 0
-BeginsAsSerial script log text status =
-    (BeginsWith text (serial_report script) × (status ≡ serial_status script)) ⊎ (IsPart script log text × (status ≡ 2))
+BeginsAsSerial script log text = IsAsSerial (BeginsWith text (serial_report script)) (λ p f. BeginsWith text (print_lines p ++ unended_line f)) script log

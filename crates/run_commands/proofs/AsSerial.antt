@@ -31,7 +31,7 @@ longer script log text more status (inr (part, same)) = inr (
   record {
     prints = part.prints;
     fault = part.fault;
-    begins = begins_longer text more _ part.begins;
+    said = begins_longer text more _ part.said;
     first = part.first;
     cause = part.cause;
   },

@@ -64,7 +64,7 @@ fn faults(alloc: Global) -> Result<Vec<Entry>, AllocError> {
     };
     let items = vec![in alloc; RunValue::Int(-3), RunValue::Id(object(1, 2))]?;
     let value = RunValue::List(items);
-    let birth = Birth::Put(RunValue::Int(6));
+    let birth = Origin::new(alloc, Birth::Put(RunValue::Int(6)))?;
     let content = SharedContent::new(alloc, values::Content::Trap(Trap::Loop))?;
     let shared = content.copy(alloc)?;
     let contents = only_content(alloc, content)?;
@@ -79,7 +79,7 @@ fn faults(alloc: Global) -> Result<Vec<Entry>, AllocError> {
         Entry::Born {
             object: cause,
             attempt: attempt(1, 0),
-            birth: Origin { inner: birth }
+            birth
         },
         Entry::Printed(Printed { inner: value }),
         begun(attempt(1, 2), 2),

@@ -30,9 +30,10 @@ beyond_made j p r bs vs e eb ev =
     ∙ ap (beyond j) e
 
 -- a replay on what a job has is the job's
-pub replayed_as : (script : Script) (k j : JobParts) (p : runs.Piece) (cs : List meant.Outcome) → k ≡ j → cs ≡ k.answers →
-    p ≡ replay script k.spec k.base cs → p ≡ replay_of script j
-replayed_as script k j p cs same answers e = e ∙ ap (replay script k.spec k.base) answers ∙ ap (replay_of script) same
+pub replayed_as : (script : Script) (k j : JobParts) (p : runs.Piece) (spec : meant.Birth) (cs : List meant.Outcome) → k ≡ j → spec ≡ k.spec → cs ≡ k.answers →
+    p ≡ replay script spec k.base cs → p ≡ replay_of script j
+replayed_as script k j p spec cs same spec_is answers e =
+    e ∙ ap (λ b. replay script b k.base cs) spec_is ∙ ap (replay script k.spec k.base) answers ∙ ap (replay_of script) same
 
 -- a beginning, and what comes after it
 beginning_and_rest : {X : Type 0} (xs ys : List X) → IsFirst xs ys → ys ≡ xs ++ drop (length xs) ys

@@ -9,15 +9,14 @@ ghost use Rattle.segment.specs.Pieces.{done_of};
 use crate::job::Job;
 use crate::script_name::ScriptName;
 use evaluation::{Frame, Piece, PieceStop};
-use held::JobParts;
 use std::marker::Model;
 use task_spec::Birth;
 use values::RunValue;
 
-/// The plain parts of a job that was run, and of what was done on it.
+/// A job that was run, and the plain parts of what was done on it.
 #[derive(Drop)]
-pub struct DoneParts {
-    pub job: JobParts,
+pub struct DoneParts<S: ScriptName> {
+    pub job: Job<S>,
     /// What the attempt bore beyond what the job had.
     pub births: Vec<Birth>,
     /// What the attempt printed beyond what the job had.
@@ -27,11 +26,11 @@ pub struct DoneParts {
 
 /// A job of the script `S` that was run, and what was done on it. It is true of its job: the job's births and prints
 /// with these after them, and the stop, are what the job's task does on the job's answers. Its frame, if it has one, is where the task
-/// waits for its next answer.
+/// waits for its next answer. What was done stands behind a pointer, so that it is handed on at the cost of a few words.
 #[derive(Drop)]
 pub struct Done<S: ScriptName> {
     job: Job<S>,
-    piece: Piece,
+    piece: Box<Piece>,
 }
 
 impl<S: ScriptName> Model for Done<S> {
@@ -47,19 +46,19 @@ impl<S: ScriptName> Model for Done<S> {
 
     ghost coded = { Prim.hlevel (codes, birth_code, value_code, outcome_code, run_values.the_row.coded) };
 
-    ghost view = { λ d. done_of d.job d.piece };
+    ghost view = { λ d. done_of d.job d.piece.value };
 
-    ghost invariant = { λ d. IsTrueOf S.script (done_of d.job d.piece) × IfSome d.piece.frame (WaitsAfter S.script (done_of d.job d.piece))
-        × HasStepsOf S.script d.job d.piece.steps };
+    ghost invariant = { λ d. IsTrueOf S.script (done_of d.job d.piece.value)
+        × IfSome d.piece.value.frame (WaitsAfter S.script (done_of d.job d.piece.value)) × HasStepsOf S.script d.job d.piece.value.steps };
 }
 
 impl<S: ScriptName> Done<S> {
     /// The job with what was done on it.
-    pub(crate) fn new(job: Job<S>, piece: Piece) -> Done<S>
-        requires is_true { IsTrueOf S.script (done_of job piece) }
-        requires waits { IfSome piece.frame (WaitsAfter S.script (done_of job piece)) }
-        requires counts { HasStepsOf S.script job piece.steps }
-        ensures { result ≡ done_of job piece }
+    pub(crate) fn new(job: Job<S>, piece: Box<Piece>) -> Done<S>
+        requires is_true { IsTrueOf S.script (done_of job piece.value) }
+        requires waits { IfSome piece.value.frame (WaitsAfter S.script (done_of job piece.value)) }
+        requires counts { HasStepsOf S.script job piece.value.steps }
+        ensures { result ≡ done_of job piece.value }
     {
         Done { job, piece }
     }
@@ -109,8 +108,8 @@ impl<S: ScriptName> Done<S> {
         self.piece.frame.take()
     }
 
-    /// The job's parts, and what was done on it.
-    pub fn into_parts(self) -> DoneParts
+    /// The job, and what was done on it.
+    pub fn into_parts(self) -> DoneParts<S>
         ensures job { result.job ≡ self.job }
         ensures births { result.births.items ≡ self.births }
         ensures prints { result.prints.items ≡ self.prints }
@@ -124,9 +123,9 @@ impl<S: ScriptName> Done<S> {
             stop,
             frame: _,
             steps: _,
-        } = piece;
+        } = Box::into_inner(piece);
         DoneParts {
-            job: job.into_parts(),
+            job,
             births,
             prints,
             stop,

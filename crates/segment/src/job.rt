@@ -17,11 +17,12 @@ use std::marker::{Model, PhantomData};
 
 /// An attempt of a task of the script `S`, to be run up to the next answer that it needs. Its births and prints so far
 /// begin what its task does on its answers so far, and arguments and answers are of the kinds that the script asks for. Its frame, if it
-/// has one, is where its own task waits for the last of its answers.
+/// has one, is where its own task waits for the last of its answers. Both stand behind pointers, so that a job is handed on at the cost of
+/// a few words.
 #[derive(Drop)]
 pub struct Job<S: ScriptName> {
-    parts: JobParts,
-    frame: Option<Frame>,
+    parts: Box<JobParts>,
+    frame: Option<Box<Frame>>,
     script: PhantomData<S>,
 }
 
@@ -36,16 +37,16 @@ impl<S: ScriptName> Model for Job<S> {
 
     ghost coded = { Prim.hlevel (codes, birth_code, value_code, outcome_code) };
 
-    ghost view = { λ j. j.parts };
+    ghost view = { λ j. j.parts.value };
 
-    ghost invariant = { λ j. IsBegun S.script j.parts × IfSome j.frame (Fits S.script j.parts) };
+    ghost invariant = { λ j. IsBegun S.script j.parts.value × IfSome j.frame (λ f. Fits S.script j.parts.value f.value) };
 }
 
 impl<S: ScriptName> Job<S> {
     /// The job with these parts.
-    pub fn new(parts: JobParts) -> Job<S>
-        requires { IsBegun S.script parts }
-        ensures { result ≡ parts }
+    pub fn new(parts: Box<JobParts>) -> Job<S>
+        requires { IsBegun S.script parts.value }
+        ensures { result ≡ parts.value }
     {
         Job {
             parts,
@@ -55,8 +56,8 @@ impl<S: ScriptName> Job<S> {
     }
 
     /// The job, with the frame from which it is run.
-    pub fn with_frame(self, frame: Frame) -> Job<S>
-        requires { Fits S.script self frame }
+    pub fn with_frame(self, frame: Box<Frame>) -> Job<S>
+        requires { Fits S.script self frame.value }
         ensures { result ≡ self }
     {
         let Job {
@@ -143,7 +144,7 @@ impl<S: ScriptName> Job<S> {
             frame: _,
             script: _,
         } = self;
-        parts
+        Box::into_inner(parts)
     }
 
     /// Runs the job: the task goes on from the job's frame, or is run again from its start on the answers, up to the next answer that it
@@ -164,6 +165,9 @@ impl<S: ScriptName> Job<S> {
             Ok(piece) => piece,
             Err(PieceError::Broken) => unreachable!(),
             Err(PieceError::NoMemory) => return Err(NoMemory),
+        };
+        let Ok(piece) = Box::new(alloc, piece) else {
+            return Err(NoMemory);
         };
         let job = Job {
             parts,

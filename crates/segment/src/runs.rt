@@ -55,7 +55,7 @@ fn attest_spec(spec: &Origin)
 fn others(spec: &Origin) -> u8
     ensures { result ≡ others_of spec.now }
 {
-    match &spec.inner {
+    match &*spec.inner {
         Birth::Put(_) => 0,
         Birth::Task {
             function: _,
@@ -72,10 +72,10 @@ pub(crate) fn run_on(
     alloc: Global,
     script: &Compiled,
     job: &JobParts,
-    frame: Option<Frame>,
+    frame: Option<Box<Frame>>,
 ) -> Result<Piece, PieceError>
     requires begun { IsBegun (script_of script.now) job.now }
-    requires fits { IfSome frame (Fits (script_of script.now) job.now) }
+    requires fits { IfSome frame (λ f. Fits (script_of script.now) job.now f.value) }
     ensures whole { IfOk result (λ p. IsTrueOf (script_of script.now) (done_of job.now p)) }
     ensures broken { IfErr result (λ e. e ≡ PieceError.Broken → IsBrokenStop (replay_of (script_of script.now) job.now).stop) }
     ensures waits { IfOk result (λ p. IfSome p.frame (WaitsAfter (script_of script.now) (done_of job.now p))) }
@@ -88,5 +88,11 @@ pub(crate) fn run_on(
     let Some((answer, _)) = job.answers.inner.split_last() else {
         return run_again(alloc, script, job);
     };
-    go_on(alloc, script, frame, others(&job.spec), answer)
+    go_on(
+        alloc,
+        script,
+        Box::into_inner(frame),
+        others(&job.spec),
+        answer,
+    )
 }

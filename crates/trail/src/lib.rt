@@ -100,8 +100,8 @@ impl<T> Trail<T> {
 
 impl<T: Drop> Trail<T> {
     /// The list, with an item at its end.
-    fn with(self, alloc: Global, item: T) -> Result<Trail<T>, AllocError>
-        ensures { IfOk result (λ more. more ≡ self ++ item ∷ []) }
+    fn with(self, alloc: Global, item: Arc<T>) -> Result<Trail<T>, AllocError>
+        ensures { IfOk result (λ more. more ≡ self ++ arc_value item ∷ []) }
     {
         let Trail { full, last, count } = self;
         let mut full = full;
@@ -112,13 +112,24 @@ impl<T: Drop> Trail<T> {
             unreachable!();
         };
         close(alloc, &mut full, &mut last)?;
-        last.push(Arc::new(alloc, item)?)?;
+        last.push(item)?;
         Ok(Trail { full, last, count })
     }
 
     /// Adds an item at the end, behind a full chunk in a new one. After an error, which is want of memory, the list is empty.
     pub fn push(&mut self, alloc: Global, item: T) -> Result<(), AllocError>
         ensures ok { OnOk result (self.new ≡ self.old ++ item ∷ []) }
+        ensures err { OnErr result (self.new ≡ []) }
+    {
+        let list = mem::replace(self, Trail::new(alloc));
+        let item = Arc::new(alloc, item)?;
+        *self = list.with(alloc, item)?;
+        Ok(())
+    }
+
+    /// Adds an item that is shared already: only a pointer is kept. After an error, which is want of memory, the list is empty.
+    pub fn push_shared(&mut self, alloc: Global, item: Arc<T>) -> Result<(), AllocError>
+        ensures ok { OnOk result (self.new ≡ self.old ++ arc_value item ∷ []) }
         ensures err { OnErr result (self.new ≡ []) }
     {
         let list = mem::replace(self, Trail::new(alloc));

@@ -13,7 +13,7 @@ use log_entries::Entry;
 use protocol_data::{Here, Node, Whole, Worker};
 use sequence::Seq;
 use std::alloc::{AllocError, Global};
-use whole_steps::{node_place, put_worker, take_worker, worker_place};
+use whole_steps::{blank_here, exchange, node_place, put_worker, take_worker, worker_place};
 use worker_acts::{Act, take_part};
 
 /// The worker of that number does its part in an event. The entries that this adds are given back.
@@ -33,7 +33,8 @@ pub fn act(
     let Some(node_place) = node_place(whole, node) else {
         return Ok(Seq::new(alloc));
     };
-    let mut here = take_worker(alloc, whole, place, node_place, number, node);
+    let mut here = blank_here(alloc, whole, number, node);
+    exchange(whole, place, node_place, &mut here);
     take_part(alloc, &mut here, what)?;
     put_worker(alloc, whole, place, node_place, number, node, here)
 }

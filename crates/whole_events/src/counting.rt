@@ -77,7 +77,7 @@ fn death_opens(alloc: Global, scheduler: &Scheduler, worker: WorkerId) -> Result
     let answered = without(alloc, &scheduler.answered, worker)?;
     let idle = without(alloc, &scheduler.idle, worker)?;
     let is_free = (holders.len() as u64) < u64::from(scheduler.slots);
-    let is_queued = !scheduler.queue.items.is_empty();
+    let is_queued = !scheduler.queue.as_slice().is_empty();
     Ok(is_free && answered.items.is_empty() && is_queued && idle.items.is_empty())
 }
 

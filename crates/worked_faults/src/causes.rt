@@ -80,7 +80,7 @@ fn put_is_lost(log: &[Entry], object: ObjectId) -> bool {
         } = &log[place]
         {
             if *o == object {
-                is_put = matches!(&birth.inner, Birth::Put(_));
+                is_put = matches!(&*birth.inner, Birth::Put(_));
             }
         }
         if let Some(event) = accepted_at(log, place) {
@@ -102,7 +102,7 @@ fn retries_of(log: &[Entry], object: ObjectId) -> Option<u8> {
         } = entry
         {
             if *o == object {
-                return match &birth.inner {
+                return match &*birth.inner {
                     Birth::Task { retries, .. } => Some(*retries),
                     Birth::Put(_) => None,
                 };

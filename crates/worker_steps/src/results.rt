@@ -18,7 +18,7 @@ pub fn results_of(spec: &Origin) -> u64
     ensures value { result ≡ results_of spec.now }
     ensures bound { result ≤ 2 ^ 8 }
 {
-    match &spec.inner {
+    match &*spec.inner {
         Birth::Put(_) => 1,
         Birth::Task { others, .. } => 1 + *others as u64,
     }

@@ -1,5 +1,6 @@
 use Rattle.std.proofs.Common.{sym, ap, ◌∙◌, refl, subst}
 use Rattle.protocol.specs.Answers.{answer}
+use Rattle.segment.specs.Jobs.{IsBegun}
 use Rattle.answers.specs.declared.reply.Verdict.TheVariants.{Taken}
 use Rattle.protocol_core.specs.Own.{GivesOwn}
 use Rattle.protocol_core.specs.Steps.{Accepts, GivesJob}
@@ -17,77 +18,78 @@ pub handed_with-requires-clause-own : goal.handed_with-requires-clause-own
 handed_with-requires-clause-own g c is_own =
     have_answers g.S.ScriptName.script (state_of c.args.state.now) c.requires.kept c.requires.goes_on c.runs_have_the_logs_answers.ensures c.args.done (c.requires.own is_own)
 
-pub returns-in_ok-add-in-Refused-clause-kept : goal.returns-in_ok-add-in-Refused-clause-kept
-returns-in_ok-add-in-Refused-clause-kept g c =
+pub returns-in-Refused-clause-kept : goal.returns-in-Refused-clause-kept
+returns-in-Refused-clause-kept g c =
     let script = g.S.ScriptName.script in
     let before = state_of c.args.state.now in
     let after = state_of c.add.new.self in
     let e = c.args.event in
     let h = came script before after e e c.args.seat c.args.done c.in_ok-handed.handed c.in_ok-reply.reply
     refl c.in_ok-handed.ensures.handed c.handed_with.ensures.is_true c.in_ok-reply.ensures.reply
-    c.in_ok-add-in-Refused.ensures.ok (c.add.ensures.whole ∙ c.in_ok-reply.ensures.whole) c.add.ensures.nodes (c.add.ensures.halted ∙ c.requires.goes_on) in
+    c.in_ok-add.ensures.ok (c.add.ensures.whole ∙ c.in_ok-reply.ensures.whole) c.add.ensures.nodes (c.add.ensures.halted ∙ c.requires.goes_on) in
     kept_behind script before after e c.args.seat c.args.done c.in_ok-reply.reply.outcome c.requires.kept c.requires.goes_on c.event_keeps_sound.ensures c.sound_is_legal.ensures h
 
-pub returns-in_ok-add-in-Taken-None-clause-kept : goal.returns-in_ok-add-in-Taken-None-clause-kept
-returns-in_ok-add-in-Taken-None-clause-kept g c =
+pub returns-in-Taken-None-clause-kept : goal.returns-in-Taken-None-clause-kept
+returns-in-Taken-None-clause-kept g c =
     let script = g.S.ScriptName.script in
     let before = state_of c.args.state.now in
-    let after = state_of c.add-in-Taken-None.new.self in
+    let after = state_of c.add.new.self in
     let e = c.args.event in
     let h = came script before after e e c.args.seat c.args.done c.in_ok-handed.handed c.in_ok-reply.reply
     refl c.in_ok-handed.ensures.handed c.handed_with.ensures.is_true c.in_ok-reply.ensures.reply
-    c.in_ok-add-in-Taken-None.ensures.ok (c.add-in-Taken-None.ensures.whole ∙ c.in_ok-reply.ensures.whole) c.add-in-Taken-None.ensures.nodes (c.add-in-Taken-None.ensures.halted ∙ c.requires.goes_on) in
+    c.in_ok-add.ensures.ok (c.add.ensures.whole ∙ c.in_ok-reply.ensures.whole) c.add.ensures.nodes (c.add.ensures.halted ∙ c.requires.goes_on) in
+    kept_behind script before after e c.args.seat c.args.done c.in_ok-reply.reply.outcome c.requires.kept c.requires.goes_on c.event_keeps_sound.ensures c.sound_is_legal.ensures h
+
+pub returns-in-Taken-Some-clause-kept : goal.returns-in-Taken-Some-clause-kept
+returns-in-Taken-Some-clause-kept g c =
+    let script = g.S.ScriptName.script in
+    let before = state_of c.args.state.now in
+    let after = state_of c.add.new.self in
+    let e = c.args.event in
+    let h = came script before after e e c.args.seat c.args.done c.in_ok-handed.handed c.in_ok-reply.reply
+    refl c.in_ok-handed.ensures.handed c.handed_with.ensures.is_true c.in_ok-reply.ensures.reply
+    c.in_ok-add.ensures.ok (c.add.ensures.whole ∙ c.in_ok-reply.ensures.whole) c.add.ensures.nodes (c.add.ensures.halted ∙ c.requires.goes_on) in
     kept_behind script before after e c.args.seat c.args.done c.in_ok-reply.reply.outcome c.requires.kept c.requires.goes_on c.event_keeps_sound.ensures c.sound_is_legal.ensures h
 
 pub new-requires : goal.new-requires
 new-requires g c =
     let script = g.S.ScriptName.script in
     let before = state_of c.args.state.now in
-    let after = state_of c.add-in-Taken-Some.new.self in
+    let after = state_of c.add.new.self in
     let e = c.args.event in
     let h = came script before after e e c.args.seat c.args.done c.in_ok-handed.handed c.in_ok-reply.reply
     refl c.in_ok-handed.ensures.handed c.handed_with.ensures.is_true c.in_ok-reply.ensures.reply
-    c.in_ok-add-in-Taken-Some.ensures.ok (c.add-in-Taken-Some.ensures.whole ∙ c.in_ok-reply.ensures.whole) c.add-in-Taken-Some.ensures.nodes (c.add-in-Taken-Some.ensures.halted ∙ c.requires.goes_on) in
+    c.in_ok-add.ensures.ok (c.add.ensures.whole ∙ c.in_ok-reply.ensures.whole) c.add.ensures.nodes (c.add.ensures.halted ∙ c.requires.goes_on) in
     let job = c.in-Taken-Some.job in
     let gives = c.in-Taken-Some.is ∙ ap (λ x. Taken x) c.in-Taken-Some.field-0-is in
-    begun_behind script before after e c.args.seat c.args.done c.in_ok-reply.reply.outcome c.requires.kept c.requires.goes_on c.claims_give_good_jobs.ensures h job gives
+    let begun = begun_behind script before after e c.args.seat c.args.done c.in_ok-reply.reply.outcome c.requires.kept c.requires.goes_on c.claims_give_good_jobs.ensures h job gives in
+    subst (λ j. IsBegun script j) (sym c.job.view_is) begun
 
-pub returns-in_ok-add-in-Taken-Some-clause-applied : goal.returns-in_ok-add-in-Taken-Some-clause-applied
-returns-in_ok-add-in-Taken-Some-clause-applied g c =
+pub returns-in-Taken-Some-clause-applied : goal.returns-in-Taken-Some-clause-applied
+returns-in-Taken-Some-clause-applied g c =
     let script = g.S.ScriptName.script in
     let before = state_of c.args.state.now in
-    let after = state_of c.add-in-Taken-Some.new.self in
+    let after = state_of c.add.new.self in
     let e = c.args.event in
     let h = came script before after e e c.args.seat c.args.done c.in_ok-handed.handed c.in_ok-reply.reply
     refl c.in_ok-handed.ensures.handed c.handed_with.ensures.is_true c.in_ok-reply.ensures.reply
-    c.in_ok-add-in-Taken-Some.ensures.ok (c.add-in-Taken-Some.ensures.whole ∙ c.in_ok-reply.ensures.whole) c.add-in-Taken-Some.ensures.nodes (c.add-in-Taken-Some.ensures.halted ∙ c.requires.goes_on) in
+    c.in_ok-add.ensures.ok (c.add.ensures.whole ∙ c.in_ok-reply.ensures.whole) c.add.ensures.nodes (c.add.ensures.halted ∙ c.requires.goes_on) in
     let job = c.in-Taken-Some.job in
     let gives = c.in-Taken-Some.is ∙ ap (λ x. Taken x) c.in-Taken-Some.field-0-is in
     let tells = tells_job _ job (sym h.outcome_is ∙ gives) in
-    applies script before after e c.args.seat c.args.done c.in_ok-reply.reply.outcome (GivesJob c.new.result) h (subst (λ j. told.Tells (answer before.whole e h.handed) (GivesJob j)) (sym c.new.ensures) tells)
+    applies script before after e c.args.seat c.args.done c.in_ok-reply.reply.outcome (GivesJob c.new.result) h (subst (λ j. told.Tells (answer before.whole e h.handed) (GivesJob j)) (sym (c.new.ensures ∙ c.job.view_is)) tells)
 
-pub returns-in_ok-add-in-Taken-Some-clause-own : goal.returns-in_ok-add-in-Taken-Some-clause-own
-returns-in_ok-add-in-Taken-Some-clause-own g c =
+pub returns-in-Taken-Some-clause-own : goal.returns-in-Taken-Some-clause-own
+returns-in-Taken-Some-clause-own g c =
     let script = g.S.ScriptName.script in
     let before = state_of c.args.state.now in
-    let after = state_of c.add-in-Taken-Some.new.self in
+    let after = state_of c.add.new.self in
     let e = c.args.event in
     let h = came script before after e e c.args.seat c.args.done c.in_ok-handed.handed c.in_ok-reply.reply
     refl c.in_ok-handed.ensures.handed c.handed_with.ensures.is_true c.in_ok-reply.ensures.reply
-    c.in_ok-add-in-Taken-Some.ensures.ok (c.add-in-Taken-Some.ensures.whole ∙ c.in_ok-reply.ensures.whole) c.add-in-Taken-Some.ensures.nodes (c.add-in-Taken-Some.ensures.halted ∙ c.requires.goes_on) in
+    c.in_ok-add.ensures.ok (c.add.ensures.whole ∙ c.in_ok-reply.ensures.whole) c.add.ensures.nodes (c.add.ensures.halted ∙ c.requires.goes_on) in
     let job = c.in-Taken-Some.job in
     let gives = c.in-Taken-Some.is ∙ ap (λ x. Taken x) c.in-Taken-Some.field-0-is in
     let own = own_behind script before after e c.args.seat c.args.done c.in_ok-reply.reply.outcome c.requires.kept c.requires.goes_on
     c.claims_give_jobs_of_the_log.ensures c.jobs_stay_of_the_log.ensures h job gives in
-    subst (λ j. GivesOwn after.log (GivesJob j)) (sym c.new.ensures) own
-
-pub returns-in_ok-add-in-Taken-Some-clause-kept : goal.returns-in_ok-add-in-Taken-Some-clause-kept
-returns-in_ok-add-in-Taken-Some-clause-kept g c =
-    let script = g.S.ScriptName.script in
-    let before = state_of c.args.state.now in
-    let after = state_of c.add-in-Taken-Some.new.self in
-    let e = c.args.event in
-    let h = came script before after e e c.args.seat c.args.done c.in_ok-handed.handed c.in_ok-reply.reply
-    refl c.in_ok-handed.ensures.handed c.handed_with.ensures.is_true c.in_ok-reply.ensures.reply
-    c.in_ok-add-in-Taken-Some.ensures.ok (c.add-in-Taken-Some.ensures.whole ∙ c.in_ok-reply.ensures.whole) c.add-in-Taken-Some.ensures.nodes (c.add-in-Taken-Some.ensures.halted ∙ c.requires.goes_on) in
-    kept_behind script before after e c.args.seat c.args.done c.in_ok-reply.reply.outcome c.requires.kept c.requires.goes_on c.event_keeps_sound.ensures c.sound_is_legal.ensures h
+    subst (λ j. GivesOwn after.log (GivesJob j)) (sym (c.new.ensures ∙ c.job.view_is)) own

@@ -1,8 +1,6 @@
-use Rattle.std.proofs.Common.{sym, ap, ◌∙◌}
-use Rattle.protocol_data.proofs.Noting.{unnoted}
-use Rattle.protocol_data.specs.Noted.{may_be_noted}
+use Rattle.protocol_data.proofs.Noting.{unmarked, without_mark}
 use Rattle.protocol_data.proofs.asks.known_place.Goals as goal
 
-pub returns-then-not-may_be_noted-clause-none : goal.returns-then-not-may_be_noted-clause-none
-returns-then-not-may_be_noted-clause-none c =
-    unnoted _ _ _ c.requires.noted (ap (may_be_noted _) (sym c.object_of-object.ensures) ∙ sym c.may_be_noted.ensures ∙ c.if-not-may_be_noted.true)
+pub returns-then-not-may_be_marked-clause-none : goal.returns-then-not-may_be_marked-clause-none
+returns-then-not-may_be_marked-clause-none c =
+    unmarked _ _ _ c.requires.marked (without_mark _ _ _ _ _ c.object_of-object.ensures c.mark_of-mark.ensures c.may_be_marked.ensures c.if-not-may_be_marked.true)

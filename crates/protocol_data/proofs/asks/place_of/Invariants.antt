@@ -1,9 +1,8 @@
-use Rattle.std.proofs.Common.{◌≡◌, ℕ, ◌<◌, ◌≤◌, ◌-◌, Some, false}
+use Rattle.std.proofs.Common.{◌≡◌, ℕ, ◌<◌, Some, Option, false}
 use Rattle.std.specs.Prelude.{slice_get}
 use Rattle.protocol_data.specs.declared.node.Asked.{Asked}
-use Rattle.protocol_data.specs.Noted.{is_that_ask}
+use Rattle.protocol_data.specs.Marked.{is_that_row}
 use Rattle.protocol_data.proofs.asks.place_of.Given as goal
 
-abbrev pub invariant-loop-step : goal.invariant-loop-step
-invariant-loop-step l = ((i : ℕ) (x : Asked) → i < l.step → slice_get l.rows i ≡ Some x → is_that_ask l.key x ≡ false) ×
-    ((i : ℕ) (x : Asked) → l.count - l.step ≤ i → slice_get l.rows i ≡ Some x → is_that_ask l.key x ≡ false)
+abbrev pub invariant-loop-place : goal.invariant-loop-place
+invariant-loop-place l = (i : ℕ) (r : Option Asked) → i < l.place → slice_get l.rows i ≡ Some r → is_that_row l.key r ≡ false

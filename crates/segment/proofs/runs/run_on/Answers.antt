@@ -40,8 +40,9 @@ returns-clause-whole c =
     ap (map content_of) (c.deref-2.ensures.value ∙ ap (λ v. v.items) c.deref.ensures) ∙ ap (λ (p : JobParts). p.answers) c.job.view_is in
     let last : j.answers ≡ rest ++ answer ∷ [] =
     sym items ∙ ap (map content_of) c.in-Some-split_last.ensures.cases.0 ∙ map_last content_of c.in-Some-split_last.field-0-1.now c.in-Some-split_last.answer.now in
-    let fits : Fits script j c.in-Some.frame = subst (λ f. IfSome f (Fits script j)) c.in-Some.is c.requires.fits in
-    let waits = waits_last script j c.in-Some.frame rest answer last fits in
+    let kept = subst (λ f. IfSome f (λ b. Fits script j b.value)) c.in-Some.is c.requires.fits in
+    let fits : Fits script j c.into_inner.result = subst (Fits script j) (sym c.into_inner.ensures) kept in
+    let waits = waits_last script j c.into_inner.result rest answer last fits in
     if_ok _ _ c.go_on.result
     (λ p replayed. ap (replay script j.spec j.base) last
     ∙ sym (replayed j.spec j.base (before_of j rest) (sym (c.others.ensures ∙ ap (λ (x : JobParts). others_of x.spec) c.job.view_is)) waits))
@@ -57,8 +58,9 @@ returns-clause-broken c =
     ap (map content_of) (c.deref-2.ensures.value ∙ ap (λ v. v.items) c.deref.ensures) ∙ ap (λ (p : JobParts). p.answers) c.job.view_is in
     let last : j.answers ≡ rest ++ answer ∷ [] =
     sym items ∙ ap (map content_of) c.in-Some-split_last.ensures.cases.0 ∙ map_last content_of c.in-Some-split_last.field-0-1.now c.in-Some-split_last.answer.now in
-    let fits : Fits script j c.in-Some.frame = subst (λ f. IfSome f (Fits script j)) c.in-Some.is c.requires.fits in
-    let waits = waits_last script j c.in-Some.frame rest answer last fits in
+    let kept = subst (λ f. IfSome f (λ b. Fits script j b.value)) c.in-Some.is c.requires.fits in
+    let fits : Fits script j c.into_inner.result = subst (Fits script j) (sym c.into_inner.ensures) kept in
+    let waits = waits_last script j c.into_inner.result rest answer last fits in
     on_err _ _ c.go_on.result
     (λ e broken is. subst (λ cs. IsBrokenStop (replay script j.spec j.base cs).stop) (sym last)
     (broken is j.spec j.base (before_of j rest) (sym (c.others.ensures ∙ ap (λ (x : JobParts). others_of x.spec) c.job.view_is))
@@ -76,8 +78,9 @@ returns-clause-waits c =
     ap (map content_of) (c.deref-2.ensures.value ∙ ap (λ v. v.items) c.deref.ensures) ∙ ap (λ (p : JobParts). p.answers) c.job.view_is in
     let last : j.answers ≡ rest ++ answer ∷ [] =
     sym items ∙ ap (map content_of) c.in-Some-split_last.ensures.cases.0 ∙ map_last content_of c.in-Some-split_last.field-0-1.now c.in-Some-split_last.answer.now in
-    let fits : Fits script j c.in-Some.frame = subst (λ f. IfSome f (Fits script j)) c.in-Some.is c.requires.fits in
-    let waits = waits_last script j c.in-Some.frame rest answer last fits in
+    let kept = subst (λ f. IfSome f (λ b. Fits script j b.value)) c.in-Some.is c.requires.fits in
+    let fits : Fits script j c.into_inner.result = subst (Fits script j) (sym c.into_inner.ensures) kept in
+    let waits = waits_last script j c.into_inner.result rest answer last fits in
     if_ok _ _ c.go_on.result
     (λ p keeps. subst (λ cs. IfSome p.frame (IsWaiting script j.spec j.base
     (record { answers = cs; births = (whole_of (done_of j p)).births; prints = (whole_of (done_of j p)).prints })))
@@ -94,8 +97,9 @@ returns-clause-counts c =
     ap (map content_of) (c.deref-2.ensures.value ∙ ap (λ v. v.items) c.deref.ensures) ∙ ap (λ (p : JobParts). p.answers) c.job.view_is in
     let last : j.answers ≡ rest ++ answer ∷ [] =
     sym items ∙ ap (map content_of) c.in-Some-split_last.ensures.cases.0 ∙ map_last content_of c.in-Some-split_last.field-0-1.now c.in-Some-split_last.answer.now in
-    let fits : Fits script j c.in-Some.frame = subst (λ f. IfSome f (Fits script j)) c.in-Some.is c.requires.fits in
-    let waits = waits_last script j c.in-Some.frame rest answer last fits in
+    let kept = subst (λ f. IfSome f (λ b. Fits script j b.value)) c.in-Some.is c.requires.fits in
+    let fits : Fits script j c.into_inner.result = subst (Fits script j) (sym c.into_inner.ensures) kept in
+    let waits = waits_last script j c.into_inner.result rest answer last fits in
     if_ok _ _ c.go_on.result
     (λ p counts. subst (λ cs. HasSteps script j.spec j.base cs p.steps) (sym last)
     (counts j.spec j.base (before_of j rest) (sym (c.others.ensures ∙ ap (λ (x : JobParts). others_of x.spec) c.job.view_is)) waits))

@@ -1,14 +1,15 @@
 use Rattle.std.proofs.Common.{sym, subst}
-use Rattle.protocol_data.proofs.Noting.{is_within_pushed, noted_wider, pushed_again, pushed_anew, put_right, put_viewed}
-use Rattle.protocol_data.specs.Noted.{AreDistinct, AreNoted}
+use Rattle.protocol_data.proofs.Noting.{is_within_pushed, marked_wider, pushed_again, pushed_anew, put_right, put_viewed}
+use Rattle.protocol_data.specs.Noted.{AreDistinct}
+use Rattle.protocol_data.specs.Marked.{AreMarked, there}
 use Rattle.protocol_data.proofs.asks.Asks.put.Goals as goal
 
 pub invariant_of-self : goal.invariant_of-self
-invariant_of-self c = noted_wider _ _ _ c.self.invariant c.note.ensures.kept
+invariant_of-self c = marked_wider _ _ _ c.self.invariant c.mark.ensures.kept
 
 pub invariant_of-self-in_err-push : goal.invariant_of-self-in_err-push
 invariant_of-self-in_err-push c =
-    subst (λ rows. AreDistinct rows × AreNoted c.note.new.bounds rows) (sym c.in_err-push.ensures.err) (noted_wider _ _ _ c.self.invariant c.note.ensures.kept)
+    subst (λ rows. AreDistinct (there rows) × AreMarked c.mark.new.marks (there rows)) (sym c.in_err-push.ensures.err) (marked_wider _ _ _ c.self.invariant c.mark.ensures.kept)
 
 pub returns-in_default-clause-ok : goal.returns-in_default-clause-ok
 returns-in_default-clause-ok c =
@@ -19,18 +20,18 @@ pub invariant_of-self-in_default : goal.invariant_of-self-in_default
 invariant_of-self-in_default c =
     put_right _ _ c.args.key.now _ c.args.reply.now _ _ c.self.invariant
     (pushed_anew c.args.key.now _ _ _ _ c.in_default.ensures.none c.in_ok-push.ensures.ok c.answered-row.ensures)
-    c.note.ensures.kept c.object_of-object.ensures c.in_ok-note.ensures.noted
+    c.mark.ensures.kept c.object_of-object.ensures c.in_ok-mark.ensures.marked
 
-pub take_at-requires : goal.take_at-requires
-take_at-requires c = is_within_pushed _ _ _ c.args.key.now _ c.in-Some.ensures.found c.in_ok-push.ensures.ok
+pub set-requires : goal.set-requires
+set-requires c = is_within_pushed _ _ _ c.args.key.now _ c.in-Some.ensures.found c.in_ok-push.ensures.ok
 
 pub returns-clause-ok : goal.returns-clause-ok
 returns-clause-ok c =
     put_viewed c.args.key.now c.args.reply.now _ _ _ c.self.view_is
-    (pushed_again c.args.key.now _ _ _ _ _ _ c.self.invariant.0 c.in-Some.ensures.found c.in_ok-push.ensures.ok c.answered-row.ensures c.take_at.ensures)
+    (pushed_again c.args.key.now _ _ _ _ _ _ c.self.invariant.0 c.in-Some.ensures.found c.in_ok-push.ensures.ok c.answered-row.ensures c.set.ensures)
 
 pub invariant_of-self-2 : goal.invariant_of-self-2
 invariant_of-self-2 c =
     put_right _ _ c.args.key.now _ c.args.reply.now _ _ c.self.invariant
-    (pushed_again c.args.key.now _ _ _ _ _ _ c.self.invariant.0 c.in-Some.ensures.found c.in_ok-push.ensures.ok c.answered-row.ensures c.take_at.ensures)
-    c.note.ensures.kept c.object_of-object.ensures c.in_ok-note.ensures.noted
+    (pushed_again c.args.key.now _ _ _ _ _ _ c.self.invariant.0 c.in-Some.ensures.found c.in_ok-push.ensures.ok c.answered-row.ensures c.set.ensures)
+    c.mark.ensures.kept c.object_of-object.ensures c.in_ok-mark.ensures.marked

@@ -1,0 +1,10 @@
+-- A worker's latest lease.
+use Rattle.std.specs.Prelude.{[], ℕ, ◌++◌, ◌∷◌}
+use Rattle.event_log.specs.Entries.{Attempt}
+use Rattle.protocol.specs.Nodes.{Scheduler}
+use Rattle.protocol.specs.Sets.{without_number}
+use Rattle.protocol.specs.Slots.{without_lease}
+
+-- the worker is not idle, and its latest lease is the attempt's
+abbrev pub leased : Scheduler → ℕ → Attempt → Scheduler
+leased s w a = record s { idle = without_number s.idle w; leases = without_lease w s.leases ++ record { worker = w; attempt = a } ∷ [] }

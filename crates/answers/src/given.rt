@@ -16,6 +16,7 @@ use whole_events::next_job;
 /// A job that is given out, which contracts see as its parts. It is handed on as a pointer.
 #[derive(Drop)]
 pub struct GivenJob {
+    /// The job's parts, which contracts see in its place.
     pub inner: Box<JobParts>,
 }
 

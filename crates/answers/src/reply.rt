@@ -1,4 +1,4 @@
-// Replies.
+// What is answered to an event: a job or nothing where it was taken, else its refusal, and what comes of it in the log.
 
 ghost use Rattle.std.specs.Prelude.{◌≡◌, IfOk};
 ghost use Rattle.answers.specs.Replies.{reply_of, taken_reply};
@@ -23,10 +23,11 @@ pub enum Verdict {
 pub struct Answered {
     /// What comes of it in the log, behind the event itself: its entries, or its refusal.
     pub entries: Seq<Entry>,
+    /// Whether it was taken, and what it gives out then.
     pub outcome: Verdict,
 }
 
-/// The event was refused.
+/// What is answered where the event was refused: nothing is given out, and the log has the refusal. The one error is want of memory.
 pub fn refused(alloc: Global, refusal: Refusal) -> Result<Answered, AllocError>
     ensures { IfOk result (λ reply. reply ≡ reply_of (Refuses refusal)) }
 {
@@ -36,7 +37,7 @@ pub fn refused(alloc: Global, refusal: Refusal) -> Result<Answered, AllocError>
     Ok(Answered { entries, outcome })
 }
 
-/// The event was taken.
+/// What is answered where the event was taken, with its entries and, of a claim, the job that it gives out.
 pub fn taken(entries: Seq<Entry>, given: Option<GivenJob>) -> Answered
     ensures { result ≡ taken_reply entries given }
 {

@@ -68,7 +68,7 @@ fn sums_of(log: &[Entry], seat: u8) -> Committed
     sums
 }
 
-/// Writes the line of a seat.
+/// Writes the line of a seat from which a commit was accepted; of another seat nothing.
 #[tactic(auto, using(crate::proofs::Committed::same_line))]
 fn write_line(text: &mut String, log: &[Entry], seat: u8) -> Result<(), AllocError>
     ensures { OnOk result (string_bytes text.new ≡ string_bytes text.old ++ book_line seat (seat_totals seat log.now)) }

@@ -1,4 +1,4 @@
--- Who holds an object.
+-- When one object holds another: it was added as a holder, and not removed.
 use Rattle.std.specs.Prelude.{Bool, not, ◌&&◌}
 use Rattle.meaning.specs.Values.{Id}
 use Rattle.protocol.specs.Sets.{has_id}

@@ -1,4 +1,4 @@
-// An object's holders.
+// How an object gains and loses the objects that hold it, and whether any holder is left.
 
 ghost use Rattle.std.specs.Prelude.{◌≡◌, ◌↔◌, ◌&&◌, ◌||◌, None, OnErr, OnOk, Some, not, true};
 ghost use Rattle.meaning.specs.Births.{same_id};

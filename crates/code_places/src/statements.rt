@@ -27,7 +27,7 @@ fn over(first: Span, second: Span) -> Span
     }
 }
 
-/// A statement.
+/// Adds the place of each instruction that a statement is made to, in their order.
 #[cycle(statements)]
 fn add_statement(places: &mut Vec<Span>, statement: &Statement) -> Result<(), AllocError>
     ensures { OnOk result (places.new.items ≡ places.old.items ++ statement_places statement.now) }
@@ -124,7 +124,7 @@ fn add_enclosed(places: &mut Vec<Span>, span: Span, body: &[Statement]) -> Resul
     Ok(())
 }
 
-/// Statements in order.
+/// Adds the places of the instructions of statements, in order.
 #[cycle(statements)]
 pub(crate) fn add_statements(
     places: &mut Vec<Span>,

@@ -95,7 +95,6 @@ pub(crate) fn write_remote_head(
     write_task_head(text, retries, function)
 }
 
-/// Writes a number.
 fn write_number(text: &mut String, number: usize) -> Result<(), AllocError>
     ensures { OnOk result (string_bytes text.new ≡ string_bytes text.old ++ decimal number) }
 {

@@ -1,4 +1,4 @@
-// Expressions.
+// How a script's expressions are written in Python, for any engine.
 
 ghost use Rattle.std.specs.Prelude.{◌≡◌, ◌++◌, false, OnOk, string_bytes};
 ghost use Rattle.script_check.specs.Trees.{expr_of, exprs_of};
@@ -12,7 +12,7 @@ use itoa::Buffer;
 use script_check::CheckedExpr;
 use std::alloc::AllocError;
 
-/// Writes an expression.
+/// Writes an expression in Python, its operators as calls of functions that stand in front of the script's own.
 #[cycle(expressions)]
 pub(crate) fn write_expression(text: &mut String, expr: &CheckedExpr) -> Result<(), AllocError>
     ensures { OnOk result (string_bytes text.new ≡ string_bytes text.old ++ expression_text (expr_of expr.now)) }
@@ -63,7 +63,6 @@ fn write_operand(text: &mut String, expr: &CheckedExpr) -> Result<(), AllocError
     text.push_str(")")
 }
 
-/// A list.
 #[cycle(expressions)]
 fn write_list(text: &mut String, items: &[CheckedExpr]) -> Result<(), AllocError>
     ensures { OnOk result (string_bytes text.new ≡ string_bytes text.old ++ list_text (exprs_of items.now)) }

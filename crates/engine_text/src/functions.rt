@@ -1,4 +1,4 @@
-// Functions.
+// How a script's functions are written in Python, each as one that takes its depth and its arguments.
 
 ghost use Rattle.std.specs.Prelude.{◌≡◌, ◌++◌, OnOk, codes, map, string_bytes};
 ghost use Rattle.std.specs.List.{flat_map};

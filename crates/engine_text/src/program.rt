@@ -18,10 +18,11 @@ use std::alloc::{AllocError, Global};
 pub enum Engine {
     /// Dask's distributed scheduler.
     Dask,
+    /// Ray, with its tasks and its object store.
     Ray,
 }
 
-/// The calls of an engine.
+/// The Python that makes remote calls on the engine, which stands behind the common head.
 fn calls_of(engine: Engine) -> &'static str
     ensures { result.now ≡ calls_of engine }
 {

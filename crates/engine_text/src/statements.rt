@@ -161,7 +161,7 @@ fn write_loop_head(
     write_bounds(text, from, to)
 }
 
-/// Writes a statement.
+/// Writes a statement's lines in Python, each behind that margin.
 #[cycle(statements)]
 fn write_statement(
     alloc: Global,

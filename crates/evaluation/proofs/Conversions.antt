@@ -1,4 +1,4 @@
--- Lists that are converted.
+-- Lists of values, arguments and births are converted item by item, and what is plain has plain parts.
 use Rattle.std.proofs.Common.{◌≡◌, ℕ, zero, suc, ◌<◌, ◌≤◌, List, [], ◌∷◌, length, get_or, take, map, sym, ap, subst, ◌∙◌, arith}
 use Rattle.std.proofs.lemmas.List.{take_all}
 use Rattle.std.specs.declared.vec.Vec.{Vec}

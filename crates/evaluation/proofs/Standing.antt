@@ -1,4 +1,4 @@
--- Where an attempt stands.
+-- Where an attempt stopped, as the replay has it, and what comes of converting that.
 use Rattle.std.proofs.Common.{◌≡◌, ℕ, suc, ◌+◌, List, [], ◌∷◌, ◌++◌, map, Result, Ok, Err, IfOk, IfErr, IfSome, Option, Some, None, refl, sym, ap, ◌∙◌, subst, arith}
 use Rattle.std.specs.Prelude.{IsErrAnd}
 use Rattle.meaning.specs.Values as meant

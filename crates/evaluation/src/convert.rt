@@ -25,6 +25,7 @@ pub(crate) enum ConversionError {
     /// A value has an outcome in it, or is no id where one is needed.
     #[error("an outcome in a value, or no id where one is needed")]
     HasOutcome,
+    /// Memory ran out.
     #[error("refused 39: want of memory")]
     NoMemory,
 }
@@ -105,7 +106,7 @@ pub(crate) fn from_arguments(
     Ok(copies)
 }
 
-/// The object that a reference names.
+/// The object whose id the reference is; `HasOutcome` for any other value.
 pub(crate) fn named(reference: &Value) -> Result<ObjectId, ConversionError>
     ensures value { IfOk result (λ o. value_of reference.now ≡ meant.Named o) }
     ensures kind { IfErr result (λ e. e ≡ ConversionError.Broken → ⊥) }

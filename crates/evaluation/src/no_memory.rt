@@ -1,4 +1,4 @@
-// Want of memory.
+// The error of what needs memory and has no other error of its own.
 
 use thiserror::Error;
 

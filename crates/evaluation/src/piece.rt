@@ -43,8 +43,11 @@ pub enum PieceStop {
 /// and where it stops.
 #[derive(Drop)]
 pub struct Piece {
+    /// What it bears, in the order of the ids that the births take.
     pub births: Vec<Birth>,
+    /// What it prints, in order.
     pub prints: Vec<RunValue>,
+    /// Where it stops: at a get that has no answer, or at the task's end.
     pub stop: PieceStop,
     /// Where it stops at a get, the frame from which it goes on with an answer.
     pub frame: Option<Frame>,
@@ -60,6 +63,7 @@ pub enum PieceError {
     /// kinds asked for.
     #[error("an operand of the wrong kind")]
     Broken,
+    /// Memory ran out.
     #[error("refused 39: want of memory")]
     NoMemory,
 }
@@ -191,7 +195,7 @@ fn finish(alloc: Global, attempt: Attempt, count: usize) -> Result<Piece, PieceE
     }
 }
 
-/// The piece, with the frame of its attempt.
+/// The piece, with frame and steps of the attempt that it is made of.
 fn with_frame(piece: Piece, attempt: Attempt) -> Piece
     ensures births { result.births.items ≡ piece.births.items }
     ensures prints { result.prints.items ≡ piece.prints.items }

@@ -1,4 +1,4 @@
-// The serial run.
+// Main's serial run on the frames' machine, with what it prints and ends with as values of tasks.
 
 ghost use Rattle.std.specs.Prelude.{◌≡◌, IfOk, IfErr, map};
 ghost use Rattle.meaning.specs.Values.{Trapped, Broken, first_outcome};
@@ -20,7 +20,9 @@ use values::{Content, RunValue};
 /// What main prints, and how it ends.
 #[derive(Drop)]
 pub struct SerialRun {
+    /// What main prints, in order.
     pub prints: Vec<RunValue>,
+    /// Main's value, or the trap in which it ends.
     pub end: Content,
 }
 
@@ -33,6 +35,7 @@ pub enum SerialError {
     /// A reference in what main prints or ends with, where a checked script has none.
     #[error("a reference in what main prints or ends with")]
     HasReference,
+    /// Memory ran out.
     #[error("refused 39: want of memory")]
     NoMemory,
 }

@@ -1,4 +1,4 @@
--- Numbers in texts.
+-- A text is read as a number exactly where it is that number in decimal, and the number has its type.
 use Rattle.std.proofs.Common.{◌≡◌, ℕ, ◌<◌, ◌^◌, Bool, true, false, List, Option, Some, None, refl, sym, ap, ◌∙◌, subst, arith}
 use Rattle.std.specs.Prelude.{if◌then◌else◌, IfSome, nat_lt}
 use Rattle.std.specs.Fmt.{decimal}

@@ -1,4 +1,4 @@
--- Events in texts.
+-- A text is read as an event exactly where it is that event's text.
 use Rattle.std.proofs.Common.{◌≡◌, ℕ, ◌<◌, ◌^◌, false, List, ◌∷◌, ◌++◌, Option, Some, None, refl, sym, ap, ◌∙◌, subst, arith}
 use Rattle.std.specs.Prelude.{IfSome, codes, if◌then◌else◌, Bool, true}
 use Rattle.std.specs.Option.{option_map}

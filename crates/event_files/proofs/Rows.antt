@@ -1,4 +1,4 @@
--- Files, line by line.
+-- A file read line by line: what was read so far, and how one line more goes on, is refused or ends it.
 use Rattle.std.proofs.Common.{◌≡◌, ◌≢◌, ℕ, suc, ◌+◌, ◌<◌, ◌≤◌, true, false, List, [], ◌∷◌, ◌++◌, length, Option, Some, None, refl, sym, ap, ◌∙◌, arith}
 use Rattle.std.proofs.lemmas.List.{length-append, append_assoc, append-nil}
 use Rattle.event_files.specs.Files.{Row, Passed, Said, is_passed, IsRow, AreRows, row_text, rows_text, all_said, IsFile, IsNoRow, IsBadAt}

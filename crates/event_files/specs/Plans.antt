@@ -1,4 +1,4 @@
--- The lines of plans.
+-- What a line of a plan says, how it is written and how it is read.
 use Rattle.std.specs.Prelude.{◌≡◌, ℕ, ◌<◌, ◌^◌, Bool, true, false, List, ◌++◌, if◌then◌else◌, Option, Some, None, codes}
 use Rattle.std.specs.Fmt.{decimal}
 use Rattle.log_entries.specs.Texts.{event_text}

@@ -1,4 +1,4 @@
--- The numbers of refusals.
+-- The number that the refusal of an event file has.
 use Rattle.std.specs.Prelude.{ℕ}
 use Rattle.event_files.specs.declared.error.EventError.{EventError}
 use Rattle.event_files.specs.declared.error.EventError.TheVariants as errors

@@ -1,4 +1,4 @@
-// Events, read from a text.
+// How the text of an event is read, as `lose 1 o1.3`.
 
 ghost use Rattle.std.specs.Prelude.{◌≡◌};
 ghost use Rattle.event_files.specs.Reading.{event_in, two_workers_in, worker_and_node_in, node_and_object_in};

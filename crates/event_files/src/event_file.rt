@@ -1,4 +1,4 @@
-// Event files of both formats.
+// Event files read whole, in format 1 or format 2 as their first line says.
 
 ghost use Rattle.std.specs.Prelude.{◌≡◌, IfOk, IfErr};
 ghost use Rattle.event_files.specs.Recorded.{IsEventFile, IsFileRefusal};

@@ -1,4 +1,4 @@
-// Event files.
+// Event files of format 1, read whole and written.
 
 ghost use Rattle.std.specs.Prelude.{◌≡◌, ◌++◌, IfOk, IfErr, OnOk, string_bytes};
 ghost use Rattle.event_files.specs.Lines.{IsLine, line_text};

@@ -1,4 +1,4 @@
-// The lines of event files.
+// What a line of format 1 says: an event, or settle.
 
 ghost use Rattle.std.specs.Prelude.{◌≡◌, IfOk};
 ghost use Rattle.event_files.specs.Reading.{line_in, settle_in, workers_in};

@@ -1,4 +1,4 @@
-// The numbers of lines.
+// In which lines of a text something is said, counted from 1.
 
 ghost use Rattle.std.specs.Prelude.{◌≡◌, ◌+◌, ◌++◌, ◌<◌, ◌^◌, IfOk, OnOk};
 ghost use Rattle.event_files.specs.Numbering.{line_numbers, noted, number_behind};

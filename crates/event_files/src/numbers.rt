@@ -1,4 +1,4 @@
-// Numbers and objects in texts.
+// How workers, nodes and objects in the text of an event are read.
 
 ghost use Rattle.std.specs.Prelude.{◌≡◌};
 ghost use Rattle.event_files.specs.Reading.{number_in, worker_in, node_in, object_in};
@@ -28,6 +28,7 @@ fn read_small(text: &[u8]) -> Option<u32>
     Some(number as u32)
 }
 
+/// The worker whose number the text writes, as event files have numbers; none for any other text, and for a number above 4294967295.
 pub fn read_worker(text: &[u8]) -> Option<WorkerId>
     ensures { result ≡ worker_in text.now }
 {
@@ -37,6 +38,7 @@ pub fn read_worker(text: &[u8]) -> Option<WorkerId>
     Some(WorkerId(number))
 }
 
+/// The node whose number the text writes, by the same rules.
 pub fn read_node(text: &[u8]) -> Option<NodeId>
     ensures { result ≡ node_in text.now }
 {
@@ -46,6 +48,7 @@ pub fn read_node(text: &[u8]) -> Option<NodeId>
     Some(NodeId(number))
 }
 
+/// The object that the text names, as `o1.3`; none for any other text.
 pub fn read_object(text: &[u8]) -> Option<ObjectId>
     ensures { result ≡ object_in text.now }
 {

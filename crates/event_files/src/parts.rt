@@ -1,4 +1,4 @@
-// Parts of texts.
+// A text taken apart: at the first byte of a kind, or behind a given front.
 
 ghost use Rattle.std.specs.Prelude.{◌≡◌, MatchOption, None, Some};
 ghost use Rattle.event_files.specs.Reading.{parted, behind};

@@ -1,4 +1,4 @@
-// Lines that are passed over.
+// Which lines say nothing: empty ones, and those that begin with `#`.
 
 ghost use Rattle.std.specs.Prelude.{◌≡◌};
 ghost use Rattle.event_files.specs.Files.{is_passed};

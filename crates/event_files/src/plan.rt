@@ -1,4 +1,4 @@
-// Plans.
+// Plans: what happens to a run from outside, behind how many commits, read line by line or whole.
 
 ghost use Rattle.std.specs.Prelude.{◌≡◌, IfOk, IfErr};
 ghost use Rattle.event_files.specs.Plans.{may_be_planned, plan_line_in, IsPlanLine, plan_line_text};
@@ -16,13 +16,16 @@ use std::alloc::Global;
 /// An event that happens once so many commits were accepted, or where nothing else can be done.
 #[derive(Clone, Copy, PartialEq, Eq, Debug)]
 pub struct PlanLine {
+    /// How many commits were accepted when it is due.
     pub commits: u64,
+    /// What happens then.
     pub event: Event,
 }
 
 /// What is to happen to a run from outside, in the order of its lines.
 #[derive(Drop)]
 pub struct RunPlan {
+    /// The lines that say something, in the order of the file.
     pub lines: Seq<PlanLine>,
 }
 

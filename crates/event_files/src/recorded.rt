@@ -1,4 +1,4 @@
-// Event files of format 2.
+// Histories, which are event files of format 2: their lines, read and written.
 
 ghost use Rattle.std.specs.Prelude.{◌≡◌, ◌++◌, IfOk, IfErr, OnOk, string_bytes};
 ghost use Rattle.event_files.specs.Files.{IsFile};
@@ -19,6 +19,7 @@ use std::alloc::{AllocError, Global};
 pub struct RecordedEvent {
     /// The seat from which it came, 0 to 8: 0 where no seats are used.
     pub seat: u8,
+    /// The event, whether it was taken or refused.
     pub event: Event,
     /// Of a claim, the number of the job that it gave, 0 where it was refused; of another event none.
     pub given: Option<u64>,

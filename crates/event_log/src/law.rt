@@ -1,4 +1,4 @@
-// The laws of legal logs.
+// What holds of every legal log: of its beginnings, of one more event, of its entries, faults and totals.
 
 ghost use Rattle.event_log.specs.Laws.{BeginningsAreLegal, LegalLogsGrow, EntriesHaveTheirNeeds, LegalFaultsHaveCauses, LawOfTotals};
 ghost use Rattle.event_log.specs.Laws.{LegalInLargerNetworks, LawOfCauses};

@@ -1,4 +1,4 @@
-// Bytes, one after the other.
+// Bytes taken one by one from a reader, of which some may have been read ahead.
 
 ghost use Rattle.std.specs.Prelude.{◌≡◌, ◌<◌, ◌++◌, [], reverse, true, vec_len, IfOk, IfErr, OnOk};
 ghost use Rattle.event_reading.specs.Known.{IfKnown, IsBegun, IsHeaderTaken, IsNextByte, IsReadAhead, IsReadRefusal, left_of};

@@ -1,4 +1,4 @@
-// Event files of both formats.
+// An event file of either format read from a reader, as far as a replay may go.
 
 ghost use Rattle.std.specs.Prelude.{◌≡◌, IfOk, OnOk, IfErr, IfSome};
 ghost use Rattle.event_reading.specs.Files.{AreEventsKept, ExplainsFile};
@@ -14,6 +14,7 @@ use std::alloc::Global;
 /// What an event file says, as far as a replay may go: behind the first 100,001 events none is kept.
 #[derive(Drop)]
 pub struct KeptEvents {
+    /// The lines, by the file's format.
     pub says: EventFile,
     /// The numbers in the file of the lines that say it, counted from 1.
     pub numbers: Seq<usize>,

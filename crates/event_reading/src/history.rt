@@ -1,4 +1,4 @@
-// Files of format 2.
+// An event file of format 2 read line by line behind its first line.
 
 ghost use Rattle.std.specs.Prelude.{◌≡◌, IfOk, OnOk, IfErr, IfSome};
 ghost use Rattle.event_files.specs.Recorded.{IsRecorded, recorded_text};

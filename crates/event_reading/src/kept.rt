@@ -13,6 +13,7 @@ pub const MOST_SETTLED: usize = 1_048_576;
 /// The lines of an event file that say something, as far as a replay may go: behind the first 100,001 events none is kept.
 #[derive(Drop)]
 pub struct Kept<T> {
+    /// What the lines say, in order.
     pub says: Seq<T>,
     /// The numbers of the lines in the file, counted from 1.
     pub numbers: Seq<usize>,

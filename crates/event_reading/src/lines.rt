@@ -1,4 +1,4 @@
-// Files of format 1.
+// An event file of format 1 read line by line, as far as a replay may go.
 
 ghost use Rattle.std.specs.Prelude.{◌≡◌, IfOk, OnOk, IfErr, IfSome};
 ghost use Rattle.event_files.specs.Lines.{IsLine, line_text};

@@ -25,6 +25,7 @@ pub enum Next<T> {
     End,
     /// Nothing: it is passed over.
     Passed,
+    /// What a line of the format says.
     Said(T),
     /// It is none of the format.
     Bad,
@@ -67,7 +68,7 @@ fn said_recorded(line: &[u8]) -> Next<RecordedEvent>
     }
 }
 
-/// The next line of a plan.
+/// What the next line of a plan says. Of the reader no more is taken than that line and what was read ahead of it.
 pub fn next_plan_line<R: Source>(
     alloc: Global,
     reader: &mut R,

@@ -1,4 +1,4 @@
-// Plans.
+// A plan read from a reader, line by line, as far as a plan may go.
 
 ghost use Rattle.std.specs.Prelude.{◌≡◌, IfOk, OnOk, IfErr, IfSome};
 ghost use Rattle.event_files.specs.Files.{IsFile};

@@ -1,4 +1,4 @@
--- One fault for each node.
+-- The lists with a fault at each node, from none to one node more.
 use Rattle.std.proofs.Common.{◌≡◌, ℕ, suc, ◌+◌, List, [], ◌∷◌, ◌++◌, refl, sym, ap, ◌∙◌, append-nil, append_assoc, arith}
 use Rattle.meaning.specs.Values.{Id}
 use Rattle.event_log.specs.Entries.{Evict, Lose, KillNode}

@@ -16,7 +16,7 @@ use values::Fault;
 pub enum RunEnd {
     /// With a value or a trap: with what the serial run ends with, as every run does that ends so.
     AsSerial,
-    /// With a fault.
+    /// It didn't end: one of its gets was answered with this fault.
     Faulted(Fault),
     /// It didn't end, although its worker lives.
     Open,

@@ -15,6 +15,7 @@ use std::alloc::{AllocError, Global};
 pub struct FaultList {
     /// How many events of the history stand before the fault.
     pub place: usize,
+    /// The death, the loss or the evict that is put in.
     pub fault: Event,
     /// What main's worker is told directly behind the fault, if it is told.
     pub notice: Option<Event>,

@@ -1,4 +1,4 @@
-// The events of a log.
+// The events that a log has, taken or refused, and whether one was refused.
 
 ghost use Rattle.std.specs.Prelude.{◌≡◌, IfOk, drop};
 ghost use Rattle.std.specs.List.{flat_map};

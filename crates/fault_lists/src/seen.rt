@@ -12,8 +12,11 @@ use std::alloc::{AllocError, Global};
 /// The workers that were opened so far, the objects that were born, in the order in which they came, and how many nodes there are, the dead too.
 #[derive(Drop)]
 pub struct Seen {
+    /// The workers that were opened, in order, dead ones too.
     pub workers: Seq<WorkerId>,
+    /// The objects that were born, in order, released ones too.
     pub objects: Seq<ObjectId>,
+    /// How many nodes there are, dead ones too: they are numbered from 1 to this.
     pub nodes: u32,
 }
 
@@ -39,7 +42,7 @@ impl Seen {
         }
     }
 
-    /// Notes an event.
+    /// Counts the node of a join that was taken; no other event adds anything here.
     pub fn note_event(&mut self, event: Event, refused: bool)
         ensures { self.new ≡ with_event event refused self.old }
     {

@@ -35,7 +35,7 @@ fn write_kind(text: &mut String, kind: EndKind) -> Result<(), AllocError>
     }
 }
 
-/// Writes how many ended so.
+/// Writes the table's line of that kind of end: its words, and in how many lists main ended so.
 #[tactic(auto, unfolding(crate::specs::Tables::count_line))]
 fn write_count(text: &mut String, kind: EndKind, tried: &[Tried]) -> Result<(), AllocError>
     ensures { OnOk result (string_bytes text.new ≡ string_bytes text.old ++ count_line kind tried.now) }

@@ -1,4 +1,4 @@
-// Lists that were tried.
+// What came of each list that was tried, counted by kinds of ends.
 
 ghost use Rattle.std.specs.Prelude.{◌≡◌, ◌+◌, ◌*◌, ◌^◌, ◌≤◌, drop};
 ghost use Rattle.fault_lists.specs.Tables.{all_attempts, count_of, first_of, has_kind, is_survived, most_attempts, most_from, same_fault, status_of_all};
@@ -11,17 +11,24 @@ use values::FaultKind;
 #[derive(Clone, Copy, PartialEq, Eq, Debug)]
 pub struct Tried {
     pub list: FaultList,
+    /// How main ended.
     pub end: RunEnd,
+    /// How many attempts were begun, without main's.
     pub attempts: usize,
 }
 
 /// How main can end, with a fault by its kind.
 #[derive(Clone, Copy, PartialEq, Eq, Debug)]
 pub enum EndKind {
+    /// With what the serial run ends with.
     AsSerial,
+    /// With a fault of that kind, whatever its object.
     Faulted(FaultKind),
+    /// It didn't end, although its worker lives.
     Open,
+    /// Its worker was killed before it ended.
     Killed,
+    /// The run was stopped before an event more than it may have.
     Stopped,
 }
 
@@ -36,7 +43,7 @@ fn is_same_fault(kind: FaultKind, other: FaultKind) -> bool
     }
 }
 
-/// Whether the end is of that kind.
+/// Whether the end is of that kind, a fault whatever its object.
 fn has_kind(kind: EndKind, end: RunEnd) -> bool
     ensures { result ≡ has_kind kind end }
 {
@@ -50,7 +57,7 @@ fn has_kind(kind: EndKind, end: RunEnd) -> bool
     }
 }
 
-/// How many ended so.
+/// In how many of the lists main ended so.
 pub fn count_of(kind: EndKind, tried: &[Tried]) -> usize
     ensures { result ≡ count_of kind tried.now }
 {
@@ -63,7 +70,7 @@ pub fn count_of(kind: EndKind, tried: &[Tried]) -> usize
     count
 }
 
-/// The first that ended so.
+/// The first of the lists with which main ended so.
 pub fn first_of(kind: EndKind, tried: &[Tried]) -> Option<Tried>
     ensures { result ≡ first_of kind tried.now }
 {
@@ -75,7 +82,7 @@ pub fn first_of(kind: EndKind, tried: &[Tried]) -> Option<Tried>
     None
 }
 
-/// The most attempts of one.
+/// How many attempts the list with the most of them had, 0 where none was tried.
 pub fn most_attempts(tried: &[Tried]) -> usize
     ensures { result ≡ most_attempts tried.now }
 {
@@ -88,7 +95,7 @@ pub fn most_attempts(tried: &[Tried]) -> usize
     most
 }
 
-/// The attempts of all.
+/// How many attempts all the lists had together.
 pub fn all_attempts(tried: &[Tried]) -> u128
     ensures { result ≡ all_attempts tried.now }
 {

@@ -1,4 +1,4 @@
-// One replay.
+// One replay of lines on a new run, up to its end or its limit.
 
 ghost use Rattle.std.specs.Prelude.{◌≡◌, IfOk};
 ghost use Rattle.script_check.specs.Trees.{script_of};
@@ -13,7 +13,9 @@ use std::alloc::Global;
 /// A run to which lines were applied, and whether it was stopped before an event more than it may have.
 #[derive(Drop)]
 pub struct Replayed<S: ScriptName> {
+    /// The run, as far as the lines were applied.
     pub replay: Replay<S>,
+    /// Whether an event more than a replay may have was left out.
     pub is_stopped: bool,
 }
 

@@ -60,7 +60,7 @@ fn emit_body(
     put(code, Instruction::Wrong)
 }
 
-/// The code of a checked script.
+/// The code of a checked script: each function begins with what dereferences its arguments, behind which plain calls enter it.
 pub fn compile(alloc: Global, script: &Checked) -> Result<Code, AllocError>
     ensures { IfOk result (λ code. code_of code ≡ laws.code_of (script_of script.now)) }
 {

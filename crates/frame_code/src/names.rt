@@ -11,6 +11,7 @@ use std::alloc::{AllocError, Global};
 /// What a register of a call holds.
 #[derive(Clone, Copy)]
 pub(crate) enum Register<'a> {
+    /// The variable of that name.
     Variable(&'a str),
     /// A loop's bound, which has no name.
     Nameless,

@@ -1,4 +1,4 @@
-// The code of statements.
+// How statements become instructions, and which variables are in registers behind each.
 
 ghost use Rattle.std.specs.Prelude.{◌≡◌, ◌+◌, ◌++◌, ◌∷◌, [], IfOk, OnOk, length, map, slice_set, string_bytes};
 ghost use Rattle.frame_laws.specs.Compile.{

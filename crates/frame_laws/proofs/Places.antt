@@ -1,4 +1,4 @@
--- What stands at a place.
+-- Which instructions stand at a place of the code, and which values the registers begin with.
 use Rattle.std.proofs.Common.{
   ◌≡◌,
   ℕ,

@@ -1,4 +1,4 @@
-// The laws of compiled code.
+// The machine does on a script's code what the script's tasks do, goes on from frames, and counts their steps.
 
 ghost use Rattle.frame_laws.specs.Law.{CompiledTasksDo, StepsFollow};
 ghost use Rattle.frame_laws.specs.Resuming.{TasksBegin, FramesGoOn, FramesCount};

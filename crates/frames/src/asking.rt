@@ -81,7 +81,7 @@ impl State {
         }
     }
 
-    /// A put.
+    /// Why the machine stops at a put: it bears the object with the operand's value.
     pub(crate) fn put_object(&self, to: u32, value: &Operand) -> Halt
         ensures { (code : laws.Code) (limit : ℕ) → Met code limit self.now (PutIn to (given_of value.now)) result }
     {
@@ -91,7 +91,7 @@ impl State {
         }
     }
 
-    /// A get.
+    /// Why the machine stops at a get: it asks for what the reference leads to; any other operand is of the wrong kind.
     pub(crate) fn get(&self, to: u32, reference: &Operand) -> Halt
         ensures { (code : laws.Code) (limit : ℕ) → Met code limit self.now (Fetch to (given_of reference.now)) result }
     {
@@ -106,7 +106,7 @@ impl State {
         }
     }
 
-    /// A print.
+    /// Why the machine stops at a print: it shows the operand's value.
     pub(crate) fn print(&self, value: &Operand) -> Halt
         ensures { (code : laws.Code) (limit : ℕ) → Met code limit self.now (Show (given_of value.now)) result }
     {

@@ -26,10 +26,15 @@ use values::Trap;
 /// a frame, from which it goes on. Its steps are those that it began since the last of its answers.
 #[derive(Drop)]
 pub struct Attempt {
+    /// What it bore, in the order of its ids.
     pub births: Vec<Made>,
+    /// What it printed, in order.
     pub prints: Vec<Value>,
+    /// Why it stopped.
     pub halt: Halt,
+    /// From where it goes on, if it waits for an answer.
     pub frame: Option<Frame>,
+    /// How many steps it began since the last of its answers.
     pub steps: u64,
 }
 

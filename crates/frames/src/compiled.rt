@@ -1,4 +1,4 @@
-// A script with its code.
+// A checked script with its code, made once for all jobs of a run.
 
 ghost use Rattle.std.specs.Prelude.{◌≡◌, IfOk};
 ghost use Rattle.frame_laws.specs.Law as laws;
@@ -47,14 +47,14 @@ impl Compiled {
         Ok(Compiled { script, code })
     }
 
-    /// The script.
+    /// The checked script that the code was made of.
     pub fn script(&self) -> &Checked
         ensures { result.now ≡ self.now }
     {
         &self.script
     }
 
-    /// Its code.
+    /// The code, which is the script's by the contract.
     pub(crate) fn code(&self) -> &Code
         ensures { code_of result.now ≡ laws.code_of (script_of self.now) }
     {

@@ -16,8 +16,11 @@ use values::Trap;
 /// How a run ended: with its results, with a trap, or by an operand of the wrong kind.
 #[derive(Drop)]
 pub(crate) enum End {
+    /// With these results, in order.
     Returned(Vec<Value>),
+    /// With this trap, the task's own or one that it got.
     Trap(Trap),
+    /// By an operand of the wrong kind, which a checked script never meets.
     Broken,
 }
 
@@ -114,7 +117,7 @@ impl End {
         }
     }
 
-    /// References to so many results.
+    /// A reference for each of so many results of a call: to each result, where it ended with results, else each to what it ended with.
     pub(crate) fn references(&self, alloc: Global, count: usize) -> Result<Vec<Value>, AllocError>
         ensures { IfOk result (λ rs. map value_of rs.items ≡ map Known (outcomes count (end_of self.now))) }
     {

@@ -20,11 +20,17 @@ use std::alloc::{AllocError, Global};
 /// reference that is got, the register that takes its value, how many calls may wait, and how many steps were begun since the answer before.
 #[derive(Drop)]
 pub struct Frame {
+    /// Where the machine stands, behind the get.
     pub(crate) state: State,
+    /// The id that the attempt's next birth takes.
     pub(crate) next: ObjectId,
+    /// The reference that is got.
     pub(crate) reference: Value,
+    /// The register that takes the answer's value.
     pub(crate) to: usize,
+    /// How many calls may wait in one another.
     pub(crate) limit: usize,
+    /// How many steps were begun since the answer before.
     pub(crate) steps: u64,
 }
 

@@ -9,13 +9,16 @@ use values::Trap;
 #[derive(Drop)]
 pub struct MarkedArgument {
     pub value: Value,
+    /// Whether it is a reference that is dereferenced before the body.
     pub is_dereferenced: bool,
 }
 
 /// What makes objects: a put one, and a task one a result, of which it has so many beside the first.
 #[derive(Drop)]
 pub enum Made {
+    /// An object with that value.
     Put(Value),
+    /// The objects of a remote call, one for each of its results.
     Task {
         function: String,
         arguments: Vec<MarkedArgument>,
@@ -50,14 +53,19 @@ impl Made {
 /// register takes what it is given, and a birth which is the first of those that take its references.
 #[derive(Drop)]
 pub enum Halt {
-    /// With these results.
+    /// The run is over with these results.
     Over(Vec<Value>),
+    /// The run is over with this trap.
     Trap(Trap),
     /// An operand of the wrong kind, which a checked script never meets.
     Broken,
+    /// It bears this, whose references go into registers from that one on.
     Bears(Made, usize),
+    /// It gets this reference, whose value goes into that register.
     Asks(Value, usize),
+    /// It prints this value.
     Shows(Value),
+    /// Memory ran out.
     NoMemory,
 }
 

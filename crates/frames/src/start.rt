@@ -1,4 +1,4 @@
-// The beginning of a task.
+// With which registers, and at which instruction, a task begins.
 
 ghost use Rattle.std.specs.Prelude.{◌≡◌, ◌+◌, ◌-◌, ◌≤◌, ◌++◌, ℕ, [], IfOk, Some, map, length, slice_get};
 ghost use Rattle.meaning.specs.Values.{Name, Task};

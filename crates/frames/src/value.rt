@@ -1,4 +1,4 @@
-// Values of a run.
+// The machine's values, which share their lists, and how a call ends.
 
 ghost use Rattle.std.specs.Prelude.{◌≡◌, IfOk};
 ghost use Rattle.meaning.specs.Meaning.{is_reference};
@@ -13,7 +13,9 @@ use values::Trap;
 #[derive(Drop)]
 #[cycle(value)]
 pub enum Value {
+    /// A number.
     Int(i64),
+    /// A list of values.
     List(Rc<Items>),
     /// A reference in a run in pieces.
     Id(Rc<ObjectId>),
@@ -25,6 +27,7 @@ pub enum Value {
 #[derive(Drop)]
 #[cycle(value)]
 pub struct Items {
+    /// In the list's order.
     pub values: Vec<Value>,
 }
 
@@ -32,7 +35,9 @@ pub struct Items {
 #[derive(Drop)]
 #[cycle(value)]
 pub enum Outcome {
+    /// It returned this value.
     Value(Value),
+    /// It trapped, or was handed this trap.
     Trap(Trap),
     /// An operand of the wrong kind, which a checked script never meets.
     Broken,
@@ -51,7 +56,7 @@ impl Value {
         }
     }
 
-    /// Whether it is a number.
+    /// Whether it is an `int`.
     #[inline(always)]
     pub(crate) fn is_number(&self) -> bool
         ensures { result ≡ is_number (value_of self.now) }
@@ -64,7 +69,7 @@ impl Value {
         }
     }
 
-    /// Whether it is a reference.
+    /// Whether it is a reference: an id in a run in pieces, an outcome in a serial run.
     pub(crate) fn is_reference(&self) -> bool
         ensures { result ≡ is_reference (value_of self.now) }
     {

@@ -10,6 +10,7 @@ use std::sync::Arc;
 /// Contents in order, which contracts see as the outcomes that they are. Copies share them.
 #[derive(Drop)]
 pub struct Answers {
+    /// The contents, in one piece of memory that all copies share.
     pub inner: Arc<Vec<values::Content>>,
 }
 

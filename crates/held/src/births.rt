@@ -11,6 +11,7 @@ use trail::Trail;
 /// Births in order, which contracts see as they are. Copies share them.
 #[derive(Drop)]
 pub struct Births {
+    /// The births, which copies share.
     pub inner: Trail<Birth>,
 }
 
@@ -38,6 +39,7 @@ impl Births {
         }
     }
 
+    /// How many births there are, an object that was put counted like a task.
     pub fn len(&self) -> usize
         ensures { result ≡ length self.now }
     {

@@ -11,6 +11,7 @@ use ids::{AttemptId, ObjectId};
 pub struct JobParts {
     /// Counted from 1, in the order of claims.
     pub number: u64,
+    /// The attempt that the job carries on.
     pub attempt: AttemptId,
     /// What the attempt runs.
     pub spec: Origin,

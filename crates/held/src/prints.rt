@@ -11,6 +11,7 @@ use values::RunValue;
 /// Values in order, which contracts see as they are. Copies share them.
 #[derive(Drop)]
 pub struct Prints {
+    /// The values, which copies share.
     pub inner: Trail<RunValue>,
 }
 
@@ -38,6 +39,7 @@ impl Prints {
         }
     }
 
+    /// How many values were printed.
     pub fn len(&self) -> usize
         ensures { result ≡ length self.now }
     {

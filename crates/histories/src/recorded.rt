@@ -1,4 +1,4 @@
-// Recorded histories.
+// A log's events as a history, which is an event file of format 2.
 
 ghost use Rattle.std.specs.Prelude.{◌≡◌, ◌+◌, ◌<◌, ◌^◌, IfOk, drop, string_bytes};
 ghost use Rattle.event_log.specs.Events.{refused_next};

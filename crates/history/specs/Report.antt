@@ -1,4 +1,4 @@
--- The report of a log.
+-- The report of a log, section by section.
 use Rattle.std.specs.Prelude.{ℕ, List, None, ◌++◌}
 use Rattle.std.specs.List.{flat_map}
 use Rattle.event_log.specs.Entries.{Entry}

@@ -1,4 +1,4 @@
-// The states of attempts.
+// The report's section of attempts: of each its worker, and whether it was accepted, ended, faulted or open.
 
 ghost use Rattle.std.specs.Prelude.{◌≡◌, ◌++◌, ◌||◌, List, [], OnOk, IfOk, string_bytes};
 ghost use Rattle.std.specs.List.{flat_map};

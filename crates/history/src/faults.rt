@@ -1,4 +1,4 @@
-// Faults, written.
+// How a fault is written in a report: its kind's word and its object.
 
 ghost use Rattle.std.specs.Prelude.{◌≡◌, ◌++◌, OnOk, string_bytes};
 ghost use Rattle.history.specs.Texts.{fault_text, kind_name};

@@ -1,4 +1,4 @@
-// How main ended.
+// How main ended, by a log: its content, its fault or neither, as a line and as a status.
 
 ghost use Rattle.std.specs.Prelude.{◌≡◌, ◌++◌, OnOk, option_copied, string_bytes};
 ghost use Rattle.std.specs.Option.{option_map};

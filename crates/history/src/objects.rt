@@ -1,4 +1,4 @@
-// What became of objects.
+// The report's sections of objects: those with a fault, and those released.
 
 ghost use Rattle.std.specs.Prelude.{◌≡◌, ◌++◌, OnOk, string_bytes};
 ghost use Rattle.std.specs.List.{flat_map};

@@ -1,4 +1,4 @@
-// What main printed.
+// The report's first section: a line for each print of main.
 
 ghost use Rattle.std.specs.Prelude.{◌≡◌, ◌++◌, OnOk, string_bytes};
 ghost use Rattle.std.specs.List.{flat_map};

@@ -1,4 +1,4 @@
-// The refused events.
+// The report's last section: a line for each event that was refused.
 
 ghost use Rattle.std.specs.Prelude.{◌≡◌, ◌++◌, OnOk, None, string_bytes};
 ghost use Rattle.history.specs.Refusals.{last_in, refused_in, refused_lines};

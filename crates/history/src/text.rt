@@ -1,4 +1,4 @@
-// The report.
+// The whole report of a log, its sections one after the other.
 
 ghost use Rattle.std.specs.Prelude.{◌≡◌, IfOk, string_bytes};
 ghost use Rattle.history.specs.Report.{report_text};

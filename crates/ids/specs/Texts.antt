@@ -1,4 +1,4 @@
--- The texts of ids.
+-- How workers, nodes, objects and attempts are written, and how such a text is read.
 use Rattle.std.specs.Prelude.{ℕ, ◌<◌, ◌^◌, Bool, true, false, ◌==◌, if◌then◌else◌, List, [], ◌∷◌, ◌++◌, codes}
 use Rattle.std.specs.Fmt.{decimal}
 use Rattle.meaning.specs.Values.{Id}

@@ -1,4 +1,4 @@
-// Attempts.
+// The ids of attempts, their order and their texts, as `a3.7#1`.
 
 use crate::object::ObjectId;
 use crate::worker::WorkerId;
@@ -9,7 +9,9 @@ use std::marker::Model;
 /// Ordered by object, then by number.
 #[derive(Clone, Copy, PartialEq, Eq, PartialOrd, Ord, Hash, Debug)]
 pub struct AttemptId {
+    /// The first object that its task makes.
     pub object: ObjectId,
+    /// Counted from 0: the task's first run, then its new ones.
     pub number: u32,
 }
 

@@ -1,4 +1,4 @@
-// Nodes.
+// The ids of nodes, which are numbered from 1, and their texts, as `n1`.
 
 use std::fmt;
 use std::marker::Model;

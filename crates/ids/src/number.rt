@@ -1,4 +1,4 @@
-// Numbers in texts.
+// How numbers in the texts of ids are read.
 
 ghost use Rattle.std.specs.Prelude.{◌≡◌, ◌<◌, ◌^◌, ℕ, List, ◌∷◌, ◌++◌, IfSome, IfNone, false, Some};
 ghost use Rattle.std.specs.Fmt.{decimal};

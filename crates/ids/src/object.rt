@@ -1,4 +1,4 @@
-// Objects.
+// The ids of objects, their order, and their texts, as `o3.7`, written and read.
 
 use crate::number::{read_number, split_at_dot};
 use crate::worker::WorkerId;
@@ -9,7 +9,9 @@ use std::marker::Model;
 /// object is `o1.0`. Ordered by owner, then by serial.
 #[derive(Clone, Copy, PartialEq, Eq, PartialOrd, Ord, Hash, Debug)]
 pub struct ObjectId {
+    /// The worker whose attempt bore it.
     pub owner: WorkerId,
+    /// Counted from 1 for each owner, in the order in which it made its objects; main's own object `o1.0` alone has 0.
     pub serial: u64,
 }
 

@@ -1,4 +1,4 @@
-// Workers.
+// The ids of workers, which are numbered from 1, and their texts, as `w2`.
 
 use std::fmt;
 use std::marker::Model;

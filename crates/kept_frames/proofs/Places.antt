@@ -1,4 +1,4 @@
--- Which attempts are kept.
+-- Which attempts are kept behind a place that is set, emptied or taken.
 use Rattle.std.proofs.Common.{◌≡◌, ℕ, zero, suc, List, [], ◌∷◌, Option, Some, None, inl, inr, sym, subst}
 use Rattle.std.specs.Prelude.{slice_set}
 use Rattle.segment.specs.Jobs.{Done, JobParts}

@@ -1,4 +1,4 @@
-// The frames that are kept.
+// Where the frames of attempts that wait are kept, one for each worker at most, and handed to their next jobs.
 
 ghost use Rattle.std.specs.Prelude.{◌≡◌, ◌%◌, [], true, IfOk, IfSome};
 ghost use Rattle.script_check.specs.Trees.{script_of};
@@ -104,8 +104,8 @@ impl<S: ScriptName> Frames<S> {
         let _ = self.fill(place, waiting);
     }
 
-    #[tactic(auto, using(crate::proofs::Fitting::waits_after))]
     /// Keeps the frame of what was done, if it has one.
+    #[tactic(auto, using(crate::proofs::Fitting::waits_after))]
     fn keep(&mut self, alloc: Global, known: Option<Box<Known>>, done: &mut Done<S>)
         requires { IfSome known (λ known. IsNext (data_of known.value) done.old.job) }
         ensures done { done.new ≡ done.old }

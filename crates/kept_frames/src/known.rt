@@ -14,12 +14,15 @@ use values::Content;
 /// An attempt, and how far it came. What it bore and printed follows from its answers and how much that was.
 #[derive(Drop)]
 pub(crate) struct Known {
+    /// The attempt that goes on.
     pub attempt: AttemptId,
+    /// What it runs.
     pub spec: Origin,
     /// The id of its first own birth.
     pub base: ObjectId,
-    /// How many births and prints it made so far.
+    /// How many births it made so far.
     pub births: usize,
+    /// How many values it printed so far.
     pub prints: usize,
     /// What it was answered so far.
     pub answers: Vec<Content>,

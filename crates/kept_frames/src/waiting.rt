@@ -38,6 +38,7 @@ impl<S: ScriptName> Model for Waiting<S> {
 #[derive(Drop)]
 pub(crate) struct Ready<S: ScriptName> {
     pub job: Job<S>,
+    /// What was known of it before its last answer; none where the job has no frame.
     pub known: Option<Box<Known>>,
 }
 
@@ -69,6 +70,7 @@ fn is_next<S: ScriptName>(known: &Known, job: &Job<S>, is_own: bool) -> bool
 }
 
 impl<S: ScriptName> Waiting<S> {
+    /// The attempt, with the frame in which it waits: by the contract the frame is one in which this attempt waits for its next answer.
     pub(crate) fn new(known: Box<Known>, frame: Box<Frame>) -> Waiting<S>
         requires { WaitsFor S.script (data_of known.value) frame.value }
         ensures { result ≡ data_of known.value }

@@ -1,4 +1,4 @@
-// The laws of legal logs that rest on the script's being checked.
+// In a legal log of a checked script values are of their kinds, and only main prints.
 
 ghost use Rattle.kind_laws.specs.Law.{LegalLogsKeepKinds};
 ghost use Rattle.kind_laws.specs.Mains.{LegalLogsKeepMainApart};

@@ -1,4 +1,4 @@
--- Who is first.
+-- A list's first item and what is behind it, taken by place and by pattern, are the same.
 use Rattle.std.proofs.Common.{◌≡◌, ◌∷◌, [], List, refl, drop}
 use Rattle.std.specs.Prelude.{slice_get}
 use Rattle.protocol.specs.Sets.{first_item, rest_of}

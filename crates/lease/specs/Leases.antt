@@ -1,4 +1,4 @@
--- A worker's latest lease.
+-- What a scheduler notes where it gives a worker to an attempt.
 use Rattle.std.specs.Prelude.{[], ℕ, ◌++◌, ◌∷◌}
 use Rattle.event_log.specs.Entries.{Attempt}
 use Rattle.protocol.specs.Nodes.{Scheduler}

@@ -1,4 +1,4 @@
--- What a scheduler promises.
+-- What a scheduler promises: no more slots in use than there are; and when two nodes differ in their stores alone.
 use Rattle.std.specs.Prelude.{length, ◌≡◌, ◌≤◌}
 use Rattle.protocol.specs.Nodes.{There, with_node}
 

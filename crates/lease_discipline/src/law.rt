@@ -1,4 +1,4 @@
-// The laws of leases.
+// Leases stay in order: a Push that begins an attempt finds its worker free.
 
 ghost use Rattle.lease_discipline.specs.Asks.{LawOfLastAsks};
 ghost use Rattle.lease_discipline.specs.Slots.{LawOfKeptSlots};

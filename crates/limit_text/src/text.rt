@@ -31,7 +31,7 @@ fn ends_at_limit(log: &[Entry]) -> bool
     limited
 }
 
-/// The moment behind the log.
+/// The log's last event, with how many came.
 fn moment_behind(log: &[Entry], lines: &[usize]) -> Moment
     ensures { moment_of result ≡ moment_behind lines.now first_moment log.now }
 {

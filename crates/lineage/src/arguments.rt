@@ -35,7 +35,7 @@ pub fn task_for(here: &Here, serial: u64) -> Option<&OwnTask>
     task_by(objects, &found.maker)
 }
 
-/// What the object of that serial is made from.
+/// The ids that the task which makes the own object of that serial dereferences before its body; none where no task makes it.
 pub fn made_from(alloc: Global, here: &Here, serial: u64) -> Result<Seq<ObjectId>, AllocError>
     ensures { IfOk result (λ ids. ids ≡ made_from here.now serial) }
 {

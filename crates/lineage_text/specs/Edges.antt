@@ -1,4 +1,4 @@
--- The edges between objects.
+-- How the graph writes from what an object is computed, and which objects a content names.
 use Rattle.std.specs.Prelude.{ℕ, List, ◌++◌, codes}
 use Rattle.std.specs.List.{flat_map}
 use Rattle.meaning.specs.Values.{Id, Argument}

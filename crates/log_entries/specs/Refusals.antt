@@ -1,4 +1,4 @@
--- The numbers of refusals.
+-- The number that each refusal of an event has in reports.
 use Rattle.std.specs.Prelude.{ℕ}
 use Rattle.log_entries.specs.declared.refusal.Refusal.{Refusal}
 use Rattle.log_entries.specs.declared.refusal.Refusal.TheVariants as refusals

@@ -1,4 +1,4 @@
-// Events.
+// The events of a run, and their texts in event files.
 
 use ids::{NodeId, ObjectId, WorkerId};
 use std::fmt;

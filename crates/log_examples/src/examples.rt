@@ -1,4 +1,4 @@
-// Worked logs.
+// Worked logs: by these contracts some are legal, and each of the others has one wrong entry.
 
 ghost use Rattle.std.specs.Prelude.{◌++◌};
 ghost use Rattle.event_log.specs.Serial.{MainBegins};

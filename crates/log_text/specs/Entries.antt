@@ -1,4 +1,4 @@
--- The line of each entry.
+-- What an entry says in words: of an attempt, of an object, or of what came of an event.
 use Rattle.std.specs.Prelude.{ℕ, zero, suc, ◌+◌, Bool, List, [], ◌++◌, codes}
 use Rattle.std.specs.Fmt.{decimal}
 use Rattle.report.specs.Values.{id_text}

@@ -1,4 +1,4 @@
--- What an accepted event does.
+-- The line of an event: its number, its text, its seat, and what it does where it isn't refused.
 use Rattle.std.specs.Prelude.{ℕ, zero, suc, ◌+◌, Bool, if◌then◌else◌, List, [], Option, Some, None, ◌++◌, codes, length}
 use Rattle.std.specs.Fmt.{decimal}
 use Rattle.report.specs.Values.{id_text}

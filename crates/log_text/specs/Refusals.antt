@@ -1,4 +1,4 @@
--- Why an event was refused.
+-- The line of a refusal: its number, and the cause in words.
 use Rattle.std.specs.Prelude.{ℕ, List, ◌++◌, codes}
 use Rattle.std.specs.Fmt.{decimal}
 use Rattle.log_entries.specs.declared.refusal.Refusal.{Refusal}

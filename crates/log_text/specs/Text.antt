@@ -1,4 +1,4 @@
--- A log in words.
+-- A log in words: a line for each entry, told as the log goes on.
 use Rattle.std.specs.Prelude.{ℕ, List, [], ◌∷◌, ◌++◌}
 use Rattle.meaning.specs.Births.{Bearing}
 use Rattle.event_log.specs.Entries.{Entry}

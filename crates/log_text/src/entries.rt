@@ -1,4 +1,4 @@
-// The line of each entry.
+// What an entry says in words: of an attempt, of an object, or of what came of an event.
 
 ghost use Rattle.std.specs.Prelude.{◌≡◌, ◌+◌, ◌++◌, ◌<◌, ◌^◌, OnOk, string_bytes};
 ghost use Rattle.event_log.specs.Words.{births};

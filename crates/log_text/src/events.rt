@@ -1,4 +1,4 @@
-// Events, and what they do.
+// The line of an event: its number, its text, its seat, and what it does where it isn't refused.
 
 ghost use Rattle.std.specs.Prelude.{◌≡◌, ◌++◌, OnOk, string_bytes};
 ghost use Rattle.log_text.specs.Events.{done_text, event_line, meaning_note, meaning_text, seat_note};

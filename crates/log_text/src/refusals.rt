@@ -1,4 +1,4 @@
-// Refusals, with their causes.
+// The line of a refusal: its number, and the cause in words.
 
 ghost use Rattle.std.specs.Prelude.{◌≡◌, ◌++◌, OnOk, string_bytes};
 ghost use Rattle.log_text.specs.Refusals.{reason_of, refusal_text};

@@ -1,4 +1,4 @@
-// A log in words.
+// A log in words: a line for each entry, told as the log goes on.
 
 ghost use Rattle.std.specs.Prelude.{◌≡◌, IfOk, string_bytes};
 ghost use Rattle.log_text.specs.Text.{log_text};

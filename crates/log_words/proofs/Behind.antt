@@ -1,4 +1,4 @@
--- Objects that follow one another.
+-- Objects of one owner that follow one another, one more added at the end.
 use Rattle.std.proofs.Common.{◌≡◌, ℕ, zero, suc, ◌+◌, List, [], ◌∷◌, ◌++◌, ap, sym, ◌∙◌, append_assoc, add-one, arith}
 use Rattle.meaning.specs.Values.{Id}
 use Rattle.meaning.specs.Runs.{next_id, ids_from, past}

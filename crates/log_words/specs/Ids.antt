@@ -1,4 +1,4 @@
--- The objects in a value.
+-- The objects that stand in a value, in order of first place.
 use Rattle.std.specs.Prelude.{List}
 use Rattle.meaning.specs.Values.{Id, Value}
 use Rattle.values.specs.Listed.{ids_listed, each_once}

@@ -103,7 +103,7 @@ pub fn is_main(object: ObjectId) -> bool
 }
 
 impl BirthIndex {
-    /// The births of a log.
+    /// Where each birth stands in the log, by its first object, so that one is found without going over the log.
     pub fn of(alloc: Global, log: &[Entry]) -> Result<BirthIndex, AllocError>
         ensures { IfOk result (λ index. IsIndexOf index log.now) }
     {

@@ -1,4 +1,4 @@
-// Values and contents, written.
+// How values and contents are written, whole or with long lists cut.
 
 ghost use Rattle.std.specs.Prelude.{◌≡◌, ◌++◌, OnOk, string_bytes};
 ghost use Rattle.std.specs.List.{flat_map};
@@ -21,7 +21,7 @@ pub enum Contents {
     Whole,
 }
 
-/// Writes a value.
+/// Writes a value as reports do; where long lists are cut, with the first items and the number of all.
 pub fn write_value(
     text: &mut String,
     contents: Contents,

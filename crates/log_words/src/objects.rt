@@ -1,4 +1,4 @@
-// The objects in a value.
+// The objects that stand in a value, in order of first place.
 
 ghost use Rattle.std.specs.Prelude.{◌≡◌, IfOk};
 ghost use Rattle.values.specs.Values.{value_of};

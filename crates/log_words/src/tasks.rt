@@ -51,7 +51,7 @@ fn object_behind(alloc: Global, object: ObjectId, count: u64) -> Result<ObjectId
     }
 }
 
-/// Adds so many objects, from one on.
+/// Adds so many objects of one owner, whose serials follow one another from that object's on.
 fn add_from(objects: &mut Vec<ObjectId>, first: ObjectId, count: u64) -> Result<(), AllocError>
     ensures { OnOk result (objects.new.items ≡ objects.old.items ++ ids_from first count) }
 {

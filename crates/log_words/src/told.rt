@@ -11,7 +11,9 @@ use std::alloc::{AllocError, Global};
 /// How many events came, and the workers to which jobs were given, by job.
 #[derive(Drop)]
 pub struct Told {
+    /// How many events came, taken or refused.
     pub events: usize,
+    /// The worker of each job, by number: that of job 1 first.
     pub jobs: Vec<WorkerId>,
 }
 
@@ -61,7 +63,7 @@ impl Told {
         }
     }
 
-    /// Notes an entry.
+    /// Counts an event, and notes the worker of a claim that was taken; any other entry changes nothing.
     pub fn note(&mut self, entry: &Entry, is_refused: bool) -> Result<(), AllocError>
         requires { self.old.events + 1 < 2 ^ 64 }
         ensures told { OnOk result (told_of self.new ≡ told_after (told_of self.old) entry.now is_refused) }

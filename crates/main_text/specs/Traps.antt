@@ -1,4 +1,4 @@
--- Where a trap comes from.
+-- From which attempt a trap came to main, told get by get.
 use Rattle.std.specs.Prelude.{List, None, Option, Some, [], codes, if◌then◌else◌, suc, zero, ℕ, ◌+◌, ◌++◌, ◌∷◌}
 use Rattle.std.specs.List.{flat_map}
 use Rattle.std.specs.Fmt.{decimal}

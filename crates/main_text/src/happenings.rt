@@ -17,19 +17,19 @@ use why_text::{Moment, write_when};
 /// What may happen in a run.
 #[derive(Clone, Copy, PartialEq, Eq, Debug)]
 pub enum Happening {
-    /// The attempt begins.
+    /// The attempt begins on a worker.
     Begins(AttemptId),
     /// A get of the attempt is answered.
     Gets(AttemptId),
     /// The attempt ends, with a content or a fault.
     Stops(AttemptId),
-    /// The object is released.
+    /// The object is released by its owner.
     Releases(ObjectId),
     /// The worker takes a job.
     Claims(WorkerId),
     /// A job of the worker is done.
     Commits(WorkerId),
-    /// The node dies.
+    /// The node dies, with all its workers.
     NodeDies(NodeId),
 }
 
@@ -123,7 +123,7 @@ fn is_node_death(node: NodeId, entry: &Entry) -> bool
     }
 }
 
-/// Whether it happens with the entry.
+/// Whether the entry is what happens; `jobs` are those that were given out, by number.
 fn happens(jobs: &[Given], happening: &Happening, entry: &Entry) -> bool
     ensures { result ≡ happens jobs.now happening.now entry.now }
 {

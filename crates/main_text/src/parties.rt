@@ -1,4 +1,4 @@
-// Workers and nodes.
+// How workers, nodes and owners are written in an answer: `w2`, `n1`.
 
 ghost use Rattle.std.specs.Prelude.{◌≡◌, ◌++◌, OnOk, string_bytes};
 ghost use Rattle.std.specs.List.{flat_map};

@@ -149,7 +149,7 @@ fn trap_in(attempt: AttemptId, entry: &Entry) -> Option<Trap>
     trap_among(contents)
 }
 
-/// The trap with which the attempt ended.
+/// The trap with which the attempt ended first, if it ended with one.
 fn trap_ended(log: &[Entry], attempt: AttemptId) -> Option<Trap>
     ensures { option_map trap_of result ≡ trap_ended log.now attempt }
 {

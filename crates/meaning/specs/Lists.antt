@@ -1,4 +1,4 @@
--- Lists.
+-- When a list begins another.
 use Rattle.std.specs.Prelude.{◌≡◌, List, [], ◌∷◌}
 
 -- the first list is a beginning of the second

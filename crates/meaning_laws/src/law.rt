@@ -1,4 +1,4 @@
-// The laws of legal logs.
+// Every legal log reads as the serial run.
 
 ghost use Rattle.meaning_laws.specs.Known.{AttemptsGiveOnlyKnown};
 ghost use Rattle.meaning_laws.specs.Law.{LegalLogsReadAsSerial, MainBeginsTheSerialRun};

@@ -1,4 +1,4 @@
--- The lines of messages.
+-- The line of a message: who sends it with which number to whom, and what it says.
 use Rattle.std.specs.Prelude.{ℕ, ◌+◌, List, [], ◌∷◌, ◌++◌, codes}
 use Rattle.std.specs.Fmt.{decimal}
 use Rattle.log_words.specs.declared.contents.Contents.{Contents}

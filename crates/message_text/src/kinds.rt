@@ -1,4 +1,4 @@
-// Messages.
+// How each of the eighteen messages is written: its word, and what it carries.
 
 ghost use Rattle.std.specs.Prelude.{◌≡◌, ◌++◌, OnOk, string_bytes};
 ghost use Rattle.std.specs.List.{flat_map};

@@ -1,4 +1,4 @@
-// The lines of messages.
+// The line of a message: who sends it with which number to whom, and what it says.
 
 ghost use Rattle.std.specs.Prelude.{◌≡◌, ◌+◌, ◌++◌, ◌<◌, ◌^◌, OnOk, length, string_bytes};
 ghost use Rattle.message_text.specs.Letters.{letter_head, letter_line, letters_text};

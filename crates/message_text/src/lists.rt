@@ -1,4 +1,4 @@
-// Lists of nodes and objects.
+// How a message's nodes and objects are written, as `[n1, n2]`.
 
 ghost use Rattle.std.specs.Prelude.{◌≡◌, ◌++◌, OnOk, string_bytes};
 ghost use Rattle.std.specs.List.{flat_map};

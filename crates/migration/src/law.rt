@@ -1,4 +1,4 @@
-// The laws of migrated files.
+// A migrated file replays to the same run.
 
 ghost use Rattle.migration.specs.Migration.{HistoriesReplay, MigratedIsSame, OneRun};
 

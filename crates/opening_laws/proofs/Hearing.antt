@@ -1,4 +1,4 @@
--- Messages that reach a worker.
+-- What comes of a message that reaches a worker may open no more workers than what it began with.
 use Rattle.std.proofs.Common.{None, Option, Some, ap, refl, true, ℕ, ◌≡◌}
 use Rattle.std.specs.List.{list_any}
 use Rattle.std.specs.Prelude.{not, ◌&&◌}

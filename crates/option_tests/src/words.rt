@@ -1,3 +1,5 @@
+// Tests of the command line's words: which are taken as what, and which are refused.
+
 use raysim_options::{Request, options};
 use std::alloc::Global;
 use std::test::Fail;

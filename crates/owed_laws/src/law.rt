@@ -1,4 +1,4 @@
-// The law of what is owed.
+// What every event of a run owes, by log, network and slots, is paid in that event.
 
 ghost use Rattle.owed_laws.specs.Law.{AllIsPaid, EventsArePaid, ReachedGoesOn, ReachedPays};
 

@@ -1,4 +1,4 @@
-// The laws of replies.
+// Ends are reported, and asks for places, Holds and Finished are answered, in the event that calls for it.
 
 ghost use Rattle.owed_replies.specs.Law.{EventsKeepReplies, LawOfEnds, LawOfReplies, OpeningKeepsReplies};
 

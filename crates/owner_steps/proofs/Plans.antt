@@ -1,4 +1,4 @@
--- A plan, carried out.
+-- A plan that can be carried out is remade, and one that can't be is given up with its fault: so the owner recovers.
 use Rattle.std.proofs.Common.{◌≡◌, ◌∙◌, List, None, Option, Some, Result, Ok, Err, ap, refl, sym, ℕ}
 use Rattle.meaning.specs.Values.{Id}
 use Rattle.event_log.specs.Entries.{Fault}

@@ -1,4 +1,4 @@
-// What a commit bears.
+// New own objects of a commit: puts with their contents, and tasks with an object for each result.
 
 ghost use Rattle.std.specs.Prelude.{◌≡◌, ◌+◌, ◌≤◌, ◌^◌, ◌++◌, ◌∷◌, [], IfOk, OnOk, Some, None};
 ghost use Rattle.meaning.specs.Values.{Val, results_of};

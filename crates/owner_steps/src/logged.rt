@@ -1,4 +1,4 @@
-// What a commit logs.
+// The entries of a commit: births, prints, and the end.
 
 ghost use Rattle.std.specs.Prelude.{◌≡◌, ◌++◌, ◌∷◌, [], IfOk, OnOk, map};
 ghost use Rattle.event_log.specs.Entries as logged;
@@ -43,7 +43,7 @@ fn log_births(
     Ok(())
 }
 
-/// Logs the prints.
+/// Adds an entry for each print, in order.
 #[tactic(auto, using(crate::proofs::LogLaws::one_logged, crate::proofs::LogLaws::none_logged))]
 fn log_prints(alloc: Global, here: &mut Here, prints: &[Printed]) -> Result<(), AllocError>
     ensures { OnOk result (here.new ≡ logs_all here.old (map logged.Printed prints.now)) }

@@ -1,4 +1,4 @@
--- A run as a page.
+-- The bytes of a run's page: the head, one line of JSON, and the tail.
 use Rattle.std.specs.Prelude.{ℕ, List, ◌++◌}
 use Rattle.std.specs.List.{flat_map}
 use Rattle.serde_json.specs.Written.{compact_text}

@@ -1,4 +1,4 @@
-// A run as a page.
+// A run as a file of HTML: the head, one line of JSON with all that happened, and the tail.
 
 ghost use Rattle.std.specs.Prelude.{◌≡◌, IfOk};
 ghost use Rattle.page_text.specs.Text.{page_text};

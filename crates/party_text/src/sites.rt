@@ -18,8 +18,11 @@ use why_text::{Moment, is_node, write_when};
 #[derive(Drop)]
 pub struct Site {
     pub node: NodeId,
+    /// The node's number of each worker, that of worker 1 first.
     pub nodes: Vec<u32>,
+    /// The attempts that began on its workers, in order.
     pub attempts: Vec<AttemptId>,
+    /// How many nodes there are in all.
     pub count: usize,
 }
 

@@ -24,8 +24,11 @@ use why_text::{
 #[derive(Drop)]
 pub struct Subject {
     pub worker: WorkerId,
+    /// The number of its node; none where it was never opened.
     pub home: Option<u32>,
+    /// Whether it was killed for itself, not with its node.
     pub was_killed: bool,
+    /// The attempts that it ran, in order.
     pub attempts: Vec<AttemptId>,
 }
 
@@ -46,7 +49,7 @@ impl Subject {
         })
     }
 
-    /// Whether it dies with that node.
+    /// Whether it dies with that node: it is on the node, and wasn't killed for itself.
     fn dies_with(&self, node: u32) -> bool
         ensures { result ≡ dies_with (seen_of self.now) node }
     {

@@ -1,4 +1,4 @@
-// A worker's steps by name.
+// The steps of a worker as a trait, with the pure step that each equals.
 
 ghost use Rattle.std.specs.Prelude.{◌≡◌, OnOk};
 ghost use Rattle.protocol.specs.Commits.{claim_step, commit_step};

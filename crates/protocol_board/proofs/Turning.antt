@@ -1,4 +1,4 @@
--- Turns, one after the other.
+-- So many turns of the settle rule, and one more; and what a turn's commit comes to.
 use Rattle.std.proofs.Common.{◌≡◌, ◌∙◌, ℕ, suc, ◌+◌, List, [], ◌∷◌, ◌++◌, length, Some, refl, sym, ap, subst, inr, arith}
 use Rattle.std.specs.Prelude.{slice_set}
 use Rattle.meaning.specs.Syntax.{Script}

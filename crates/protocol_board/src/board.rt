@@ -1,4 +1,4 @@
-// Boards.
+// The run as programs use it: an event after the other, its log, and the report and status of that.
 
 ghost use Rattle.std.specs.Prelude.{◌≡◌, IfOk, string_bytes};
 ghost use Rattle.protocol.specs.Settling.{next};

@@ -1,4 +1,4 @@
-// Driving a run.
+// A run that is driven: the settle rule names each event, and each job is run in the turn that gives it out.
 
 ghost use Rattle.std.specs.Prelude.{◌≡◌, IfOk, OnOk, IfErr};
 ghost use Rattle.script_check.specs.Trees.{script_of};

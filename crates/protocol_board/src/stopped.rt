@@ -1,4 +1,4 @@
-// Why a replay is stopped.
+// Why a replay is stopped before its last event, with the number that is told.
 
 ghost use Rattle.std.specs.Prelude.{◌≡◌};
 ghost use Rattle.protocol_board.specs.Stops.{stopped_code};
@@ -21,7 +21,7 @@ pub enum ReplayStop {
 }
 
 impl ReplayStop {
-    /// The number that is printed.
+    /// The number behind the word `refused`: 39, 41 or 42.
     pub fn number(self) -> u16
         ensures { result ≡ stopped_code self }
     {

@@ -1,4 +1,4 @@
-// Why a run is stopped.
+// Why a driven run is stopped before nothing is left to do, with the number that is told.
 
 ghost use Rattle.std.specs.Prelude.{◌≡◌};
 ghost use Rattle.protocol_board.specs.Stops.{unfinished_code};

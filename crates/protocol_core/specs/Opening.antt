@@ -1,4 +1,4 @@
--- How a run begins.
+-- The nodes with which a run begins.
 use Rattle.std.specs.Prelude.{ℕ, List}
 use Rattle.protocol.specs.Nodes.{Node, new_node}
 use Rattle.protocol.specs.Sets.{repeated}

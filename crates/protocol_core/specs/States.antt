@@ -1,4 +1,4 @@
--- The state of a run.
+-- What a run's state has, how it begins, and which states are legal, reached and sound.
 use Rattle.std.specs.Prelude.{◌≡◌, ◌<◌, ◌≤◌, ℕ, Bool, false, List, []}
 use Rattle.meaning.specs.Syntax.{Script}
 use Rattle.script_check.specs.Scripts.{IsWellTyped}

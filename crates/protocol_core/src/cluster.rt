@@ -1,4 +1,4 @@
-// Clusters.
+// On how many nodes a run begins, and how many workers may run at once on each.
 
 ghost use Rattle.std.specs.Prelude.{◌≡◌, IfSome, IfNone};
 ghost use Rattle.protocol_core.specs.Clusters.{IsCluster, Size};

@@ -1,4 +1,4 @@
-// Runs.
+// A run as its log and its tables: how it begins, its next event, and what each event comes to.
 
 ghost use Rattle.std.specs.Prelude.{◌≡◌, true, IfOk};
 ghost use Rattle.script_check.specs.Trees.{script_of};

@@ -1,4 +1,4 @@
-// Answers to events.
+// What an event is answered: the job that it gives out, that it was taken, or why it was refused.
 
 use log_entries::Refusal;
 use segment::{Job, ScriptName};

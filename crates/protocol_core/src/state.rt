@@ -1,4 +1,4 @@
-// The state of a run.
+// A run's state, how it begins, and what an event adds to it.
 
 ghost use Rattle.std.specs.Prelude.{◌≡◌, ◌++◌, ◌∷◌, IfOk, OnOk, OnErr, take, true};
 ghost use Rattle.event_log.specs.Legal.{opening};
@@ -17,9 +17,13 @@ use std::alloc::{AllocError, Global};
 /// Workers, nodes and messages beside the log, how many nodes there were at first, and whether an event found no memory.
 #[derive(Drop)]
 pub struct State {
+    /// Workers, nodes, messages and jobs.
     pub whole: Whole,
+    /// The entries so far, oldest first.
     pub log: Seq<Entry>,
+    /// How many nodes there were at first, from 1 to 64.
     pub first_nodes: u8,
+    /// Whether an event found no memory: no further one is taken then.
     pub is_halted: bool,
 }
 

@@ -1,4 +1,4 @@
-// The events of a run.
+// What each event makes of a run's state, and how it is answered.
 
 ghost use Rattle.std.specs.Prelude.{◌≡◌, ◌≤◌, false, true, IfOk, IfSome, OnOk, OnErr};
 ghost use Rattle.cursor_laws.specs.Cursors.{IsAtFirst};

@@ -47,7 +47,7 @@ fn lengthen(bounds: &mut Seq<u64>, owner: usize) -> Result<(), AllocError>
     Ok(())
 }
 
-/// The object is noted.
+/// Raises the bound of the object's owner, so that the object is one of those that may have been noted; those noted before stay so.
 pub fn note(bounds: &mut Seq<u64>, object: ObjectId) -> Result<(), AllocError>
     ensures noted { OnOk result (may_be_noted bounds.new object ≡ true) }
     ensures kept { (o : Id) → may_be_noted bounds.old o ≡ true → may_be_noted bounds.new o ≡ true }
@@ -80,14 +80,13 @@ fn answered(key: &AskKey, reply: &AskReply) -> Option<Asked>
     })
 }
 
-/// Whether it is that ask.
+/// Whether what was answered is the ask of that attempt with that number.
 fn is_that_ask(key: &AskKey, asked: &Asked) -> bool
     ensures { result ≡ is_that_ask key.now asked.now }
 {
     asked.key.attempt.is(key.attempt) && asked.key.t == key.t
 }
 
-/// Whether the row is of that ask.
 fn is_that_row(key: &AskKey, row: &Option<Asked>) -> bool
     ensures { result ≡ is_that_row key.now row.now }
 {

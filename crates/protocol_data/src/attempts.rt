@@ -61,7 +61,7 @@ impl Model for Attempts {
 }
 
 impl Attempts {
-    /// None.
+    /// No attempt was noted yet.
     pub fn new(alloc: Global) -> Self
         ensures { result ≡ [] }
     {

@@ -18,7 +18,9 @@ const MOST_ON_A_SHELF: usize = 128;
 /// Copies, with bounds of the objects that they are of.
 #[derive(Drop)]
 pub struct Shelf {
+    /// The copies, in order.
     pub rows: Seq<Copy>,
+    /// Bounds of the objects that they are of.
     pub span: Span,
 }
 

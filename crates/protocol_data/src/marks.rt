@@ -110,7 +110,7 @@ fn mark_at_owner(
     mark_in(row, object.serial as usize, place)
 }
 
-/// The object is marked with the place.
+/// Notes that the object may be found at the place; objects marked before stay so. An object that can't be marked changes nothing.
 pub fn mark(marks: &mut Seq<Seq<u32>>, object: ObjectId, place: usize) -> Result<(), AllocError>
     ensures marked { OnOk result (may_be_marked marks.new object ≡ true) }
     ensures kept { (o : Id) → may_be_marked marks.old o ≡ true → may_be_marked marks.new o ≡ true }
@@ -122,7 +122,7 @@ pub fn mark(marks: &mut Seq<Seq<u32>>, object: ObjectId, place: usize) -> Result
     mark_at_owner(marks, object, place)
 }
 
-/// Equal marks.
+/// The same marks, in memory of their own. The one error is want of memory.
 pub fn copy_marks(alloc: Global, marks: &Seq<Seq<u32>>) -> Result<Seq<Seq<u32>>, AllocError>
     ensures { IfOk result (λ again. again ≡ marks.now) }
 {

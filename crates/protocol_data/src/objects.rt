@@ -55,6 +55,7 @@ impl Objects {
         }
     }
 
+    /// How many objects there are, which is less than 2^63.
     pub fn len(&self) -> usize
         ensures len { result ≡ length self.now }
         ensures bound { result < 2 ^ 63 }

@@ -61,13 +61,14 @@ impl Queue {
         }
     }
 
+    /// Whether no ask waits: the places of asks that were taken out before don't count.
     pub fn is_empty(&self) -> bool
         ensures { IsTrue result ↔ (self.now ≡ []) }
     {
         self.as_slice().is_empty()
     }
 
-    /// The first ask.
+    /// The ask that has waited longest; none where none waits.
     pub fn first(&self) -> Option<AskKey>
         ensures { result ≡ slice_get self.now 0 }
     {

@@ -18,10 +18,15 @@ use sequence::Seq;
 /// before `changed_to`, which were changed since. Any other one isn't released while the bearer goes on, which bore none before `own_from`.
 #[derive(Drop)]
 pub struct Search {
+    /// The place from which on none was ever looked at.
     pub seen: usize,
+    /// The first place of those that were changed since they were looked at.
     pub changed_from: usize,
+    /// The place behind the last of them.
     pub changed_to: usize,
+    /// The attempt that went on when they were looked at, if one did: what it bore isn't released while it goes on.
     pub bearer: Option<AttemptId>,
+    /// The place before which the bearer bore none.
     pub own_from: usize,
 }
 
@@ -171,6 +176,7 @@ pub fn widened(from: usize, to: usize, place: usize, seen: usize) -> (usize, usi
     (from, place + 1)
 }
 
+/// The lesser of the two numbers.
 pub fn least(one: usize, other: usize) -> usize
     ensures one { result ≤ one }
     ensures other { result ≤ other }

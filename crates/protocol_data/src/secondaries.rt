@@ -23,6 +23,7 @@ const MOST_COPIES: usize = 16;
 #[derive(Clone, Copy, PartialEq, Eq, Hash, Debug)]
 pub struct CopyKey {
     pub object: ObjectId,
+    /// The number of the attempt whose content it is, 0 for what was put.
     pub number: u32,
 }
 

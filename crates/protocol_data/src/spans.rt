@@ -9,9 +9,13 @@ use ids::ObjectId;
 /// Bounds of objects' owners and serials.
 #[derive(Clone, Copy)]
 pub struct Span {
+    /// No object has a lesser owner.
     pub first_owner: u32,
+    /// No object has a greater owner.
     pub last_owner: u32,
+    /// No object has a lesser serial, whoever owns it.
     pub first_serial: u64,
+    /// No object has a greater serial, whoever owns it.
     pub last_serial: u64,
 }
 

@@ -1,4 +1,4 @@
-// The laws of the whole protocol.
+// Every event keeps a run of the whole protocol sound, so that its log is legal.
 
 ghost use Rattle.protocol_laws.specs.Given.{ClaimsGiveGoodJobs, ClaimsGiveJobsOfTheLog, JobsStayOfTheLog, RunsAreGood, RunsHaveTheLogsAnswers};
 ghost use Rattle.protocol_laws.specs.Pace.{KeepsPace};

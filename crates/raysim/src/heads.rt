@@ -20,6 +20,7 @@ pub struct Fronted<T> {
 }
 
 impl<T: Drop> Fronted<T> {
+    /// The reader, of which nothing was read yet.
     pub fn new(alloc: Global, inner: T) -> Fronted<T> {
         Fronted {
             inner,

@@ -1,4 +1,4 @@
-// Files that are read.
+// How the program reads scripts, lists of events and plans from their files.
 
 use crate::heads::Fronted;
 use crate::kept::{events_text, lines_text, plan_text};
@@ -32,7 +32,9 @@ pub fn read_script_file<'a, R: Files + AllocGlobal>(
 /// A list of events as a text of the same lines, and how its file begins.
 #[derive(Drop)]
 pub struct ReadEvents {
+    /// A text of the list's lines, as far as a replay may go.
     pub events: Vec<u8>,
+    /// The first bytes of the file, which tell of which run it is.
     pub front: Vec<u8>,
 }
 
@@ -76,7 +78,7 @@ pub fn read_plain_events<'a, R: Files + AllocGlobal>(
     }
 }
 
-/// The same of a plan.
+/// Reads a plan likewise, and gives it as a text of the lines that say something.
 pub fn read_plan<'a, R: Files + AllocGlobal>(
     rt: &R,
     script: &[u8],

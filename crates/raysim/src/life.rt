@@ -11,7 +11,9 @@ use std::time::{Duration, Instant};
 /// Where the standard error goes.
 #[derive(Clone, Copy, Debug, PartialEq, Eq)]
 pub enum ErrorsGo {
+    /// To somebody who looks on: once a run has gone on for two seconds it is told unasked how far it is.
     ToATerminal,
+    /// To a file or another program: nothing is told there but what was asked for.
     Elsewhere,
 }
 
@@ -131,6 +133,7 @@ pub struct Life<'a, R> {
 }
 
 impl<'a, R: Eprint + AllocGlobal + Clock> Life<'a, R> {
+    /// Tells what is asked for, of a run of whose log nothing was seen yet.
     pub fn new(rt: &'a R, asked: Asked) -> Life<'a, R> {
         Life {
             line: Line::new(rt, asked.progress),
@@ -201,6 +204,7 @@ pub struct SharedLife<'a, R> {
 }
 
 impl<'a, R: Eprint + AllocGlobal + Clock + Wait> SharedLife<'a, R> {
+    /// Tells what is asked for, of a run of whose log nothing was seen yet; the threads of the run lock it to tell something.
     pub fn new(rt: &'a R, asked: Asked) -> SharedLife<'a, R> {
         SharedLife {
             rt,
@@ -234,6 +238,7 @@ pub struct TrialLife<'a, R> {
 }
 
 impl<'a, R: Eprint + AllocGlobal + Clock> TrialLife<'a, R> {
+    /// Tells how many lists were tried, if progress is asked for; what main prints is never told here.
     pub fn new(rt: &'a R, asked: Asked) -> TrialLife<'a, R> {
         TrialLife {
             line: Line::new(rt, asked.progress),

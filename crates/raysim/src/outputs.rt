@@ -7,10 +7,13 @@ use std::rt::Files;
 /// The files that a command reads and writes.
 #[derive(Clone, Copy)]
 pub struct Paths<'a> {
+    /// The script's file, which is read.
     pub script: &'a str,
-    /// The list of events or the plan, and what it is called.
+    /// The list of events or the plan, if there is one.
     pub beside: Option<&'a str>,
+    /// What that file is called where a clash is told.
     pub beside_name: &'a str,
+    /// Where the history is written, if it is; so the timeline, the lineage and the page.
     pub history: Option<&'a str>,
     pub timeline: Option<&'a str>,
     pub lineage: Option<&'a str>,

@@ -20,7 +20,9 @@ pub enum Course {
 #[derive(Clone, Copy)]
 pub struct List<'a, 'b> {
     pub kind: ListKind,
+    /// The file's name, as it is told.
     pub file: &'a str,
+    /// The file's bytes, as far as they were read.
     pub text: &'b [u8],
 }
 
@@ -28,10 +30,15 @@ pub struct List<'a, 'b> {
 /// for.
 #[derive(Clone, Copy)]
 pub struct Known<'a, 'b> {
+    /// Whether a refusal's place is asked for.
     pub explain: bool,
+    /// The script's file.
     pub script: &'a str,
+    /// The script's text, empty where it wasn't read.
     pub text: &'b [u8],
+    /// The list of events or the plan, if there is one.
     pub list: Option<List<'a, 'b>>,
+    /// How the events come, where a run was begun.
     pub course: Option<Course>,
 }
 

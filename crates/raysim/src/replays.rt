@@ -18,9 +18,12 @@ use std::rt::Files;
 /// A script and a list of events, by their files, the cluster, and whether a refusal's place is asked for.
 #[derive(Clone, Copy)]
 pub struct Replayed<'a> {
+    /// The script's file.
     pub script: &'a str,
+    /// The file with the list of events.
     pub events: &'a str,
     pub cluster: Cluster,
+    /// Whether a refusal's place is asked for.
     pub explain: bool,
 }
 
@@ -51,8 +54,11 @@ impl<'a> Replayed<'a> {
 /// What was read of both files, and how the list's begins.
 #[derive(Drop)]
 pub struct Texts {
+    /// The script's text.
     pub script: Vec<u8>,
+    /// The list of events as a text, as far as a replay may go.
     pub events: Vec<u8>,
+    /// How the list's file begins.
     pub front: Vec<u8>,
 }
 

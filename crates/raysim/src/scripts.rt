@@ -1,4 +1,4 @@
-// Commands over a script alone.
+// The commands that take a script alone: what they read, print and write.
 
 use crate::inputs::read_script_file;
 use crate::life::{Asked, Life};
@@ -20,9 +20,13 @@ use std::rt::{Clock, Files};
 /// A command over a script.
 #[derive(Clone, Copy)]
 pub enum Command {
+    /// Whether it is a script.
     Check,
+    /// Its serial run.
     Serial,
+    /// Its run on this cluster, in what form it is written, and what is told while it goes on.
     Run(Cluster, Form, Asked),
+    /// Its program for that engine.
     Export(Engine),
 }
 

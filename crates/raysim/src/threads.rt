@@ -1,4 +1,4 @@
-// Runs on threads.
+// The command `run` on threads: what it reads, runs in memory and then writes.
 
 ghost use Rattle.raysim_options.specs.Reads.{AreThreads};
 
@@ -154,7 +154,7 @@ fn run_in_memory<'a, R: Eprint + AllocGlobal + Threads + Wait + Clock + Sync>(
     }
 }
 
-/// Prints the report, whose status this is.
+/// Prints the report; the status is that of the run where all of it is out.
 fn print_report<R: Print>(rt: &R, report: &[u8], status: u8) -> Printed {
     let mut output = Noted::new(io::writer(rt));
     let done = match put_all(&mut Tracked::writer(&mut output), report) {

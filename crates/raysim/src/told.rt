@@ -80,7 +80,7 @@ impl<'a> Stop<'a> {
         }
     }
 
-    /// Whether a write failed.
+    /// Whether what failed is a write: of the output, or of a file.
     pub fn is_of_writing(self) -> bool {
         match self {
             Stop::Unwritten(_, _) | Stop::Refused(CommandRefusal::Failed(_)) => true,
@@ -92,7 +92,9 @@ impl<'a> Stop<'a> {
 /// What a command came to that prints, and the error of the standard output, if it had one.
 #[derive(Clone, Copy)]
 pub struct Printed {
+    /// The status, or why the command refused.
     pub done: Result<u8, CommandRefusal>,
+    /// Why the standard output failed, if it did.
     pub error: Option<io::Error>,
 }
 

@@ -9,10 +9,15 @@ use std::rt::Files;
 /// goes where a run is stopped by a limit.
 #[derive(Clone, Copy)]
 pub struct Views<'a> {
+    /// The file for the timeline, if one is asked for.
     pub timeline: Option<&'a str>,
+    /// The file for the lineage, if one is asked for.
     pub lineage: Option<&'a str>,
+    /// The file for the page, if one is asked for.
     pub page: Option<&'a str>,
+    /// Whether these have all items of long lists.
     pub contents: Contents,
+    /// Whether the report is written as far as it goes where a limit stops the run.
     pub so_far: bool,
 }
 
@@ -20,6 +25,7 @@ pub struct Views<'a> {
 #[derive(Clone, Copy)]
 pub struct View<'a> {
     pub path: &'a str,
+    /// What is written to it of the run.
     pub form: Form,
 }
 

@@ -1,4 +1,4 @@
--- What `migrate` writes.
+-- What `migrate` writes: the history of the replay of a file of format 1, or why it refuses.
 use Rattle.std.specs.Prelude.{◌≡◌, ◌⊎◌, ◌++◌, ℕ, List, Option, take, IfSome}
 use Rattle.std.specs.Io.KnownBytes.{Appends}
 use Rattle.meaning.specs.Syntax.{Script}

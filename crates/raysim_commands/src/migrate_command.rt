@@ -1,4 +1,4 @@
-// The command `migrate`.
+// The command `migrate`: an event file of format 1, replayed and written as one of format 2.
 
 ghost use Rattle.std.specs.Prelude.{◌≡◌, ◌⊎◌, IfOk, IfErr, IfSome, string_bytes};
 ghost use Rattle.script_check.specs.Trees.{script_of};

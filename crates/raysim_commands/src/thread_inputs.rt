@@ -15,6 +15,7 @@ use std::alloc::Global;
 #[derive(Drop)]
 pub struct Inputs {
     pub script: Compiled,
+    /// What happens from outside; nothing where no plan was given.
     pub plan: RunPlan,
 }
 

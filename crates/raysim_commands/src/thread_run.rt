@@ -1,4 +1,4 @@
-// A script's run on threads.
+// A script's run on threads, in memory: what it is told and what it would write.
 
 ghost use Rattle.std.specs.Prelude.{◌≡◌, ◌≤◌, ℕ, List, false, IfOk, IfErr, string_bytes};
 ghost use Rattle.script_check.specs.Trees.{script_of};
@@ -26,8 +26,11 @@ use std::thread::Threads;
 /// What a run on threads writes, and the status that it ends with.
 #[derive(Drop)]
 pub struct Outputs {
+    /// The events that were applied, as an event file of format 2.
     pub history: String,
+    /// What is written of the run, in the form that was asked for.
     pub report: String,
+    /// The status by main's end: 0, 1 or 2.
     pub status: u8,
 }
 

@@ -1,4 +1,4 @@
-// The command `run` on threads.
+// The command `run` on threads: a script run beside a plan, its history and its report.
 
 ghost use Rattle.std.specs.Prelude.{◌≡◌, ◌≤◌, IfOk, IfErr};
 ghost use Rattle.script_commands.specs.Scripts.{IsUnwritten};

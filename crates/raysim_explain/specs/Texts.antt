@@ -1,4 +1,4 @@
--- The texts of reasons.
+-- What is told of each refusal: its number, its name, its cause and an example.
 use Rattle.std.specs.Prelude.{ℕ, List, ◌++◌, codes}
 use Rattle.std.specs.Fmt.{decimal}
 use Rattle.raysim_explain.specs.declared.reason.RefusalCause.{RefusalCause}

@@ -12,10 +12,15 @@ use std::fmt;
 /// show as `?`.
 #[derive(Clone, Copy, Debug)]
 pub struct Excerpt<'a> {
+    /// The script's file, as it is told.
     pub file: &'a str,
+    /// The refusal's number, by which the name at fault and the hint are chosen.
     pub code: u16,
+    /// The whole script.
     pub text: &'a [u8],
+    /// Where the span begins in it, in bytes from 0.
     pub start: usize,
+    /// The place behind the span's last byte.
     pub end: usize,
 }
 

@@ -9,27 +9,49 @@ use std::fmt;
 /// What a script that is refused may have meant to say. Its text is how that is said.
 #[derive(Clone, Copy, Debug, PartialEq, Eq, Drop)]
 pub enum Hint {
+    /// `>`
     Greater,
+    /// `>=`
     AtLeast,
+    /// `&&`
     And,
+    /// `&` alone
     Ampersand,
+    /// Or, by `|`
     Or,
+    /// `!`
     Not,
+    /// A text in quotes.
     Text,
+    /// A number with a point.
     Fraction,
+    /// A call behind a point, as `l.push(3)`.
     Method,
+    /// A name with a capital letter.
     CapitalLetter,
+    /// A comment that begins with `//`.
     SlashComment,
+    /// A `while`.
     While,
+    /// An `else if`.
     ElseIf,
+    /// `x = 2;`, without `set`.
     Assignment,
+    /// A statement that begins with none of the words for that, as `x += 1;`.
     Statement,
+    /// A call alone as a statement.
     LoneCall,
+    /// `[]`
     EmptyList,
+    /// A comma behind the last item.
     LastComma,
+    /// A colon before a block or a variable's type.
     Colon,
+    /// A function without a result's type, or a loop without bounds.
     NoResult,
+    /// `true` or `false`
     Truth,
+    /// A `;` that is missing, or a block without braces.
     Semicolon,
 }
 
@@ -43,6 +65,7 @@ fn byte_at(text: &[u8], place: usize) -> u8
     }
 }
 
+/// Whether it is a space, a tab, a carriage return or a line feed.
 fn is_blank(byte: u8) -> bool
     ensures { result ≡ is_blank byte }
 {
@@ -77,6 +100,7 @@ fn byte_behind(text: &[u8]) -> u8
     0
 }
 
+/// Whether it is a small letter.
 fn is_letter(byte: u8) -> bool
     ensures { result ≡ is_letter byte }
 {
@@ -102,6 +126,7 @@ fn sign_hint(first: u8, second: u8) -> Option<Hint>
     }
 }
 
+/// Whether it is a sign of arithmetic, which stands before `=` in other languages.
 fn is_sum_sign(byte: u8) -> bool
     ensures { result ≡ is_sum_sign byte }
 {
@@ -228,7 +253,7 @@ impl Hint {
         }
     }
 
-    /// How it is said.
+    /// How that is said in the language, as one line.
     pub fn words(self) -> &'static str
         ensures { result.now ≡ hint_words self }
     {

@@ -7,8 +7,11 @@ ghost use Rattle.raysim_explain.specs.Places.{place_in};
 /// bytes from the beginning of the text.
 #[derive(Clone, Copy, Debug, PartialEq, Eq)]
 pub struct Place {
+    /// Counted from 1.
     pub line: usize,
+    /// In bytes, counted from 1.
     pub column: usize,
+    /// Where the line begins, in bytes from the beginning of the text.
     pub start: usize,
 }
 

@@ -8,34 +8,63 @@ use std::fmt;
 /// Why something is refused. Its text is the number and the name, then the cause and an example, each on a line of its own.
 #[derive(Clone, Copy, Debug, PartialEq, Eq, Drop)]
 pub enum RefusalCause {
+    /// 1: a byte of the script is above 127.
     NotAscii,
+    /// 2: bytes of the script are no token.
     BadToken,
+    /// 3: the grammar doesn't allow this token here, or the text ends too early.
     Expected,
+    /// 4: a limit of scripts is passed.
     TooLarge,
+    /// 10: no variable or function of this name is in scope, or main is called.
     UnknownName,
+    /// 11: an expression has another type than its place asks for.
     WrongType,
+    /// 12: a call has too many or too few arguments.
     WrongCount,
+    /// 13: there is no main, or it has parameters, or its result isn't int.
     NoMain,
+    /// 14: a function other than main prints.
     PrintOutsideMain,
+    /// 15: a function's body may end without a return.
     MissingReturn,
+    /// 16: a remote call asks for more than 10 new runs.
     BadRetries,
+    /// 17: a name is given again while it is in scope.
     Duplicate,
+    /// 18: a call has a function of another number of results, or another number of values is returned.
     WrongReturns,
+    /// 20: an evict of an object's primary copy.
     Pinned,
+    /// 21: the node that an event names has no copy of the object.
     NoCopy,
+    /// 30: the first worker that an event names doesn't live.
     NoWorker,
+    /// 31: a claim of a worker that has nothing to run, or whose job is out.
     NotReady,
+    /// 32: a commit of a job that was never given out or was committed, or with nothing that was done on it.
     NoJob,
+    /// 33: a commit of a job whose worker is dead.
     Stale,
+    /// 34: no message has this number.
     NoMessage,
+    /// 35: a notice of the death of a worker or node that lives or never was.
     NotDead,
+    /// 36: the node that an event names doesn't live.
     NoNode,
+    /// 37: an event would make object 1,000,001, worker 1,025 or node 65.
     Limit,
+    /// 38: the run is halted, since an event before found no memory.
     Halted,
+    /// 39: memory ran out.
     NoMemory,
+    /// 40: a line of a list of events or of a plan is none of its format.
     BadLine,
+    /// 41: there are more events, lines or turns than one may have.
     TooLong,
+    /// 42: a claim gives another job than the history says.
     WrongJob,
+    /// 50: a file can't be read or written.
     Failed,
 }
 
@@ -214,7 +243,7 @@ impl RefusalCause {
         }
     }
 
-    /// What is refused so.
+    /// A script, an event or a place that is refused so, as one line.
     pub fn example(self) -> &'static str
         ensures { result.now ≡ example_of self }
     {

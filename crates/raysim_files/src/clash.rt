@@ -8,7 +8,9 @@ use crate::place::{FilePlace, is_one_file};
 /// Two names of one file, by their places in a list of names, counted from 0: the later one is to be written to.
 #[derive(Clone, Copy, Debug, PartialEq, Eq)]
 pub struct Clash {
+    /// The first name that stands for the file.
     pub earlier: usize,
+    /// The name that is to be written to, which would lose what the earlier one has.
     pub later: usize,
 }
 

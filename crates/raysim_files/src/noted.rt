@@ -11,6 +11,7 @@ pub struct Noted<T> {
 }
 
 impl<T> Noted<T> {
+    /// The reader or writer, none of whose calls has failed yet.
     pub fn new(inner: T) -> Noted<T> {
         Noted { inner, error: None }
     }

@@ -1,4 +1,4 @@
-// What a name stands for.
+// What a path stands for, as far as a write would lose it, and when two are one file.
 
 ghost use Rattle.std.specs.Prelude.{◌↔◌, IsTrue};
 ghost use Rattle.raysim_files.specs.Clashes.{IsOneFile};

@@ -61,12 +61,14 @@ fn add_subcommand<'a>(
     above.subcommand(command_of(alloc, subcommand)?)
 }
 
+/// The command `sim`, also by itself to tell of a conflict of its words. The one error is want of memory.
 pub(crate) fn sim<'a>(alloc: Global) -> Result<Command<'a>, AllocError>
     ensures { IfOk result (λ c. app_of c ≡ sim_app) }
 {
     command_of(alloc, &SIM)
 }
 
+/// The command `run` likewise.
 pub(crate) fn run<'a>(alloc: Global) -> Result<Command<'a>, AllocError>
     ensures { IfOk result (λ c. app_of c ≡ run_app) }
 {

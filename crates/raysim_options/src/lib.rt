@@ -19,13 +19,13 @@ pub use subcommands::{MOST_NODES, MOST_SLOTS, MOST_THREADS};
 /// What the program was asked to do. Texts are paths of files, as the words have them.
 #[derive(Drop)]
 pub enum Request<'a> {
-    /// Check a script.
+    /// Check whether a text is a script that the rules allow.
     Check(ScriptOptions<'a>),
     /// Run a script with each remote call as a plain call.
     Serial(ScriptOptions<'a>),
     /// Run a script by a list of events.
     Sim(SimOptions<'a>),
-    /// Run a script.
+    /// Run a script until nothing is left to do, on threads or not.
     Run(RunOptions<'a>),
     /// Tell what happened in a run.
     Log(LogOptions<'a>),
@@ -43,133 +43,180 @@ pub enum Request<'a> {
     State(StateOptions<'a>),
 }
 
-/// The options of `check` and `serial`: the script, and whether a refusal's place is shown.
+/// What `check` and `serial` are given.
 #[derive(Drop)]
 pub struct ScriptOptions<'a> {
+    /// The script's file.
     pub script: &'a str,
+    /// Whether a refusal's place is shown.
     pub explain: bool,
 }
 
-/// The options of `sim`: the script, the list of events, how many nodes there are and how many slots each has (both from 1
-/// to 64, by default 1 and 4), whether the report is JSON, where the run's timeline, its lineage and its page are written, whether the
-/// books of the seats or a summary are written behind the report, which is no JSON then, whether these have all items of long lists, whether a
-/// refusal's place is shown, and whether the report is written as far as it goes where the run is stopped.
+/// What `sim` is given. The report is JSON, or has the books of the seats or a summary behind it, and only one of these.
 #[derive(Drop)]
 pub struct SimOptions<'a> {
+    /// The script's file.
     pub script: &'a str,
+    /// The file with the list of events.
     pub events: &'a str,
+    /// How many nodes there are at first, from 1 to 64, by default 1.
     pub nodes: u8,
+    /// How many slots each node has, from 1 to 64, by default 4.
     pub slots: u8,
+    /// Whether the report is one line of JSON.
     pub json: bool,
+    /// The file to which the run's timeline is written, if it is.
     pub timeline: Option<&'a str>,
+    /// The file to which the run's lineage is written, if it is.
     pub lineage: Option<&'a str>,
+    /// The file to which the run's page is written, if it is.
     pub page: Option<&'a str>,
+    /// Whether the books of the seats are written behind the report.
     pub books: bool,
+    /// Whether timeline, lineage and page have all items of long lists, of which else three are written.
     pub full: bool,
+    /// Whether a refusal's place is shown.
     pub explain: bool,
+    /// Whether a summary is written behind the report.
     pub summary: bool,
+    /// Whether the report is written as far as it goes where the run is stopped.
     pub so_far: bool,
 }
 
-/// The options of `migrate`: the script, the list of events, nodes and slots as for `sim`, and whether a refusal's place is shown.
+/// What `migrate` is given. Nodes and slots are as for `sim`.
 #[derive(Drop)]
 pub struct MigrateOptions<'a> {
+    /// The script's file.
     pub script: &'a str,
+    /// The file with the list of events, of format 1.
     pub events: &'a str,
     pub nodes: u8,
     pub slots: u8,
+    /// Whether a refusal's place is shown.
     pub explain: bool,
 }
 
-/// The options of `faults`: the script, the list of events if the run isn't to go on to its end by itself, nodes and slots as for `sim`, and, as far as the
-/// words have them, which kinds of faults are tried, how many lists at most, and the folder in which lists are written; and whether a refusal's place is
-/// shown, and whether it is told how many were tried while it goes on.
+/// What `faults` is given. Nodes and slots are as for `sim`.
 #[derive(Drop)]
 pub struct FaultsOptions<'a> {
+    /// The script's file.
     pub script: &'a str,
+    /// The file with the list of events; with none the run goes on to its end by itself.
     pub events: Option<&'a str>,
     pub nodes: u8,
     pub slots: u8,
+    /// Which kinds of faults are tried, as the words have them; not yet read.
     pub of: Option<&'a str>,
+    /// How many lists are tried at most, as the words have it; not yet read as a number.
     pub most: Option<&'a str>,
+    /// The folder in which the first list for each different end is written, if it is.
     pub out: Option<&'a str>,
+    /// Whether a refusal's place is shown.
     pub explain: bool,
+    /// Whether it is told how many lists were tried while it goes on.
     pub progress: bool,
 }
 
-/// The options of `run`: the script; whether it is run on threads, which it is where a number of threads, a plan or a history is asked for;
-/// how many they are (from 1 to 8, by default 2); nodes and slots as for `sim`; a plan of events to apply; where the events applied are
-/// recorded; whether the report is JSON; where the timeline, the lineage and the page are written; whether a refusal's place is shown; whether
-/// these have all items of long lists; whether a summary is written behind the report, which is no JSON then; whether the report is written as
-/// far as it goes where the run is stopped; and whether it is told how far the run is, and what main prints, while it goes on.
+/// What `run` is given. Nodes and slots are as for `sim`; a report that is JSON has no summary.
 #[derive(Drop)]
 pub struct RunOptions<'a> {
+    /// The script's file.
     pub script: &'a str,
+    /// Whether it is run on threads, which it is where a number of threads, a plan or a history is asked for.
     pub on_threads: bool,
+    /// How many threads there are, from 1 to 8, by default 2.
     pub threads: u8,
     pub nodes: u8,
     pub slots: u8,
+    /// The file with a plan of events to apply, if there is one.
     pub plan: Option<&'a str>,
+    /// The file in which the events that were applied are recorded, if they are.
     pub history: Option<&'a str>,
+    /// Whether the report is one line of JSON.
     pub json: bool,
+    /// The file to which the run's timeline is written, if it is.
     pub timeline: Option<&'a str>,
+    /// The file to which the run's lineage is written, if it is.
     pub lineage: Option<&'a str>,
+    /// The file to which the run's page is written, if it is.
     pub page: Option<&'a str>,
+    /// Whether a refusal's place is shown.
     pub explain: bool,
+    /// Whether timeline, lineage and page have all items of long lists, of which else three are written.
     pub full: bool,
+    /// Whether a summary is written behind the report.
     pub summary: bool,
+    /// Whether the report is written as far as it goes where the run is stopped.
     pub so_far: bool,
+    /// Whether it is told how far the run is while it goes on.
     pub progress: bool,
+    /// Whether it is told what main prints while the run goes on.
     pub stream: bool,
 }
 
-/// The options of `log`: the script, the list of events if the run isn't to be driven, nodes and slots as for `sim`, whether the
-/// messages are told too, whether all items of long lists are told, whether a refusal's place is shown, and where the run's page is written.
+/// What `log` is given. Nodes and slots are as for `sim`.
 #[derive(Drop)]
 pub struct LogOptions<'a> {
+    /// The script's file.
     pub script: &'a str,
+    /// The file with the list of events; with none the run is driven.
     pub events: Option<&'a str>,
     pub nodes: u8,
     pub slots: u8,
+    /// Whether the messages are told too.
     pub messages: bool,
+    /// Whether all items of long lists are told, of which else three are.
     pub full: bool,
+    /// Whether a refusal's place is shown.
     pub explain: bool,
+    /// The file to which the run's page is written, if it is.
     pub page: Option<&'a str>,
 }
 
-/// The options of `why`: the script, the list of events if the run isn't to be driven, the object, worker or node if it isn't main that is asked
-/// about, nodes and slots as for `sim`, whether all items of long lists are told, and whether a refusal's place is shown.
+/// What `why` is given. Nodes and slots are as for `sim`.
 #[derive(Drop)]
 pub struct WhyOptions<'a> {
+    /// The script's file.
     pub script: &'a str,
+    /// The file with the list of events; with none the run is driven.
     pub events: Option<&'a str>,
+    /// The object, worker or node that is asked about, as the words have it; with none main is.
     pub object: Option<&'a str>,
     pub nodes: u8,
     pub slots: u8,
+    /// Whether all items of long lists are told, of which else three are.
     pub full: bool,
+    /// Whether a refusal's place is shown.
     pub explain: bool,
 }
 
-/// The options of `export`: the script, the name of an engine as the words have it, and whether a refusal's place is shown.
+/// What `export` is given.
 #[derive(Drop)]
 pub struct ExportOptions<'a> {
+    /// The script's file.
     pub script: &'a str,
+    /// The name of an engine as the words have it; whether there is such an engine isn't looked at yet.
     pub to: &'a str,
+    /// Whether a refusal's place is shown.
     pub explain: bool,
 }
 
-/// The options of `state`: the script, the list of events, nodes and slots as for `sim`, whether a refusal's place is shown, and, where the words have
-/// it, the number of the event behind which the state is told.
+/// What `state` is given. Nodes and slots are as for `sim`.
 #[derive(Drop)]
 pub struct StateOptions<'a> {
+    /// The script's file.
     pub script: &'a str,
+    /// The file with the list of events.
     pub events: &'a str,
     pub nodes: u8,
     pub slots: u8,
+    /// Whether a refusal's place is shown.
     pub explain: bool,
+    /// The number of the event behind which the state is told, as the words have it; with none it is that at the list's end.
     pub at: Option<&'a str>,
 }
 
+/// Whether two of the three are so, or all.
 fn two_of(first: bool, second: bool, third: bool) -> bool
     ensures { result ≡ two_of first second third }
 {

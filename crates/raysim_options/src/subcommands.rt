@@ -27,15 +27,19 @@ pub(crate) enum Kind<'a> {
 
 /// What a subcommand takes.
 pub(crate) struct Parameter<'a> {
+    /// Its name, by which its value is found; of an option also what stands behind `--`.
     pub(crate) id: &'a str,
     pub(crate) kind: Kind<'a>,
+    /// What its help says of it.
     pub(crate) help: &'a str,
 }
 
-/// A subcommand.
+/// A command of the program, from which its words are read and its help is made.
 pub(crate) struct Subcommand<'a> {
     pub(crate) name: &'a str,
+    /// What its help says that it does.
     pub(crate) about: &'a str,
+    /// What it takes, in the order of its help: words without `--` stand in this order too.
     pub(crate) parameters: &'a [Parameter<'a>],
 }
 
@@ -144,6 +148,7 @@ const SERIAL: Subcommand<'static> = Subcommand {
     parameters: &[SCRIPT, EXPLAIN],
 };
 
+/// What `sim` takes, in the order of its help. What is read by it is `sim_app` of specs/App.antt.
 pub(crate) const SIM: Subcommand<'static> = Subcommand {
     name: "sim",
     about: "Runs a script by a list of events, and writes the run's report",
@@ -168,6 +173,7 @@ pub(crate) const SIM: Subcommand<'static> = Subcommand {
     ],
 };
 
+/// What `run` takes, in the order of its help. What is read by it is `run_app` of specs/App.antt.
 pub(crate) const RUN: Subcommand<'static> = Subcommand {
     name: "run",
     about: "Runs a script, each remote call as a task, and writes the run's report",

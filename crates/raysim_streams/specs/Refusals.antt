@@ -1,4 +1,4 @@
--- Numbers and texts of refusals.
+-- The number of each refusal of a command, and its line on standard error.
 use Rattle.std.specs.Prelude.{ℕ, List, ◌++◌, codes}
 use Rattle.std.specs.Fmt.{decimal}
 use Rattle.raysim_streams.specs.declared.refusal.CommandRefusal.{CommandRefusal}

@@ -1,4 +1,4 @@
-// What a command refuses.
+// Why a command gives no report, with the line and the number that are told.
 
 ghost use Rattle.std.specs.Prelude.{◌≡◌};
 ghost use Rattle.raysim_streams.specs.declared.refusal.CommandRefusal.TheVariants.{NoMemory, Failed};

@@ -10,14 +10,23 @@ use std::fmt;
 /// of its own.
 #[derive(Clone, Copy, Debug, PartialEq, Eq)]
 pub enum Ending {
+    /// A fault: the object is gone with the worker that owned it.
     OwnerDied,
+    /// A fault: a value that was put lost its only copy.
     PutLost,
+    /// A fault: each run of the task that it was allowed broke.
     RetriesUsed,
+    /// A trap: a result outside the 64-bit signed integers.
     Overflow,
+    /// A trap: a quotient or a remainder by 0.
     DivZero,
+    /// A trap: an index outside a list.
     Index,
+    /// A trap: a list of more than 4,096 items.
     TooLong,
+    /// A trap: a loop of more than 10,000 turns.
     Loop,
+    /// A trap: a call at depth 33 or more.
     TooDeep,
 }
 
@@ -70,6 +79,7 @@ impl Ending {
         None
     }
 
+    /// The name as reports and logs write it, such as `PutLost`.
     pub fn name(self) -> &'static str
         ensures { result.now ≡ ending_name self }
     {
@@ -94,7 +104,7 @@ impl Ending {
         }
     }
 
-    /// What it means.
+    /// What happened where main ends so, in one sentence.
     fn meaning(self) -> &'static str {
         match self {
             Ending::OwnerDied => "The object is gone with the worker that owned it.",
@@ -130,6 +140,7 @@ impl Ending {
         }
     }
 
+    /// An expression or an event that leads to it.
     fn example(self) -> &'static str {
         match self {
             Ending::OwnerDied => {
@@ -147,6 +158,7 @@ impl Ending {
         }
     }
 
+    /// What the writer of a script can do against it.
     fn remedy(self) -> &'static str {
         match self {
             Ending::OwnerDied => {

@@ -25,17 +25,24 @@ const MOST_RESULTS: u8 = 4;
 #[derive(Clone, Copy, Debug, PartialEq, Eq)]
 pub(crate) enum Expectation {
     Mark(Mark),
+    /// Any name, which language.md writes NAME.
     Name,
+    /// Any number, which language.md writes INT.
     Number,
+    /// The end of the text.
     End,
 }
 
 /// A limit of a script.
 #[derive(Clone, Copy, Debug, PartialEq, Eq)]
 pub(crate) enum Limit {
+    /// How many functions a script has.
     Functions,
+    /// How many parameters a function has.
     Parameters,
+    /// How many tokens an expression has.
     Tokens,
+    /// How many brackets and prefixes are open at one place (docs/language.md).
     Nesting,
 }
 
@@ -44,7 +51,7 @@ pub(crate) enum Limit {
 enum Part {
     /// Functions up to the end of the text.
     Functions,
-    /// That mark.
+    /// That mark, which neither opens nor closes a level.
     Wanted(Mark),
     /// That mark, which opens a level.
     Open(Mark),

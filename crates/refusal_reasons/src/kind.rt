@@ -35,7 +35,7 @@ fn put_makers(makers: &mut Vec<Maker>, kind: &ValueType) -> Result<(), AllocErro
 }
 
 impl Kind {
-    /// The type of numbers.
+    /// The type `int`.
     pub(crate) fn number(alloc: Global) -> Kind {
         Kind {
             makers: Vec::new(alloc),
@@ -49,12 +49,13 @@ impl Kind {
         Ok(Kind { makers })
     }
 
+    /// An equal type.
     pub(crate) fn copy(&self) -> Result<Kind, AllocError> {
         let makers = self.makers.clone()?;
         Ok(Kind { makers })
     }
 
-    /// A list of such.
+    /// The type of lists of such values. The one error is want of memory.
     pub(crate) fn listed(self) -> Result<Kind, AllocError> {
         let mut makers = self.makers;
         makers.push(Maker::List)?;
@@ -75,14 +76,17 @@ impl Kind {
         Kind { makers }
     }
 
+    /// Whether the two types are equal.
     pub(crate) fn is(&self, other: &Kind) -> bool {
         self.makers.as_slice() == other.makers.as_slice()
     }
 
+    /// Whether it is `int`.
     pub(crate) fn is_number(&self) -> bool {
         self.makers.is_empty()
     }
 
+    /// Whether it is a list, of whatever items.
     pub(crate) fn is_list(&self) -> bool {
         match self.makers.as_slice() {
             [.., Maker::List] => true,
@@ -90,6 +94,7 @@ impl Kind {
         }
     }
 
+    /// Whether it is a reference, to whatever value.
     pub(crate) fn is_reference(&self) -> bool {
         match self.makers.as_slice() {
             [.., Maker::Ref] => true,
@@ -97,7 +102,7 @@ impl Kind {
         }
     }
 
-    /// Whether it is a reference to the other one.
+    /// Whether it is a reference to values of the other type.
     pub(crate) fn is_reference_to(&self, other: &Kind) -> bool {
         match self.makers.as_slice() {
             [inner @ .., Maker::Ref] => inner == other.makers.as_slice(),

@@ -13,14 +13,16 @@ pub enum ListKind {
     Events,
     /// A list of events of format 1, since it is migrated.
     FirstFormat,
-    /// A plan.
+    /// A plan for a run on threads.
     Plan,
 }
 
 /// A line that is refused, with no line feed, and why it is, where that is sure.
 #[derive(Clone, Copy, Debug)]
 pub struct Refused<'a> {
+    /// The line's bytes.
     pub line: &'a [u8],
+    /// Why it is none of its format, where that is sure.
     pub reason: Option<LineReason<'a>>,
 }
 

@@ -8,8 +8,11 @@ use std::fmt;
 pub enum Field {
     Worker,
     Node,
+    /// The number of a job.
     Job,
+    /// The number of a message.
     Message,
+    /// An object, as `o1.3`.
     Object,
 }
 
@@ -37,18 +40,23 @@ impl Field {
 #[derive(Clone, Copy, Debug, PartialEq, Eq)]
 pub enum NumberFault {
     LeadingZero,
+    /// Its value isn't within the type of its place.
     TooLarge,
     /// A letter, and digits behind it.
     LetterInFront,
+    /// None of these: it isn't digits alone.
     NoNumber,
 }
 
 /// Why a line is none of its format. Its text says it in a sentence without an end.
 #[derive(Clone, Copy, Debug)]
 pub enum LineReason<'a> {
+    /// It is the last line, and no line feed ends it.
     NoLineFeed,
+    /// A carriage return stands in it.
     CarriageReturn,
     Tab,
+    /// Another byte that no line has, which is this one.
     Unprintable(u8),
     /// Spaces alone.
     Blank,
@@ -77,7 +85,9 @@ pub enum LineReason<'a> {
     SettleInHistory,
     /// How the event is written.
     WrongForm(&'static str),
+    /// What stands in that place of the event, which is no number of its kind, and why.
     Number(Field, &'a [u8], NumberFault),
+    /// What stands in the place of an object, and is none.
     NoObject(&'a [u8]),
 }
 

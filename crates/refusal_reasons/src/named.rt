@@ -1,4 +1,4 @@
-// What has a name.
+// The refusal that has a name, and which names are near one that nothing has.
 
 ghost use Rattle.std.specs.Prelude.{◌≡◌, IfSome, true};
 ghost use Rattle.raysim_explain.specs.Texts.{name_of};
@@ -31,7 +31,7 @@ pub fn refusal_named(name: &[u8]) -> Option<RefusalCause>
 pub struct NearNames<'a>(pub &'a [u8]);
 
 impl NearNames<'_> {
-    /// Whether there are such.
+    /// Whether any name is near.
     pub fn are_some(self) -> bool {
         for ending in ENDINGS {
             if how_near(ending.name().as_bytes(), self.0).is_some() {

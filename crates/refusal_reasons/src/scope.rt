@@ -11,6 +11,7 @@ use std::alloc::{AllocError, Global};
 #[derive(Drop)]
 pub(crate) struct Variable {
     pub(crate) name: String,
+    /// Where its name was given.
     pub(crate) span: Span,
     pub(crate) kind: Kind,
 }
@@ -33,6 +34,7 @@ fn look_up<'s>(scope: &'s [Variable], name: &str) -> Option<&'s Variable> {
     None
 }
 
+/// The first function of exactly that name, if there is one.
 pub(crate) fn find<'s>(functions: &'s [Function], name: &str) -> Option<&'s Function> {
     for function in functions {
         if function.name.text.as_str() == name {
@@ -42,7 +44,7 @@ pub(crate) fn find<'s>(functions: &'s [Function], name: &str) -> Option<&'s Func
     None
 }
 
-/// The variable in scope whose name is near.
+/// The variable in scope whose name is one edit away, else the last that is two away.
 fn near_variable<'s>(scope: &'s [Variable], name: &str) -> Option<&'s str> {
     let mut found = None;
     for variable in scope {
@@ -98,7 +100,7 @@ fn told_function(scene: Scene<'_>, name: &Name) -> Result<String, AllocError> {
     Ok(String::new(alloc))
 }
 
-/// The type of a variable.
+/// The type of the variable of that name; where none is in scope, the fault 10 at the name, with what is near.
 pub(crate) fn variable_kind(scene: Scene<'_>, name: &Name) -> Result<Kind, Stop> {
     if let Some(variable) = look_up(scene.scope, name.text.as_str()) {
         return Ok(variable.kind.copy()?);

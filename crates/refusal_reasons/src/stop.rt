@@ -6,8 +6,11 @@ use std::alloc::{AllocError, AllocFailed};
 /// A fault of a script: its number, its place, and what is told of it, in lines that begin with four spaces and have a line feed between them.
 #[derive(Drop)]
 pub(crate) struct Fault {
+    /// The refusal's number.
     pub(crate) code: u16,
+    /// The place at fault, as the refusal names it.
     pub(crate) span: Span,
+    /// What is told of it: no line, or more.
     pub(crate) told: String,
 }
 
@@ -31,7 +34,7 @@ impl<T: Drop> From<AllocFailed<T>> for Stop {
     }
 }
 
-/// The stop at a fault.
+/// Stops the walk at that fault.
 pub(crate) fn stop_at(code: u16, span: Span, told: String) -> Stop {
     Stop::Fault(Fault { code, span, told })
 }

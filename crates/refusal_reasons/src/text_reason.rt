@@ -28,7 +28,7 @@ fn put_expected(told: &mut String, expected: &[Expectation]) -> Result<(), Alloc
     Ok(())
 }
 
-/// The bytes of a span.
+/// The bytes of a span; none where it isn't within the text.
 fn bytes_of(text: &[u8], span: Span) -> &[u8] {
     if span.start <= span.end && span.end <= text.len() {
         &text[span.start..span.end]

@@ -9,12 +9,17 @@ use std::fmt;
 /// What is wanted of a type.
 #[derive(Drop)]
 pub(crate) enum Wanted {
+    /// An `int`.
     Number,
+    /// This type.
     Exactly(Kind),
     /// A type, or a reference to it.
     OrReference(Kind),
+    /// A list of whatever items.
     List,
+    /// A reference to whatever value.
     Reference,
+    /// A type in which no reference stands.
     NoReference,
 }
 

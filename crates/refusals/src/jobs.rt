@@ -1,4 +1,4 @@
-// Jobs that are out.
+// Why a commit is refused: which jobs are out, and whether what is handed in was done on the job.
 
 ghost use Rattle.std.specs.Prelude.{◌≡◌};
 ghost use Rattle.protocol.specs.Numbered.{item_at};
@@ -34,7 +34,7 @@ pub fn job_out(worker: &Worker) -> Option<u64>
     job_in_run(&worker.run)
 }
 
-/// Whether that job is out with the worker.
+/// Whether the worker's attempt waits for that job to be handed in.
 fn is_out_by(whole: &Whole, number: WorkerId, job: u64) -> bool
     ensures { result ≡ is_out_by (worker_at whole.now number) job }
 {

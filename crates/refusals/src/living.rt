@@ -9,7 +9,7 @@ use ids::{NodeId, WorkerId};
 use number_lists::{has_worker, item_at_number};
 use protocol_data::{Phase, Run, Whole};
 
-/// Whether there is a live worker of that number.
+/// Whether a worker of that number was opened, and lives.
 pub fn is_live_worker(whole: &Whole, number: WorkerId) -> bool
     ensures { result ≡ is_live_worker (worker_at whole.now number) }
 {
@@ -29,7 +29,7 @@ pub fn is_dead_worker(whole: &Whole, number: WorkerId) -> bool
     !worker.is_live
 }
 
-/// Whether there is a live node of that number.
+/// Whether a node of that number came, and lives.
 pub fn is_live_node(whole: &Whole, number: NodeId) -> bool
     ensures { result ≡ is_live_node (node_at whole.now number) }
 {
@@ -49,7 +49,6 @@ pub fn is_dead_node(whole: &Whole, number: NodeId) -> bool
     !node.is_live
 }
 
-/// Whether the worker has a slot of the node.
 fn has_slot(whole: &Whole, number: WorkerId, node: NodeId) -> bool
     ensures { result ≡ has_slot number (node_at whole.now node) }
 {

@@ -1,4 +1,4 @@
-// Why an event is refused.
+// The first cause that an event has to be refused, kind by kind.
 
 ghost use Rattle.log_entries.specs.declared.refusal.Refusal.TheVariants.{NoMessage, NoNode, NotDead, NotReady};
 ghost use Rattle.std.specs.Prelude.{◌≡◌, is_some};

@@ -1,4 +1,4 @@
-// The law of recorded runs.
+// The history of a run replays to that run.
 
 ghost use Rattle.replay_laws.specs.Replaying.{LogsReplay, RunsReplay, RunsReplayToThemselves};
 

@@ -8,7 +8,7 @@ use crate::value::write_value;
 use std::alloc::AllocError;
 use values::{Content, RunValue, Trap};
 
-/// The word for a trap.
+/// The trap's name as reports write it, such as `DivZero`.
 pub fn trap_name(trap: Trap) -> &'static str
     ensures { result.now ≡ trap_name (trap_of trap) }
 {

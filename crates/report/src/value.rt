@@ -1,4 +1,4 @@
-// Values, written.
+// How a report writes a value: numbers, lists and references.
 
 ghost use Rattle.std.specs.Prelude.{◌≡◌, ◌++◌, OnOk, string_bytes};
 ghost use Rattle.values.specs.Values.{value_of};

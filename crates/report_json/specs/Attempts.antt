@@ -1,4 +1,4 @@
--- Attempts as JSON.
+-- The attempts of a report as JSON: of each its name, its state and its worker.
 use Rattle.std.specs.Prelude.{ℕ, List, [], ◌∷◌, if◌then◌else◌, codes}
 use Rattle.serde_json.specs.Data.{Data, number, unsigned, string, object, member, no_members}
 use Rattle.event_log.specs.Entries.{Attempt, Entry, Begun, main_attempt}

@@ -1,4 +1,4 @@
--- How main ended, as JSON.
+-- How main ended as JSON: a value, a trap, a fault, or open.
 use Rattle.std.specs.Prelude.{Option, Some, None, codes}
 use Rattle.serde_json.specs.Data.{Data, string, object, member, no_members}
 use Rattle.meaning.specs.Values.{Outcome, Val, Trapped}

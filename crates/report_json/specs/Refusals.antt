@@ -1,4 +1,4 @@
--- The refused events, as JSON.
+-- The refused events as JSON: of each the refusal's number and the event.
 use Rattle.std.specs.Prelude.{ℕ, List, [], ◌∷◌, ◌++◌, Option, Some, None, codes}
 use Rattle.serde_json.specs.Data.{Data, number, unsigned, string, object, member, no_members}
 use Rattle.log_entries.specs.Refusals.{code_of}

@@ -1,4 +1,4 @@
--- Values as JSON.
+-- Values as JSON: a number, an array, or a string for a reference.
 use Rattle.serde_json.specs.Data.{Data, null, number, string, array, Items, no_items, item}
 use Rattle.serde_json.specs.Find.{of_integer}
 use Rattle.meaning.specs.Values.{Value, Int, Items as AList, Named, Known, Values, none, more, Id}

@@ -1,4 +1,4 @@
-// Attempts as JSON.
+// The attempts of a report as JSON: of each its name, its state and its worker.
 
 ghost use Rattle.std.specs.Prelude.{◌≡◌, ◌++◌, List, IfOk, OnOk, map, string_bytes};
 ghost use Rattle.serde_json.specs.Data.{array};

@@ -24,7 +24,7 @@ fn add_print(alloc: Global, all: &mut Vec<Value>, entry: &Entry) -> Result<(), A
     Ok(())
 }
 
-/// What main printed.
+/// An array of the values that main printed, in order.
 pub fn prints_json(alloc: Global, log: &[Entry]) -> Result<Value, AllocError>
     ensures { IfOk result (λ v. view v ≡ array (items_of (flat_map print_in log.now))) }
 {

@@ -1,4 +1,4 @@
-// How main ended, as JSON.
+// How main ended as JSON: a value, a trap, a fault, or open.
 
 ghost use Rattle.std.specs.Prelude.{◌≡◌, IfOk};
 ghost use Rattle.serde_json.specs.View.{view};

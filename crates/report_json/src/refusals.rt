@@ -1,4 +1,4 @@
-// The refused events, as JSON.
+// The refused events as JSON: of each the refusal's number and the event.
 
 ghost use Rattle.std.specs.Prelude.{◌≡◌, ◌++◌, IfOk, OnOk, None, map, string_bytes};
 ghost use Rattle.serde_json.specs.Data.{array};

@@ -1,4 +1,4 @@
-// The report as JSON.
+// The whole report as one line of JSON.
 
 ghost use Rattle.std.specs.Prelude.{◌≡◌, ◌++◌, IfOk, codes, string_bytes};
 ghost use Rattle.serde_json.specs.View.{view};

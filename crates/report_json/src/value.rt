@@ -1,4 +1,4 @@
-// Values as JSON.
+// Values as JSON: a number, an array, or a string for a reference.
 
 ghost use Rattle.std.specs.Prelude.{◌≡◌, IfOk};
 ghost use Rattle.serde_json.specs.Data.{array};
@@ -19,7 +19,7 @@ pub fn id_json(alloc: Global, object: ObjectId) -> Result<Value, AllocError>
     Ok(Value::String(text))
 }
 
-/// The items as an array.
+/// The items as a JSON array, in their order.
 pub fn array_of(items: Vec<Value>) -> Value
     ensures { view result ≡ array (items_view items.items) }
 {

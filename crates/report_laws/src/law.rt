@@ -1,4 +1,4 @@
-// The laws of reports.
+// The report of a legal log begins as what the serial run writes.
 
 ghost use Rattle.report_laws.specs.Law.{ReportsBeginAsSerial, LinesBegin};
 

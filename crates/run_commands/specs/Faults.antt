@@ -1,4 +1,4 @@
--- What `faults` writes and answers.
+-- What `faults` writes and answers: a table of what came of each list, and the lists.
 use Rattle.std.specs.Prelude.{◌≡◌, ℕ, List, Option, length, take}
 use Rattle.std.specs.List.{flat_map}
 use Rattle.std.specs.Io.KnownBytes.{Appends}

@@ -11,7 +11,9 @@ use std::alloc::{AllocError, Global};
 /// What an event file says, and the numbers of the lines that say it.
 #[derive(Drop)]
 pub struct EventLines {
+    /// The lines, by the file's format.
     pub says: EventFile,
+    /// The numbers of those lines in the file, counted from 1.
     pub numbers: Seq<usize>,
 }
 

@@ -1,4 +1,4 @@
-// The command `faults`.
+// The command `faults`: a run replayed again and again, each time with one fault more, and a table of what came of it.
 
 ghost use Rattle.std.specs.Prelude.{◌≡◌, ◌⊎◌, IfOk, IfErr, string_bytes};
 ghost use Rattle.script_check.specs.Trees.{script_of};
@@ -25,8 +25,11 @@ use std::marker::Brand;
 /// program ends with.
 #[derive(Drop)]
 pub struct TriedFaults {
+    /// The events of the run without a fault.
     pub events: Seq<Event>,
+    /// Each list with what came of it, in the order in which they were tried.
     pub tried: Seq<Tried>,
+    /// What the program ends with.
     pub status: u8,
 }
 

@@ -15,8 +15,11 @@ use std::alloc::Global;
 /// A script's text, the checked script with its code, and the lines of an event file.
 #[derive(Drop)]
 pub struct ReplayInputs {
+    /// The script's text, from which places are told.
     pub text: Vec<u8>,
+    /// The same script, checked and with its code.
     pub script: Compiled,
+    /// What the event file says, with the numbers of its lines.
     pub events: EventLines,
 }
 

@@ -1,4 +1,4 @@
-// The command `run`.
+// The command `run` on one thread: a script's run that is driven to its end, and its report.
 
 ghost use Rattle.std.specs.Prelude.{◌≡◌, IfOk, IfErr, IfSome, string_bytes};
 ghost use Rattle.script_check.specs.Trees.{script_of};

@@ -1,4 +1,4 @@
-// The command `sim`.
+// The command `sim`: a script's run by a list of events, and its report.
 
 ghost use Rattle.std.specs.Prelude.{◌≡◌, ◌⊎◌, IfOk, IfErr, string_bytes};
 ghost use Rattle.script_check.specs.Trees.{script_of};

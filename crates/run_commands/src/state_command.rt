@@ -23,7 +23,7 @@ use state_text::{event_count, state_text};
 use std::alloc::{AllocError, Global};
 use std::marker::Brand;
 
-/// The first of the events, so many at most.
+/// So many of the events from the first on, or all where there are fewer.
 fn first_events(events: &[Event], most: usize) -> &[Event]
     ensures { result.now ≡ take most events.now }
 {

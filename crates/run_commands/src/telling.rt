@@ -15,7 +15,9 @@ use std::alloc::Global;
 /// What is written of a run up to its end, or up to where it stops, and the status of main's end there.
 #[derive(Drop)]
 pub struct SoFar {
+    /// What is written of the run, up to its end or to where it stops.
     pub text: String,
+    /// The status by main's end, as far as the run went.
     pub status: u8,
 }
 

@@ -1,4 +1,4 @@
--- Lines, one by one.
+-- A text's lines one by one, and what the lines in front of a history say.
 use Rattle.std.proofs.Common.{◌≡◌, ◌∙◌, ℕ, Bool, true, false, List, [], ◌∷◌, ◌++◌, Some, None, refl, ap}
 use Rattle.std.specs.Prelude.{◌==◌, if◌then◌else◌}
 use Rattle.event_files.specs.Files.{is_passed}

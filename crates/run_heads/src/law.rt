@@ -1,4 +1,4 @@
-// The law of heads.
+// The lines in front of a history that say of which run it is change nothing of what it says.
 
 ghost use Rattle.std.specs.Prelude.{◌≡◌, ◌<◌, ◌^◌, ℕ, List};
 ghost use Rattle.event_files.specs.declared.recorded.RecordedEvent.{RecordedEvent};

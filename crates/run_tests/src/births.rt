@@ -1,4 +1,4 @@
-// What a birth dereferences.
+// Which ids of a birth are dereferenced, and in which order.
 
 use ids::{ObjectId, WorkerId};
 use std::alloc::Global;

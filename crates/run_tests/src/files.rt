@@ -1,4 +1,4 @@
-// Files of events and plans.
+// Event files and plans that are read, and lines that are refused.
 
 use event_files::{Line, parse_events, parse_plan, print_events};
 use ids::WorkerId;

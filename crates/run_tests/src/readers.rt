@@ -1,4 +1,4 @@
-// Readers that fail.
+// A reader that fails is told as a failed read, and nothing is written.
 
 use raysim_commands::{
     Cluster, CommandRefusal, Failure, Form, Tracked, Unwatched, check, run, serial,

@@ -11,8 +11,11 @@ use task_spec::Birth;
 /// were run once more for a result that was lost.
 #[derive(Clone, Copy, PartialEq, Eq, Debug)]
 pub struct RunCounts {
+    /// How many events came, refused ones too.
     pub events: usize,
+    /// How many tasks were born.
     pub tasks: usize,
+    /// How many results were accepted, those of tasks that were run once more for a lost one among them.
     pub results: usize,
 }
 

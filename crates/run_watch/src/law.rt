@@ -1,4 +1,4 @@
-// The law of counts.
+// Counts of a log's beginning and of its rest add up.
 
 ghost use Rattle.std.specs.Prelude.{◌≡◌, ◌+◌, ◌++◌, List};
 ghost use Rattle.event_log.specs.Entries.{Entry};

@@ -1,4 +1,4 @@
-// Who looks on.
+// Who looks on while a run goes on: lent its log behind each turn, and nothing that could change it.
 
 use log_entries::Entry;
 

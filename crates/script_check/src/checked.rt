@@ -1,4 +1,4 @@
-// Checked scripts.
+// Checked scripts, and the check that makes one of a program or names its first fault.
 
 ghost use Rattle.std.specs.Prelude.{◌≡◌, IfOk, MatchResult};
 ghost use Rattle.meaning.specs.Syntax.{Script};
@@ -60,7 +60,6 @@ impl Checked {
     }
 }
 
-/// The functions of a program.
 fn functions_of(program: &Program) -> &[Function]
     ensures { result.now ≡ program.now.functions.items }
 {

@@ -1,4 +1,4 @@
-// Copies of checked trees.
+// Equal copies of the parts of a checked script.
 
 ghost use Rattle.std.specs.Prelude.{◌≡◌, IfOk, map, string_bytes};
 ghost use Rattle.meaning.specs.Syntax.{LetRemote};
@@ -182,7 +182,7 @@ fn copy_function(alloc: Global, function: &CheckedFunction) -> Result<CheckedFun
     })
 }
 
-/// Equal functions.
+/// The same functions, in memory of their own. The one error is want of memory.
 pub(crate) fn copy_functions(
     alloc: Global,
     functions: &[CheckedFunction],

@@ -1,4 +1,4 @@
-// Why a script is refused.
+// Why a script is refused by the checker: each fault with its number and its place.
 
 ghost use Rattle.std.specs.Prelude.{◌≡◌};
 ghost use Rattle.script_check.specs.declared.error.CheckError.TheVariants.{NoMemory};

@@ -1,4 +1,4 @@
-// The checking of expressions.
+// How expressions are checked: their names, their types, and the arguments of calls.
 
 ghost use Rattle.std.specs.Prelude.{◌≡◌, IfOk, IfErr, IsTrue, None, Some, length, map, string_bytes};
 ghost use Rattle.meaning.specs.Syntax.{Number as ANumber};
@@ -23,6 +23,7 @@ use std::alloc::Global;
 /// The arguments of a remote call, with their marks.
 #[derive(Drop)]
 pub(crate) struct MarkedArguments {
+    /// Of each argument whether it is a reference that is dereferenced before the body.
     pub(crate) marks: Vec<bool>,
     pub(crate) exprs: Vec<CheckedExpr>,
 }

@@ -1,4 +1,4 @@
-// The checking of functions.
+// How functions are checked: their names, parameters, bodies and returns, and that main is there.
 
 ghost use Rattle.std.specs.Prelude.{◌≡◌, ◌++◌, IfOk, IfErr, IsTrue, None, Some, true, false, [], map};
 ghost use Rattle.script_syntax.specs.Views.{program_of, type_of, parameter_of as parsed_parameter, function_of as parsed_function};
@@ -49,7 +49,7 @@ fn is_single(others: &[ValueType]) -> bool
     false
 }
 
-/// A function.
+/// Checks a function: its parameters, its statements in order, and that it returns on each way through it.
 fn check_function(
     alloc: Global,
     functions: &[Function],

@@ -69,7 +69,7 @@ pub(crate) fn check_return(
     Ok(CheckedStatement::Return(values))
 }
 
-/// Whether one of the names is that one.
+/// Whether one of these has the name's text, wherever it stands.
 fn is_among(names: &[Name], name: &Name) -> bool
     ensures { result ≡ is_among (map name_of names.now) (name_of name.now) }
 {
@@ -148,7 +148,7 @@ fn declare_references(
     Ok(())
 }
 
-/// The texts of names.
+/// The names without their places, in order.
 fn texts_of(alloc: Global, names: &[Name]) -> Result<Vec<String>, AllocError>
     ensures { IfOk result (λ xs. map string_bytes xs.items ≡ map name_of names.now) }
 {

@@ -19,7 +19,7 @@ pub(crate) struct Variable {
     pub kind: ValueType,
 }
 
-/// The type of a variable.
+/// The type of the variable of that name; none where it isn't in scope.
 pub(crate) fn look_up<'a>(scope: &'a [Variable], name: &str) -> Option<&'a ValueType>
     ensures { MatchOption result (kind_in (context_of scope.now) name.now ≡ None) (λ t. kind_in (context_of scope.now) name.now ≡ Some (kind_of t.now)) }
 {
@@ -56,7 +56,7 @@ pub(crate) fn declare(
     Ok(())
 }
 
-/// The function of a name.
+/// The first function of that name, if there is one.
 pub(crate) fn find<'a>(functions: &'a [Function], name: &str) -> Option<&'a Function>
     ensures { MatchOption result (function_in (program_of functions.now) name.now ≡ None) (λ f. function_in (program_of functions.now) name.now
         ≡ Some (parsed_function f.now)) }

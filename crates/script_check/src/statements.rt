@@ -260,7 +260,7 @@ fn returns(statement: &Statement) -> bool
     }
 }
 
-/// Whether there is an `else` whose block returns.
+/// Whether there is an `else`, and its block returns on each way through it.
 #[cycle(returns)]
 fn else_returns(second: &Option<Block>) -> bool
     ensures { result ≡ else_returns (other_of second.now) }

@@ -21,7 +21,7 @@ pub(crate) fn is_same(left: &ValueType, right: &ValueType) -> bool
     }
 }
 
-/// An equal type.
+/// The same type, in memory of its own. The one error is want of memory.
 pub(crate) fn copy_type(alloc: Global, kind: &ValueType) -> Result<ValueType, AllocError>
     ensures { IfOk result (λ t. kind_of t ≡ kind_of kind.now) }
 {
@@ -32,7 +32,7 @@ pub(crate) fn copy_type(alloc: Global, kind: &ValueType) -> Result<ValueType, Al
     }
 }
 
-/// Equal types.
+/// The same types in order, in memory of their own. The one error is want of memory.
 pub(crate) fn copy_types(alloc: Global, kinds: &[ValueType]) -> Result<Vec<ValueType>, AllocError>
     ensures { IfOk result (λ ts. map kind_of ts.items ≡ map kind_of kinds.now) }
 {
@@ -43,7 +43,7 @@ pub(crate) fn copy_types(alloc: Global, kinds: &[ValueType]) -> Result<Vec<Value
     Ok(copies)
 }
 
-/// The type of references to values of that type.
+/// The type `ref` of that type. The one error is want of memory.
 pub(crate) fn reference_to(alloc: Global, kind: &ValueType) -> Result<ValueType, AllocError>
     ensures { IfOk result (λ t. kind_of t ≡ RefKind (kind_of kind.now)) }
 {

@@ -20,6 +20,7 @@ use std::alloc::{AllocError, Global};
 #[derive(Drop)]
 pub(crate) struct Typing {
     pub expr: CheckedExpr,
+    /// The type of its value.
     pub kind: ValueType,
 }
 
@@ -145,7 +146,7 @@ pub(crate) fn prefixed(
     }
 }
 
-/// The length of a list.
+/// `len` of that list, which is a number; refused with 11 at the span where it is no list.
 pub(crate) fn length(alloc: Global, list: Typing, span: Span) -> Result<Typing, CheckError>
     ensures value { IfOk result (λ x. length_typing (typing_of list) ≡ Some (typing_of x)) }
     ensures refused { IfErr result (λ e. IsTrue (is_refusal e) → length_typing (typing_of list) ≡ None) }

@@ -1,4 +1,4 @@
--- What `serial` writes.
+-- Where what was read is known, what `serial` wrote is that script's report, or a beginning of it where a write failed.
 use Rattle.std.proofs.Common.{◌≡◌, ◌∙◌, ◌⊎◌, ℕ, List, Option, None, Some, inl, inr, subst, take}
 use Rattle.std.specs.Prelude.{IfSome}
 use Rattle.std.specs.Io.KnownBytes.{Appends}

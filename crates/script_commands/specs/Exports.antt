@@ -1,4 +1,4 @@
--- What `export` writes.
+-- What `export` writes: the script's program for the engine, or a beginning of it.
 use Rattle.std.specs.Prelude.{◌≡◌, ◌⊎◌, ℕ, List, Option, take}
 use Rattle.std.specs.Io.KnownBytes.{Appends}
 use Rattle.meaning.specs.Syntax.{Script}

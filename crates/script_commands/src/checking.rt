@@ -1,4 +1,4 @@
-// The command `check`.
+// The command `check`: whether a text is a script that the rules allow.
 
 ghost use Rattle.std.specs.Prelude.{◌≡◌, ◌⊎◌, ℕ, List, codes, true, take, IfOk, OnOk, IfErr, IfSome};
 ghost use Rattle.std.specs.Io.KnownBytes.{Appends};

@@ -1,4 +1,4 @@
-// The command `export`.
+// The command `export`: a script as a Python program for an engine.
 
 ghost use Rattle.std.specs.Prelude.{◌≡◌, IfOk, OnOk, IfErr, IfSome};
 ghost use Rattle.script_commands.specs.Exports.{IsBegunExport, IsExported};

@@ -1,4 +1,4 @@
-// A script, from its text.
+// How a command comes to a script: reads its text, checks it, and makes its code.
 
 ghost use Rattle.std.specs.Prelude.{◌≡◌, IfOk, IfErr, IfSome, OnOk};
 ghost use Rattle.script_check.specs.Trees.{script_of};
@@ -55,7 +55,7 @@ fn check_refusal(error: CheckError) -> CommandRefusal
     }
 }
 
-/// The checked script of a text.
+/// The checked script that a text is. It is refused as the text is, with number and place, or for want of memory.
 pub fn checked_script(alloc: Global, text: &[u8]) -> Result<Checked, CommandRefusal>
     ensures found { IfOk result (λ script. IsScript text.now (script_of script)) }
     ensures refused { IfErr result (λ refusal. IsRefusalOf text.now refusal) }
@@ -122,6 +122,7 @@ pub fn read_compiled<R: Source>(alloc: Global, reader: &mut R) -> Result<Compile
 #[derive(Drop)]
 pub struct PlacedScript {
     pub script: Compiled,
+    /// Of each instruction the place in the text of what it was made of.
     pub places: Vec<Span>,
 }
 

@@ -1,4 +1,4 @@
-// The command `serial`.
+// The command `serial`: what main prints and how it ends where each remote call is a plain call.
 
 ghost use Rattle.std.specs.Prelude.{◌≡◌, ℕ, take, IfOk, OnOk, IfErr, IfSome, string_bytes};
 ghost use Rattle.std.specs.Io.KnownBytes.{Appends};

@@ -1,4 +1,4 @@
-// The laws of the definitions.
+// What holds of replays: they begin the serial run, name only known ids, and never break in a checked script.
 
 ghost use Rattle.std.specs.Prelude.{ℕ, List};
 ghost use Rattle.meaning.specs.Law.{LawOfReplay, LawOfIds};

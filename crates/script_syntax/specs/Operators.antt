@@ -1,4 +1,4 @@
--- The marks of operators.
+-- The operators between operands by how tightly they bind, with their marks.
 use Rattle.script_tokens.specs.declared.token.Mark.{Mark}
 use Rattle.script_tokens.specs.declared.token.Mark.TheVariants as marks
 use Rattle.script_syntax.specs.declared.tree.Prefix.{Prefix}

@@ -1,4 +1,4 @@
--- Why a text is refused.
+-- When tokens, and when a text, are refused as no program, and with which number.
 use Rattle.std.specs.Prelude.{ℕ, List, ◌⊎◌}
 use Rattle.script_tokens.specs.declared.error.SyntaxError.{SyntaxError}
 use Rattle.script_tokens.specs.declared.error.SyntaxError.TheVariants as errors

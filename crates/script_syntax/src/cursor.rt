@@ -194,6 +194,7 @@ pub(crate) fn name<'t, 'a>(
     Ok((Name { text, span }, rest))
 }
 
+/// The operator of a sum, `+` or `-`, and the tokens behind it; none where the first token is another.
 pub(crate) fn adding<'t, 'a>(tokens: &'t [Placed<'a>]) -> Option<(BinaryOperator, &'t [Placed<'a>])>
     ensures front { Shows (λ x. (x.0, tokens_of x.1.now)) result (adding (tokens_of tokens.now)) }
     ensures shorter { IfSome result (λ x. length x.1.now < length tokens.now) }
@@ -208,6 +209,7 @@ pub(crate) fn adding<'t, 'a>(tokens: &'t [Placed<'a>]) -> Option<(BinaryOperator
     }
 }
 
+/// The operator of a product, `*`, `/` or `%`, and the tokens behind it; none where the first token is another.
 pub(crate) fn multiplying<'t, 'a>(
     tokens: &'t [Placed<'a>],
 ) -> Option<(BinaryOperator, &'t [Placed<'a>])>
@@ -225,6 +227,7 @@ pub(crate) fn multiplying<'t, 'a>(
     }
 }
 
+/// The operator of a comparison, `==`, `!=`, `<` or `<=`, and the tokens behind it; none where the first token is another.
 pub(crate) fn comparing<'t, 'a>(
     tokens: &'t [Placed<'a>],
 ) -> Option<(BinaryOperator, &'t [Placed<'a>])>
@@ -243,6 +246,7 @@ pub(crate) fn comparing<'t, 'a>(
     }
 }
 
+/// What stands before an operand, `-`, `get` or `put`, and the tokens behind it; none where the first token is another.
 pub(crate) fn prefixing<'t, 'a>(tokens: &'t [Placed<'a>]) -> Option<(Prefix, &'t [Placed<'a>])>
     ensures front { Shows (λ x. (x.0, tokens_of x.1.now)) result (prefixing (tokens_of tokens.now)) }
     ensures shorter { IfSome result (λ x. length x.1.now < length tokens.now) }

@@ -70,7 +70,7 @@ fn binary(
     Ok(Expr { kind, span })
 }
 
-/// The item of a list at a place.
+/// An index behind a list, as an expression over that span.
 fn item(alloc: Global, list: Expr, place: Expr, span: Span) -> Result<Expr, AllocError>
     ensures { IfOk result (λ e. tree_of e ≡ Item (tree_of list) (tree_of place)) }
 {

@@ -1,4 +1,4 @@
-// Functions, as they are read.
+// How functions and whole programs are read from tokens, within the limits.
 
 ghost use Rattle.std.specs.Prelude.{◌≡◌, ◌<◌, ◌+◌, IfOk, length, map};
 ghost use Rattle.script_tokens.specs.Views.{tokens_of};

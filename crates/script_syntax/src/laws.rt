@@ -1,4 +1,4 @@
-// Laws of the definitions.
+// Texts and tokens are one program at most, and what is printed for a program is read as it.
 
 ghost use Rattle.std.specs.Prelude.{◌≡◌, ◌≤◌, ℕ, List, length};
 ghost use Rattle.script_tokens.specs.Tokens.{Token};

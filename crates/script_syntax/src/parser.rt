@@ -1,4 +1,4 @@
-// Programs, read from a text.
+// The program of a text: its tokens, read as a tree to the last.
 
 ghost use Rattle.std.specs.Prelude.{◌≡◌, IfOk, IfErr, MatchResult};
 ghost use Rattle.script_tokens.specs.declared.error.SyntaxError.TheVariants as errors;

@@ -1,4 +1,4 @@
-// Programs, written.
+// How a program's tree is written as a text that is read as the same tree.
 
 ghost use Rattle.std.specs.Prelude.{◌≡◌, ◌++◌, ◌∷◌, [], OnOk, IfOk, map};
 ghost use Rattle.std.specs.String.{string_bytes};

@@ -13,6 +13,7 @@ pub(crate) enum Refusal {
     Expected(Span),
     /// The first token past a limit.
     TooLarge(Span),
+    /// Memory ran out.
     NoMemory,
 }
 

@@ -1,4 +1,4 @@
-// Types, as they are read.
+// How types are read from tokens.
 
 ghost use Rattle.std.specs.Prelude.{◌≡◌, ◌<◌, ◌+◌, IfOk, length, map};
 ghost use Rattle.script_tokens.specs.Views.{tokens_of};

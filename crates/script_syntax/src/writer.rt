@@ -127,6 +127,7 @@ fn mark_of_prefix(prefix: Prefix) -> Mark
     }
 }
 
+/// Adds a mark to the tokens. On an error, which is want of memory, none is added.
 pub(crate) fn add_mark<'p>(tokens: &mut Vec<Token<'p>>, sign: Mark) -> Result<(), AllocError>
     ensures { OnOk result (Writes tokens.old.items tokens.new.items (λ rest. mark sign ∷ rest)) }
 {
@@ -134,6 +135,7 @@ pub(crate) fn add_mark<'p>(tokens: &mut Vec<Token<'p>>, sign: Mark) -> Result<()
     Ok(())
 }
 
+/// Adds a name's text to the tokens, without its place. On an error, which is want of memory, none is added.
 pub(crate) fn add_name<'p>(tokens: &mut Vec<Token<'p>>, word: &'p Name) -> Result<(), AllocError>
     ensures { OnOk result (Writes tokens.old.items tokens.new.items (λ rest. name (string_bytes word.entry.now.text) ∷ rest)) }
 {
@@ -141,6 +143,7 @@ pub(crate) fn add_name<'p>(tokens: &mut Vec<Token<'p>>, word: &'p Name) -> Resul
     Ok(())
 }
 
+/// Adds a number to the tokens. On an error, which is want of memory, none is added.
 pub(crate) fn add_number<'p>(tokens: &mut Vec<Token<'p>>, value: u64) -> Result<(), AllocError>
     ensures { OnOk result (Writes tokens.old.items tokens.new.items (λ rest. number value ∷ rest)) }
 {
@@ -148,6 +151,7 @@ pub(crate) fn add_number<'p>(tokens: &mut Vec<Token<'p>>, value: u64) -> Result<
     Ok(())
 }
 
+/// Adds the tokens of a type. After an error, which is want of memory, a beginning of them may be there.
 pub(crate) fn add_type<'p>(
     tokens: &mut Vec<Token<'p>>,
     kind: &'p ValueType,
@@ -173,6 +177,7 @@ pub(crate) fn add_type<'p>(
     }
 }
 
+/// Adds the number of new runs in parentheses; nothing where none was written. After an error a beginning of that may be there.
 pub(crate) fn add_retries<'p>(
     tokens: &mut Vec<Token<'p>>,
     retries: &'p Option<Retries>,
@@ -326,6 +331,8 @@ pub(crate) fn add_call<'p>(
     Ok(())
 }
 
+/// Adds the tokens of an expression, in parentheses only where it would be read as another tree without them. After an error a beginning of
+/// them may be there.
 pub(crate) fn add_expression<'p>(
     tokens: &mut Vec<Token<'p>>,
     expression: &'p Expr,

@@ -1,4 +1,4 @@
--- Whole texts.
+-- A text has one list of tokens at most, and whoever reads it piece by piece finds that list, or the refusal.
 use Rattle.std.proofs.Common.{◌≡◌, ◌≤◌, ◌<◌, ℕ, true, false, List, [], ◌∷◌, ◌++◌, length, None, Result, Ok, Err, refl, sym, ap, subst, ◌∙◌, arith, append_assoc, length-append}
 use Rattle.std.specs.Prelude.{IsErr, IfErr, MatchResult}
 use Rattle.std.specs.Global.{Vec}

@@ -1,4 +1,4 @@
--- Where tokens stand.
+-- Where tokens stand in their text: one behind the other, each at its own bytes.
 use Rattle.std.specs.Prelude.{◌≡◌, ◌≤◌, ◌<◌, ℕ, List, [], ◌∷◌, slice_range}
 use Rattle.script_tokens.specs.declared.token.Placed.{Placed}
 use Rattle.script_tokens.specs.Spelling.{spell}

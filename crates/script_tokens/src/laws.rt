@@ -1,4 +1,4 @@
-// Laws of the definitions.
+// A text has one list of tokens at most, and what is written for tokens is read as them.
 
 ghost use Rattle.std.specs.Prelude.{◌≡◌, ◌≤◌, ◌++◌, ◌∷◌, [], ℕ, List, length};
 ghost use Rattle.script_tokens.specs.Tokens.{Token};

@@ -1,4 +1,4 @@
-// Reserved words and symbols.
+// How reserved words and symbols are spelled, and found at the front of a text.
 
 ghost use Rattle.std.specs.Prelude.{◌≡◌, MatchOption, None, Some};
 ghost use Rattle.script_tokens.specs.Spelling.{mark_text};

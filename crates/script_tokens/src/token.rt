@@ -3,11 +3,13 @@
 /// Where something stands in a text: the bytes from `start` up to and without `end`, counted from 0.
 #[derive(Clone, Copy, PartialEq, Eq, Debug)]
 pub struct Span {
+    /// Where its first byte is, counted from 0.
     pub start: usize,
+    /// The place behind its last byte.
     pub end: usize,
 }
 
-/// A reserved word or a symbol.
+/// A reserved word or a symbol. The first of them, to `Empty`, are reserved words, spelled as they are named here but in small letters.
 #[derive(Clone, Copy, PartialEq, Eq, Debug)]
 pub enum Mark {
     Fn,
@@ -29,16 +31,24 @@ pub enum Mark {
     Empty,
     OpenParenthesis,
     CloseParenthesis,
+    /// `{`
     OpenBrace,
+    /// `}`
     CloseBrace,
+    /// `[`
     OpenBracket,
+    /// `]`
     CloseBracket,
     Comma,
     Semicolon,
     Colon,
+    /// `->`
     Arrow,
+    /// `..`
     Range,
+    /// `=`
     Assign,
+    /// `==`
     Equal,
     NotEqual,
     Less,
@@ -46,7 +56,9 @@ pub enum Mark {
     Plus,
     Minus,
     Times,
+    /// `/`, the quotient rounded to zero
     Slash,
+    /// `%`, the remainder
     Percent,
 }
 
@@ -62,5 +74,6 @@ pub enum Token<'a> {
 #[derive(Clone, Copy)]
 pub struct Placed<'a> {
     pub token: Token<'a>,
+    /// The bytes at which it stands in the text.
     pub span: Span,
 }

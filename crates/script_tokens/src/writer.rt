@@ -1,4 +1,4 @@
-// Tokens, written.
+// How tokens are written: each as a script spells it, and a line of them with spaces between.
 
 ghost use Rattle.std.specs.Prelude.{◌≡◌, ◌++◌, OnOk, OnErr, map, string_bytes};
 ghost use Rattle.script_tokens.specs.Views.{token_of};

@@ -1,4 +1,4 @@
--- What seats hold.
+-- What each seat holds of the ledgers, and the sums of the seats' books.
 use Rattle.std.specs.Prelude.{◌≡◌, ◌≤◌, ℕ, zero, suc, ◌+◌, ◌*◌, ◌==◌, if◌then◌else◌, List, [], ◌∷◌, Option, Some, None, sum_by}
 use Rattle.event_log.specs.Books.{Totals}
 use Rattle.event_log.specs.Laws.{nothing, plus}

@@ -1,4 +1,4 @@
-// The books of four ledgers.
+// Four ledgers before they are opened, and their books, which have their totals.
 
 ghost use Rattle.std.specs.Prelude.{◌≡◌, ◌≤◌, ◌<◌};
 ghost use Rattle.event_log.specs.Laws.{nothing, plus};
@@ -13,9 +13,13 @@ use std::sync::ledger::{Blank, Book, Ledger};
 /// Four ledgers before they are opened.
 #[derive(Drop)]
 pub struct Blanks {
+    /// The ledger that will count events.
     pub events: Blank,
+    /// The ledger that will sum the numbers of the jobs that were given out.
     pub given: Blank,
+    /// The ledger that will count the commits that were accepted.
     pub commits: Blank,
+    /// The ledger that will sum the numbers of their jobs.
     pub committed: Blank,
 }
 

@@ -1,4 +1,4 @@
-// The ledgers of a run.
+// The ledgers of a run: opened with its seats, counted in, and closed with what the seats hold.
 
 ghost use Rattle.std.specs.Prelude.{◌≡◌, ◌≤◌, ◌<◌, IfOk, Some, length};
 ghost use Rattle.event_log.specs.Laws.{nothing};

@@ -23,7 +23,9 @@ pub struct Pots<
     D: Ledger,
     M: Ledger,
 > {
+    /// Their parts of the ledgers of all seats.
     pub(crate) all: Shares<E, G, C, J>,
+    /// Their parts of the further ledgers, of which the watched seat alone has one.
     pub(crate) further: Shares<V, H, D, M>,
 }
 

@@ -1,4 +1,4 @@
-// Seats.
+// One thread's seat: its number and its book, and how it counts what its calls did.
 
 ghost use Rattle.std.specs.Prelude.{◌≡◌};
 ghost use Rattle.event_log.specs.Laws.{plus};
@@ -27,9 +27,13 @@ pub struct Seat<
     D: Ledger,
     M: Ledger,
 > {
+    /// Counted from 1.
     pub(crate) number: u8,
+    /// Its parts of the ledgers of all seats.
     pub(crate) shares: Shares<E, G, C, J>,
+    /// Its parts of the further ledgers: none, but of the watched seat.
     pub(crate) further: Shares<V, H, D, M>,
+    /// Nothing at run time: its type says which seat is watched.
     pub(crate) name: PhantomData<P>,
 }
 

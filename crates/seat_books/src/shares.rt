@@ -1,4 +1,4 @@
-// Shares of four ledgers.
+// Parts of four ledgers, split and merged, with what they count.
 
 ghost use Rattle.std.specs.Prelude.{◌≡◌, ◌+◌, ◌≤◌};
 ghost use Rattle.event_log.specs.Laws.{nothing};
@@ -10,9 +10,13 @@ use std::sync::ledger::{Ledger, Share};
 /// As many parts of each of four ledgers, and what these count in their totals.
 #[derive(Drop)]
 pub struct Shares<E: Ledger, G: Ledger, C: Ledger, J: Ledger> {
+    /// Parts of the ledger that counts events.
     pub(crate) events: Share<E>,
+    /// Parts of the ledger that sums the numbers of the jobs that were given out.
     pub(crate) given: Share<G>,
+    /// Parts of the ledger that counts the commits that were accepted.
     pub(crate) commits: Share<C>,
+    /// Parts of the ledger that sums the numbers of their jobs.
     pub(crate) committed: Share<J>,
 }
 

@@ -1,4 +1,4 @@
-// The seats of a run.
+// A type that says in contracts how many seats a run has, and which is watched.
 
 ghost use Rattle.std.specs.Prelude.{ℕ};
 

@@ -1,4 +1,4 @@
-// The jobs that are out.
+// Which jobs are out, kept up to date behind each event.
 
 ghost use Rattle.std.specs.Prelude.{◌≡◌, IfOk, OnOk, OnErr};
 ghost use Rattle.protocol_board.specs.Cores.{reply_of};
@@ -14,7 +14,9 @@ use std::alloc::{AllocError, Global};
 /// A job that was given out and isn't handed in, and the worker that claimed it.
 #[derive(Clone, Copy, PartialEq, Eq, Debug)]
 pub struct JobOut {
+    /// The job's number, counted from 1.
     pub job: u64,
+    /// The worker that claimed it.
     pub worker: WorkerId,
 }
 

@@ -1,4 +1,4 @@
-// Names of runs.
+// A type that stands for one run on threads in contracts, with the plan and the cluster of that run.
 
 ghost use Rattle.std.specs.Prelude.{Bool, List};
 ghost use Rattle.event_files.specs.declared.plan.PlanLine.{PlanLine};

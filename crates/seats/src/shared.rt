@@ -122,7 +122,7 @@ impl<
         told
     }
 
-    /// One turn of the seat.
+    /// Takes the seat's turn, and counts in its book what came of it.
     fn turn(&mut self, alloc: Global, seat: &mut Seat<P, E, G, C, J, V, H, D, M>) -> Turn<S>
         ensures { seat.new ≡ with_more (turn_counted (told_of result)) seat.old }
     {

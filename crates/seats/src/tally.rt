@@ -71,7 +71,7 @@ pub fn tally_of<S: ScriptName>(event: &Event, told: &Reply<S>) -> Tally
     }
 }
 
-/// What a turn counts.
+/// What a turn adds to its seat's book: an event that was logged counts one, and a job its number.
 pub fn turn_tally<S: ScriptName>(told: &Turn<S>) -> Tally
     ensures { totals_in result ≡ turn_counted (told_of told.now) }
 {

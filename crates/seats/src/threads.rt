@@ -1,4 +1,4 @@
-// A run on threads.
+// A run on threads from its first seat to its last, and what becomes of its books.
 
 ghost use Rattle.std.specs.Prelude.{◌≡◌, ◌≤◌, IfOk};
 ghost use Rattle.script_check.specs.Trees.{script_of};

@@ -306,7 +306,7 @@ impl<S: ScriptName, P: RunName> Turning<S, P> {
         self.board.next(&nobody).is_none()
     }
 
-    /// How the run ended.
+    /// How the run ended: over, at a limit, or for want of memory; with its board but in the last case.
     pub fn into_end(self) -> Ended<S>
         requires { self.given_up ≡ None → IsOverBeside S.script P.is_open P.plan P.size self.run }
         ensures ended { HasEnded S.script P.is_open P.plan P.size result }
@@ -329,7 +329,7 @@ impl<S: ScriptName, P: RunName> Turning<S, P> {
         self.board.log()
     }
 
-    /// The board.
+    /// Gives back the run as it stands; plan, counts and jobs that are out are dropped.
     pub fn into_board(self) -> Board<S>
         ensures { result ≡ self.run }
     {

@@ -1,4 +1,4 @@
-// A thread's loop.
+// What each thread of a run does: takes turns, runs its job outside the lock, and waits where it must.
 
 ghost use Rattle.std.specs.Prelude.{◌≡◌, IfOk};
 ghost use Rattle.script_check.specs.Trees.{script_of};

@@ -1,4 +1,4 @@
-// Jobs that were run.
+// Jobs that were run, with what was done on them, and what is true of that.
 
 ghost use Rattle.std.specs.Prelude.{◌≡◌, IfSome};
 ghost use Rattle.evaluation.specs.Pieces.{piece_of};
@@ -16,11 +16,13 @@ use values::RunValue;
 /// A job that was run, and the plain parts of what was done on it.
 #[derive(Drop)]
 pub struct DoneParts<S: ScriptName> {
+    /// The job as it was given out.
     pub job: Job<S>,
     /// What the attempt bore beyond what the job had.
     pub births: Vec<Birth>,
     /// What the attempt printed beyond what the job had.
     pub prints: Vec<RunValue>,
+    /// Where it stopped: at a get that has no answer yet, or at the task's end.
     pub stop: PieceStop,
 }
 

@@ -1,4 +1,4 @@
-// Jobs.
+// Jobs that are given out: an attempt with its answers so far, and the frame from which it goes on.
 
 ghost use Rattle.std.specs.Prelude.{◌≡◌, IfOk};
 ghost use Rattle.script_check.specs.Trees.{script_of};

@@ -1,4 +1,4 @@
-// How a job is run.
+// How a job is run: from its frame, or again from its task's beginning.
 
 ghost use Rattle.std.specs.Prelude.{◌≡◌, IfOk, IfErr, IfSome, drop};
 ghost use Rattle.meaning.specs.Values.{others_of};

@@ -1,4 +1,4 @@
-// Names of scripts.
+// A type that stands for one script in contracts, so that jobs of two scripts are never mixed up.
 
 ghost use Rattle.meaning.specs.Syntax.{Script};
 

@@ -9,6 +9,7 @@ use std::marker::Model;
 /// A `Vec` that a contract sees as the list of its items: two with equal items are equal, whatever their capacities.
 #[derive(Drop, Debug)]
 pub struct Seq<T> {
+    /// The items in order, with whatever capacity.
     pub items: Vec<T>,
 }
 
@@ -40,12 +41,14 @@ impl<T> Seq<T> {
         }
     }
 
+    /// How many items there are.
     pub fn len(&self) -> usize
         ensures { result ≡ length self.now }
     {
         self.items.len()
     }
 
+    /// Whether there are no items.
     pub fn is_empty(&self) -> bool
         ensures { IsTrue result ↔ (self.now ≡ []) }
     {
@@ -60,6 +63,7 @@ impl<T> Seq<T> {
         &self.items[place]
     }
 
+    /// The items as a slice, in order.
     pub fn as_slice(&self) -> &[T]
         ensures { result.now ≡ self.now }
     {

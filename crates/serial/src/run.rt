@@ -1,4 +1,4 @@
-// The serial run.
+// The serial run of a checked script: no checked script fails in it but for want of memory.
 
 ghost use Rattle.std.specs.Prelude.{◌≡◌, IfOk, map};
 ghost use Rattle.meaning.specs.Values.{first_outcome};

@@ -1,4 +1,4 @@
-// The next event.
+// The settle rule: which event comes next where nothing else is asked for.
 
 ghost use Rattle.std.specs.Prelude.{◌≡◌};
 ghost use Rattle.protocol.specs.Settling.{next};
@@ -29,7 +29,7 @@ pub fn next_from(whole: &Whole, but: &Seq<WorkerId>, from: usize) -> Option<Even
     None
 }
 
-/// The next event, where the search for a message begins at the first.
+/// The next event, as `next_from` has it with all messages looked at.
 pub fn next(whole: &Whole, but: &Seq<WorkerId>) -> Option<Event>
     ensures { result ≡ next whole.now but.now }
 {

@@ -3,9 +3,11 @@
 /// What is told of a value: a number itself, a list's length, and of a reference only that it is one.
 #[derive(Clone, Copy, PartialEq, Eq, Debug, Drop)]
 pub enum Shown {
+    /// The number itself.
     Number(i64),
     /// Of how many items the list is.
     List(usize),
+    /// A reference, of which nothing more is told.
     Reference,
 }
 

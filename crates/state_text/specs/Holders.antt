@@ -1,4 +1,4 @@
--- Who holds an object.
+-- The lines of who holds an object and who waits for it.
 use Rattle.std.specs.Prelude.{Bool, List, None, Option, Some, [], codes, false, if◌then◌else◌, not, ℕ, ◌&&◌, ◌++◌}
 use Rattle.std.specs.List.{flat_map, list_any}
 use Rattle.std.specs.Fmt.{decimal}

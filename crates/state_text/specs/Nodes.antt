@@ -1,4 +1,4 @@
--- What is said of nodes.
+-- The lines of a node: its slots, the workers on it, and who waits for a slot.
 use Rattle.std.specs.Prelude.{List, None, Option, Some, [], codes, if◌then◌else◌, length, slice_get, ℕ, ◌+◌, ◌++◌, ◌==◌, ◌∷◌}
 use Rattle.std.specs.List.{flat_map}
 use Rattle.std.specs.Fmt.{decimal}

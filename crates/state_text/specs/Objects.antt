@@ -1,4 +1,4 @@
--- What is said of objects.
+-- The lines of an object: what makes it, how far that is, and where its content is.
 use Rattle.std.specs.Prelude.{Bool, List, None, Option, Some, [], codes, if◌then◌else◌, false, length, not, slice_get, true, ℕ, ◌&&◌, ◌+◌, ◌++◌, ◌∷◌}
 use Rattle.std.specs.Fmt.{decimal}
 use Rattle.meaning.specs.Births.{birth_at}

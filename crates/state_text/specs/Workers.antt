@@ -1,4 +1,4 @@
--- What is said of workers.
+-- The lines of a worker: what it is for, what its attempt does, and which Holds it waits for.
 use Rattle.std.specs.Prelude.{Bool, List, None, Option, Some, [], codes, false, if◌then◌else◌, slice_get, ℕ, ◌+◌, ◌++◌, ◌==◌, ◌∷◌}
 use Rattle.std.specs.List.{flat_map, list_any}
 use Rattle.std.specs.Fmt.{decimal}

@@ -1,4 +1,4 @@
-// Who holds an object.
+// The lines of who holds an object and who waits for it.
 
 ghost use Rattle.std.specs.Prelude.{◌≡◌, ◌++◌, IfOk, OnOk, map, option_copied, string_bytes};
 ghost use Rattle.std.specs.Option.{option_map};

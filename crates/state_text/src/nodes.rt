@@ -1,4 +1,4 @@
-// What is said of nodes.
+// The lines of a node: its slots, the workers on it, and who waits for a slot.
 
 ghost use Rattle.std.specs.Prelude.{◌≡◌, ◌<◌, ◌^◌, ◌++◌, OnOk, string_bytes, ◌+◌};
 ghost use Rattle.log_words.specs.Index.{IsIndexOf};

@@ -1,4 +1,4 @@
-// What is said of objects.
+// The lines of an object: what makes it, how far that is, and where its content is.
 
 ghost use Rattle.std.specs.Prelude.{◌≡◌, ◌++◌, ◌<◌, OnOk, codes, option_copied, string_bytes};
 ghost use Rattle.std.specs.Option.{option_map};

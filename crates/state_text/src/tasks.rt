@@ -6,7 +6,7 @@ ghost use Rattle.state_text.specs.Tasks.{is_pending_at, is_pending_by, is_under_
 
 use protocol_data::{Maker, Object, Objects, Progress};
 
-/// The object of that serial.
+/// The object of that serial, counted from 1; none for any other number.
 #[tactic(auto, using(crate::proofs::Below::item_there, crate::proofs::Below::no_item))]
 fn object_at(objects: &Objects, serial: u64) -> Option<&Object>
     ensures { MatchOption result (from_one objects.now serial ≡ None) (λ x. from_one objects.now serial ≡ Some x.now) }

@@ -1,4 +1,4 @@
-// The state of a run.
+// What is alive in a run behind its last event: its nodes, workers and objects.
 
 ghost use Rattle.std.specs.Prelude.{◌≡◌, ◌++◌, IfOk, OnOk, string_bytes};
 ghost use Rattle.log_words.specs.Index.{IsIndexOf};

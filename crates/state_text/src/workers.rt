@@ -1,4 +1,4 @@
-// What is said of workers.
+// The lines of a worker: what it is for, what its attempt does, and which Holds it waits for.
 
 ghost use Rattle.std.specs.Prelude.{◌≡◌, ◌++◌, ◌==◌, ◌<◌, MatchOption, None, OnOk, Some, string_bytes};
 ghost use Rattle.std.specs.List.{list_any};
@@ -33,7 +33,6 @@ fn is_one(workers: &[WorkerId], worker: WorkerId) -> bool
     workers.iter().any(|w| w.is(worker))
 }
 
-/// Whether the worker has a slot of the node.
 fn has_slot(whole: &Whole, node: NodeId, worker: WorkerId) -> bool
     ensures { result ≡ has_slot worker (node_at whole.now node) }
 {

@@ -18,8 +18,11 @@ use std::alloc::{AllocError, Global};
 #[derive(Drop)]
 pub struct Subject {
     pub object: ObjectId,
+    /// The object by which the attempts of its task are named: the task's first.
     pub task: ObjectId,
+    /// The objects of that task, the first one first.
     pub results: Vec<ObjectId>,
+    /// The numbers of the workers on which the attempts ran, in the order in which these began.
     pub workers: Vec<u32>,
     pub nodes: Vec<u32>,
 }

@@ -1,4 +1,4 @@
--- The lines of events.
+-- The summary's lines of events: of each kind that came how many did, and how many were refused.
 use Rattle.std.specs.Prelude.{Bool, List, [], codes, false, if◌then◌else◌, ℕ, ◌+◌, ◌++◌, ◌==◌, ◌∷◌}
 use Rattle.std.specs.Fmt.{decimal}
 use Rattle.meaning.specs.Meaning.{same_name}

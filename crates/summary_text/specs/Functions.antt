@@ -1,4 +1,4 @@
--- The lines of functions.
+-- The summary's lines of functions: of each how many tasks, attempts and results, and what was given up.
 use Rattle.std.specs.Prelude.{Bool, List, Option, Some, [], codes, if◌then◌else◌, length, slice_get, take, true, ℕ, ◌++◌}
 use Rattle.std.specs.List.{list_any}
 use Rattle.std.specs.Fmt.{decimal}

@@ -1,4 +1,4 @@
--- The lines of messages.
+-- The summary's lines of messages: of each kind that was sent how many were sent and delivered.
 use Rattle.std.specs.Prelude.{Bool, List, None, Option, Some, [], codes, false, if◌then◌else◌, ℕ, ◌+◌, ◌++◌, ◌==◌, ◌∷◌}
 use Rattle.std.specs.Fmt.{decimal}
 use Rattle.meaning.specs.Meaning.{same_name}

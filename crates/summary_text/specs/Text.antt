@@ -1,4 +1,4 @@
--- The summary of a run.
+-- The whole summary of a run, of its log and its messages.
 use Rattle.std.specs.Prelude.{List, codes, ℕ, ◌++◌}
 use Rattle.event_log.specs.Entries.{Entry}
 use Rattle.protocol_data.specs.declared.message.Letter.{Letter}

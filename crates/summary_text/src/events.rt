@@ -1,4 +1,4 @@
-// The lines of events.
+// The summary's lines of events: of each kind that came how many did, and how many were refused.
 
 ghost use Rattle.std.specs.Prelude.{◌≡◌, ◌++◌, OnOk, string_bytes};
 ghost use Rattle.summary_text.specs.Events.{came_count, counted_note, counted_words, event_word};

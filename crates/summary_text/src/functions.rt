@@ -1,4 +1,4 @@
-// The lines of functions.
+// The summary's lines of functions: of each how many tasks, attempts and results, and what was given up.
 
 ghost use Rattle.std.specs.Prelude.{◌≡◌, ◌<◌, ◌++◌, OnOk, length, string_bytes, take};
 ghost use Rattle.std.specs.List.{list_any};

@@ -1,4 +1,4 @@
-// The lines of messages.
+// The summary's lines of messages: of each kind that was sent how many were sent and delivered.
 
 ghost use Rattle.std.specs.Prelude.{◌≡◌, ◌++◌, MatchOption, None, OnOk, Some, string_bytes};
 ghost use Rattle.event_log.specs.Events.{from_one};

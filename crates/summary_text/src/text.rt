@@ -1,4 +1,4 @@
-// The summary of a run.
+// The whole summary of a run, of its log and its messages.
 
 ghost use Rattle.std.specs.Prelude.{◌≡◌, ◌++◌, IfOk, OnOk, string_bytes};
 ghost use Rattle.history.specs.Attempts.{AreStatesOf};

@@ -1,4 +1,4 @@
-// Births.
+// What makes an object, a put or a call, and which of a call's arguments are dereferenced.
 
 ghost use Rattle.std.specs.Prelude.{◌≡◌, ◌++◌, IfOk, OnOk, map};
 ghost use Rattle.task_spec.specs.Births.{argument_of, birth_of};
@@ -11,6 +11,7 @@ use values::RunValue;
 /// An argument of a remote call.
 #[derive(Drop)]
 pub struct Argument {
+    /// The value, where a reference is an id.
     pub value: RunValue,
     /// Whether it is a reference that the task's worker dereferences before the body.
     pub is_dereferenced: bool,
@@ -19,6 +20,7 @@ pub struct Argument {
 /// What makes an object: the value that was put, or the call that computes it.
 #[derive(Drop)]
 pub enum Birth {
+    /// The value that was put.
     Put(RunValue),
     /// A remote call: its function, its arguments, the depth at which its body runs (main's is 0), how many new runs it
     /// allows after a failure of the system, and how many results it has beside the first.

@@ -1,4 +1,4 @@
--- The spans of a row.
+-- The spans in a worker's row: the attempts that it runs, and the gets for which they wait.
 use Rattle.std.specs.Prelude.{ℕ, ◌-◌, ◌==◌, if◌then◌else◌, List, [], ◌∷◌, Option, Some, None, codes}
 use Rattle.serde_json.specs.Data.{Data, number, unsigned, string, object, member, no_members}
 use Rattle.meaning.specs.Values.{Birth, Put, Task}

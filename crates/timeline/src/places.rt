@@ -18,6 +18,7 @@ fn home(rows: &[Row], worker: u32) -> u32
     0
 }
 
+/// The number of the node under which a party's row stands: a worker's own node, or the node itself.
 pub fn process(rows: &[Row], party: Party) -> u32
     ensures { result ≡ process rows.now party }
 {

@@ -1,4 +1,4 @@
-// What each worker runs.
+// Which worker runs which attempt up to each event, a row for each.
 
 ghost use Rattle.std.specs.Prelude.{◌≡◌, IfOk};
 ghost use Rattle.log_words.specs.Told.{told_of};
@@ -14,7 +14,9 @@ use std::alloc::{AllocError, Global};
 #[derive(Clone, Copy)]
 pub struct Running {
     pub attempt: AttemptId,
+    /// The number of the event at which it began.
     pub since: usize,
+    /// The number of the event since which it waits for a get, where it does.
     pub waits: Option<usize>,
 }
 
@@ -23,6 +25,7 @@ pub struct Running {
 pub struct Row {
     pub worker: WorkerId,
     pub node: NodeId,
+    /// What it runs now, if it runs anything.
     pub running: Option<Running>,
 }
 

@@ -1,4 +1,4 @@
-// The spans of a row.
+// The spans in a worker's row: the attempts that it runs, and the gets for which they wait.
 
 ghost use Rattle.std.specs.Prelude.{◌≡◌, ◌++◌, IfOk, OnOk, map, option_copied, string_bytes};
 ghost use Rattle.std.specs.Option.{option_map};

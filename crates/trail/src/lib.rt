@@ -91,6 +91,7 @@ impl<T> Trail<T> {
         }
     }
 
+    /// How many items there are. It is kept beside them, so that no chunk is counted.
     pub fn len(&self) -> usize
         ensures { result ≡ length self.now }
     {

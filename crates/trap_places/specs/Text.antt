@@ -1,4 +1,4 @@
--- Where a script trapped.
+-- What is told of a trap's place: line and column, what stands and works there, and the calls that wait.
 use Rattle.std.specs.Prelude.{ℕ, ◌-◌, if◌then◌else◌, List, [], ◌∷◌, ◌++◌, codes, length, nat_eq, Option, Some, None, slice_get, take}
 use Rattle.std.specs.Fmt.{decimal}
 use Rattle.script_tokens.specs.declared.token.Span.{Span}

@@ -39,7 +39,7 @@ fn line_length(bytes: &[u8]) -> usize
     bytes.len()
 }
 
-/// How many bytes are shown.
+/// How many bytes of the line are shown, 60 at most.
 #[tactic(auto, unfolding(crate::specs::Excerpts::shown_length))]
 fn shown_length(bytes: &[u8]) -> usize
     ensures counted { result ≡ shown_length bytes.now }

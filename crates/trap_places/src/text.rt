@@ -1,4 +1,4 @@
-// Where a script trapped.
+// What is told of a trap's place: line and column, what stands and works there, and the calls that wait.
 
 ghost use Rattle.std.specs.Prelude.{◌≡◌, ◌++◌, IfOk, OnOk, string_bytes};
 ghost use Rattle.raysim_explain.specs.Places.{place_in};

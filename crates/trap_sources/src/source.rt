@@ -18,6 +18,7 @@ use values::Content;
 /// An attempt whose own code trapped, and with what it ran.
 #[derive(Drop)]
 pub struct TrapSource {
+    /// The attempt in which the trap arose.
     pub attempt: AttemptId,
     /// What the attempt ran.
     pub spec: Birth,

@@ -1,4 +1,4 @@
-// Contents of objects.
+// What an object has once it is made: a value, or the trap of its call.
 
 ghost use Rattle.std.specs.Prelude.{◌≡◌, IfOk, map};
 ghost use Rattle.values.specs.Values.{content_of};
@@ -28,7 +28,9 @@ pub enum Trap {
 /// What an object has: the value that was put or that its call returned, or the trap in which the call ended.
 #[derive(Drop)]
 pub enum Content {
+    /// The value that was put, or that the call returned.
     Value(RunValue),
+    /// The trap in which the call ended.
     Trap(Trap),
 }
 
@@ -44,7 +46,7 @@ impl Content {
     }
 }
 
-/// Equal contents.
+/// The same contents in order, in memory of their own. The one error is want of memory.
 pub fn copy_contents(contents: &[Content], alloc: Global) -> Result<Vec<Content>, AllocError>
     ensures { IfOk result (λ copies. map content_of copies.items ≡ map content_of contents.now) }
 {

@@ -1,4 +1,4 @@
-// Faults.
+// Why an object has no content: the kinds of faults, and the object in which one began.
 
 use ids::ObjectId;
 use std::marker::Model;
@@ -17,7 +17,9 @@ pub enum FaultKind {
 /// A fault, and the object in which it began. A fault does not belong to the script's meaning: the system failed.
 #[derive(Clone, Copy, PartialEq, Eq, Debug)]
 pub struct Fault {
+    /// In which way the system failed.
     pub kind: FaultKind,
+    /// The object in which it began, which need not be the one that has it.
     pub object: ObjectId,
 }
 

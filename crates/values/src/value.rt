@@ -1,4 +1,4 @@
-// Values.
+// The values of a run, and the ids that stand in one.
 
 ghost use Rattle.std.specs.Prelude.{◌≡◌, IfOk, OnOk, ◌&&◌, ◌==◌, [], ◌∷◌};
 ghost use Rattle.std.specs.List.{list_any};
@@ -11,8 +11,11 @@ use std::alloc::{AllocError, Global};
 /// A value of a run: a number, a list, or a reference as the id of its object.
 #[derive(Drop)]
 pub enum RunValue {
+    /// A 64-bit signed integer.
     Int(i64),
+    /// At most 4,096 values, where a script made it.
     List(Vec<RunValue>),
+    /// A reference, as the id of its object.
     Id(ObjectId),
 }
 

@@ -1,4 +1,4 @@
--- A chain link by link.
+-- A chain of links is its first link and the chain behind that.
 use Rattle.std.proofs.Common.{◌≡◌, ℕ, zero, suc, List, [], ◌∷◌, ◌++◌, Option, Some, None, refl, ap, ◌∙◌, append_assoc, sym}
 use Rattle.std.proofs.lemmas.List.{append-nil}
 use Rattle.protocol_data.specs.declared.whole.Whole.{Whole}

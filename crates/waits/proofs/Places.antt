@@ -1,4 +1,4 @@
--- Places and numbers.
+-- The item of a number, counted from 1, is the one at the place before it.
 use Rattle.std.proofs.Common.{◌≡◌, ℕ, suc, ◌≤◌, List, Some, None, ap, ◌∙◌, length}
 use Rattle.std.specs.Prelude.{slice_get}
 use Rattle.std.proofs.lemmas.Option.{slice_get_past}

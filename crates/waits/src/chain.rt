@@ -1,4 +1,4 @@
-// Link by link.
+// For what main waits, and what keeps that from coming, link by link.
 
 ghost use Rattle.std.specs.Prelude.{◌≡◌, ◌++◌, ◌∷◌, [], IfOk, OnOk};
 ghost use Rattle.waits.specs.Links.{chain, links, next_link, worker_links};

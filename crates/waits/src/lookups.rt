@@ -24,14 +24,14 @@ fn item_at<T>(items: &Seq<T>, number: u64) -> Option<&T>
     Some(items.get(place))
 }
 
-/// The worker of that number.
+/// The worker of that number, counted from 1; none where it was never opened.
 pub fn worker_at(whole: &Whole, worker: WorkerId) -> Option<&Worker>
     ensures { MatchOption result (worker_at whole.now worker ≡ None) (λ x. worker_at whole.now worker ≡ Some x.now) }
 {
     item_at(&whole.workers, u64::from(worker.0))
 }
 
-/// The node of that number.
+/// The node of that number, counted from 1; none where it never came.
 pub fn node_at(whole: &Whole, node: NodeId) -> Option<&Node>
     ensures { MatchOption result (node_at whole.now node ≡ None) (λ x. node_at whole.now node ≡ Some x.now) }
 {
@@ -45,7 +45,7 @@ pub fn letter_at(whole: &Whole, number: u64) -> Option<&Letter>
     item_at(&whole.network, number)
 }
 
-/// The object of that serial.
+/// The object of that serial, counted from 1; none for any other number.
 #[tactic(auto, using(crate::proofs::Places::item_there, crate::proofs::Places::no_item))]
 pub fn object_at(objects: &Objects, serial: u64) -> Option<&Object>
     ensures { MatchOption result (from_one objects.now serial ≡ None) (λ x. from_one objects.now serial ≡ Some x.now) }
@@ -60,6 +60,7 @@ pub fn object_at(objects: &Objects, serial: u64) -> Option<&Object>
     Some(objects.row(place))
 }
 
+/// Whether there is a worker of that number, and it lives.
 pub fn is_live(whole: &Whole, worker: WorkerId) -> bool
     ensures { result ≡ is_live (worker_at whole.now worker) }
 {
@@ -69,6 +70,7 @@ pub fn is_live(whole: &Whole, worker: WorkerId) -> bool
     }
 }
 
+/// Whether there is a node of that number, and it lives.
 pub fn is_live_node(whole: &Whole, node: NodeId) -> bool
     ensures { result ≡ is_live_node (node_at whole.now node) }
 {
@@ -78,6 +80,7 @@ pub fn is_live_node(whole: &Whole, node: NodeId) -> bool
     }
 }
 
+/// Whether the worker is one of these.
 pub fn is_one(workers: &[WorkerId], worker: WorkerId) -> bool
     ensures { result ≡ is_one worker workers.now }
 {

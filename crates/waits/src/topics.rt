@@ -1,4 +1,4 @@
-// What messages are about.
+// What a message is about, so that one that is still under way is found.
 
 ghost use Rattle.std.specs.Prelude.{◌≡◌};
 ghost use Rattle.waits.specs.Topics.{is_about, is_answer, is_any_node, is_ask_for, is_end_of, is_fetch_of, is_for_lent, is_hold_ack_of};

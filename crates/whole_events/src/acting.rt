@@ -42,7 +42,9 @@ pub fn act(
 /// A worker and its node as they were.
 #[derive(Drop)]
 pub struct Kept {
+    /// The worker's tables before the event.
     pub worker: Worker,
+    /// Its node's tables before the event.
     pub node: Node,
 }
 

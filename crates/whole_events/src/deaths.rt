@@ -14,7 +14,7 @@ use std::alloc::{AllocError, Global};
 use std::mem;
 use whole_steps::{forget_at_node, new_node, node_place, worker_place};
 
-/// The worker at the place is dead.
+/// Sets down that the worker of that number, which stands at the place before it, doesn't live any more.
 fn mark_dead(whole: &mut Whole, place: usize, number: WorkerId)
     requires place_in { place < length whole.old.workers }
     requires number { number ≡ 1 + place }
@@ -73,7 +73,7 @@ fn all_die_with(
     Ok(others)
 }
 
-/// The workers of the node die.
+/// Each worker on the node is dead from now on.
 fn workers_die(alloc: Global, whole: &mut Whole, node: NodeId) -> Result<(), AllocError>
     ensures { OnOk result (whole.new ≡ record whole.old { workers = map (dies_with node) whole.old.workers }) }
 {
@@ -82,7 +82,7 @@ fn workers_die(alloc: Global, whole: &mut Whole, node: NodeId) -> Result<(), All
     Ok(())
 }
 
-/// The node at the place is dead.
+/// Sets down that the node of that number, which stands at the place before it, doesn't live any more.
 fn mark_node_dead(whole: &mut Whole, place: usize, number: NodeId)
     requires place_in { place < length whole.old.nodes }
     requires number { number ≡ 1 + place }

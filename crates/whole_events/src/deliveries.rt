@@ -1,4 +1,4 @@
-// Messages that are delivered.
+// Deliveries as changes of the whole run: a message reaches its receiver, if that lives.
 
 ghost use Rattle.std.specs.Prelude.{◌≡◌, IfOk, OnOk};
 ghost use Rattle.limit_laws.specs.Later.{marked};

@@ -1,4 +1,4 @@
-// Claims and commits.
+// Claims, which give out a job, and commits, which hand one in, as changes of the whole run.
 
 ghost use Rattle.std.specs.Prelude.{◌≡◌, ◌<◌, ◌+◌, ◌++◌, ◌∷◌, [], IfOk, OnOk, false, length};
 ghost use Rattle.limit_laws.specs.Limits.{entries_limited, whole_limited};

@@ -69,6 +69,7 @@ pub fn write_began(
     text.push_str(".\n")
 }
 
+/// Writes that the attempt got the object, when, and the content that it got (`specs/` has the sentence as `got_text`).
 pub fn write_got(
     text: &mut String,
     contents: Contents,

@@ -136,7 +136,9 @@ pub fn why_text(
 /// A fault in place of an answer, and the object that was to be got.
 #[derive(Clone, Copy, PartialEq, Eq, Debug)]
 pub struct Lack {
+    /// The object that was to be got.
     pub object: ObjectId,
+    /// What came in place of its content.
     pub fault: Fault,
 }
 

@@ -179,8 +179,8 @@ fn write_owner(text: &mut String, object: ObjectId, dies: bool) -> Result<(), Al
     Ok(())
 }
 
+/// Writes that the node died, as `n2 died`.
 #[tactic(auto, unfolding(crate::specs::Events::dead_node_text))]
-/// Writes that the node died.
 pub fn write_dead_node(text: &mut String, node: NodeId) -> Result<(), AllocError>
     ensures { OnOk result (string_bytes text.new ≡ string_bytes text.old ++ dead_node_text node) }
 {

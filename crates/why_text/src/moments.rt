@@ -9,8 +9,11 @@ use std::alloc::AllocError;
 /// How many events came, the last of them, and the line of the event file from which it came, if there is one.
 #[derive(Clone, Copy, PartialEq, Eq, Debug)]
 pub struct Moment {
+    /// How many events came, this one counted.
     pub number: usize,
+    /// The last of them; none where none came.
     pub event: Option<Event>,
+    /// The line of the event file from which it came, counted from 1, if there is one.
     pub line: Option<usize>,
 }
 

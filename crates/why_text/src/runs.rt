@@ -18,8 +18,11 @@ use story_text::{node_of, opened};
 pub struct Run {
     pub attempt: AttemptId,
     pub worker: u32,
+    /// The number of that worker's node; none where the worker was never opened.
     pub node: Option<u32>,
+    /// Whether the log never says that it ended.
     pub is_open: bool,
+    /// Whether its worker was killed for itself, not with its node.
     pub was_killed: bool,
 }
 
@@ -27,9 +30,13 @@ pub struct Run {
 #[derive(Drop)]
 pub struct Subject {
     pub object: ObjectId,
+    /// The object by which the attempts of its task are named: the task's first.
     pub task: ObjectId,
+    /// The objects of that task, the first one first.
     pub results: Vec<ObjectId>,
+    /// The number of their owner's node; none where that was never opened.
     pub home: Option<u32>,
+    /// The attempts of the task, in the order in which they began.
     pub runs: Vec<Run>,
 }
 
@@ -129,7 +136,8 @@ fn runs_of(
     Ok(runs)
 }
 
-impl Subject { /// The object, whose task is named by that one, with what the log says of that.
+impl Subject {
+    /// The object, whose task is named by that one, with what the log says of that.
     pub fn of(
         alloc: Global,
         index: &BirthIndex,
@@ -153,7 +161,7 @@ impl Subject { /// The object, whose task is named by that one, with what the lo
     }
 }
 
-/// Whether it is that node.
+/// Whether there is a node, and it has that number.
 pub fn is_node(number: u32, node: Option<u32>) -> bool
     ensures { result ≡ is_node number node }
 {

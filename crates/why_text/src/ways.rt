@@ -70,7 +70,6 @@ fn any_leads(cause: ObjectId, found: &[ObjectId], objects: &[ObjectId]) -> bool
     false
 }
 
-/// The first that leads to the cause.
 fn first_leading(cause: ObjectId, found: &[ObjectId], objects: &[ObjectId]) -> Option<ObjectId>
     ensures { result ≡ first (filter (leads cause found.now) objects.now) }
 {

@@ -5,10 +5,15 @@ use std::alloc::{AllocError, Global};
 /// A script with its cluster and the events of its run without a fault, one in each line.
 #[derive(Drop)]
 pub struct Row {
+    /// What the row is called where it is told.
     pub name: String,
+    /// The whole script, with the file's functions in front.
     pub script: String,
+    /// How many nodes the cluster begins with.
     pub nodes: u8,
+    /// How many slots each node has.
     pub slots: u8,
+    /// The events of its run without a fault, one in each line.
     pub events: String,
 }
 

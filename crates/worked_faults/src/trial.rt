@@ -32,18 +32,26 @@ const CHOICE: FaultChoice = FaultChoice {
 /// How many lists were tried, in how many main ended in each way, and how many differ from what is promised.
 #[derive(Clone, Copy, PartialEq, Eq, Debug)]
 pub struct Tally {
+    /// How many lists were tried.
     pub lists: u64,
+    /// In how many main ended as the serial run does.
     pub serial: u64,
+    /// In how many main had the fault `OwnerDied`; so `PutLost` and `RetriesUsed`.
     pub owner_died: u64,
     pub put_lost: u64,
     pub retries_used: u64,
+    /// In how many nothing was left to do, and main had no end.
     pub open: u64,
+    /// In how many main's own worker died.
     pub killed: u64,
+    /// How many runs were stopped.
     pub stopped: u64,
+    /// How many weren't what is promised: 0 in a row that passes.
     pub differ: u64,
 }
 
 impl Tally {
+    /// Nothing was tried yet.
     pub fn new() -> Tally {
         Tally {
             lists: 0,
@@ -85,7 +93,9 @@ impl Tally {
 #[derive(Drop)]
 pub struct Ground {
     pub cluster: Cluster,
+    /// What the serial run of the script writes.
     pub serial: String,
+    /// Whether each list is told with its report.
     pub tells: bool,
 }
 

@@ -43,7 +43,7 @@ fn tell_line<R: Print>(rt: &R, wanted: &str, got: &str) -> io::Result<()> {
     println!(rt; "    got:      {got}")
 }
 
-/// Whether both are the same.
+/// Whether text, refusal and status are the same.
 pub fn are_same(wanted: &Outcome, got: &Outcome) -> bool {
     wanted.written.as_str() == got.written.as_str()
         && wanted.refusal.as_str() == got.refusal.as_str()

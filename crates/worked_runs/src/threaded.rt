@@ -1,4 +1,4 @@
-// Runs on threads.
+// Worked runs on threads: run, compared with what the case wants, and replayed from their history.
 
 ghost use Rattle.std.specs.Prelude.{◌≤◌, IfSome};
 
@@ -22,6 +22,7 @@ enum Shown {
 /// What a case asks of a run on threads: how many there are, and what is written.
 #[derive(Clone, Copy)]
 pub struct Threaded {
+    /// From 1 to 8.
     pub threads: u8,
     shown: Shown,
 }

@@ -1,4 +1,4 @@
--- What a death breaks.
+-- Which attempts the death of a worker or of a node breaks.
 use Rattle.std.specs.Prelude.{Bool}
 use Rattle.protocol.specs.Messages.{Party, TheNode, TheWorker}
 use Rattle.protocol.specs.Tables.{Progress}

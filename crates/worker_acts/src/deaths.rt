@@ -1,4 +1,4 @@
-// Notices of deaths.
+// What a worker does where it is told that another worker or a node is dead.
 
 ghost use Rattle.std.specs.Prelude.{◌≡◌, OnOk, Some, None};
 ghost use Rattle.protocol.specs.Notices.{hears_of_node, hears_of_worker, notice_node_step, notice_step};

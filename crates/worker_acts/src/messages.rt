@@ -1,4 +1,4 @@
-// Messages that reach a worker.
+// What a worker does with each message that reaches it.
 
 ghost use Rattle.std.specs.Prelude.{◌≡◌, OnOk, Some, None};
 ghost use Rattle.protocol.specs.Deliveries.{reached, reached_from_node, reached_from_worker};

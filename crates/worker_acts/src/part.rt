@@ -24,7 +24,9 @@ pub enum Act {
     Hear(Party, Message),
     /// It sends again what it waits for.
     Tick,
+    /// It is told that this worker is dead.
     LearnWorkerDied(WorkerId),
+    /// It is told that this node is dead.
     LearnNodeDied(NodeId),
 }
 

@@ -5,7 +5,6 @@ use crate::streams::tries::Tries;
 use raysim_commands::CommandRefusal;
 use std::alloc::Global;
 
-/// How many line feeds there are.
 fn line_feeds(text: &[u8]) -> u64 {
     let mut count = 0u64;
     for byte in text {

@@ -6,6 +6,7 @@ use std::io::{ErrorKind, Read, Write};
 /// Gives the bytes, and then fails.
 #[derive(Drop)]
 pub struct FailingReader<'a> {
+    /// What is still given before it fails.
     pub bytes: &'a [u8],
 }
 
@@ -21,7 +22,9 @@ impl Read for FailingReader<'_> {
 /// Takes as many bytes as it has room for, and then fails.
 #[derive(Drop)]
 pub struct FailingWriter<'a> {
+    /// What was taken so far.
     pub written: &'a mut Vec<u8>,
+    /// How many bytes are still taken before it fails.
     pub room: usize,
 }
 

@@ -1,4 +1,4 @@
-// Reads that fail.
+// Runs whose reader fails, tried at each byte: the failure is told, and nothing is written.
 
 use crate::streams::texts::{Texts, answer, failing_at};
 use crate::streams::tries::Tries;

@@ -4,6 +4,7 @@
 #[derive(Drop, Clone, Copy)]
 pub struct Tries {
     pub all: u64,
+    /// How many of them came to something else than they must.
     pub others: u64,
 }
 

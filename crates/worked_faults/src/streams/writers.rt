@@ -1,4 +1,4 @@
-// Writes that fail.
+// Runs whose writer fails, tried at each byte: a beginning of the report is out, and the failure is told.
 
 use crate::streams::failing::FailingWriter;
 use crate::streams::texts::{Texts, answer};

@@ -9,6 +9,7 @@ use Rattle.evaluation.proofs.Standing.{both_ok, kept_so, piece_is, stopped_of}
 use Rattle.evaluation.proofs.TaskRuns.{plain_replay, plain_last}
 use Rattle.evaluation.proofs.piece.go_on.Goals as goal
 
+-- behind what was done before, what the frame's attempt did is the task's replay
 pub returns-clause-replayed : goal.returns-clause-replayed
 returns-clause-replayed c =
     let script = script_of c.args.script.now in
@@ -20,6 +21,7 @@ returns-clause-replayed c =
     ∙ ap (λ o. replay script spec base (past.answers ++ o ∷ [])) c.in_ok-answer.ensures)
     c.finish.ensures.value
 
+-- it is broken only where the replay is
 pub returns-clause-broken : goal.returns-clause-broken
 returns-clause-broken c =
     let script = script_of c.args.script.now in

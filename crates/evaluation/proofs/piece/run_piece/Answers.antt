@@ -15,6 +15,7 @@ use Rattle.evaluation.proofs.Standing.{both_ok, kept_so, piece_is, stands_so, st
 use Rattle.evaluation.proofs.TaskRuns.{plain_replay, plain_birth, plain_contents}
 use Rattle.evaluation.proofs.piece.run_piece.Goals as goal
 
+-- what the attempt did, as tasks have it, is the task's replay
 pub returns-in_ok-attempt-in-Task-clause-replayed : goal.returns-in_ok-attempt-in-Task-clause-replayed
 returns-in_ok-attempt-in-Task-clause-replayed c =
     let task = λ (g : Name) (args : List meant.Argument). Task g args c.in-Task.depth c.in-Task.retries c.in-Task.others in
@@ -32,6 +33,7 @@ returns-in_ok-attempt-in-Task-clause-replayed c =
     (λ p of. piece_is (c.in-Task.others + 1) p c.in_ok-attempt-in-Task.attempt of ∙ sym (stands (stop_of p.stop) of.stop))
     c.finish.ensures.value
 
+-- it is broken only where the replay is
 pub returns-in_ok-attempt-in-Task-clause-broken : goal.returns-in_ok-attempt-in-Task-clause-broken
 returns-in_ok-attempt-in-Task-clause-broken c =
     let task = λ (g : Name) (args : List meant.Argument). Task g args c.in-Task.depth c.in-Task.retries c.in-Task.others in
@@ -50,6 +52,7 @@ returns-in_ok-attempt-in-Task-clause-broken c =
     (plain_replay script (birth_of c.args.spec.now) c.args.base answers (plain_birth c.args.spec.now) (plain_contents c.args.answers.now)))
     c.finish.ensures.broken
 
+-- its frame is where the task waits
 pub returns-in_ok-attempt-in-Task-clause-keeps : goal.returns-in_ok-attempt-in-Task-clause-keeps
 returns-in_ok-attempt-in-Task-clause-keeps c =
     let task = λ (g : Name) (args : List meant.Argument). Task g args c.in-Task.depth c.in-Task.retries c.in-Task.others in
@@ -65,6 +68,7 @@ returns-in_ok-attempt-in-Task-clause-keeps c =
     frame (c.in_ok-attempt-in-Task.ensures.keeps c.in-Task.retries c.in-Task.others))
     c.finish.ensures.value c.finish.ensures.frame
 
+-- its steps are those since the last answer
 pub returns-in_ok-attempt-in-Task-clause-counts : goal.returns-in_ok-attempt-in-Task-clause-counts
 returns-in_ok-attempt-in-Task-clause-counts c =
     let task = λ (g : Name) (args : List meant.Argument). Task g args c.in-Task.depth c.in-Task.retries c.in-Task.others in

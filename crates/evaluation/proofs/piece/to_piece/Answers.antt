@@ -10,6 +10,7 @@ use Rattle.evaluation.specs.declared.convert.ConversionError.TheVariants.{Broken
 use Rattle.evaluation.proofs.Standing.{births_behind, handed_on, broken_stop, not_task, values_behind}
 use Rattle.evaluation.proofs.piece.to_piece.Goals as goal
 
+-- of stop, births and prints: what is no task's is broken only where the piece meant is
 pub returns-in_err-stop-clause-broken : goal.returns-in_err-stop-clause-broken
 returns-in_err-stop-clause-broken c =
     let a = c.args.attempt.now in
@@ -18,6 +19,7 @@ returns-in_err-stop-clause-broken c =
     c.in_err-stop.field-0.0 c.from_residual.ensures.1
     (λ e past q stands. broken_stop c.args.count past a q (c.in_err-stop.ensures.broken e) stands)
 
+-- and where that has no outcome in a value, it is a task's
 pub returns-in_err-stop-clause-plain : goal.returns-in_err-stop-clause-plain
 returns-in_err-stop-clause-plain c =
     let a = c.args.attempt.now in
@@ -61,6 +63,7 @@ returns-in_err-prints-clause-plain c =
     ∙ ap (λ vs. past.prints ++ map value_of vs) (sym c.deref-2.ensures.value))
     plain.prints)))
 
+-- with all three converted it is the piece of that attempt
 pub returns-clause-value : goal.returns-clause-value
 returns-clause-value c = record {
   births = c.in_ok-births.ensures.value ∙ ap (map made_of) c.deref.ensures.value;

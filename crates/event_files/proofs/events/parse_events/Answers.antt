@@ -7,6 +7,7 @@ use Rattle.event_files.proofs.Rows.{IsReadTo, cut, shorter, goes_past, goes_with
 use Rattle.event_files.proofs.Readers.{reads_lines}
 use Rattle.event_files.proofs.events.parse_events.Goals as goal
 
+-- the first line that is neither passed over nor an event file's is refused by its number
 pub returns-in_default-2-clause-refused : goal.returns-in_default-2-clause-refused
 returns-in_default-2-clause-refused c =
     let p = cut 10 c.loop-line.rest.now c.in-Some.line.now c.in-Some.after.now c.in-Some.ensures in
@@ -18,6 +19,7 @@ returns-in_default-2-clause-refused c =
 pub loop-line-smaller-in_ok-push : goal.loop-line-smaller-in_ok-push
 loop-line-smaller-in_ok-push c = shorter 10 c.loop-line.rest.now c.in-Some.line.now c.in-Some.after.now c.in-Some.ensures
 
+-- a line that says something is kept
 pub loop-line-preserved-in_ok-push : goal.loop-line-preserved-in_ok-push
 loop-line-preserved-in_ok-push c =
     let p = cut 10 c.loop-line.rest.now c.in-Some.line.now c.in-Some.after.now c.in-Some.ensures in
@@ -29,6 +31,7 @@ loop-line-preserved-in_ok-push c =
 pub loop-line-smaller : goal.loop-line-smaller
 loop-line-smaller c = shorter 10 c.loop-line.rest.now c.in-Some.line.now c.in-Some.after.now c.in-Some.ensures
 
+-- a line that is passed over adds nothing
 pub loop-line-preserved : goal.loop-line-preserved
 loop-line-preserved c =
     let p = cut 10 c.loop-line.rest.now c.in-Some.line.now c.in-Some.after.now c.in-Some.ensures in
@@ -36,6 +39,7 @@ loop-line-preserved c =
     goes_past IsLine line_text c.args.text.now c.loop-line.rest.now c.in-Some.line.now c.in-Some.after.now c.loop-line.lines c.loop-line.number
     c.loop-line.invariant p k
 
+-- bytes behind the last line feed are a bad line
 pub returns-then-not-is_empty-clause-refused : goal.returns-then-not-is_empty-clause-refused
 returns-then-not-is_empty-clause-refused c =
     let z = c.if-not-is_empty.ensures in

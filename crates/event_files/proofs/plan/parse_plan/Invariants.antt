@@ -3,6 +3,7 @@ use Rattle.event_files.specs.Plans.{IsPlanLine, plan_line_text}
 use Rattle.event_files.proofs.Rows.{IsReadTo}
 use Rattle.event_files.proofs.plan.parse_plan.Given as goal
 
+-- the lines before the rest are read, as many as the number says, and what they say is kept
 abbrev pub invariant-loop-line : goal.invariant-loop-line
 invariant-loop-line l = IsReadTo IsPlanLine plan_line_text l.text l.rest l.lines l.number
 

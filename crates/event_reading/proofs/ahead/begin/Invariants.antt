@@ -2,6 +2,7 @@ use Rattle.std.proofs.Common.{◌≡◌, ◌≤◌, ◌-◌, ◌++◌, vec_len}
 use Rattle.event_reading.specs.Known.{IfKnown, left_of}
 use Rattle.event_reading.proofs.ahead.begin.Given as goal
 
+-- no read failed, and what was there at first is the front with what is still there
 abbrev pub invariant-loop-reader : goal.invariant-loop-reader
 invariant-loop-reader g l =
     (g.R.Source.failures l.reader ≡ g.R.Source.failures l.initial.reader) ×

@@ -4,6 +4,7 @@ use Rattle.event_reading.specs.Known.{IfKnown, left_of}
 use Rattle.event_reading.proofs.Reading.{IsReading}
 use Rattle.event_reading.proofs.history.events_left.Given as goal
 
+-- no read failed, and the lines before the rest are read, from line 2 on
 abbrev pub invariant-loop-number : goal.invariant-loop-number
 invariant-loop-number g l =
     (g.R.Source.failures l.reader ≡ g.R.Source.failures l.initial.reader) ×

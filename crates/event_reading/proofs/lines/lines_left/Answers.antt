@@ -7,18 +7,21 @@ use Rattle.event_reading.specs.Rows.{IsNextLine, settled_by}
 use Rattle.event_reading.proofs.Reading.{lines_stop, reading_begins, reading_is_bad, reading_ends, reading_passes, reading_says, room_begins, room_passes, room_says}
 use Rattle.event_reading.proofs.lines.lines_left.Goals as goal
 
+-- at the end, what is kept is what the lines say
 pub returns-in-End-clause-read : goal.returns-in-End-clause-read
 returns-in-End-clause-read g c =
     let next = subst (λ w. IfKnown (left_of c.loop-number.ahead.items (g.R.Source.left c.loop-number.reader))
     (left_of c.next_line.new.ahead.items (g.R.Source.left c.next_line.new.reader)) (IsNextLine IsLine line_text line_in w)) c.in-End.is c.in_ok-next_line.ensures.next in
     reading_ends IsLine line_text line_in 1 c.loop-number.number c.loop-number.kept _ _ _ c.loop-number.invariant.1 next
 
+-- a line that is none of the format is refused by its number
 pub returns-in-Bad-clause-refused : goal.returns-in-Bad-clause-refused
 returns-in-Bad-clause-refused g c =
     let next = subst (λ w. IfKnown (left_of c.loop-number.ahead.items (g.R.Source.left c.loop-number.reader))
     (left_of c.next_line.new.ahead.items (g.R.Source.left c.next_line.new.reader)) (IsNextLine IsLine line_text line_in w)) c.in-Bad.is c.in_ok-next_line.ensures.next in
     reading_is_bad IsLine line_text line_in c.loop-number.number c.loop-number.kept _ _ _ c.loop-number.invariant.1 next
 
+-- a line that is passed over adds nothing and takes no room
 pub loop-number-preserved-in-Passed : goal.loop-number-preserved-in-Passed
 loop-number-preserved-in-Passed g c =
     let next = subst (λ w. IfKnown (left_of c.loop-number.ahead.items (g.R.Source.left c.loop-number.reader))
@@ -29,6 +32,7 @@ loop-number-preserved-in-Passed g c =
       room_passes c.loop-number.room c.next_line.new.room _ _ _ (omega (arith, room)) c.loop-number.invariant.2 next,
     )
 
+-- a line that says something is kept, and takes room where it settles
 pub loop-number-preserved : goal.loop-number-preserved
 loop-number-preserved g c =
     let next = subst (λ w. IfKnown (left_of c.loop-number.ahead.items (g.R.Source.left c.loop-number.reader))
@@ -43,6 +47,7 @@ pub loop-number-init : goal.loop-number-init
 loop-number-init g c =
     (refl, reading_begins IsLine line_text 1 c.new-kept.result _ c.new-kept.ensures, room_begins (left_of c.args.ahead.now.items (g.R.Source.left c.args.reader.now)))
 
+-- a failed read, want of memory, and settle lines that are too long are refused as such
 pub returns-in_err-next_line-clause-refused : goal.returns-in_err-next_line-clause-refused
 returns-in_err-next_line-clause-refused g c =
     let why = lines_stop c.loop-number.room _ _ _ _ _ _ c.loop-number.invariant.0 c.loop-number.invariant.2 c.in_err-next_line.ensures.refused in

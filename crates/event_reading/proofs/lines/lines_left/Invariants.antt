@@ -4,6 +4,7 @@ use Rattle.event_reading.specs.Known.{IfKnown, left_of}
 use Rattle.event_reading.proofs.Reading.{HasRoom, IsReading}
 use Rattle.event_reading.proofs.lines.lines_left.Given as goal
 
+-- no read failed, the lines before the rest are read, from line 1 on, and the room is what their settle lines leave
 abbrev pub invariant-loop-number : goal.invariant-loop-number
 invariant-loop-number g l =
     (g.R.Source.failures l.reader ≡ g.R.Source.failures l.initial.reader) ×

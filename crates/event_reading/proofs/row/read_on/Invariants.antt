@@ -3,6 +3,7 @@ use Rattle.event_reading.specs.Known.{IfKnown, left_of}
 use Rattle.event_reading.proofs.Going.{IsReadOn}
 use Rattle.event_reading.proofs.row.read_on.Given as goal
 
+-- no read failed, and what was read since is in the line
 abbrev pub invariant-loop-reader : goal.invariant-loop-reader
 invariant-loop-reader g l =
     (g.R.Source.failures l.reader ≡ g.R.Source.failures l.initial.reader) ×

@@ -1,6 +1,7 @@
 use Rattle.std.proofs.Common.{refl}
 use Rattle.frame_laws.proofs.examples.step_examples.Goals as goal
 
+-- each by computing so many steps of a small script's code
 pub returns-clause-up_to_the_get : goal.returns-clause-up_to_the_get
 returns-clause-up_to_the_get c = (40, refl)
 

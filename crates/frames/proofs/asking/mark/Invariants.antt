@@ -4,6 +4,7 @@ use Rattle.frames.specs.Values.{value_of}
 use Rattle.frames.specs.Machines.{argument_of}
 use Rattle.frames.proofs.asking.mark.Given as goal
 
+-- the arguments so far, marked, with those that are left
 abbrev pub invariant-loop-value : goal.invariant-loop-value
 invariant-loop-value l = record {
   count : vec_len l.arguments ≡ l.value-index;

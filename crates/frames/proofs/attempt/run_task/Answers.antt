@@ -16,6 +16,7 @@ use Rattle.frames.proofs.Mismatching.{mismatch_piece}
 use Rattle.frames.proofs.Stopping.{nothing_at, deep_counts, mismatch_counts}
 use Rattle.frames.proofs.attempt.run_task.Goals as goal
 
+-- where no function takes the task, it stops where the replay does, which is at its arguments
 pub returns-then-number-functions-clause-halts : goal.returns-then-number-functions-clause-halts
 returns-then-number-functions-clause-halts c retries others s e =
     let fs = c.functions-functions.result.now in
@@ -30,6 +31,7 @@ returns-then-number-functions-clause-halts c retries others s e =
     (ap (λ os. mismatch_stop (suc others) (matched (script_of fs) g args) (map outcome_of os)) (sym c.deref.ensures.value)
     ∙ c.stop_mismatch-halt.ensures.stops (suc others) s (subst (λ h. stopped_by (suc others) h ≡ Some s) done.ensures.halt e))
 
+-- else the run from the task's first state stops where the replay does
 pub returns-clause-halts : goal.returns-clause-halts
 returns-clause-halts c =
     let fs = c.functions-functions.result.now in
@@ -51,6 +53,7 @@ returns-clause-halts c =
     ap (λ os. replay script task base os) (sym answers) ∙ halts script task base no_past stops s e)
     c.stop.ensures.halts
 
+-- and keeps the frame in which it waits
 pub returns-clause-keeps : goal.returns-clause-keeps
 returns-clause-keeps c =
     let fs = c.functions-functions.result.now in

@@ -1,6 +1,7 @@
 use Rattle.log_examples.proofs.Wrong.{wrong_content_is_wrong, begun_again_is_wrong, accepted_twice_is_wrong, released_while_held_is_wrong, released_out_of_order_is_wrong, fault_without_cause_is_wrong, print_after_end_is_wrong, skipped_serial_is_wrong, end_of_the_dead_is_wrong, entry_of_a_refused_event_is_wrong, notice_of_the_living_is_wrong, half_a_commit_is_wrong, kill_of_nobody_is_wrong, delivery_of_nothing_is_wrong, opened_by_the_dead_is_wrong, lost_before_its_birth_is_wrong, used_up_too_soon_is_wrong, got_from_the_dead_is_wrong, main_resolved_is_wrong, main_accepted_is_wrong, given_out_twice_is_wrong, refused_for_nothing_is_wrong, refused_for_less_is_wrong, cause_comes_later_is_wrong, late_cause_is_none}
 use Rattle.log_examples.proofs.examples.wrong_examples.Goals as goal
 
+-- each log has an entry that lacks what it needs, which one proof each shows
 pub returns-clause-wrong_content : goal.returns-clause-wrong_content
 returns-clause-wrong_content c = wrong_content_is_wrong
 

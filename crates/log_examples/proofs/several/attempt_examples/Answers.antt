@@ -10,6 +10,7 @@ use Rattle.log_examples.specs.SeveralResults.{birth_of_two, part_in}
 use Rattle.log_examples.proofs.SeveralResults.{content_is_second, end_settles_nothing, both_are_resolved}
 use Rattle.log_examples.proofs.several.attempt_examples.Goals as goal
 
+-- each by computing the contents of the call's attempt, what breaks it, and when it is settled
 pub returns-clause-second_content : goal.returns-clause-second_content
 unfolding same_id is_made_by same_attempt
 returns-clause-second_content c = inr (record { part = part_in birth_of_two 1; born = refl; number = 0; contents = value 3 ∷ value 2 ∷ []; ended = (0, refl); content = refl })

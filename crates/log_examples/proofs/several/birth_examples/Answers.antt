@@ -4,6 +4,7 @@ use Rattle.meaning.specs.Births.{same_id, is_made_by}
 use Rattle.event_log.specs.Words.{same_attempt}
 use Rattle.log_examples.proofs.several.birth_examples.Goals as goal
 
+-- each by computing what the words say of a log in which a call of two objects and a put are born
 pub returns-clause-own : goal.returns-clause-own
 unfolding call_at same_id is_made_by same_attempt
 returns-clause-own c = refl

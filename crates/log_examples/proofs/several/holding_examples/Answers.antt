@@ -12,6 +12,7 @@ use Rattle.log_examples.proofs.Unheld.{may_be_held, not_held}
 use Rattle.log_examples.proofs.SeveralResults.{first_is_released}
 use Rattle.log_examples.proofs.several.holding_examples.Goals as goal
 
+-- each by computing what a call of two objects holds, and until when
 pub returns-clause-ids : goal.returns-clause-ids
 returns-clause-ids c = refl
 

@@ -4,6 +4,7 @@ use Rattle.log_words.specs.Told.{told_of}
 use Rattle.log_text.specs.Text.{lines, log_text}
 use Rattle.log_text.proofs.text.log_text.Given as goal
 
+-- the text so far with the lines of the rest, told as the log went on; and no more events came than entries
 abbrev pub invariant-loop-place : goal.invariant-loop-place
 invariant-loop-place l = record {
   written : string_bytes l.text ++ lines l.contents (births l.log) (told_of l.told) (drop l.place l.log) ≡ log_text l.contents l.log;

@@ -2,6 +2,7 @@ use Rattle.std.proofs.Common.{refl}
 use Rattle.meaning.specs.Meaning.{call_at}
 use Rattle.meaning.proofs.examples.serial_examples.Goals as goal
 
+-- each by computing the serial run of a small script
 pub returns-clause-square : goal.returns-clause-square
 unfolding call_at
 returns-clause-square c = record { printed = refl; ended = refl }

@@ -4,6 +4,7 @@ use Rattle.log_words.specs.Told.{told_of}
 use Rattle.message_text.specs.Text.{lines_with, log_with_messages}
 use Rattle.message_text.proofs.text.log_with_messages.Given as goal
 
+-- the text so far with the lines of the rest, messages among them; and no more events came than entries
 abbrev pub invariant-loop-place : goal.invariant-loop-place
 invariant-loop-place l = record {
   written :

@@ -4,6 +4,7 @@ use Rattle.protocol.specs.Tables.{Beside, new_object}
 use Rattle.protocol.specs.Commits.{with_objects}
 use Rattle.owner_steps.proofs.births.add_others.Given as goal
 
+-- adding the further results that are left ends as adding all
 abbrev pub invariant-loop-turn : goal.invariant-loop-turn
 invariant-loop-turn l =
     with_objects l.here (repeated (l.others - l.turn) (new_object (Beside l.fn.first) l.bearer l.ids))

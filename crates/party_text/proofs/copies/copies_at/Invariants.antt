@@ -4,6 +4,7 @@ use Rattle.log_words.specs.Index.{IsIndexOf}
 use Rattle.party_text.specs.Nodes.{copies_from, seen_of}
 use Rattle.party_text.proofs.copies.copies_at.Given as goal
 
+-- the copies so far and the entries that are left give those of the whole log
 abbrev pub invariant-loop-place : goal.invariant-loop-place
 invariant-loop-place l =
     IsIndexOf l.index l.log →

@@ -4,6 +4,7 @@ use Rattle.party_text.specs.Told.{told}
 use Rattle.party_text.specs.Workers.{seen_of, worker_sentence}
 use Rattle.party_text.proofs.text.write_worker_sentences.Given as goal
 
+-- the text so far with the sentences of the rest, from this moment on; and no more events came than entries
 abbrev pub invariant-loop-place : goal.invariant-loop-place
 invariant-loop-place l = record {
   written :

@@ -3,6 +3,7 @@ use Rattle.meaning.specs.Births.{same_id}
 use Rattle.event_log.specs.Words.{same_attempt}
 use Rattle.protocol.proofs.examples.examples.Goals as goal
 
+-- each by computing small tables through one rule
 pub returns-clause-stores : goal.returns-clause-stores
 unfolding same_id same_attempt
 returns-clause-stores c =

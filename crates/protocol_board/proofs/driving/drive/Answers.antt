@@ -6,6 +6,7 @@ use Rattle.protocol_board.proofs.Own.{none_kept}
 use Rattle.protocol_board.proofs.Turning.{no_turn, one_more, is_next}
 use Rattle.protocol_board.proofs.driving.drive.Goals as goal
 
+-- at first no turn was taken, and no frame is kept
 pub loop-turn-init : goal.loop-turn-init
 loop-turn-init g c =
     let log = c.args.board.now.log in
@@ -17,6 +18,7 @@ loop-turn-init g c =
 pub take_turn-requires-clause-frames : goal.take_turn-requires-clause-frames
 take_turn-requires-clause-frames g c = c.loop-turn.invariant.frames
 
+-- one turn more: of the event that the settle rule names
 pub loop-turn-preserved : goal.loop-turn-preserved
 loop-turn-preserved g c =
     let between = course_of c.loop-turn.board c.loop-turn.sent in
@@ -29,6 +31,7 @@ loop-turn-preserved g c =
       frames = c.in_ok-take_turn.ensures.frames;
     }
 
+-- after 100,000 turns the rule still names an event
 pub returns-in-Some-next-clause-stops : goal.returns-in-Some-next-clause-stops
 returns-in-Some-next-clause-stops g c =
     let now = course_of c.loop-turn.board c.loop-turn.sent in

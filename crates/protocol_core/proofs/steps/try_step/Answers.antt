@@ -14,10 +14,12 @@ pub handed_with-requires-clause-pace : goal.handed_with-requires-clause-pace
 handed_with-requires-clause-pace g c =
     in_pace g.S.ScriptName.script (state_of c.args.state.now) c.requires.kept c.requires.goes_on c.runs_are_good.ensures
 
+-- what was done on a job of this run has the log's answers
 pub handed_with-requires-clause-own : goal.handed_with-requires-clause-own
 handed_with-requires-clause-own g c is_own =
     have_answers g.S.ScriptName.script (state_of c.args.state.now) c.requires.kept c.requires.goes_on c.runs_have_the_logs_answers.ensures c.args.done (c.requires.own is_own)
 
+-- refused, taken, or with a job given out: the run stays sound, since every event keeps that
 pub returns-in-Refused-clause-kept : goal.returns-in-Refused-clause-kept
 returns-in-Refused-clause-kept g c =
     let script = g.S.ScriptName.script in
@@ -51,6 +53,7 @@ returns-in-Taken-Some-clause-kept g c =
     c.in_ok-add.ensures.ok (c.add.ensures.whole ∙ c.in_ok-reply.ensures.whole) c.add.ensures.nodes (c.add.ensures.halted ∙ c.requires.goes_on) in
     kept_behind script before after e c.args.seat c.args.done c.in_ok-reply.reply.outcome c.requires.kept c.requires.goes_on c.event_keeps_sound.ensures c.sound_is_legal.ensures h
 
+-- the parts that are given out make a job of this script
 pub new-requires : goal.new-requires
 new-requires g c =
     let script = g.S.ScriptName.script in
@@ -65,6 +68,7 @@ new-requires g c =
     let begun = begun_behind script before after e c.args.seat c.args.done c.in_ok-reply.reply.outcome c.requires.kept c.requires.goes_on c.claims_give_good_jobs.ensures h job gives in
     subst (λ j. IsBegun script j) (sym c.job.view_is) begun
 
+-- that job is what the event comes to
 pub returns-in-Taken-Some-clause-applied : goal.returns-in-Taken-Some-clause-applied
 returns-in-Taken-Some-clause-applied g c =
     let script = g.S.ScriptName.script in
@@ -79,6 +83,7 @@ returns-in-Taken-Some-clause-applied g c =
     let tells = tells_job _ job (sym h.outcome_is ∙ gives) in
     applies script before after e c.args.seat c.args.done c.in_ok-reply.reply.outcome (GivesJob c.new.result) h (subst (λ j. told.Tells (answer before.whole e h.handed) (GivesJob j)) (sym (c.new.ensures ∙ c.job.view_is)) tells)
 
+-- and its answers begin what the log has of answers to its attempt
 pub returns-in-Taken-Some-clause-own : goal.returns-in-Taken-Some-clause-own
 returns-in-Taken-Some-clause-own g c =
     let script = g.S.ScriptName.script in

@@ -4,6 +4,7 @@ use Rattle.event_log.specs.Words.{same_attempt}
 use Rattle.values.specs.Cells.{is_small}
 use Rattle.protocol_rows.proofs.rows.runs_of_several_results.Goals as goal
 
+-- each row by computing: its events, one after the other, lead to the run that the row has
 pub returns-clause-two_results : goal.returns-clause-two_results
 unfolding same_id same_attempt is_small
 returns-clause-two_results c = refl

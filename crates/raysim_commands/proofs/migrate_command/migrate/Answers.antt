@@ -6,6 +6,7 @@ use Rattle.raysim_commands.specs.Migrations.{IsMigrationBegun}
 use Rattle.raysim_commands.proofs.Migrated.{explains_no_write, explains_stop, migrated_so, migration_begun_so}
 use Rattle.raysim_commands.proofs.migrate_command.migrate.Goals as goal
 
+-- where the inputs can't be read, that is the reason, and nothing is written
 pub returns-in-Err-clause-refused : goal.returns-in-Err-clause-refused
 returns-in-Err-clause-refused g c =
     let writes = g.W.Sink.failures c.args.writer.now in
@@ -16,6 +17,7 @@ returns-in-Err-clause-beginning g c =
     let held = g.W.Sink.held c.args.writer.now in
     unbegun (λ t e. IsMigrationBegun c.args.cluster t e held held) _ _ held held refl
 
+-- where the replay stops, so, and nothing is written
 pub returns-in-Err-migrate_script-clause-refused : goal.returns-in-Err-migrate_script-clause-refused
 returns-in-Err-migrate_script-clause-refused g c =
     let inputs = c.in-Ok.inputs in
@@ -27,12 +29,14 @@ returns-in-Err-migrate_script-clause-beginning g c =
     let held = g.W.Sink.held c.args.writer.now in
     unbegun (λ t e. IsMigrationBegun c.args.cluster t e held held) _ _ held held refl
 
+-- else the whole history is written
 pub returns-in-Ok-put_all-clause-migrated : goal.returns-in-Ok-put_all-clause-migrated
 returns-in-Ok-put_all-clause-migrated g c =
     let inputs = c.in-Ok.inputs in
     migrated_so c.args.cluster _ _ (script_of inputs.script) inputs.lines _ _ _ _ c.in-Ok.ensures.script c.in-Ok.ensures.lines
     c.in-Ok-migrate_script.ensures.written c.as_bytes.ensures.value c.in-Ok-put_all.ensures.ok
 
+-- or a write failed, and a beginning of the history is out
 pub returns-clause-refused : goal.returns-clause-refused
 returns-clause-refused g c =
     explains_no_write c.args.cluster (g.R.Source.left c.args.reader.now) (g.E.Source.left c.args.events.now) _ _ _ c.in-Err-put_all.failure c.in-Err-put_all.ensures.failed.0 c.in-Err-put_all.ensures.failed.1

@@ -18,6 +18,7 @@ with_value r = record r { value_names = 1 }
 abbrev with_need : Rule → Rule
 with_need r = record r { required = true }
 
+-- of each kind of parameter: the word or option that is made for it is the rule that the definitions have
 pub returns-in-Needed : goal.returns-in-Needed
 returns-in-Needed c =
     let id = c.args.parameter.now.id.now in

@@ -6,6 +6,7 @@ use Rattle.run_commands.proofs.Simulated.{explains_no_write, explains_stop, unbe
 use Rattle.run_commands.proofs.Trying.{faults_begun_so, faults_told_so}
 use Rattle.run_commands.proofs.faults_command.faults.Goals as goal
 
+-- where the inputs can't be read, that is the reason, and nothing is written
 pub returns-in-Err-clause-refused : goal.returns-in-Err-clause-refused
 returns-in-Err-clause-refused g c =
     let writes = g.W.Sink.failures c.args.writer.now in
@@ -16,6 +17,7 @@ returns-in-Err-clause-beginning g c =
     let held = g.W.Sink.held c.args.writer.now in
     unbegun (λ t e. AreFaultsBegun c.args.cluster c.args.choice c.args.most t e held held) _ _ held held refl
 
+-- where the run without a fault stops, so, and nothing is written
 pub returns-in-Err-try_script-clause-refused : goal.returns-in-Err-try_script-clause-refused
 returns-in-Err-try_script-clause-refused g c =
     let inputs = c.in-Ok.inputs in
@@ -27,6 +29,7 @@ returns-in-Err-try_script-clause-beginning g c =
     let held = g.W.Sink.held c.args.writer.now in
     unbegun (λ t e. AreFaultsBegun c.args.cluster c.args.choice c.args.most t e held held) _ _ held held refl
 
+-- else the whole table is written
 pub returns-in-Ok-put_all-clause-told : goal.returns-in-Ok-put_all-clause-told
 returns-in-Ok-put_all-clause-told g c =
     let inputs = c.in-Ok.inputs in
@@ -34,6 +37,7 @@ returns-in-Ok-put_all-clause-told g c =
     c.in-Ok-try_script.told.faults _ _ _ _
     c.in-Ok.ensures.text c.in-Ok.ensures.script c.in-Ok.ensures.events c.in-Ok-try_script.ensures.told c.as_bytes.ensures.value c.in-Ok-put_all.ensures.ok
 
+-- or a write failed, and a beginning of the table is out
 pub returns-clause-refused : goal.returns-clause-refused
 returns-clause-refused g c =
     explains_no_write c.args.cluster _ (g.E.Source.left c.args.events.now) _ _ _ c.in-Err-put_all.failure c.in-Err-put_all.ensures.failed.0 c.in-Err-put_all.ensures.failed.1

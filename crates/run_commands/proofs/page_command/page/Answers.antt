@@ -7,6 +7,7 @@ use Rattle.run_commands.proofs.Simulated.{explains_no_write, explains_stop, unbe
 use Rattle.run_commands.proofs.Paging.{page_begun_so, page_written_so, script_ascii}
 use Rattle.run_commands.proofs.page_command.page.Goals as goal
 
+-- where the inputs can't be read, that is the reason, and nothing is written
 pub returns-in-Err-clause-refused : goal.returns-in-Err-clause-refused
 returns-in-Err-clause-refused g c =
     let writes = g.W.Sink.failures c.args.writer.now in
@@ -21,6 +22,7 @@ pub page_script-requires-clause-ascii : goal.page_script-requires-clause-ascii
 page_script-requires-clause-ascii g c =
     subst (λ t. all is_ascii t ≡ true) (sym c.as_slice-text.ensures.value) (script_ascii _ _ c.in-Ok.ensures.script)
 
+-- where the replay stops, so, and nothing is written
 pub returns-in-Err-page_script-clause-refused : goal.returns-in-Err-page_script-clause-refused
 returns-in-Err-page_script-clause-refused g c =
     let inputs = c.in-Ok.inputs in
@@ -32,6 +34,7 @@ returns-in-Err-page_script-clause-beginning g c =
     let held = g.W.Sink.held c.args.writer.now in
     unbegun (λ t e. IsPageBegun c.args.cluster c.args.contents t e held held) _ _ held held refl
 
+-- else the whole page is written
 pub returns-in-Ok-put_all-clause-written : goal.returns-in-Ok-put_all-clause-written
 returns-in-Ok-put_all-clause-written g c =
     let inputs = c.in-Ok.inputs in
@@ -39,6 +42,7 @@ returns-in-Ok-put_all-clause-written g c =
     c.as_slice-text.result.now _ _ c.in-Ok-page_script.made.status _ _
     c.in-Ok.ensures.text c.in-Ok.ensures.script c.in-Ok.ensures.events c.as_slice-text.ensures.value c.in-Ok-page_script.ensures.made c.as_slice.ensures.value c.in-Ok-put_all.ensures.ok
 
+-- or a write failed, and a beginning of the page is out
 pub returns-clause-refused : goal.returns-clause-refused
 returns-clause-refused g c =
     explains_no_write c.args.cluster _ (g.E.Source.left c.args.events.now) _ _ _ c.in-Err-put_all.failure c.in-Err-put_all.ensures.failed.0 c.in-Err-put_all.ensures.failed.1

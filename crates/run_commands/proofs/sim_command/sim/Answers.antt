@@ -5,6 +5,7 @@ use Rattle.script_commands.proofs.Refused.{may_be_written}
 use Rattle.run_commands.proofs.Simulated.{explains_no_write, explains_stop, sim_begun_so, sim_reported_so, unbegun}
 use Rattle.run_commands.proofs.sim_command.sim.Goals as goal
 
+-- where the inputs can't be read, that is the reason, and nothing is written
 pub returns-in-Err-clause-refused : goal.returns-in-Err-clause-refused
 returns-in-Err-clause-refused g c =
     let writes = g.W.Sink.failures c.args.writer.now in
@@ -15,6 +16,7 @@ returns-in-Err-clause-beginning g c =
     let held = g.W.Sink.held c.args.writer.now in
     unbegun (λ t e. IsSimBegun c.args.cluster c.args.form t e held held) _ _ held held refl
 
+-- where the replay stops, so, and nothing is written
 pub returns-in-Err-sim_script-clause-refused : goal.returns-in-Err-sim_script-clause-refused
 returns-in-Err-sim_script-clause-refused g c =
     let inputs = c.in-Ok.inputs in
@@ -26,6 +28,7 @@ returns-in-Err-sim_script-clause-beginning g c =
     let held = g.W.Sink.held c.args.writer.now in
     unbegun (λ t e. IsSimBegun c.args.cluster c.args.form t e held held) _ _ held held refl
 
+-- else the whole report is written
 pub returns-in-Ok-put_all-clause-reported : goal.returns-in-Ok-put_all-clause-reported
 returns-in-Ok-put_all-clause-reported g c =
     let inputs = c.in-Ok.inputs in
@@ -33,6 +36,7 @@ returns-in-Ok-put_all-clause-reported g c =
     c.in-Ok-sim_script.report.status _ _
     c.in-Ok.ensures.text c.in-Ok.ensures.script c.in-Ok.ensures.events c.in-Ok-sim_script.ensures.reported c.as_bytes.ensures.value c.in-Ok-put_all.ensures.ok
 
+-- or a write failed, and a beginning of the report is out
 pub returns-clause-refused : goal.returns-clause-refused
 returns-clause-refused g c =
     explains_no_write c.args.cluster _ (g.E.Source.left c.args.events.now) _ _ _ c.in-Err-put_all.failure c.in-Err-put_all.ensures.failed.0 c.in-Err-put_all.ensures.failed.1

@@ -10,6 +10,7 @@ use Rattle.script_check.proofs.Programs.{program_sound, apart_is, functions_are,
 use Rattle.script_check.proofs.Safe.{well_typed}
 use Rattle.script_check.proofs.checked.check.Goals as goal
 
+-- where names, functions or main are refused, the rules allow no script
 pub returns-in_err-check_names-clause-only : goal.returns-in_err-check_names-clause-only
 returns-in_err-check_names-clause-only c script h =
     let p : are_apart [] (program_of c.args.program.functions.items) ≡ true = apart_is _ script h in
@@ -23,11 +24,13 @@ returns-in_err-functions-clause-only c script h =
     let f : c.in_err-functions.field-0.0 ≡ NoMemory = memory_only c.in_err-functions.field-0.0 (λ told. let r = q told in cc) in
     search (rules, f)
 
+-- what was checked is well typed
 pub invariant_of-result : goal.invariant_of-result
 invariant_of-result c =
     well_typed (program_of c.functions_of-functions.result.now) (script_of c.in_ok-functions.functions.items)
     (program_sound (program_of c.functions_of-functions.result.now) (script_of c.in_ok-functions.functions.items) c.in_ok-check_names.ensures.value c.in_ok-check_main.ensures.value c.in_ok-functions.ensures.value)
 
+-- it is what the program becomes by the rules
 pub returns-clause-found : goal.returns-clause-found
 returns-clause-found c =
     subst (λ fs. IsCheckedOf (program_of fs) (script_of c.in_ok-functions.functions.items)) c.functions_of-functions.ensures

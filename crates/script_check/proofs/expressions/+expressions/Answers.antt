@@ -28,6 +28,7 @@ check_arguments-returns-in_err-typing-clause-refused t c =
     let f : IsTrue (is_refusal c.in_err-typing.field-0.0) → infer_arguments (program_of c.args.functions.now) (context_of c.args.scope.now) (trees_of c.args.arguments.now) (map parsed_parameter c.args.parameters.now) ≡ None = λ told. arguments_fail (program_of c.args.functions.now) (context_of c.args.scope.now) c.loop-i.checked.items c.args.arguments.now c.args.parameters.now c.loop-i.i c.index-arguments-i.result _ c.loop-i-test.true c.index-arguments-i.is c.loop-i.invariant (c.in_err-typing.ensures.refused told) in
     search (rules, f)
 
+-- one argument more, of the type of its parameter
 pub check_arguments-loop-i-preserved : goal.check_arguments-loop-i-preserved
 check_arguments-loop-i-preserved t c =
     let e : infer_as (program_of c.args.functions.now) (context_of c.args.scope.now) (kind_named (parsed_parameter c.index-parameters-i.result).kind) (tree_of c.index-arguments-i.result) ≡ Some (expr_of c.in_ok-expr.expr) = both (infer (program_of c.args.functions.now) (context_of c.args.scope.now) (tree_of c.index-arguments-i.result)) (typing_of c.in_ok-typing.typing) (of_kind (kind_of c.index-parameters-i.result.kind)) (Some (expr_of c.in_ok-expr.expr)) c.in_ok-typing.ensures.value (ap (λ p. of_kind (kind_of p.kind) (typing_of c.in_ok-typing.typing)) c.index-parameters-i.is ∙ c.in_ok-expr.ensures.value) in

@@ -12,6 +12,7 @@ use Rattle.script_check.proofs.Arms.{count_trees}
 use Rattle.script_check.proofs.Values.{let_call_uncalled, let_call_misfits, let_call_gives}
 use Rattle.script_check.proofs.results.check_let_call.Goals as goal
 
+-- a function that can't be called so, or wrong arguments: the rules infer nothing either
 pub returns-in_err-function-clause-refused : goal.returns-in_err-function-clause-refused
 returns-in_err-function-clause-refused c =
     let program = program_of c.args.functions.now in
@@ -35,6 +36,7 @@ returns-in_err-checked-clause-refused c =
     (ap (λ xs. infer_arguments program (context_of xs) args (map parsed_parameter called.parameters.items)) (sym c.deref-2.ensures.value) ∙ ap (λ ps. infer_arguments program (context_of c.deref-2.result.now) args (map parsed_parameter ps)) (sym c.deref-3.ensures.value) ∙ c.in_err-checked.ensures.refused told) in
     search (rules, f)
 
+-- else the statement, and the scope behind it, are what the rules infer
 pub returns-clause-value : goal.returns-clause-value
 returns-clause-value c =
     let program = program_of c.args.functions.now in

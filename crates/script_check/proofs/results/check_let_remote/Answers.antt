@@ -15,6 +15,7 @@ use Rattle.script_check.proofs.Arms.{count_trees}
 use Rattle.script_check.proofs.Values.{let_remote_overmuch, let_remote_uncalled, let_remote_misfits, let_remote_gives}
 use Rattle.script_check.proofs.results.check_let_remote.Goals as goal
 
+-- too many new runs, a function that can't be called so, or wrong arguments: the rules infer nothing either
 pub returns-in_err-retries-clause-refused : goal.returns-in_err-retries-clause-refused
 returns-in_err-retries-clause-refused c =
     let before = context_of c.args.scope.now.items in
@@ -52,6 +53,7 @@ returns-in_err-marked-clause-refused c =
     (ap (λ xs. infer_marked program (context_of xs) args (map parsed_parameter called.parameters.items)) (sym c.deref-2.ensures.value) ∙ ap (λ ps. infer_marked program (context_of c.deref-2.result.now) args (map parsed_parameter ps)) (sym c.deref-3.ensures.value) ∙ c.in_err-marked.ensures.refused told) in
     search (rules, f)
 
+-- else the statement, and the scope behind it, are what the rules infer
 pub returns-clause-value : goal.returns-clause-value
 returns-clause-value c =
     let program = program_of c.args.functions.now in

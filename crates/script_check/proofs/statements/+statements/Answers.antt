@@ -108,6 +108,7 @@ check_statements-check_statement-requires t c =
     let f = within c.args.statements.now c.loop-statement.statement-index c.statement-item.result c.loop-statement-test.true c.statement-item.is in
     search (rules, f)
 
+-- one statement more, in the scope behind those before
 pub check_statements-loop-statement-preserved : goal.check_statements-loop-statement-preserved
 check_statements-loop-statement-preserved t c =
     rw c.in_ok-push.ensures.items (statements_step (program_of c.args.functions.now) (parsed_function c.args.function.now) c.loop-statement.checked.items c.in_ok-statement.statement c.args.statements.now c.loop-statement.statement-index c.statement-item.result (context_of c.loop-statement.scope.items) (context_of c.check_statement.new.scope.items) _ c.loop-statement-test.true c.statement-item.is c.loop-statement.invariant c.in_ok-statement.ensures.value)
@@ -116,6 +117,7 @@ pub check_statements-returns-clause-value : goal.check_statements-returns-clause
 check_statements-returns-clause-value t c =
     statements_end (program_of c.args.functions.now) (parsed_function c.args.function.now) c.loop-statement.checked.items c.args.statements.now c.loop-statement.statement-index (context_of c.loop-statement.scope.items) _ (omega (arith, c.loop-statement-test.false)) c.loop-statement.invariant
 
+-- behind a block the scope is cut to what it was
 pub check_turn-returns-clause-same : goal.check_turn-returns-clause-same
 check_turn-returns-clause-same t c =
     let x = variable (string_bytes c.args.name.now.text) Number in

@@ -9,11 +9,13 @@ use Rattle.script_syntax.proofs.Rows.{trees_and}
 use Rattle.script_syntax.proofs.Loops.{chain_ends, chain_steps, chain_fails, product_begins, product_fails, sum_begins, sum_fails, items_begin, items_fail, and_next, item_of, postfix_begins, postfix_fails}
 use Rattle.script_syntax.proofs.expressions.+expressions.Goals as goal
 
+-- of each loop: where a part is refused, the definitions read nothing either
 pub product-returns-in_err-left-clause-exact : goal.product-returns-in_err-left-clause-exact
 product-returns-in_err-left-clause-exact t c =
     let p = err_from_is_err_and c.from_residual.result c.from_residual.ensures.1 in
     rw (p.1, p.2) (product_fails (unary_at c.args.levels) (tokens_of c.args.tokens.now) c.in_err-left.field-0.0 c.in_err-left.ensures.exact)
 
+-- the first part begins the chain
 pub product-loop-operator-init : goal.product-loop-operator-init
 product-loop-operator-init t c =
     record { so_far = product_begins (unary_at c.args.levels) (tree_of c.in_ok-left.left) c.in_ok-left.rest.now c.args.tokens.now c.in_ok-left.ensures.exact; shorter = c.in_ok-left.ensures.shorter }
@@ -23,6 +25,7 @@ product-returns-in_err-right-clause-exact t c =
     let p = err_from_is_err_and c.from_residual-in_err-right.result c.from_residual-in_err-right.ensures.1 in
     rw (p.1, p.2) (chain_fails multiplying (unary_at c.args.levels) Binary (tree_of c.loop-operator.left) c.in-Some.operator c.loop-operator.rest.now (tokens_of c.in-Some.more.now) (product (unary_at c.args.levels) (tokens_of c.args.tokens.now)) c.in_err-right.field-0.0 c.loop-operator.invariant.so_far c.in-Some.ensures.front c.in_err-right.ensures.exact)
 
+-- an operator and one part more belong to it
 pub product-loop-operator-preserved : goal.product-loop-operator-preserved
 product-loop-operator-preserved t c =
     record {
@@ -30,6 +33,7 @@ product-loop-operator-preserved t c =
       shorter = omega (arith, c.loop-operator.invariant.shorter, c.in-Some.ensures.shorter, c.in_ok-right.ensures.shorter);
     }
 
+-- where no operator follows, the chain is what the definitions read
 pub product-returns-clause-exact : goal.product-returns-clause-exact
 product-returns-clause-exact t c =
     chain_ends multiplying (unary_at c.args.levels) Binary (tree_of c.loop-operator.left) c.loop-operator.rest.now (product (unary_at c.args.levels) (tokens_of c.args.tokens.now)) c.loop-operator.invariant.so_far c.in_default.ensures.front

@@ -11,6 +11,7 @@ pub loop-more-init : goal.loop-more-init
 loop-more-init c =
     record { so_far = rw (c.no_items-functions.ensures.none, c.no_items-functions.ensures.all) (functions_begin c.args.tokens.now); few = rw c.no_items-functions.ensures.none (omega arith) }
 
+-- with 64 functions another one is refused
 pub returns-then-len-eq-MOST_FUNCTIONS : goal.returns-then-len-eq-MOST_FUNCTIONS
 returns-then-len-eq-MOST_FUNCTIONS c =
     let full : length c.loop-more.functions.items ≡ 64 = omega arith in

@@ -18,6 +18,7 @@ loop-more-init c =
     let e : c.push.new.self.items ≡ c.in_ok-first.first ∷ [] = c.in_ok-push.ensures.items ∙ ap (λ xs. xs ++ c.in_ok-first.first ∷ []) c.new-parameters.ensures.items in
     record { so_far = rw e (parameters_begin (kind_at c.args.levels) c.in_ok-first.first c.in_ok-first.rest.now c.args.tokens.now c.in_ok-first.ensures.exact); few = omega (arith, ap length e); shorter = c.in_ok-first.ensures.shorter }
 
+-- with 16 parameters another one is refused
 pub returns-then-len-eq-MOST_PARAMETERS-clause-exact : goal.returns-then-len-eq-MOST_PARAMETERS-clause-exact
 returns-then-len-eq-MOST_PARAMETERS-clause-exact c =
     let full : length c.loop-more.parameters.items ≡ 16 = omega arith in

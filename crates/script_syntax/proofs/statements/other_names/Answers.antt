@@ -16,6 +16,7 @@ loop-more-init c =
       no_longer = omega (arith, ap length c.no_items-others.ensures.all);
     }
 
+-- with 3 further names another one is refused
 pub returns-then-len-eq-MOST_OTHERS-clause-exact : goal.returns-then-len-eq-MOST_OTHERS-clause-exact
 returns-then-len-eq-MOST_OTHERS-clause-exact c =
     let full : length c.loop-more.others.items ≡ 3 = omega arith in

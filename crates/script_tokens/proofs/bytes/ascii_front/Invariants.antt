@@ -2,6 +2,7 @@ use Rattle.std.proofs.Common.{◌≡◌, ◌≤◌, ◌++◌, ◌-◌, length, t
 use Rattle.script_tokens.specs.Bytes.{is_ascii, front}
 use Rattle.script_tokens.proofs.bytes.ascii_front.Given as goal
 
+-- the bytes so far are ASCII
 abbrev pub invariant-loop-n : goal.invariant-loop-n
 invariant-loop-n l = record {
   within : l.n ≤ length l.text;

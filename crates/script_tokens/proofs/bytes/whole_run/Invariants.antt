@@ -3,6 +3,7 @@ use Rattle.script_tokens.specs.Bytes.{in_run}
 use Rattle.script_tokens.specs.Bytes.{front, past}
 use Rattle.script_tokens.proofs.bytes.whole_run.Given as goal
 
+-- the bytes so far belong to the run
 abbrev pub invariant-loop-n : goal.invariant-loop-n
 invariant-loop-n l = record {
   within : l.n ≤ length l.text;

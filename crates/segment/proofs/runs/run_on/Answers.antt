@@ -17,12 +17,14 @@ use Rattle.segment.proofs.Beyond.{whole_made}
 use Rattle.segment.proofs.Lasts.{map_last, waits_last}
 use Rattle.segment.proofs.runs.run_on.Goals as goal
 
+-- without a frame the task is run again from its beginning, and what goes beyond the job is what was done on it
 pub returns-in_default-clause-whole : goal.returns-in_default-clause-whole
 returns-in_default-clause-whole c =
     let j = c.args.job.now in
     if_ok _ _ c.run_again.result
     (λ p is. whole_made j p (replay_of (script_of c.args.script.now) j) c.requires.begun.births c.requires.begun.prints is) c.run_again.ensures.beyond
 
+-- and where it waits, it waits for the next answer
 pub returns-in_default-clause-waits : goal.returns-in_default-clause-waits
 returns-in_default-clause-waits c =
     let j = c.args.job.now in
@@ -30,6 +32,7 @@ returns-in_default-clause-waits c =
     (λ p is waits. waits (whole_made j p (replay_of (script_of c.args.script.now) j) c.requires.begun.births c.requires.begun.prints is))
     c.run_again.ensures.beyond c.run_again.ensures.waits
 
+-- with a frame it goes on with the last answer, and before that stands what the job had
 pub returns-clause-whole : goal.returns-clause-whole
 returns-clause-whole c =
     let j = c.args.job.now in
@@ -48,6 +51,7 @@ returns-clause-whole c =
     ∙ sym (replayed j.spec j.base (before_of j rest) (sym (c.others.ensures ∙ ap (λ (x : JobParts). others_of x.spec) c.job.view_is)) waits))
     c.go_on.ensures.replayed
 
+-- it is broken only where the replay on all answers is
 pub returns-clause-broken : goal.returns-clause-broken
 returns-clause-broken c =
     let j = c.args.job.now in

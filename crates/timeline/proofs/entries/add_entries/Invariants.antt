@@ -5,6 +5,7 @@ use Rattle.log_words.specs.Told.{nothing_told, told_of}
 use Rattle.timeline.specs.Entries.{entries_data}
 use Rattle.timeline.proofs.entries.add_entries.Given as goal
 
+-- the marks so far with those of the rest, where the rows stand as they are; and no more events came than entries
 abbrev pub invariant-loop-place : goal.invariant-loop-place
 invariant-loop-place l = record {
   added : map view l.all.items

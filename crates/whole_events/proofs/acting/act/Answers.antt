@@ -4,6 +4,7 @@ use Rattle.whole_steps.proofs.Returns.{taken_here, worker_done}
 use Rattle.worker_acts.specs.Acts.{act_step}
 use Rattle.whole_events.proofs.acting.act.Goals as goal
 
+-- the worker, taken out with its node, does its part, and both are put back
 pub returns-clause-whole : goal.returns-clause-whole
 returns-clause-whole c =
     let old = c.args.whole.now in

@@ -8,6 +8,7 @@ use Rattle.whole_steps.proofs.Returns.{taken_here, worker_done, worker_none}
 use Rattle.worker_acts.specs.Acts.{act_step}
 use Rattle.whole_events.proofs.acting.act_or_restore.Goals as goal
 
+-- without a worker of that number nothing is done, and no limit is passed
 pub returns-in_default-clause-whole : goal.returns-in_default-clause-whole
 returns-in_default-clause-whole c =
     let old = c.args.whole.now in
@@ -20,6 +21,7 @@ returns-in_default-clause-entries c =
     let e = worker_none old c.args.number (act_step c.args.what.now) c.in_default.ensures.none in
     c.nothing.ensures ∙ sym (ap (entries_within c.args.made) e)
 
+-- else the worker, taken out with its node, does its part and is put back, or both stand as they were
 pub returns-clause-whole : goal.returns-clause-whole
 returns-clause-whole c =
     let old = c.args.whole.now in

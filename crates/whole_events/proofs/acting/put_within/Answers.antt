@@ -8,6 +8,7 @@ use Rattle.protocol.specs.Tables.{new_worker}
 use Rattle.protocol.specs.Whole.{Whole}
 use Rattle.whole_events.proofs.acting.put_within.Goals as goal
 
+-- where no limit is passed, worker and node are put back with what they made
 pub returns-then-fits-clause-whole : goal.returns-then-fits-clause-whole
 returns-then-fits-clause-whole c =
     let old = c.args.whole.now in
@@ -20,6 +21,7 @@ returns-then-fits-clause-entries c =
     let e = ap (λ k. fits (length old.nodes) (length old.workers + k) c.args.made) (sym c.from.ensures) ∙ sym c.if-fits.ensures in
     ap Some c.in_ok-entries.ensures.entries ∙ sym (worker_taken old old c.args.made c.args.number c.args.node c.args.here e).entries
 
+-- else they are put back as they were, which is the whole as it was
 pub returns-clause-whole : goal.returns-clause-whole
 returns-clause-whole c =
     let old = c.args.whole.now in

@@ -4,6 +4,7 @@ use Rattle.protocol.specs.Events.{objects_made}
 use Rattle.number_lists.proofs.Places.{item_there}
 use Rattle.whole_events.proofs.jobs.commit_outcomes.Goals as goal
 
+-- where the worker's part would pass a limit, nothing changes and no commit is noted
 pub returns-in_default-2-clause-whole : goal.returns-in_default-2-clause-whole
 returns-in_default-2-clause-whole c =
     let old = c.args.whole.now in
@@ -23,6 +24,7 @@ returns-in_default-2-clause-entries c =
     let sum : made ≡ old.made + objects_made c.args.outcomes.births = c.in-Some-with_made.ensures.sum in
     sym c.in_default-2.is ∙ c.in_ok-entries.ensures.entries ∙ sym (committed_entries old c.args.job made c.args.outcomes g there sum)
 
+-- else the worker's part is done, and the job is noted as committed
 pub returns-clause-whole : goal.returns-clause-whole
 returns-clause-whole c =
     let old = c.args.whole.now in

@@ -5,6 +5,7 @@ use Rattle.why_text.specs.Runs.{seen_of}
 use Rattle.why_text.specs.Text.{sentences}
 use Rattle.why_text.proofs.account.write_sentences.Given as goal
 
+-- the text so far with the sentences of the rest, from this moment on; and no more events came than entries
 abbrev pub invariant-loop-place : goal.invariant-loop-place
 invariant-loop-place l = record {
   written :

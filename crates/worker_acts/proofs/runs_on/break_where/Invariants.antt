@@ -5,6 +5,7 @@ use Rattle.protocol.specs.Notices.{breaks_if}
 use Rattle.worker_acts.specs.Dead.{runs_on}
 use Rattle.worker_acts.proofs.runs_on.break_where.Given as goal
 
+-- going through the objects from the place on ends as going through all
 abbrev pub invariant-loop-place : goal.invariant-loop-place
 invariant-loop-place l =
     each_from (λ g k. breaks_if (runs_on l.dead) g k (task_of (own_object g k))) l.here (l.place + 1) (l.count - l.place)

@@ -4,6 +4,7 @@ use Rattle.protocol.specs.Steps.{each_from, own_object}
 use Rattle.protocol.specs.Ticks.{sends_task}
 use Rattle.worker_acts.proofs.ticks.send_tasks.Given as goal
 
+-- going through the objects from the place on ends as going through all
 abbrev pub invariant-loop-place : goal.invariant-loop-place
 invariant-loop-place l =
     each_from (λ g k. sends_task g k (task_of (own_object g k))) l.here (l.place + 1) (l.count - l.place)

@@ -6,6 +6,7 @@ use Rattle.frames.proofs.Doing.{if_ok}
 use Rattle.frames.proofs.Stopping.{met_again}
 use Rattle.frames.proofs.frame.Frame.go_on.Goals as goal
 
+-- from the frame on, with one answer more, it stops where the replay on all answers does
 pub returns-clause-halts : goal.returns-clause-halts
 returns-clause-halts c =
     let script = script_of c.args.script.now in
@@ -18,6 +19,7 @@ returns-clause-halts c =
     (met_again script spec base past c.args.self _ waiting refl refl c.new.ensures.items c.new-2.ensures.items refl refl))))
     c.stop.ensures.halts
 
+-- and keeps the frame in which it waits next
 pub returns-clause-keeps : goal.returns-clause-keeps
 returns-clause-keeps c =
     let script = script_of c.args.script.now in
@@ -30,6 +32,7 @@ returns-clause-keeps c =
     (met_again script spec base past c.args.self _ waiting refl refl c.new.ensures.items c.new-2.ensures.items refl refl))))
     c.stop.ensures.keeps
 
+-- its steps are those since this answer
 pub returns-clause-counts : goal.returns-clause-counts
 returns-clause-counts c =
     let script = script_of c.args.script.now in

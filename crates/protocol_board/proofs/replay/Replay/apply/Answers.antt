@@ -5,6 +5,7 @@ use Rattle.protocol_board.proofs.Playing.{gives_so}
 use Rattle.protocol_board.proofs.Own.{all_behind, all_handed, done_own, job_agrees, own_job, own_with}
 use Rattle.protocol_board.proofs.replay.Replay.apply.Goals as goal
 
+-- a frame that is kept for the job's attempt has answers that agree with the job's
 pub run_job-requires-clause-own : goal.run_job-requires-clause-own
 run_job-requires-clause-own g c =
     let log = c.self.inside.board.log in

@@ -3,6 +3,7 @@ use Rattle.protocol_board.specs.Replays.{LinePlays, PlayStops, Plays, from_first
 use Rattle.protocol_board.proofs.Playing.{item_there, no_item, one_more_item}
 use Rattle.protocol_board.proofs.replay.Replay.play.Goals as goal
 
+-- at first no line is played
 pub loop-line-init : goal.loop-line-init
 loop-line-init g c =
     let first = from_first c.args.self.now in
@@ -11,6 +12,7 @@ loop-line-init g c =
       counted = c.restart.ensures.begun;
     }
 
+-- it stops at the line at which that one's play stops
 pub returns-in_err-play_line-clause-stops : goal.returns-in_err-play_line-clause-stops
 returns-in_err-play_line-clause-stops g c =
     let lines = c.deref-line-items.result.now in
@@ -20,6 +22,7 @@ returns-in_err-play_line-clause-stops g c =
     (c.loop-line.line-index, c.line-item.result, c.loop-line.self, at, c.loop-line.invariant.plays, c.in_err-play_line.ensures.stops) in
     search (rules, why)
 
+-- one line more
 pub loop-line-preserved : goal.loop-line-preserved
 loop-line-preserved g c =
     let lines = c.deref-line-items.result.now in

@@ -3,6 +3,7 @@ use Rattle.protocol_board.specs.Replays.{EventPlays, HistoryStops, PlaysHistory,
 use Rattle.protocol_board.proofs.Playing.{item_copied, no_item, one_more_item}
 use Rattle.protocol_board.proofs.replay.Replay.play_history.Goals as goal
 
+-- at first no event is played
 pub loop-said-init : goal.loop-said-init
 loop-said-init g c =
     let first = from_first c.args.self.now in
@@ -11,6 +12,7 @@ loop-said-init g c =
       counted = c.restart.ensures.begun;
     }
 
+-- it stops at the event at which that one's play stops
 pub returns-in_err-play_event-clause-stops : goal.returns-in_err-play_event-clause-stops
 returns-in_err-play_event-clause-stops g c =
     let lines = c.deref-said-items.result.now in
@@ -21,6 +23,7 @@ returns-in_err-play_event-clause-stops g c =
     (c.loop-said.said-index, said, c.loop-said.self, at, c.loop-said.invariant.plays, c.in_err-play_event.ensures.stops) in
     search (rules, why)
 
+-- one event more
 pub loop-said-preserved : goal.loop-said-preserved
 loop-said-preserved g c =
     let lines = c.deref-said-items.result.now in

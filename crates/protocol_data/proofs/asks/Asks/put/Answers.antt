@@ -4,6 +4,7 @@ use Rattle.protocol_data.specs.Noted.{AreDistinct}
 use Rattle.protocol_data.specs.Marked.{AreMarked, there}
 use Rattle.protocol_data.proofs.asks.Asks.put.Goals as goal
 
+-- marks that are added do no harm, where the row can't be
 pub invariant_of-self : goal.invariant_of-self
 invariant_of-self c = marked_wider _ _ _ c.self.invariant c.mark.ensures.kept
 
@@ -11,6 +12,7 @@ pub invariant_of-self-in_err-push : goal.invariant_of-self-in_err-push
 invariant_of-self-in_err-push c =
     subst (λ rows. AreDistinct (there rows) × AreMarked c.mark.new.marks (there rows)) (sym c.in_err-push.ensures.err) (marked_wider _ _ _ c.self.invariant c.mark.ensures.kept)
 
+-- an ask that wasn't answered before: its row is new
 pub returns-in_default-clause-ok : goal.returns-in_default-clause-ok
 returns-in_default-clause-ok c =
     put_viewed c.args.key.now c.args.reply.now _ _ _ c.self.view_is
@@ -25,6 +27,7 @@ invariant_of-self-in_default c =
 pub set-requires : goal.set-requires
 set-requires c = is_within_pushed _ _ _ c.args.key.now _ c.in-Some.ensures.found c.in_ok-push.ensures.ok
 
+-- one that was: its new row stands at the end, and the old one is blank
 pub returns-clause-ok : goal.returns-clause-ok
 returns-clause-ok c =
     put_viewed c.args.key.now c.args.reply.now _ _ _ c.self.view_is

@@ -6,6 +6,7 @@ use Rattle.seat_books.specs.Seats.{further_at, further_parts, parts_at}
 use Rattle.seat_books.proofs.Closing.{held, held_is_book, marked_once, same_totals}
 use Rattle.seat_books.proofs.ledgers.Ledgers.close.Goals as goal
 
+-- all seats together hold all parts, of the further ledgers too
 pub audit-requires : goal.audit-requires
 audit-requires g c =
     let w = g.P.Watching.watched in
@@ -21,6 +22,7 @@ audit-requires g c =
     (omega (arith, f, further, one, c.bound-2.ensures.bound)) in
     (omega (arith, a, all, k.1), omega (arith, f, further, k.0))
 
+-- the watched seat is one of them, and the further ledgers count what its book does
 pub returns-clause-watched : goal.returns-clause-watched
 returns-clause-watched g c =
     let w = g.P.Watching.watched in

@@ -3,6 +3,7 @@ use Rattle.std.specs.Prelude.{sum_by}
 use Rattle.seat_books.specs.Seats.{further_at, further_parts, parts_at}
 use Rattle.seat_books.proofs.pots.Pots.gather.Given as goal
 
+-- what the pots hold and what the seats that are left hold is all, ledger by ledger
 abbrev pub invariant-loop-seat : goal.invariant-loop-seat
 invariant-loop-seat g l =
     let w = g.P.Watching.watched in

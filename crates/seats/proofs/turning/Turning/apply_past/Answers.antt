@@ -17,6 +17,7 @@ use Rattle.seats.proofs.Sizes.{same_nodes, slots_behind, slots_kept}
 use Rattle.seats.proofs.Standing.{stands_kept}
 use Rattle.seats.proofs.turning.Turning.apply_past.Goals as goal
 
+-- with this event there are no more commits than entries of the log
 pub commits_behind-self-inside-requires : goal.commits_behind-self-inside-requires
 commits_behind-self-inside-requires g c =
     let before = c.self.inside.board in
@@ -27,6 +28,7 @@ commits_behind-self-inside-requires g c =
     subst (λ n. c.self.inside.commits + (counted e told).commits ≤ n) (sym c.entries_of-most.ensures)
     (few_behind (totals_of before.log) (counted e told) after.log c.self.inside.commits h.totals c.self.invariant.1)
 
+-- the event keeps what is known of a run with turns: counts, plan, jobs that are out, and the way from its beginning
 pub invariant_of-self : goal.invariant_of-self
 invariant_of-self g c =
     let before = c.self.inside.board in
@@ -64,6 +66,7 @@ invariant_of-self g c =
       kept.within,
     )
 
+-- the log's totals grow by what the event counts
 pub returns-clause-counted : goal.returns-clause-counted
 returns-clause-counted g c =
     let before = c.self.inside.board in
@@ -74,6 +77,7 @@ returns-clause-counted g c =
     let P : TurnState → Type 0 = λ r. totals_of after.log ≡ plus (totals_of r.run.log) (counted e told) in
     subst P c.self.view_is h.totals
 
+-- and so do those of the watched seat, where the event is its own
 pub returns-clause-watched : goal.returns-clause-watched
 returns-clause-watched g c =
     let before = c.self.inside.board in
@@ -85,6 +89,7 @@ returns-clause-watched g c =
     let P : TurnState → Type 0 = λ r. AddsFrom w c.args.seat (counted e told) r.run.log after.log in
     subst P c.self.view_is (h.of_seat w)
 
+-- what came into the log names that seat
 pub returns-clause-seated : goal.returns-clause-seated
 returns-clause-seated g c =
     let before = c.self.inside.board in

@@ -58,7 +58,7 @@ CHAPTERS = [
         "meaning/Kinds": "The kinds of values: whether a reference stands in one, and what an id's object and an argument have.",
     }),
     ("How prints and ends are written", {
-        "report/Values": "The texts of integers, lists and references.",
+        "report/ValueTexts": "The texts of integers, lists and references.",
         "report/MainLines": "The lines of prints and of main's end.",
         "history/Texts": "The texts of faults.",
         "history/Main": "The lines `main open` and `main fault`, and the status of an end.",
@@ -103,10 +103,12 @@ def read(path):
 
 
 def uses(text):
-    """The names that a text brings in: local name to (crate, module, name), and local prefix to (crate, module)."""
+    """The names that a text brings in: local name to (crate, module, name), and local prefix to (crate, module).
+    What a crate passes on of another's specs stands under `of_` and the other's name."""
     names, prefixes = {}, {}
-    for found in re.finditer(r"\buse Rattle\.(\w+)\.specs\.([\w.'-]+?)(?:\.\{([^}]*)\}| as (\w+)|)\s*;?\s*(?:\n|$)", text):
-        crate, module, listed, alias = found.groups()
+    for found in re.finditer(r"\buse Rattle\.(\w+)\.specs\.(?:of_(\w+)\.)?([\w.'-]+?)(?:\.\{([^}]*)\}| as (\w+)|)\s*;?\s*(?:\n|$)", text):
+        by, home, module, listed, alias = found.groups()
+        crate = home or by
         if listed is None:
             prefixes[alias or module.split(".")[-1]] = (crate, module)
             continue

@@ -34,7 +34,7 @@ use Rattle.protocol.specs.Tables.{Run, Worker, new_worker}
 use Rattle.protocol.specs.Ticks.{tick_step}
 use Rattle.protocol.specs.Whole.{Moved, Whole, after_node, after_worker, here, moved, node_at, node_does, node_does_by, there, worker_at, worker_does, worker_does_at}
 use Rattle.protocol.specs.Whole.{worker_does_by}
-use Rattle.protocol_laws.specs.Sound.{IsSound}
+use Rattle.owed_laws.specs.of_protocol_laws.Sound.{IsSound}
 use Rattle.protocol_owed.proofs.CourseAll.{LiveOne, both_passed, live_one, passed}
 use Rattle.protocol_owed.proofs.CourseRuns.{OutOf, out_of}
 use Rattle.smallest_steps.proofs.SlotMoves as S

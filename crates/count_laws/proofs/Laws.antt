@@ -21,15 +21,15 @@ use Rattle.protocol.specs.Jobs.{Handed, Nothing}
 use Rattle.protocol.specs.Refusals.{is_of_job, is_within_limits, refusal}
 use Rattle.protocol.specs.Tables.{Worker}
 use Rattle.protocol.specs.Whole.{Moved, Whole}
-use Rattle.protocol_laws.specs.Shown.{IsAsShown, hidden, refusal_of}
-use Rattle.protocol_laws.specs.Sound.{IsSound}
-use Rattle.protocol_laws.proofs.Shown.{refusals_are_as_shown}
-use Rattle.protocol_legal.specs.Whole.{setting_of}
+use Rattle.owed_laws.specs.of_protocol_laws.Shown.{IsAsShown, hidden, refusal_of}
+use Rattle.owed_laws.specs.of_protocol_laws.Sound.{IsSound}
+use Rattle.owed_laws.proofs.of_protocol_laws.Shown.{refusals_are_as_shown}
+use Rattle.owed_laws.specs.of_protocol_legal.Whole.{setting_of}
 use Rattle.protocol_owed.specs.Runs.{Handing, Running, after_event, after_events, opening_run}
 use Rattle.protocol_owed.proofs.Counting.{are_parts, happens-counted, no_event, not_refused}
-use Rattle.lease_discipline.specs.Slots.{AreRight}
-use Rattle.lease_discipline.specs.Told.{IsInStep}
-use Rattle.lease_discipline.proofs.Told.{events_stay_in_step, opening_is_in_step}
+use Rattle.owed_laws.specs.of_lease_discipline.Slots.{AreRight}
+use Rattle.owed_laws.specs.of_lease_discipline.Told.{IsInStep}
+use Rattle.owed_laws.proofs.of_lease_discipline.Told.{events_stay_in_step, opening_is_in_step}
 use Rattle.owed_laws.specs.Law.{IsReached}
 use Rattle.count_laws.specs.Counts.{Counts, behind, borne, counted, is_within, objects_born, would_open}
 use Rattle.count_laws.specs.Law.{AreCounted, EventsAreLimited, IsFull, IsLimited, PassesLimit, RunsAreCounted, RunsAreWithin}

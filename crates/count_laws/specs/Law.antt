@@ -8,7 +8,7 @@ use Rattle.meaning.specs.Mains.{KeepsMainApart}
 pub use Rattle.owed_laws.specs.Law.{AnswerPays, IsReached}
 use Rattle.protocol.specs.Answers.{Refuses, Step, Takes}
 use Rattle.protocol.specs.Refusals.{is_of_job, refusal}
-use Rattle.protocol_legal.specs.Whole.{setting_of}
+use Rattle.owed_laws.specs.of_protocol_legal.Whole.{setting_of}
 use Rattle.protocol_owed.specs.Runs.{Handing, Running, after_event, answer_to}
 use Rattle.count_laws.specs.Counts.{Counts, behind, borne, counted, is_within, would_open}
 

@@ -2,3 +2,4 @@ pub mod Conversions
 pub mod Results
 pub mod Standing
 pub mod TaskRuns
+pub use Rattle.frames.proofs as of_frames

@@ -3,10 +3,10 @@ use Rattle.std.proofs.Common.{◌≡◌, ℕ, ◌+◌, Bool, true, List, [], ◌
 use Rattle.std.specs.Prelude.{◌&&◌}
 use Rattle.std.specs.List.{flat_map}
 use Rattle.std.proofs.lemmas.List.Concat.{flat_map-append}
-use Rattle.sequence.proofs.Places.{and_left, and_right}
-use Rattle.meaning.specs.Values.{Name, Value, Argument, Birth, Task, Id}
-use Rattle.meaning.specs.Runs.{Stop, Needs, Over, behind}
-use Rattle.meaning.specs.Births.{Bearing, numbered, birth_at}
+use Rattle.log_entries.proofs.of_sequence.Places.{and_left, and_right}
+use Rattle.script_laws.specs.of_meaning.Values.{Name, Value, Argument, Birth, Task, Id}
+use Rattle.script_laws.specs.of_meaning.Runs.{Stop, Needs, Over, behind}
+use Rattle.script_laws.specs.of_meaning.Births.{Bearing, numbered, birth_at}
 use Rattle.event_log.specs.Entries.{Attempt, Event, Claim, Commit, Deliver, Tick, Notice, NoticeNode, Evict, Lose, Kill, KillNode, Join, Entry, In, Opened, Begun}
 use Rattle.event_log.specs.Words.{attempt, main_bearing, births, born_in, opened, run_in, runs_of}
 use Rattle.event_log.specs.Events.{node_lives, is_live}

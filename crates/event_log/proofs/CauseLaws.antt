@@ -1,9 +1,9 @@
 -- The causes of refusals are what accepted events need.
 use Rattle.std.proofs.Common.{◌≡◌, ℕ, ◌<◌, Bool, true, false, List, Option, Some, None, refl, sym, ap, ◌∙◌, subst, arith}
 use Rattle.std.specs.Prelude.{is_some, not}
-use Rattle.meaning.specs.Values.{Id}
-use Rattle.meaning.specs.Births.{same_id}
-use Rattle.meaning.proofs.BirthLaws.{at_test, same_id-true}
+use Rattle.script_laws.specs.of_meaning.Values.{Id}
+use Rattle.script_laws.specs.of_meaning.Births.{same_id}
+use Rattle.script_laws.proofs.of_meaning.BirthLaws.{at_test, same_id-true}
 use Rattle.event_log.specs.Breaks.{Among}
 use Rattle.event_log.specs.Entries.{Event, Claim, Commit, Deliver, Tick, Notice, NoticeNode, Evict, Lose, Kill, KillNode, Join, Entry, main_object}
 use Rattle.event_log.specs.Entries.{Refusal, NoWorker, NotReady, NoJob, Stale, NoMessage, NotDead, NoNode}

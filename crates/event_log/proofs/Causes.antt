@@ -1,6 +1,6 @@
 -- The cause of each fault stands earlier in the log.
 use Rattle.std.proofs.Common.{◌≡◌, List, [], ◌∷◌, ◌++◌, sym, ap, ◌∙◌, subst}
-use Rattle.meaning.specs.Values.{Id}
+use Rattle.script_laws.specs.of_meaning.Values.{Id}
 use Rattle.event_log.specs.Entries.{Attempt, Fault, Entry, Faulted, Resolved}
 use Rattle.event_log.specs.Rules.{Setting, Allowed}
 use Rattle.event_log.specs.Legal.{Legal, opening}

@@ -1,7 +1,7 @@
 -- What the claim of a job logs may stand there.
 use Rattle.std.proofs.Common.{◌≡◌, ℕ, List, [], ◌∷◌, ◌++◌, length, inl, inr, refl, sym, ap, ◌∙◌, subst}
-use Rattle.meaning.specs.Values.{Outcome, Id, Named}
-use Rattle.meaning.specs.Runs.{Needs}
+use Rattle.script_laws.specs.of_meaning.Values.{Outcome, Id, Named}
+use Rattle.script_laws.specs.of_meaning.Runs.{Needs}
 use Rattle.event_log.specs.Entries.{Attempt, Claim, Entry, In, Accepted}
 use Rattle.event_log.specs.Words.{attempt, run_in, own_in, got_in, printed_in, ended_in, faulted_in, accepted_in}
 use Rattle.event_log.specs.Events.{was_told}

@@ -3,9 +3,9 @@ use Rattle.std.proofs.Common.{◌≡◌, false, List, [], ◌∷◌, ◌++◌, �
 use Rattle.std.specs.Prelude.{if◌then◌else◌}
 use Rattle.std.specs.List.{flat_map, AllByRecursion}
 use Rattle.std.proofs.lemmas.List.Concat.{flat_map-append}
-use Rattle.meaning.specs.Values.{Value, Birth, Id}
-use Rattle.meaning.specs.Runs.{Stop, Needs, Over, behind}
-use Rattle.meaning.specs.Births.{Bearing, numbered}
+use Rattle.script_laws.specs.of_meaning.Values.{Value, Birth, Id}
+use Rattle.script_laws.specs.of_meaning.Runs.{Stop, Needs, Over, behind}
+use Rattle.script_laws.specs.of_meaning.Births.{Bearing, numbered}
 use Rattle.event_log.specs.Entries.{Attempt, Commit, Entry, In, Born, Printed, Ended, main_attempt}
 use Rattle.event_log.specs.Words.{own_in, own_births, printed_in, printed_by, ended_in, ends_of}
 use Rattle.event_log.specs.Events.{refused_next}

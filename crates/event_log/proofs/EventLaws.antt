@@ -3,7 +3,7 @@ use Rattle.std.proofs.Common.{◌≡◌, ℕ, zero, suc, Bool, true, false, List
 use Rattle.std.specs.Prelude.{◌||◌, if◌then◌else◌, slice_get}
 use Rattle.std.specs.List.{flat_map, list_any}
 use Rattle.std.proofs.lemmas.List.Concat.{flat_map-append}
-use Rattle.sequence.proofs.Places.{slice_get-append}
+use Rattle.log_entries.proofs.of_sequence.Places.{slice_get-append}
 use Rattle.event_log.specs.Entries.{Event, Entry, In, Refused}
 use Rattle.event_log.specs.Entries.{Refusal}
 use Rattle.event_log.specs.Events.{refused_next, accepted_events, from_one, claim_in, claims, commit_in, commits}

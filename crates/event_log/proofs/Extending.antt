@@ -3,8 +3,8 @@ use Rattle.std.proofs.Common.{◌≡◌, ℕ, zero, suc, Bool, true, false, List
 use Rattle.std.specs.Prelude.{if◌then◌else◌}
 use Rattle.std.specs.List.{flat_map, list_any}
 use Rattle.std.proofs.lemmas.List.Concat.{flat_map-append}
-use Rattle.meaning.specs.Values.{Birth, Id}
-use Rattle.meaning.specs.Births.{same_id, Bearing, birth_at, is_made_by, Part, part_of, part_at, objects_with, objects_at}
+use Rattle.script_laws.specs.of_meaning.Values.{Birth, Id}
+use Rattle.script_laws.specs.of_meaning.Births.{same_id, Bearing, birth_at, is_made_by, Part, part_of, part_at, objects_with, objects_at}
 use Rattle.event_log.specs.Entries.{Entry}
 use Rattle.event_log.specs.Words.{births, born_in, bearer_in, run_in, got_in, ended_in, faulted_in, accepted_in, resolved_in, released_in, opened_in, main_bearing}
 use Rattle.event_log.specs.Events.{refused_next, accepted_events, claim_in, commit_in, kills_node, node_is_killed, kills, on_node, node_of, is_killed, tells, was_told, loses, was_lost}

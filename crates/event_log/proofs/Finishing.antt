@@ -1,8 +1,8 @@
 -- What a replay that is over comes to, and what an attempt bore first.
 use Rattle.std.proofs.Common.{◌≡◌, ℕ, List, [], ◌∷◌}
-use Rattle.meaning.specs.Values.{Outcome, Val, Trapped, Birth, Completion, Aborted, outcomes, Id}
-use Rattle.meaning.specs.Runs.{Run, Ends, Prints, Bears, Gets, Over, named, behind, piece}
-use Rattle.meaning.proofs.BirthLaws.{first_is_made}
+use Rattle.script_laws.specs.of_meaning.Values.{Outcome, Val, Trapped, Birth, Completion, Aborted, outcomes, Id}
+use Rattle.script_laws.specs.of_meaning.Runs.{Run, Ends, Prints, Bears, Gets, Over, named, behind, piece}
+use Rattle.script_laws.proofs.of_meaning.BirthLaws.{first_is_made}
 use Rattle.event_log.specs.Entries.{Attempt, Entry, Born}
 use Rattle.event_log.specs.Breaks.{Among}
 use Rattle.event_log.specs.Holding.{Safe, Bore}

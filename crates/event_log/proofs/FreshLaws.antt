@@ -2,10 +2,10 @@
 use Rattle.std.proofs.Common.{ap, ◌≡◌, ◌≤◌, ℕ, Bool, true, false, List, [], ◌∷◌, ◌++◌, Option, Some, ◌⊎◌, inl, inr, refl, sym, subst, arith}
 use Rattle.std.specs.Prelude.{if◌then◌else◌, slice_get}
 use Rattle.std.specs.List.{flat_map}
-use Rattle.meaning.specs.Values.{Birth, Put, Id}
-use Rattle.meaning.specs.Births.{same_id, Bearing, birth_at, is_made_by, Part, part_of, part_at}
-use Rattle.meaning.specs.Readings.{IsBorn}
-use Rattle.meaning.proofs.BirthLaws.{same_id-true, at_test, first_is_made}
+use Rattle.script_laws.specs.of_meaning.Values.{Birth, Put, Id}
+use Rattle.script_laws.specs.of_meaning.Births.{same_id, Bearing, birth_at, is_made_by, Part, part_of, part_at}
+use Rattle.script_laws.specs.of_meaning.Readings.{IsBorn}
+use Rattle.script_laws.proofs.of_meaning.BirthLaws.{same_id-true, at_test, first_is_made}
 use Rattle.event_log.specs.Entries.{Attempt, Fault, Entry, Born, Resolved, Released}
 use Rattle.event_log.specs.Words.{births, born_in, main_bearing, next_serial, bearers_of, runs_of, resolved_in, resolves_of, released_in, releases_of}
 use Rattle.event_log.specs.Breaks.{Cause}

@@ -3,11 +3,11 @@ use Rattle.std.proofs.Common.{◌≡◌, ℕ, ◌+◌, true, List, [], ◌∷◌
 use Rattle.std.specs.Prelude.{if◌then◌else◌, ◌==◌}
 use Rattle.std.specs.List.{flat_map, AllByRecursion}
 use Rattle.std.proofs.lemmas.Bool.Decides.{nat_tests}
-use Rattle.meaning.specs.Lists.{IsFirst}
-use Rattle.meaning.specs.Values.{Value, Birth, results_of, Id}
-use Rattle.meaning.specs.Runs.{Stop, Needs, Over, Piece, behind}
-use Rattle.meaning.specs.Meaning.{replay}
-use Rattle.meaning.specs.Births.{Bearing, numbered, objects_at, part_at}
+use Rattle.script_laws.specs.of_meaning.Lists.{IsFirst}
+use Rattle.script_laws.specs.of_meaning.Values.{Value, Birth, results_of, Id}
+use Rattle.script_laws.specs.of_meaning.Runs.{Stop, Needs, Over, Piece, behind}
+use Rattle.script_laws.specs.of_meaning.Meaning.{replay}
+use Rattle.script_laws.specs.of_meaning.Births.{Bearing, numbered, objects_at, part_at}
 use Rattle.event_log.specs.Entries.{Attempt, Entry, Born, Printed, RetriesUsed, main_attempt}
 use Rattle.event_log.specs.Words.{births, born_in, next_serial, own_in, own_births, got_in, printed_in, printed_by, ended_in, faulted_in, resolved_in, released_in, releases_of}
 use Rattle.event_log.specs.Breaks.{Among}

@@ -16,3 +16,4 @@ pub mod Together
 pub mod Beginning
 pub mod CauseLaws
 pub mod Finishing
+pub use Rattle.script_laws.proofs.of_meaning as of_meaning

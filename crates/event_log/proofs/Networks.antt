@@ -1,8 +1,8 @@
 -- A log stays legal beside a larger network.
 use Rattle.std.proofs.Common.{◌≡◌, ℕ, Bool, true, false, List, [], ◌∷◌, ◌++◌, Option, Some, None, inl, inr, refl, sym, ap, ◌∙◌, subst}
 use Rattle.std.specs.Prelude.{is_some}
-use Rattle.meaning.specs.Values.{Id}
-use Rattle.meaning.specs.Runs.{Stop, Piece}
+use Rattle.script_laws.specs.of_meaning.Values.{Id}
+use Rattle.script_laws.specs.of_meaning.Runs.{Stop, Piece}
 use Rattle.event_log.specs.Entries.{Attempt, Event, Commit, Deliver, Entry, In, Refused, Opened, Begun, Born, Got, Printed, Ended, Accepted, Faulted, Resolved, Released}
 use Rattle.event_log.specs.Entries.{Refusal, NoMessage}
 use Rattle.event_log.specs.Events.{refused_next}

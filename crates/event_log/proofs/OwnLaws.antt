@@ -9,7 +9,7 @@ use Rattle.event_log.specs.Events.{refused_next, accepted_events, goes_on, under
 use Rattle.event_log.specs.Rules.{Setting, actor, IsOwn, IsOwnCommit}
 use Rattle.event_log.specs.Legal.{EachAllowed}
 use Rattle.event_log.proofs.EventLaws.{accepted-append, word-more, from_one-more}
-use Rattle.sequence.proofs.Places.{slice_get-last}
+use Rattle.log_entries.proofs.of_sequence.Places.{slice_get-last}
 use Rattle.event_log.proofs.WordLaws.{word_push}
 use Rattle.event_log.proofs.Extending.{node_of-more}
 

@@ -3,10 +3,10 @@ use Rattle.std.proofs.Common.{◌≡◌, ℕ, zero, suc, ◌+◌, ◌<◌, ◌�
 use Rattle.std.specs.Prelude.{if◌then◌else◌, ◌==◌, slice_get}
 use Rattle.std.specs.List.{flat_map}
 use Rattle.std.proofs.lemmas.Bool.Decides.{nat_tests}
-use Rattle.meaning.specs.Values.{Outcome, results_of, Id}
-use Rattle.meaning.specs.Births.{same_id, Bearing, is_made_by, Part, part_of, part_at, IsFirstOf, AreGrouped}
-use Rattle.meaning.specs.Readings.{IsBorn}
-use Rattle.meaning.proofs.BirthLaws.{same_id-true, same_id-refl, at_test, or_else, part_at-push, made_owner, made_from, made_below, grouped_push, none_grouped}
+use Rattle.script_laws.specs.of_meaning.Values.{Outcome, results_of, Id}
+use Rattle.script_laws.specs.of_meaning.Births.{same_id, Bearing, is_made_by, Part, part_of, part_at, IsFirstOf, AreGrouped}
+use Rattle.script_laws.specs.of_meaning.Readings.{IsBorn}
+use Rattle.script_laws.proofs.of_meaning.BirthLaws.{same_id-true, same_id-refl, at_test, or_else, part_at-push, made_owner, made_from, made_below, grouped_push, none_grouped}
 use Rattle.event_log.specs.Entries.{Attempt, Entry, Begun, Born, Ended, Accepted, Faulted, Resolved, Released, main_attempt}
 use Rattle.event_log.specs.Words.{same_attempt, births, born_in, main_bearing, next_serial, run_in, runs_of, worker_of, ended_in, ends_of, Lack, faulted_in, faults_of, accepted_in, accepts_of, resolved_in, resolves_of, released_in, releases_of}
 use Rattle.event_log.specs.Events.{node_of}

@@ -1,7 +1,7 @@
 -- Where an attempt stops, behind a commit and behind entries of others.
 use Rattle.std.proofs.Common.{◌≡◌, ℕ, List, [], ◌∷◌, ◌++◌, ◌⊎◌, inl, inr, refl, sym, ◌∙◌, subst, append-nil, append_assoc}
-use Rattle.meaning.specs.Values.{Value, Birth, Id}
-use Rattle.meaning.specs.Runs.{Stop, Needs, Over, Piece, behind}
+use Rattle.script_laws.specs.of_meaning.Values.{Value, Birth, Id}
+use Rattle.script_laws.specs.of_meaning.Runs.{Stop, Needs, Over, Piece, behind}
 use Rattle.event_log.specs.Entries.{Attempt, Commit, Entry, In, Born, Printed, main_attempt}
 use Rattle.event_log.specs.Words.{own_in, own_births, got_in, printed_in, printed_by, ended_in, faulted_in}
 use Rattle.event_log.specs.Rules.{Setting, Stops, IsOwnCommit}

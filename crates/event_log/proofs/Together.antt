@@ -1,10 +1,10 @@
 -- The objects of one birth were borne by the same attempts.
 use Rattle.std.proofs.Common.{◌≡◌, Bool, true, false, List, [], ◌∷◌, ◌++◌, Some, None, refl, sym, ap, ◌∙◌, subst, append-nil}
 use Rattle.std.specs.Prelude.{if◌then◌else◌, slice_get}
-use Rattle.meaning.specs.Values.{Birth, Id}
-use Rattle.meaning.specs.Births.{Bearing, is_made_by, IsNew, Part, part_at}
-use Rattle.meaning.specs.Readings.{IsBorn}
-use Rattle.meaning.proofs.BirthLaws.{first_is_made, part_by}
+use Rattle.script_laws.specs.of_meaning.Values.{Birth, Id}
+use Rattle.script_laws.specs.of_meaning.Births.{Bearing, is_made_by, IsNew, Part, part_at}
+use Rattle.script_laws.specs.of_meaning.Readings.{IsBorn}
+use Rattle.script_laws.proofs.of_meaning.BirthLaws.{first_is_made, part_by}
 use Rattle.event_log.specs.Entries.{Attempt, Entry, Born}
 use Rattle.event_log.specs.Words.{births, born_in, next_serial, bearer_in, bearers_of}
 use Rattle.event_log.specs.Rules.{Setting, Allowed}

@@ -4,9 +4,9 @@ use Rattle.std.specs.Prelude.{if◌then◌else◌, ◌==◌}
 use Rattle.std.specs.List.{flat_map}
 use Rattle.std.proofs.lemmas.List.Concat.{flat_map-append}
 use Rattle.std.proofs.lemmas.Bool.Decides.{nat_tests}
-use Rattle.meaning.specs.Values.{Value, Outcome, results_of, Id}
-use Rattle.meaning.specs.Births.{same_id, Bearing}
-use Rattle.meaning.proofs.BirthLaws.{same_id-true, same_id-refl}
+use Rattle.script_laws.specs.of_meaning.Values.{Value, Outcome, results_of, Id}
+use Rattle.script_laws.specs.of_meaning.Births.{same_id, Bearing}
+use Rattle.script_laws.proofs.of_meaning.BirthLaws.{same_id-true, same_id-refl}
 use Rattle.event_log.specs.Entries.{Attempt, Entry}
 use Rattle.event_log.specs.Words.{same_attempt, main_bearing, born_in, births, next_serial, Lack, Received, got_in, answers_of, answered_in, answered_of, printed_in, printed_by, ended_in, ends_of, faulted_in, faults_of}
 

@@ -2,8 +2,8 @@
 use Rattle.std.specs.Prelude.{◌≡◌, ℕ, zero, suc, ◌+◌, ◌≤◌, Bool, true, false, ◌&&◌, ◌||◌, if◌then◌else◌, List, [], ◌∷◌, ◌++◌, length, Option, Some}
 use Rattle.std.specs.Prelude.{None, slice_get, not}
 use Rattle.std.specs.List.{list_any}
-use Rattle.meaning.specs.Values.{Value, Argument, Put, Task, Id}
-use Rattle.meaning.specs.Births.{birth_at, Part, part_at, objects_at}
+use Rattle.script_laws.specs.of_meaning.Values.{Value, Argument, Put, Task, Id}
+use Rattle.script_laws.specs.of_meaning.Births.{birth_at, Part, part_at, objects_at}
 use Rattle.event_log.specs.Entries.{Attempt, FaultKind, OwnerDied, PutLost, RetriesUsed, Fault, Event, Entry, In, Ended}
 use Rattle.event_log.specs.Words.{same_attempt, attempt, births, runs_of, worker_of, accepts_of}
 use Rattle.event_log.specs.Events.{refused_next, kills, kills_node, loses, node_of, is_killed, was_lost}

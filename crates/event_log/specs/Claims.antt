@@ -1,8 +1,8 @@
 -- What the claim of a job may log: that an attempt is accepted, and the answer for which the worker's attempt waits.
 use Rattle.std.specs.Prelude.{◌≡◌, ℕ, true, false, List, [], ◌∷◌, Some}
-use Rattle.meaning.specs.Values.{Outcome, Id, Named}
-use Rattle.meaning.specs.Runs.{Needs}
-use Rattle.meaning.specs.Births.{same_id}
+use Rattle.script_laws.specs.of_meaning.Values.{Outcome, Id, Named}
+use Rattle.script_laws.specs.of_meaning.Runs.{Needs}
+use Rattle.script_laws.specs.of_meaning.Births.{same_id}
 use Rattle.event_log.specs.Entries.{Attempt, Claim, Entry, Got, Accepted, main_object}
 use Rattle.event_log.specs.Words.{worker_of, ends_of, accepts_of}
 use Rattle.event_log.specs.Events.{has_job_out, is_live, was_told}

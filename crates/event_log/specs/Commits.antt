@@ -1,9 +1,9 @@
 -- What the commit of a job logs.
 use Rattle.std.specs.Prelude.{◌≡◌, ℕ, true, false, List, [], ◌∷◌, ◌++◌, ◌⊎◌, Some}
 use Rattle.std.specs.List.{flat_map}
-use Rattle.meaning.specs.Values.{Value, Birth, Id}
-use Rattle.meaning.specs.Runs.{Stop, Needs, Over, Piece, behind}
-use Rattle.meaning.specs.Births.{numbered}
+use Rattle.script_laws.specs.of_meaning.Values.{Value, Birth, Id}
+use Rattle.script_laws.specs.of_meaning.Runs.{Stop, Needs, Over, Piece, behind}
+use Rattle.script_laws.specs.of_meaning.Births.{numbered}
 use Rattle.event_log.specs.Entries.{Attempt, Commit, Entry, In, Born, Printed, Ended, main_attempt}
 use Rattle.event_log.specs.Words.{births, next_serial, own_births, worker_of, printed_by}
 use Rattle.event_log.specs.Events.{refused_next, worker_of_job, is_committed, is_live}

@@ -1,9 +1,9 @@
 -- The events of a run, and the entries of its log.
-use Rattle.meaning.specs.Values.{Id}
-pub use Rattle.ids.specs.Attempts.{Attempt}
-pub use Rattle.values.specs.declared.fault.FaultKind.{FaultKind}
-pub use Rattle.values.specs.declared.fault.FaultKind.TheVariants.{OwnerDied, PutLost, RetriesUsed}
-pub use Rattle.values.specs.Faults.{Fault}
+use Rattle.script_laws.specs.of_meaning.Values.{Id}
+pub use Rattle.log_entries.specs.of_ids.Attempts.{Attempt}
+pub use Rattle.log_entries.specs.of_values.declared.fault.FaultKind.{FaultKind}
+pub use Rattle.log_entries.specs.of_values.declared.fault.FaultKind.TheVariants.{OwnerDied, PutLost, RetriesUsed}
+pub use Rattle.log_entries.specs.of_values.Faults.{Fault}
 pub use Rattle.log_entries.specs.declared.event.Event.{Event}
 pub use Rattle.log_entries.specs.declared.event.Event.TheVariants.{Claim, Commit, Deliver, Tick, Notice, NoticeNode, Evict, Lose, Kill, KillNode, Join}
 pub use Rattle.log_entries.specs.declared.entry.Entry.{Entry}

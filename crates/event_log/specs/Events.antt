@@ -2,8 +2,8 @@
 use Rattle.std.specs.Prelude.{ℕ, zero, suc, ◌+◌, Bool, true, false, ◌&&◌, ◌||◌, ◌==◌, if◌then◌else◌, List, [], ◌∷◌, ◌++◌, length, Option, Some, None}
 use Rattle.std.specs.Prelude.{slice_get, not, nat_lt}
 use Rattle.std.specs.List.{flat_map, list_any}
-use Rattle.meaning.specs.Values.{Id}
-use Rattle.meaning.specs.Births.{same_id}
+use Rattle.script_laws.specs.of_meaning.Values.{Id}
+use Rattle.script_laws.specs.of_meaning.Births.{same_id}
 use Rattle.event_log.specs.Entries.{Event, Claim, Commit, Notice, Lose, Kill, KillNode, Join, Entry, In, Refused}
 use Rattle.event_log.specs.Words.{opened}
 

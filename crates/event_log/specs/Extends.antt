@@ -1,7 +1,7 @@
 -- What stays true of a log as it grows.
 use Rattle.std.specs.Prelude.{◌≡◌, ℕ, true, false, List, ◌++◌, slice_get, Some}
-use Rattle.meaning.specs.Values.{Outcome, Birth, Id}
-use Rattle.meaning.specs.Births.{birth_at, Part, part_at}
+use Rattle.script_laws.specs.of_meaning.Values.{Outcome, Birth, Id}
+use Rattle.script_laws.specs.of_meaning.Births.{birth_at, Part, part_at}
 use Rattle.event_log.specs.Entries.{Attempt, Fault, Entry}
 use Rattle.event_log.specs.Words.{births, bearers_of, runs_of, answers_of, ends_of, Lack, faults_of, accepts_of, resolves_of, releases_of, opened}
 use Rattle.event_log.specs.Events.{refused_next, claims, commits, node_is_killed, is_killed, was_told, was_lost}

@@ -1,6 +1,6 @@
 -- Objects that are not born yet.
 use Rattle.std.specs.Prelude.{◌≡◌, ◌≤◌, List, []}
-use Rattle.meaning.specs.Values.{Id}
+use Rattle.script_laws.specs.of_meaning.Values.{Id}
 use Rattle.event_log.specs.Entries.{Entry}
 use Rattle.event_log.specs.Words.{births, next_serial, runs_of, resolves_of, releases_of}
 use Rattle.event_log.specs.Rules.{Setting}

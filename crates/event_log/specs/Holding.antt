@@ -1,9 +1,9 @@
 -- Which objects are held, and so are not released.
 use Rattle.std.specs.Prelude.{◌≡◌, ℕ, Bool, true, false, ◌&&◌, ◌||◌, if◌then◌else◌, List, [], ◌∷◌, ◌++◌, Some, slice_get, not}
 use Rattle.std.specs.List.{list_any}
-use Rattle.meaning.specs.Values.{Value, Outcome, Val, Argument, Birth, Put, Task, Id}
-use Rattle.meaning.specs.Births.{same_id, is_made_by, Part, part_at, objects_in, objects_at}
-use Rattle.values.specs.Listed.{ids_listed, ids_in_outcome}
+use Rattle.script_laws.specs.of_meaning.Values.{Value, Outcome, Val, Argument, Birth, Put, Task, Id}
+use Rattle.script_laws.specs.of_meaning.Births.{same_id, is_made_by, Part, part_at, objects_in, objects_at}
+use Rattle.log_entries.specs.of_values.Listed.{ids_listed, ids_in_outcome}
 use Rattle.event_log.specs.Entries.{Attempt, Entry, Begun, Born, Got, Ended, main_object}
 use Rattle.event_log.specs.Words.{attempt, births, Lineage, lines, worker_of, ends_of, faults_of, accepts_of, releases_of}
 use Rattle.event_log.specs.Events.{is_live, worker_lives}

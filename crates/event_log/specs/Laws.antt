@@ -1,6 +1,6 @@
 -- What holds of every legal log: of its beginnings, of one more event, of its entries, faults and totals.
 use Rattle.std.specs.Prelude.{◌≡◌, ℕ, ◌+◌, Bool, true, false, List, [], ◌∷◌, ◌++◌, length, Option, Some, None}
-use Rattle.meaning.specs.Values.{Id}
+use Rattle.script_laws.specs.of_meaning.Values.{Id}
 use Rattle.event_log.specs.Entries.{Attempt, Fault, Event, Claim, Commit, Entry, In, Refused, Faulted, Resolved}
 use Rattle.event_log.specs.Entries.{Refusal}
 use Rattle.event_log.specs.Events.{refused_next, claims}

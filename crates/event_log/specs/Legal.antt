@@ -1,9 +1,9 @@
 -- What an event of a log needs, and which logs are legal.
 use Rattle.std.specs.Prelude.{◌≡◌, ℕ, Bool, true, false, List, [], ◌∷◌, ◌++◌, Some}
 use Rattle.std.specs.List.{flat_map, AllByRecursion}
-use Rattle.meaning.specs.Values.{Outcome, Id}
-use Rattle.meaning.specs.Runs.{Stop, Needs, Over, Piece}
-use Rattle.meaning.specs.Births.{numbered}
+use Rattle.script_laws.specs.of_meaning.Values.{Outcome, Id}
+use Rattle.script_laws.specs.of_meaning.Runs.{Stop, Needs, Over, Piece}
+use Rattle.script_laws.specs.of_meaning.Births.{numbered}
 use Rattle.event_log.specs.Entries.{Attempt, Event, Claim, Commit, Deliver, Tick, Notice, NoticeNode, Evict, Lose, Kill, KillNode, Join, Entry, In}
 use Rattle.event_log.specs.Entries.{Opened, Begun, Born, Printed, Ended, main_attempt}
 use Rattle.event_log.specs.Words.{own_births, worker_of, printed_by, ends_of}

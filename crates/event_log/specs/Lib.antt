@@ -15,3 +15,7 @@ pub mod Commits
 pub mod Claims
 pub mod Sane
 pub mod Fresh
+pub use Rattle.log_entries.specs.of_held as of_held
+pub use Rattle.script_laws.specs.of_meaning as of_meaning
+pub use Rattle.log_entries.specs.of_task_spec as of_task_spec
+pub use Rattle.log_entries.specs.of_values as of_values

@@ -1,12 +1,12 @@
 -- What each entry of a log needs of those before it.
 use Rattle.std.specs.Prelude.{◌≡◌, ℕ, ◌+◌, ◌≤◌, true, false, List, [], ◌∷◌, ◌++◌, ◌⊎◌, length, slice_get, Option, Some, None}
 use Rattle.std.specs.List.{AllByRecursion}
-use Rattle.meaning.specs.Lists.{IsFirst}
-use Rattle.meaning.specs.Values.{Name, Value, Outcome, Val, Argument, Birth, Put, Task, Id, Named}
-use Rattle.meaning.specs.Runs.{Stop, Needs, Over, Piece}
-use Rattle.meaning.specs.Births.{same_id, numbered, birth_at, Part, part_at, objects_at}
-use Rattle.meaning.specs.Meaning.{replay}
-use Rattle.task_spec.specs.Dereferenced.{dereferenced_in}
+use Rattle.script_laws.specs.of_meaning.Lists.{IsFirst}
+use Rattle.script_laws.specs.of_meaning.Values.{Name, Value, Outcome, Val, Argument, Birth, Put, Task, Id, Named}
+use Rattle.script_laws.specs.of_meaning.Runs.{Stop, Needs, Over, Piece}
+use Rattle.script_laws.specs.of_meaning.Births.{same_id, numbered, birth_at, Part, part_at, objects_at}
+use Rattle.script_laws.specs.of_meaning.Meaning.{replay}
+use Rattle.log_entries.specs.of_task_spec.Dereferenced.{dereferenced_in}
 use Rattle.event_log.specs.Entries.{Attempt, OwnerDied, PutLost, RetriesUsed, Fault, Event, Claim, Commit, Deliver, Tick, Notice, NoticeNode, Entry}
 use Rattle.event_log.specs.Entries.{In, Refused, Opened, Begun, Born, Got, Printed, Ended, Accepted, Faulted, Resolved, Released, main_object}
 use Rattle.event_log.specs.Entries.{main_attempt}

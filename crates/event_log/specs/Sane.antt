@@ -1,8 +1,8 @@
 -- What follows of every legal log.
 use Rattle.std.specs.Prelude.{◌≡◌, ℕ, ◌+◌, ◌<◌, ◌≤◌, List, length, slice_get, Some}
-use Rattle.meaning.specs.Values.{Outcome, Id}
-use Rattle.meaning.specs.Births.{AreGrouped, IsFirstOf}
-use Rattle.meaning.specs.Readings.{IsBorn}
+use Rattle.script_laws.specs.of_meaning.Values.{Outcome, Id}
+use Rattle.script_laws.specs.of_meaning.Births.{AreGrouped, IsFirstOf}
+use Rattle.script_laws.specs.of_meaning.Readings.{IsBorn}
 use Rattle.event_log.specs.Entries.{Attempt, Entry, main_attempt}
 use Rattle.event_log.specs.Words.{births, next_serial, runs_of, worker_of, ends_of, Lack, faults_of, accepts_of, resolves_of, releases_of}
 use Rattle.event_log.specs.Events.{node_of}

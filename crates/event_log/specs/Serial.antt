@@ -1,13 +1,13 @@
 -- What an attempt was answered, and what it means that it begins its serial run.
 use Rattle.std.specs.Prelude.{◌≡◌, ℕ, List, [], ◌∷◌, ◌++◌, map, slice_get, Some}
-use Rattle.meaning.specs.Lists.{IsFirst}
-use Rattle.meaning.specs.Values.{Value, Outcome, outcomes, results_of, Birth}
-use Rattle.meaning.specs.Syntax.{Script}
-use Rattle.meaning.specs.Runs.{Run, serial_end, serial_trace}
-use Rattle.meaning.specs.Meaning.{run_birth, serial_run}
-use Rattle.meaning.specs.Births.{birth_at}
-use Rattle.meaning.specs.Readings.{Reading, read, read_outcome, read_birth, den, AllHold, NameEarlier}
-use Rattle.meaning.specs.Law.{gets_of, prints_of}
+use Rattle.script_laws.specs.of_meaning.Lists.{IsFirst}
+use Rattle.script_laws.specs.of_meaning.Values.{Value, Outcome, outcomes, results_of, Birth}
+use Rattle.script_laws.specs.of_meaning.Syntax.{Script}
+use Rattle.script_laws.specs.of_meaning.Runs.{Run, serial_end, serial_trace}
+use Rattle.script_laws.specs.of_meaning.Meaning.{run_birth, serial_run}
+use Rattle.script_laws.specs.of_meaning.Births.{birth_at}
+use Rattle.script_laws.specs.of_meaning.Readings.{Reading, read, read_outcome, read_birth, den, AllHold, NameEarlier}
+use Rattle.script_laws.specs.of_meaning.Law.{gets_of, prints_of}
 use Rattle.event_log.specs.Entries.{Attempt, Entry, Faulted, main_attempt}
 use Rattle.event_log.specs.Words.{Lack, Received, Content, Lacking, births, answered_of, answers_of, printed_by, ends_of, faults_of}
 use Rattle.event_log.specs.Breaks.{Cause}

@@ -1,6 +1,6 @@
 -- What a log is read beside.
 use Rattle.std.specs.Prelude.{ℕ, Option}
-use Rattle.meaning.specs.Syntax.{Script}
+use Rattle.script_laws.specs.of_meaning.Syntax.{Script}
 
 -- to whom a message goes
 pub data Receiver : Type 0 where

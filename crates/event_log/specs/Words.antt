@@ -1,11 +1,11 @@
 -- What a log says. Each word joins what the entries say one by one.
 use Rattle.std.specs.Prelude.{ℕ, ◌+◌, ◌==◌, if◌then◌else◌, List, [], ◌∷◌, Option, slice_get}
 use Rattle.std.specs.List.{flat_map}
-use Rattle.meaning.specs.Values.{Value, Outcome, results_of, Id, main_birth}
-use Rattle.meaning.specs.Births.{Bearing, same_id, is_made_by}
+use Rattle.script_laws.specs.of_meaning.Values.{Value, Outcome, results_of, Id, main_birth}
+use Rattle.script_laws.specs.of_meaning.Births.{Bearing, same_id, is_made_by}
 use Rattle.event_log.specs.Entries.{Attempt, Fault, Event, Entry, In, Opened, Begun, Born, Got, Printed, Ended, Accepted, Faulted, Resolved}
 use Rattle.event_log.specs.Entries.{Released, main_object, main_attempt}
-unfoldable pub use Rattle.ids.specs.Attempts.{same_attempt}
+unfoldable pub use Rattle.log_entries.specs.of_ids.Attempts.{same_attempt}
 
 abbrev pub attempt : Id → ℕ → Attempt
 attempt o number = record { object = o; number = number }

@@ -20,7 +20,7 @@ pub struct Compiled {
 impl Model for Compiled {
     ghost use Rattle.std.specs.Prelude.{◌≡◌, List};
     ghost use Rattle.std.specs.Coded.{codes};
-    ghost use Rattle.script_syntax.specs.contracts.tree.ValueType as types;
+    ghost use Rattle.frame_code.specs.of_script_syntax.contracts.tree.ValueType as types;
     ghost use Rattle.script_check.specs.contracts.tree.CheckedExpr as exprs;
     ghost use Rattle.script_check.specs.contracts.tree.CheckedStatement as statements;
     ghost use Rattle.script_check.specs.contracts.tree.CheckedBlock as blocks;

@@ -18,7 +18,7 @@ impl Model for Answers {
     ghost use Rattle.std.specs.Prelude.{List, map};
     ghost use Rattle.std.specs.Coded.{codes};
     ghost use Rattle.std.specs.Arc.{arc_value};
-    ghost use Rattle.meaning.specs.Values.{Outcome};
+    ghost use Rattle.task_spec.specs.of_meaning.Values.{Outcome};
     ghost use Rattle.held.specs.Codes.{outcome_code};
     ghost use Rattle.values.specs.Values.{content_of};
 

@@ -18,7 +18,7 @@ pub struct Births {
 impl Model for Births {
     ghost use Rattle.std.specs.Prelude.{List, map};
     ghost use Rattle.std.specs.Coded.{codes};
-    ghost use Rattle.meaning.specs.Values.{Birth};
+    ghost use Rattle.task_spec.specs.of_meaning.Values.{Birth};
     ghost use Rattle.held.specs.Codes.{birth_code};
     ghost use Rattle.task_spec.specs.Births.{birth_of};
 

@@ -4,7 +4,7 @@ use crate::answers::Answers;
 use crate::births::Births;
 use crate::origin::Origin;
 use crate::prints::Prints;
-use ids::{AttemptId, ObjectId};
+use task_spec::ids::{AttemptId, ObjectId};
 
 /// The parts of a job: an attempt of a task, to be run up to the next answer that it needs.
 #[derive(Drop)]

@@ -18,7 +18,7 @@ pub struct Prints {
 impl Model for Prints {
     ghost use Rattle.std.specs.Prelude.{List, map};
     ghost use Rattle.std.specs.Coded.{codes};
-    ghost use Rattle.meaning.specs.Values.{Value as AnyValue};
+    ghost use Rattle.task_spec.specs.of_meaning.Values.{Value as AnyValue};
     ghost use Rattle.held.specs.Codes.{value_code};
     ghost use Rattle.values.specs.Values.{value_of};
 

@@ -4,3 +4,4 @@ pub mod Attempts
 pub mod Objects
 pub mod Refusals
 pub mod Report
+pub use Rattle.event_log.specs as of_event_log

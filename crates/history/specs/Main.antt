@@ -5,7 +5,7 @@ use Rattle.std.specs.Option.{option_map}
 use Rattle.meaning.specs.Values.{Outcome, Val, Trapped}
 use Rattle.event_log.specs.Entries.{Fault, Entry, Printed, Ended, main_attempt}
 use Rattle.event_log.specs.Words.{same_attempt, faults_of}
-use Rattle.report.specs.Values.{value_text}
+use Rattle.report.specs.ValueTexts.{value_text}
 use Rattle.report.specs.MainLines.{end_line}
 use Rattle.history.specs.Texts.{fault_text}
 

@@ -1,7 +1,7 @@
 -- What a report says of objects.
 use Rattle.std.specs.Prelude.{ℕ, List, [], ◌++◌, codes}
 use Rattle.event_log.specs.Entries.{Entry, Resolved, Released}
-use Rattle.report.specs.Values.{id_text}
+use Rattle.report.specs.ValueTexts.{id_text}
 use Rattle.history.specs.Texts.{fault_text}
 
 -- resolved O KIND Z

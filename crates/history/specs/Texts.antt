@@ -1,7 +1,7 @@
 -- The texts of attempts, faults and events, as reports and event files write them.
 use Rattle.std.specs.Prelude.{ℕ, List, ◌++◌, codes}
 use Rattle.std.specs.Fmt.{decimal}
-use Rattle.report.specs.Values.{id_text}
+use Rattle.report.specs.ValueTexts.{id_text}
 use Rattle.event_log.specs.Entries.{Attempt, FaultKind, OwnerDied, PutLost, RetriesUsed, Fault, Event, Claim, Commit, Deliver, Tick, Notice}
 use Rattle.event_log.specs.Entries.{NoticeNode, Evict, Lose, Kill, KillNode, Join}
 

@@ -1,7 +1,7 @@
 -- The run of the example in which a task has two results is legal.
 use Rattle.std.proofs.Common.{◌≡◌, ℕ, true, false, List, [], ◌∷◌, ◌⊎◌, inl, inr, refl, sym, ◌∙◌, ap, subst, arith}
 use Rattle.meaning.specs.Values.{Id}
-use Rattle.event_log.specs.Entries.{Attempt, main_object, main_attempt}
+use Rattle.meaning_laws.specs.of_event_log.Entries.{Attempt, main_object, main_attempt}
 use Rattle.holding.specs.Past.{Fact, Begun, Born, Ended, Faulted, Over, Accepted, Released, Killed, Added, Removed, Has, Among, IsOneOf, IsFilled, Bore, Given, Puts, InBirth, InContent, SafeBorn}
 use Rattle.holding.specs.Legal.{Running, IsPart, MayBegin, MayBear, MayEnd, AtEnd, MayBeOver, MayAccept, MayRelease, IsWhollyReleased, Legal}
 use Rattle.holding.specs.Held.{Held, ByEntry}

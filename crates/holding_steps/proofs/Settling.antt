@@ -6,16 +6,16 @@ use Rattle.meaning.specs.Births.{same_id}
 use Rattle.event_log.specs.Entries.{Fault, OwnerDied, main_attempt}
 use Rattle.event_log.specs.Entries as logged
 use Rattle.event_log.specs.Words.{same_attempt}
-use Rattle.protocol.specs.Numbered.{item_at}
-use Rattle.protocol.specs.Sets.{fault, has, is_empty}
-use Rattle.protocol.specs.Messages.{At, Gone}
-use Rattle.protocol.specs.Stores.{copy_in, looked_up}
-use Rattle.protocol.specs.Tables.{Fetching, Object, OwnTask, Phase, Ready, Out, Waits, HasEnded, HasFaulted, Run, AskedAt, first_by, has_content, has_stopped, is_lost, is_pending_task, is_waiting_for, knows_dead, live_place, owner_of, settled_number, task_by, with_fault, with_task, without_askers, without_place, without_places}
-use Rattle.protocol.specs.Steps.{Here, changes, logs, object_at, own_id, own_object, says, store_here, with_phase, with_run, with_store}
-use Rattle.protocol.specs.Runs.{tells_stop, tells, is_heard, leaves, leaves_by, gives_slot_back, faults_at, faults_by, faults, gets_at, gets_by, gets, fetches, with_fetching_at, with_fetching_by, with_fetching}
-use Rattle.protocol.specs.Asking.{requests, next_attempt, resolves, tells_gone, faults_if_waiting, answers_gone, answers_faulted_by, answers_faulted}
-use Rattle.protocol.specs.Recovery.{is_lost_here, members, first_stop, remakes_by, remakes_one, remakes, gives_up, recovers_by, recovers, recovers_if_lost}
-use Rattle.protocol.specs.Places.{looks_elsewhere_by, looks_elsewhere, looks_here_by, looks_at_places, looks_for_by, looks_for, needs_released, needs_unresolved, needs_by, needs_at, needs_own, needs_own_if_waiting, tells_places, answers_settled_by, answers_settled}
+use Rattle.numbered.specs.of_protocol.Numbered.{item_at}
+use Rattle.numbered.specs.of_protocol.Sets.{fault, has, is_empty}
+use Rattle.numbered.specs.of_protocol.Messages.{At, Gone}
+use Rattle.numbered.specs.of_protocol.Stores.{copy_in, looked_up}
+use Rattle.numbered.specs.of_protocol.Tables.{Fetching, Object, OwnTask, Phase, Ready, Out, Waits, HasEnded, HasFaulted, Run, AskedAt, first_by, has_content, has_stopped, is_lost, is_pending_task, is_waiting_for, knows_dead, live_place, owner_of, settled_number, task_by, with_fault, with_task, without_askers, without_place, without_places}
+use Rattle.numbered.specs.of_protocol.Steps.{Here, changes, logs, object_at, own_id, own_object, says, store_here, with_phase, with_run, with_store}
+use Rattle.numbered.specs.of_protocol.Runs.{tells_stop, tells, is_heard, leaves, leaves_by, gives_slot_back, faults_at, faults_by, faults, gets_at, gets_by, gets, fetches, with_fetching_at, with_fetching_by, with_fetching}
+use Rattle.numbered.specs.of_protocol.Asking.{requests, next_attempt, resolves, tells_gone, faults_if_waiting, answers_gone, answers_faulted_by, answers_faulted}
+use Rattle.numbered.specs.of_protocol.Recovery.{is_lost_here, members, first_stop, remakes_by, remakes_one, remakes, gives_up, recovers_by, recovers, recovers_if_lost}
+use Rattle.numbered.specs.of_protocol.Places.{looks_elsewhere_by, looks_elsewhere, looks_here_by, looks_at_places, looks_for_by, looks_for, needs_released, needs_unresolved, needs_by, needs_at, needs_own, needs_own_if_waiting, tells_places, answers_settled_by, answers_settled}
 use Rattle.numbered.proofs.Lists.{changed_cases}
 
 -- ---- the attempt's answers change no object

@@ -1,2 +1,3 @@
 pub mod Numbers
 pub mod Objects
+pub use Rattle.meaning.proofs as of_meaning

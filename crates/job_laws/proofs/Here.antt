@@ -23,7 +23,7 @@ use Rattle.protocol.specs.Tables.{Fetching, Out, Run, Waits, Worker, has_stopped
 use Rattle.protocol.specs.Ticks.{tick_step}
 use Rattle.smallest_steps.proofs.Over.{settles-kept}
 use Rattle.smallest_steps.proofs.Smallest.{AnyTold, KeepsAccepted}
-use Rattle.owed_replies.proofs.Moves.{finished_reached-kept, IsHeard, IsHeardFrom, IsKept, notice_node_step-kept, notice_step-kept, reached-kept, release_step-kept, tick_step-kept}
+use Rattle.protocol_core.proofs.of_owed_replies.Moves.{finished_reached-kept, IsHeard, IsHeardFrom, IsKept, notice_node_step-kept, notice_step-kept, reached-kept, release_step-kept, tick_step-kept}
 
 waits_apart : (j : ℕ) (y : Id) (f : Option Fetching) → Out j ≡ Waits y f → ⊥
 waits_apart j y f e = cc

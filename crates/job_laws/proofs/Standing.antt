@@ -30,7 +30,7 @@ use Rattle.protocol_core.specs.Steps.{IsOut}
 use Rattle.protocol_laws.specs.Sound.{IsSound}
 use Rattle.protocol_laws.proofs.Tests.{live_worker, or_none, out_run, ready_run, unless_none}
 use Rattle.holding_steps.proofs.Needing.{changed_same}
-use Rattle.lease_discipline.proofs.Heres.{by_number, changed_elsewhere}
+use Rattle.protocol_core.proofs.of_lease_discipline.Heres.{by_number, changed_elsewhere}
 use Rattle.job_laws.specs.Standing.{ClaimsGiveJobsOut, JobsStand, OneIsOut}
 use Rattle.job_laws.proofs.Here.{StandsOut, StopsFirst, claim_out, out_at_message, out_at_node_notice, out_at_notice, out_at_release, out_at_tick}
 use Rattle.job_laws.proofs.Places.{item_before, item_last, item_mapped}

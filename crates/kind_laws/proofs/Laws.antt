@@ -10,11 +10,11 @@ use Rattle.meaning.specs.Kinds.{ScriptChecks, IsBirthOf, AnswersFit}
 use Rattle.meaning.specs.Readings.{read_birth, den, BirthsHold}
 use Rattle.script_laws.proofs.KeptKinds.{law_of_kinds, birth_read}
 use Rattle.meaning.proofs.BirthLaws.{first_is_made}
-use Rattle.event_log.specs.Entries.{Attempt, Entry}
-use Rattle.event_log.specs.Words.{births, answers_of, own_births, main_bearing}
-use Rattle.event_log.specs.Rules.{Setting, Stops, HasContent}
-use Rattle.event_log.specs.Legal.{LegalFrom, Legal, opening}
-use Rattle.event_log.proofs.WordLaws.{deeds}
+use Rattle.meaning_laws.specs.of_event_log.Entries.{Attempt, Entry}
+use Rattle.meaning_laws.specs.of_event_log.Words.{births, answers_of, own_births, main_bearing}
+use Rattle.meaning_laws.specs.of_event_log.Rules.{Setting, Stops, HasContent}
+use Rattle.meaning_laws.specs.of_event_log.Legal.{LegalFrom, Legal, opening}
+use Rattle.meaning_laws.proofs.of_event_log.WordLaws.{deeds}
 use Rattle.meaning_laws.proofs.Good.{AllBorn, Told, Stands, GoodLog, births_hold}
 use Rattle.meaning_laws.proofs.LogLaw.{step, good_opening, good_log}
 use Rattle.meaning_laws.proofs.Steps.{content_is}

@@ -9,11 +9,11 @@ use Rattle.meaning.specs.Births.{Bearing, same_id, birth_at, numbered}
 use Rattle.meaning.specs.Mains.{KeepsMainApart, IsNotMains}
 use Rattle.meaning.proofs.BirthLaws.{at_test, same_id-true, or_else, birth_at-push}
 use Rattle.script_laws.proofs.Mains.{main_stays_apart}
-use Rattle.event_log.specs.Entries.{Attempt, Entry, In, Refused, Opened, Begun, Born, Got, Printed, Ended, Accepted, Faulted, Resolved, Released, main_object}
-use Rattle.event_log.specs.Words.{births, born_in, own_births, answers_of}
-use Rattle.event_log.specs.Rules.{Setting, Allowed, MayBear, Replays}
-use Rattle.event_log.specs.Legal.{LegalFrom, Legal, opening}
-use Rattle.event_log.proofs.WordLaws.{births_push}
+use Rattle.meaning_laws.specs.of_event_log.Entries.{Attempt, Entry, In, Refused, Opened, Begun, Born, Got, Printed, Ended, Accepted, Faulted, Resolved, Released, main_object}
+use Rattle.meaning_laws.specs.of_event_log.Words.{births, born_in, own_births, answers_of}
+use Rattle.meaning_laws.specs.of_event_log.Rules.{Setting, Allowed, MayBear, Replays}
+use Rattle.meaning_laws.specs.of_event_log.Legal.{LegalFrom, Legal, opening}
+use Rattle.meaning_laws.proofs.of_event_log.WordLaws.{births_push}
 use Rattle.kind_laws.specs.Mains.{LegalLogsKeepMainApart}
 
 -- none but main's own object is born of main

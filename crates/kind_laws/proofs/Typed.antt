@@ -15,10 +15,10 @@ use Rattle.script_laws.proofs.Agreeing.{birth_same}
 use Rattle.script_laws.proofs.Dens.{AllNamed, same, by_part}
 use Rattle.script_laws.proofs.Ids.{births_keep}
 use Rattle.script_laws.proofs.Given.{born_by_piece}
-use Rattle.event_log.specs.Entries.{Attempt, Entry, In, Refused, Opened, Begun, Born, Got, Printed, Ended, Accepted, Faulted, Resolved, Released}
-use Rattle.event_log.specs.Words.{births, born_in, own_births}
-use Rattle.event_log.specs.Rules.{Setting, Allowed, MayBear}
-use Rattle.event_log.proofs.WordLaws.{deeds, births_push}
+use Rattle.meaning_laws.specs.of_event_log.Entries.{Attempt, Entry, In, Refused, Opened, Begun, Born, Got, Printed, Ended, Accepted, Faulted, Resolved, Released}
+use Rattle.meaning_laws.specs.of_event_log.Words.{births, born_in, own_births}
+use Rattle.meaning_laws.specs.of_event_log.Rules.{Setting, Allowed, MayBear}
+use Rattle.meaning_laws.proofs.of_event_log.WordLaws.{deeds, births_push}
 use Rattle.meaning_laws.proofs.Good.{AllBorn, Told, Stands, GoodLog, births_hold, objects_born, spec_named}
 use Rattle.meaning.proofs.BirthLaws.{first_is_made}
 use Rattle.meaning_laws.proofs.Births.{fresh}

@@ -6,10 +6,10 @@ use Rattle.meaning.specs.Runs.{Needs}
 use Rattle.meaning.specs.Births.{birth_at}
 use Rattle.meaning.specs.Meaning.{run_birth}
 use Rattle.meaning.specs.Kinds.{ScriptChecks, IsBirthOf, AnswersFit}
-use Rattle.event_log.specs.Entries.{Attempt, Entry}
-use Rattle.event_log.specs.Words.{births, answers_of}
-use Rattle.event_log.specs.Rules.{Setting, Stops, HasContent}
-use Rattle.event_log.specs.Legal.{Legal}
+use Rattle.meaning_laws.specs.of_event_log.Entries.{Attempt, Entry}
+use Rattle.meaning_laws.specs.of_event_log.Words.{births, answers_of}
+use Rattle.meaning_laws.specs.of_event_log.Rules.{Setting, Stops, HasContent}
+use Rattle.meaning_laws.specs.of_event_log.Legal.{Legal}
 
 -- the birth makes objects of some kinds
 abbrev pub HasKinds : Script → Birth → Type 0

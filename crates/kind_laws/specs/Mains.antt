@@ -4,10 +4,10 @@ use Rattle.meaning.specs.Values.{Birth, Id}
 use Rattle.meaning.specs.Runs.{Piece}
 use Rattle.meaning.specs.Births.{birth_at}
 use Rattle.meaning.specs.Mains.{KeepsMainApart, IsNotMains}
-use Rattle.event_log.specs.Entries.{Attempt, Entry, main_object}
-use Rattle.event_log.specs.Words.{births}
-use Rattle.event_log.specs.Rules.{Setting, Replays}
-use Rattle.event_log.specs.Legal.{Legal}
+use Rattle.meaning_laws.specs.of_event_log.Entries.{Attempt, Entry, main_object}
+use Rattle.meaning_laws.specs.of_event_log.Words.{births}
+use Rattle.meaning_laws.specs.of_event_log.Rules.{Setting, Replays}
+use Rattle.meaning_laws.specs.of_event_log.Legal.{Legal}
 
 -- but for main's own object no birth is a task of main, and the replay of no other object's attempt prints
 pub record HasMainApart (s : Setting) (log : List Entry) : Type 0 where

@@ -1,7 +1,7 @@
 -- A list's first item and what is behind it, taken by place and by pattern, are the same.
 use Rattle.std.proofs.Common.{◌≡◌, ◌∷◌, [], List, refl, drop}
 use Rattle.std.specs.Prelude.{slice_get}
-use Rattle.protocol.specs.Sets.{first_item, rest_of}
+use Rattle.number_lists.specs.of_protocol.Sets.{first_item, rest_of}
 
 pub first_is : {X : Type 0} (xs : List X) → slice_get xs 0 ≡ first_item xs
 first_is [] = refl

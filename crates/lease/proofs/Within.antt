@@ -4,9 +4,9 @@ use Rattle.std.specs.Prelude.{Bool, true, false, if◌then◌else◌, ◌||◌, 
 use Rattle.std.specs.List.{filter}
 use Rattle.std.proofs.lemmas.Bool.Decides.{nat_tests}
 use Rattle.event_log.specs.Entries.{Attempt}
-use Rattle.protocol.specs.Sets.{has, without_number, least, first_item, rest_of}
-use Rattle.protocol.specs.Nodes.{AskKey, AskReply, There, with_scheduler}
-use Rattle.protocol.specs.Slots.{asked, asked_by, asks_slot, forgets, frees, gives_worker, grants, grants_next, grants_queued, has_free_slot, has_no_slot_for, is_back, leases_idle, may_be_idle, reply_to, with_answered, with_idle, without_slot, without_worker}
+use Rattle.number_lists.specs.of_protocol.Sets.{has, without_number, least, first_item, rest_of}
+use Rattle.number_lists.specs.of_protocol.Nodes.{AskKey, AskReply, There, with_scheduler}
+use Rattle.number_lists.specs.of_protocol.Slots.{asked, asked_by, asks_slot, forgets, frees, gives_worker, grants, grants_next, grants_queued, has_free_slot, has_no_slot_for, is_back, leases_idle, may_be_idle, reply_to, with_answered, with_idle, without_slot, without_worker}
 use Rattle.lease.specs.Promises.{IsWithinSlots}
 
 shorter : (b : Bool) (x : ℕ) (ys zs : List ℕ) → length ys ≤ length zs → length (if b then x ∷ ys else ys) ≤ suc (length zs)

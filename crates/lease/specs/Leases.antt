@@ -1,9 +1,9 @@
 -- What a scheduler notes where it gives a worker to an attempt.
 use Rattle.std.specs.Prelude.{[], ℕ, ◌++◌, ◌∷◌}
 use Rattle.event_log.specs.Entries.{Attempt}
-use Rattle.protocol.specs.Nodes.{Scheduler}
-use Rattle.protocol.specs.Sets.{without_number}
-use Rattle.protocol.specs.Slots.{without_lease}
+use Rattle.number_lists.specs.of_protocol.Nodes.{Scheduler}
+use Rattle.number_lists.specs.of_protocol.Sets.{without_number}
+use Rattle.number_lists.specs.of_protocol.Slots.{without_lease}
 
 -- the worker is not idle, and its latest lease is the attempt's
 abbrev pub leased : Scheduler → ℕ → Attempt → Scheduler

@@ -1,6 +1,6 @@
 -- What a scheduler promises: no more slots in use than there are; and when two nodes differ in their stores alone.
 use Rattle.std.specs.Prelude.{length, ◌≡◌, ◌≤◌}
-use Rattle.protocol.specs.Nodes.{There, with_node}
+use Rattle.number_lists.specs.of_protocol.Nodes.{There, with_node}
 
 -- no more attempts have a slot than there are slots
 abbrev pub IsWithinSlots : There → Type 0

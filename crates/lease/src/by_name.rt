@@ -1,8 +1,8 @@
 // A node's scheduler as a type's own calls.
 
 ghost use Rattle.std.specs.Prelude.{◌≡◌, OnErr, OnOk, Some};
-ghost use Rattle.protocol.specs.Nodes.{AskReply};
-ghost use Rattle.protocol.specs.Slots.{asked, asks_slot, forgets, frees, is_back, replies, reply_to};
+ghost use Rattle.number_lists.specs.of_protocol.Nodes.{AskReply};
+ghost use Rattle.number_lists.specs.of_protocol.Slots.{asked, asks_slot, forgets, frees, is_back, replies, reply_to};
 ghost use Rattle.lease.specs.Promises.{IsWithinSlots};
 
 use crate::scheduler::{ask, back, blocked, killed, unblocked};

@@ -9,43 +9,43 @@ use Rattle.meaning.specs.Values.{Outcome}
 use Rattle.event_log.specs.Commits.{commit_entries}
 use Rattle.event_log.specs.Entries.{Attempt}
 use Rattle.event_log.specs.Breaks.{Among}
-use Rattle.protocol.specs.Numbered.{item_at, changed_at}
+use Rattle.protocol_laws.specs.of_protocol.Numbered.{item_at, changed_at}
 use Rattle.event_log.specs.Words.{attempt}
-use Rattle.protocol_owed.proofs.Nodes.{changed_cases, there_more, there_still}
-use Rattle.protocol_owed.proofs.CourseEvents.{append_split, one_of}
-use Rattle.protocol_owed.proofs.Letters.{among-more}
-use Rattle.protocol.specs.Sets.{object_id}
-use Rattle.protocol.specs.Sets.{first_item, has, least, repeated, rest_of}
-use Rattle.protocol.specs.Messages.{Letter, letter, Message, Party, TheWorker, TheNode, Ask, Give, Elsewhere, Wait, Back, Push, Finished, FinishedAck, Failed}
-use Rattle.protocol.specs.Messages.{Where, At, Gone, Fetch, CopyOf, Missing, Hold, HoldAck, Unhold}
-use Rattle.protocol.specs.Jobs.{Outcomes}
-use Rattle.protocol.specs.Nodes.{AskKey, AskReply, Asked, Node, Queued, Scheduler, SentOn, There, with_scheduler}
-use Rattle.protocol.specs.Slots.{ask_key, asked_by, asks_slot, forgets, frees, gives_worker, grants, grants_next, grants_queued, has_free_slot}
-use Rattle.protocol.specs.Slots.{has_no_slot_for, leases_idle}
-use Rattle.protocol.specs.Slots.{next_in_circle, queues, replies_anew, reply_to, same_key, with_answered}
-use Rattle.protocol.specs.Slots.{without_slot, without_worker}
-use Rattle.protocol.specs.Tables.{AskedAt, OwnTask, Worker, new_worker, task_of}
-use Rattle.protocol.specs.Steps.{Here, object_at}
-use Rattle.protocol.specs.Whole.{Whole, node_at, worker_at, there, here, after_node}
-use Rattle.protocol_owed.specs.Turns.{IsAnswer}
-use Rattle.protocol_owed.proofs.Asks.{QueueIsRight, Stands, has_key, reply_in, reply-other, same_key-refl, same_key-true, with_reply_in}
-use Rattle.protocol_owed.proofs.Nodes.{NodesAreRight}
+use Rattle.protocol_laws.proofs.of_protocol_owed.Nodes.{changed_cases, there_more, there_still}
+use Rattle.protocol_laws.proofs.of_protocol_owed.CourseEvents.{append_split, one_of}
+use Rattle.protocol_laws.proofs.of_protocol_owed.Letters.{among-more}
+use Rattle.protocol_laws.specs.of_protocol.Sets.{object_id}
+use Rattle.protocol_laws.specs.of_protocol.Sets.{first_item, has, least, repeated, rest_of}
+use Rattle.protocol_laws.specs.of_protocol.Messages.{Letter, letter, Message, Party, TheWorker, TheNode, Ask, Give, Elsewhere, Wait, Back, Push, Finished, FinishedAck, Failed}
+use Rattle.protocol_laws.specs.of_protocol.Messages.{Where, At, Gone, Fetch, CopyOf, Missing, Hold, HoldAck, Unhold}
+use Rattle.protocol_laws.specs.of_protocol.Jobs.{Outcomes}
+use Rattle.protocol_laws.specs.of_protocol.Nodes.{AskKey, AskReply, Asked, Node, Queued, Scheduler, SentOn, There, with_scheduler}
+use Rattle.protocol_laws.specs.of_protocol.Slots.{ask_key, asked_by, asks_slot, forgets, frees, gives_worker, grants, grants_next, grants_queued, has_free_slot}
+use Rattle.protocol_laws.specs.of_protocol.Slots.{has_no_slot_for, leases_idle}
+use Rattle.protocol_laws.specs.of_protocol.Slots.{next_in_circle, queues, replies_anew, reply_to, same_key, with_answered}
+use Rattle.protocol_laws.specs.of_protocol.Slots.{without_slot, without_worker}
+use Rattle.protocol_laws.specs.of_protocol.Tables.{AskedAt, OwnTask, Worker, new_worker, task_of}
+use Rattle.protocol_laws.specs.of_protocol.Steps.{Here, object_at}
+use Rattle.protocol_laws.specs.of_protocol.Whole.{Whole, node_at, worker_at, there, here, after_node}
+use Rattle.protocol_laws.specs.of_protocol_owed.Turns.{IsAnswer}
+use Rattle.protocol_laws.proofs.of_protocol_owed.Asks.{QueueIsRight, Stands, has_key, reply_in, reply-other, same_key-refl, same_key-true, with_reply_in}
+use Rattle.protocol_laws.proofs.of_protocol_owed.Nodes.{NodesAreRight}
 use Rattle.lease_discipline.specs.Asks as A
 use Rattle.meaning.specs.Values.{Birth}
 use Rattle.std.specs.Prelude.{◌&&◌}
 use Rattle.event_log.specs.Entries.{Entry}
 use Rattle.event_log.specs.Words.{same_attempt}
-use Rattle.protocol.specs.Commits.{keeps_contents, bears_all, claim_by, claim_step, commit_by, commit_step, ends, next_id_here, stops_by, with_outcomes}
-use Rattle.protocol.specs.Deliveries.{reached}
-use Rattle.protocol.specs.Jobs.{AtEnd, AtGet, Stopped, stop_of}
-use Rattle.protocol.specs.Releases.{release_step}
-use Rattle.protocol.specs.Runs.{begins_run, is_free, leaves_if_free, push_reached}
-use Rattle.protocol.specs.Steps.{logs_all, with_phase, with_run}
-use Rattle.protocol.specs.Tables.{HasEnded, Out, Run, Waits}
-use Rattle.protocol.specs.Whole.{worker_does, worker_does_at, worker_does_by}
-use Rattle.protocol_owed.proofs.Moves as M
-use Rattle.protocol_owed.proofs.Nodes as N
-use Rattle.protocol_owed.proofs.NodeMoves.{IsKeptThere, asks_slot-kept, frees-kept}
+use Rattle.protocol_laws.specs.of_protocol.Commits.{keeps_contents, bears_all, claim_by, claim_step, commit_by, commit_step, ends, next_id_here, stops_by, with_outcomes}
+use Rattle.protocol_laws.specs.of_protocol.Deliveries.{reached}
+use Rattle.protocol_laws.specs.of_protocol.Jobs.{AtEnd, AtGet, Stopped, stop_of}
+use Rattle.protocol_laws.specs.of_protocol.Releases.{release_step}
+use Rattle.protocol_laws.specs.of_protocol.Runs.{begins_run, is_free, leaves_if_free, push_reached}
+use Rattle.protocol_laws.specs.of_protocol.Steps.{logs_all, with_phase, with_run}
+use Rattle.protocol_laws.specs.of_protocol.Tables.{HasEnded, Out, Run, Waits}
+use Rattle.protocol_laws.specs.of_protocol.Whole.{worker_does, worker_does_at, worker_does_by}
+use Rattle.protocol_laws.proofs.of_protocol_owed.Moves as M
+use Rattle.protocol_laws.proofs.of_protocol_owed.Nodes as N
+use Rattle.protocol_laws.proofs.of_protocol_owed.NodeMoves.{IsKeptThere, asks_slot-kept, frees-kept}
 use Rattle.lease_discipline.proofs.Moves.{IsHeardFrom, IsKept, bears_all-kept, keeps_contents-kept, leaves_if_free-kept, needs-kept, reached-kept, release_step-kept}
 use Rattle.lease_discipline.proofs.Asking.{Asks, AsksOf, GivenOf, OverBy, PassedBy, ToldOf, asks_kept, frees_asks, own_task, same_asks}
 use Rattle.lease_discipline.specs.Asks.{IsDeadNode, IsLast, IsPassed, KeepsAsks, OwnsAsks}

@@ -6,35 +6,35 @@ use Rattle.meaning.proofs.BirthLaws.{at_test}
 use Rattle.event_log.specs.Entries.{Attempt, Event, Claim, Commit, Deliver, Tick, Notice, NoticeNode, Evict, Lose, Kill, KillNode, Join}
 use Rattle.event_log.specs.Entries.{Refusal, NotDead, Limit}
 use Rattle.event_log.specs.Breaks.{Among}
-use Rattle.protocol.specs.Numbered.{item_at, changed_at}
-use Rattle.protocol.specs.Sets.{repeated}
-use Rattle.protocol.specs.Messages.{Letter, letter, Message, Party, TheWorker, TheNode, Ask, Give, Elsewhere, Wait, Back, Push, Finished, FinishedAck, Failed}
-use Rattle.protocol.specs.Messages.{Where, At, Gone, Fetch, CopyOf, Missing, Hold, HoldAck, Unhold}
-use Rattle.protocol.specs.Jobs.{Given, Handed, Job, Nothing, OfAnother, OfJob}
-use Rattle.protocol.specs.Nodes.{AskKey, AskReply, Node, There, new_node}
+use Rattle.protocol_laws.specs.of_protocol.Numbered.{item_at, changed_at}
+use Rattle.protocol_laws.specs.of_protocol.Sets.{repeated}
+use Rattle.protocol_laws.specs.of_protocol.Messages.{Letter, letter, Message, Party, TheWorker, TheNode, Ask, Give, Elsewhere, Wait, Back, Push, Finished, FinishedAck, Failed}
+use Rattle.protocol_laws.specs.of_protocol.Messages.{Where, At, Gone, Fetch, CopyOf, Missing, Hold, HoldAck, Unhold}
+use Rattle.protocol_laws.specs.of_protocol.Jobs.{Given, Handed, Job, Nothing, OfAnother, OfJob}
+use Rattle.protocol_laws.specs.of_protocol.Nodes.{AskKey, AskReply, Node, There, new_node}
 use Rattle.meaning.specs.Values.{Outcome}
-use Rattle.protocol.specs.Nodes.{with_scheduler}
-use Rattle.protocol.specs.Stores.{copy_in}
-use Rattle.protocol.specs.Slots.{fetched, may_be_idle, with_idle}
-use Rattle.protocol.specs.Slots.{ask_key, forgets, node_reached, reply_to}
-use Rattle.protocol.specs.Tables.{OwnTask, Worker, task_of}
-use Rattle.protocol.specs.Whole.{Whole, Moved, driver, first_whole, here, moved, node_at, node_does, node_does_by, there, worker_at, worker_does}
-use Rattle.protocol.specs.Commits.{claim_step, commit_step}
-use Rattle.protocol.specs.Notices.{notice_step, notice_node_step}
-use Rattle.protocol.specs.Ticks.{tick_step}
-use Rattle.protocol.specs.Deliveries.{reached}
-use Rattle.protocol.specs.Events.{committed_by, with_committed, delivered_by, delivered_to, with_delivered, is_live_worker, is_live_node, killed_by, objects_made}
-use Rattle.protocol.specs.Events.{dead, dies_with, happens}
-use Rattle.protocol.specs.Answers.{Refuses, decided, takes, given_out, whole_after}
-use Rattle.protocol.specs.Refusals.{is_dead_node, is_within_limits, no_worker, refusal, unless}
-use Rattle.protocol_owed.specs.Runs.{Handing, Running, after_event, after_events, opening_run}
-use Rattle.protocol_owed.proofs.CourseAll.{both_passed, passed}
-use Rattle.protocol_owed.proofs.Letters.{among-append_cases, among-more, among-nothing, among-push_cases}
-use Rattle.protocol_owed.proofs.Moves as M
-use Rattle.protocol_owed.proofs.Nodes as N
-use Rattle.protocol_owed.proofs.Nodes.{NodesAreRight, answered-right, changed_cases, there_more, there_still}
-use Rattle.protocol_owed.proofs.NodeMoves.{IsKeptThere, forgets-kept, node_reached-kept}
-use Rattle.protocol_owed.proofs.Opening.{opens-right}
+use Rattle.protocol_laws.specs.of_protocol.Nodes.{with_scheduler}
+use Rattle.protocol_laws.specs.of_protocol.Stores.{copy_in}
+use Rattle.protocol_laws.specs.of_protocol.Slots.{fetched, may_be_idle, with_idle}
+use Rattle.protocol_laws.specs.of_protocol.Slots.{ask_key, forgets, node_reached, reply_to}
+use Rattle.protocol_laws.specs.of_protocol.Tables.{OwnTask, Worker, task_of}
+use Rattle.protocol_laws.specs.of_protocol.Whole.{Whole, Moved, driver, first_whole, here, moved, node_at, node_does, node_does_by, there, worker_at, worker_does}
+use Rattle.protocol_laws.specs.of_protocol.Commits.{claim_step, commit_step}
+use Rattle.protocol_laws.specs.of_protocol.Notices.{notice_step, notice_node_step}
+use Rattle.protocol_laws.specs.of_protocol.Ticks.{tick_step}
+use Rattle.protocol_laws.specs.of_protocol.Deliveries.{reached}
+use Rattle.protocol_laws.specs.of_protocol.Events.{committed_by, with_committed, delivered_by, delivered_to, with_delivered, is_live_worker, is_live_node, killed_by, objects_made}
+use Rattle.protocol_laws.specs.of_protocol.Events.{dead, dies_with, happens}
+use Rattle.protocol_laws.specs.of_protocol.Answers.{Refuses, decided, takes, given_out, whole_after}
+use Rattle.protocol_laws.specs.of_protocol.Refusals.{is_dead_node, is_within_limits, no_worker, refusal, unless}
+use Rattle.protocol_laws.specs.of_protocol_owed.Runs.{Handing, Running, after_event, after_events, opening_run}
+use Rattle.protocol_laws.proofs.of_protocol_owed.CourseAll.{both_passed, passed}
+use Rattle.protocol_laws.proofs.of_protocol_owed.Letters.{among-append_cases, among-more, among-nothing, among-push_cases}
+use Rattle.protocol_laws.proofs.of_protocol_owed.Moves as M
+use Rattle.protocol_laws.proofs.of_protocol_owed.Nodes as N
+use Rattle.protocol_laws.proofs.of_protocol_owed.Nodes.{NodesAreRight, answered-right, changed_cases, there_more, there_still}
+use Rattle.protocol_laws.proofs.of_protocol_owed.NodeMoves.{IsKeptThere, forgets-kept, node_reached-kept}
+use Rattle.protocol_laws.proofs.of_protocol_owed.Opening.{opens-right}
 use Rattle.lease_discipline.specs.Asks as A
 use Rattle.lease_discipline.specs.Asks.{IsDeadNode, KeepsAsks, LawOfLastAsks, OwnsAsks}
 use Rattle.lease_discipline.specs.Discipline.{KeepsLeases, Pushed}
@@ -44,8 +44,8 @@ use Rattle.lease_discipline.proofs.Asking.{Asks, GivenOf, OverBy, PassedBy, Told
 use Rattle.lease_discipline.proofs.Asking.{touched_before}
 use Rattle.lease_discipline.proofs.AskEvents.{asked_keys, asks_end, claim_asks, commit_asks, forgets_keys, last_dead, owns_dead, reached_asks}
 use Rattle.lease_discipline.proofs.AskEvents.{worker_event}
-use Rattle.numbered.proofs.Places.{counted}
-use Rattle.protocol_owed.proofs.CourseEvents.{one_of}
+use Rattle.protocol_laws.proofs.of_numbered.Places.{counted}
+use Rattle.protocol_laws.proofs.of_protocol_owed.CourseEvents.{one_of}
 use Rattle.lease_discipline.proofs.Events.{among_at, events_keep, item_map}
 use Rattle.lease_discipline.proofs.Opening.{only_driver, opens}
 use Rattle.lease_discipline.proofs.Turns.{sch}

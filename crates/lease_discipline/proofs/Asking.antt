@@ -7,28 +7,28 @@ use Rattle.meaning.specs.Values.{Birth, Id}
 use Rattle.event_log.specs.Entries.{Attempt, Faulted, Got, main_attempt}
 use Rattle.event_log.specs.Words.{attempt}
 use Rattle.event_log.specs.Breaks.{Among}
-use Rattle.protocol.specs.Numbered.{item_at, changed_at}
-use Rattle.protocol.specs.Sets.{object_id}
-use Rattle.protocol.specs.Messages.{Letter, letter, Message, Party, TheWorker, TheNode, Ask, Give, Elsewhere, Wait, Back, Push, Finished, FinishedAck, Failed}
-use Rattle.protocol.specs.Messages.{Where, At, Gone, Fetch, CopyOf, Missing, Hold, HoldAck, Unhold}
-use Rattle.protocol.specs.Nodes.{There}
-use Rattle.protocol.specs.Slots.{asks_slot, frees}
-use Rattle.protocol.specs.Tables.{AskedAt, AtRest, Object, OwnTask, Progress, RunsOn, Worker, new_task, task_of, with_task}
-use Rattle.protocol.specs.Steps.{Here, is_own, logs, object_at, own_id, own_object, with_phase, with_run, with_task_of}
-use Rattle.protocol.specs.Asking.{asks_at, pushes, rests, with_begun}
-use Rattle.protocol.specs.Commits.{task_objects, with_objects}
-use Rattle.smallest_steps.proofs.Known.{new_tasks}
-use Rattle.protocol.specs.Runs.{with_answer}
-use Rattle.protocol.specs.Tables.{HasFaulted}
-use Rattle.protocol.specs.Whole.{Whole, worker_at}
-use Rattle.protocol_owed.proofs.CourseEvents.{changed_none}
-use Rattle.protocol_owed.proofs.NodeMoves.{IsKeptThere, asks_slot-kept, frees-kept}
-use Rattle.protocol_owed.proofs.Nodes.{changed_cases}
-use Rattle.protocol_owed.proofs.Letters.{among-append_cases, among-behind, among-more, among-push_cases}
+use Rattle.protocol_laws.specs.of_protocol.Numbered.{item_at, changed_at}
+use Rattle.protocol_laws.specs.of_protocol.Sets.{object_id}
+use Rattle.protocol_laws.specs.of_protocol.Messages.{Letter, letter, Message, Party, TheWorker, TheNode, Ask, Give, Elsewhere, Wait, Back, Push, Finished, FinishedAck, Failed}
+use Rattle.protocol_laws.specs.of_protocol.Messages.{Where, At, Gone, Fetch, CopyOf, Missing, Hold, HoldAck, Unhold}
+use Rattle.protocol_laws.specs.of_protocol.Nodes.{There}
+use Rattle.protocol_laws.specs.of_protocol.Slots.{asks_slot, frees}
+use Rattle.protocol_laws.specs.of_protocol.Tables.{AskedAt, AtRest, Object, OwnTask, Progress, RunsOn, Worker, new_task, task_of, with_task}
+use Rattle.protocol_laws.specs.of_protocol.Steps.{Here, is_own, logs, object_at, own_id, own_object, with_phase, with_run, with_task_of}
+use Rattle.protocol_laws.specs.of_protocol.Asking.{asks_at, pushes, rests, with_begun}
+use Rattle.protocol_laws.specs.of_protocol.Commits.{task_objects, with_objects}
+use Rattle.protocol_laws.proofs.of_smallest_steps.Known.{new_tasks}
+use Rattle.protocol_laws.specs.of_protocol.Runs.{with_answer}
+use Rattle.protocol_laws.specs.of_protocol.Tables.{HasFaulted}
+use Rattle.protocol_laws.specs.of_protocol.Whole.{Whole, worker_at}
+use Rattle.protocol_laws.proofs.of_protocol_owed.CourseEvents.{changed_none}
+use Rattle.protocol_laws.proofs.of_protocol_owed.NodeMoves.{IsKeptThere, asks_slot-kept, frees-kept}
+use Rattle.protocol_laws.proofs.of_protocol_owed.Nodes.{changed_cases}
+use Rattle.protocol_laws.proofs.of_protocol_owed.Letters.{among-append_cases, among-behind, among-more, among-push_cases}
 use Rattle.lease_discipline.specs.Asks.{Asked, IsClosed, IsLast, IsPassed, OwnsAsks, Touched}
 use Rattle.lease_discipline.specs.Discipline.{Pushed}
-use Rattle.smallest_steps.specs.Steps.{IsNextOf}
-use Rattle.smallest_steps.proofs.Known.{changed_here, own_at}
+use Rattle.protocol_laws.specs.of_smallest_steps.Steps.{IsNextOf}
+use Rattle.protocol_laws.proofs.of_smallest_steps.Known.{changed_here, own_at}
 use Rattle.lease_discipline.proofs.Follows.{More}
 use Rattle.lease_discipline.proofs.Moves.{IsKept, is_plain}
 use Rattle.lease_discipline.proofs.Theres.{letter_cases, letter_last, letter_more, with_letter}

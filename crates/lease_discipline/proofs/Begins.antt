@@ -8,23 +8,23 @@ use Rattle.event_log.specs.Entries.{Attempt, Deliver}
 use Rattle.event_log.specs.Entries.{NoMessage, Limit}
 use Rattle.event_log.specs.Words.{same_attempt}
 use Rattle.event_log.proofs.WordLaws.{same_attempt-refl}
-use Rattle.protocol.specs.Numbered.{changed_at}
-use Rattle.protocol.specs.Sets.{repeated}
-use Rattle.protocol.specs.Messages.{Push, TheWorker}
-use Rattle.protocol.specs.Jobs.{Job}
-use Rattle.protocol.specs.Tables.{new_worker}
-use Rattle.protocol.specs.Steps.{Here}
-use Rattle.protocol.specs.Runs.{begins_run, is_free, push_reached}
-use Rattle.protocol.specs.Releases.{release_step}
-use Rattle.protocol.specs.Deliveries.{reached}
-use Rattle.protocol.specs.Whole.{Moved, Whole, after_worker, here, moved, worker_at, worker_does, worker_does_at, worker_does_by}
-use Rattle.protocol.specs.Events.{delivered, delivered_by, is_live_worker, with_delivered}
-use Rattle.protocol.specs.Answers.{Answer, Refuses, Step, Takes, decided, takes}
-use Rattle.protocol.specs.Refusals.{is_within_limits, refusal, unless}
-use Rattle.protocol_owed.specs.Courses.{has_begun}
-use Rattle.protocol_owed.proofs.Nodes.{there_more}
-use Rattle.protocol_owed.proofs.RunMoves as R
-use Rattle.smallest_steps.proofs.Smallest.{AnyOver, AnyTold}
+use Rattle.protocol_laws.specs.of_protocol.Numbered.{changed_at}
+use Rattle.protocol_laws.specs.of_protocol.Sets.{repeated}
+use Rattle.protocol_laws.specs.of_protocol.Messages.{Push, TheWorker}
+use Rattle.protocol_laws.specs.of_protocol.Jobs.{Job}
+use Rattle.protocol_laws.specs.of_protocol.Tables.{new_worker}
+use Rattle.protocol_laws.specs.of_protocol.Steps.{Here}
+use Rattle.protocol_laws.specs.of_protocol.Runs.{begins_run, is_free, push_reached}
+use Rattle.protocol_laws.specs.of_protocol.Releases.{release_step}
+use Rattle.protocol_laws.specs.of_protocol.Deliveries.{reached}
+use Rattle.protocol_laws.specs.of_protocol.Whole.{Moved, Whole, after_worker, here, moved, worker_at, worker_does, worker_does_at, worker_does_by}
+use Rattle.protocol_laws.specs.of_protocol.Events.{delivered, delivered_by, is_live_worker, with_delivered}
+use Rattle.protocol_laws.specs.of_protocol.Answers.{Answer, Refuses, Step, Takes, decided, takes}
+use Rattle.protocol_laws.specs.of_protocol.Refusals.{is_within_limits, refusal, unless}
+use Rattle.protocol_laws.specs.of_protocol_owed.Courses.{has_begun}
+use Rattle.protocol_laws.proofs.of_protocol_owed.Nodes.{there_more}
+use Rattle.protocol_laws.proofs.of_protocol_owed.RunMoves as R
+use Rattle.protocol_laws.proofs.of_smallest_steps.Smallest.{AnyOver, AnyTold}
 use Rattle.lease_discipline.specs.Law.{PushesBegin}
 use Rattle.lease_discipline.proofs.Heres.{changed_now}
 use Rattle.lease_discipline.proofs.Laws.{pushes_find_free}

@@ -8,33 +8,33 @@ use Rattle.meaning.proofs.BirthLaws.{at_test}
 use Rattle.event_log.specs.Entries.{Attempt, Event, Claim, Commit, Deliver, Tick, Notice, NoticeNode, Evict, Lose, Kill, KillNode, Join}
 use Rattle.event_log.specs.Entries.{Refusal, NotReady, NoJob, Stale, Limit}
 use Rattle.event_log.specs.Breaks.{Among}
-use Rattle.protocol.specs.Numbered.{item_at, changed_at, changed_by}
-use Rattle.protocol.specs.Sets.{repeated}
-use Rattle.protocol.specs.Messages.{Letter, letter, Message, Party, TheWorker, TheNode, Ask, Give, Elsewhere, Wait, Back, Push, Finished, FinishedAck, Failed}
-use Rattle.protocol.specs.Messages.{Where, At, Gone, Fetch, CopyOf, Missing, Hold, HoldAck, Unhold}
-use Rattle.protocol.specs.Jobs.{Given, Handed, Job, Nothing, OfAnother, OfJob}
-use Rattle.protocol.specs.Nodes.{Node, Scheduler, There, new_node, new_scheduler}
-use Rattle.protocol.specs.Tables.{Out, Worker, has_stopped, new_worker}
-use Rattle.protocol.specs.Steps.{Here}
-use Rattle.protocol.specs.Slots.{forgets, node_reached}
-use Rattle.protocol.specs.Releases.{release_step}
-use Rattle.protocol.specs.Whole.{Whole, Moved, moved, node_at, worker_at, there, here, after_node, after_worker, node_does, node_does_by, worker_does}
-use Rattle.protocol.specs.Whole.{worker_does_by, worker_does_at}
-use Rattle.protocol.specs.Commits.{claim_step, commit_step}
-use Rattle.protocol.specs.Notices.{notice_step, notice_node_step}
-use Rattle.protocol.specs.Ticks.{tick_step}
-use Rattle.protocol.specs.Deliveries.{reached}
-use Rattle.protocol.specs.Events.{as_committed, claimed, committed_by, with_committed, delivered_by, delivered_to, with_delivered, is_live_worker, objects_made}
-use Rattle.protocol.specs.Events.{is_live_node, killed_by, dead, dies_with, happens}
-use Rattle.protocol.specs.Answers.{Refuses, answer, decided, takes, given_out, whole_after}
-use Rattle.protocol.specs.Refusals.{commit_refusal, has_slot, is_of_job, is_out_by, is_ready, is_ready_on, is_ready_run, is_within_limits}
-use Rattle.protocol.specs.Refusals.{no_worker, or_refusal, refusal, unless}
-use Rattle.protocol_owed.proofs.Nodes.{changed_cases, push_cases, nothing_past, there_still, there_more}
-use Rattle.protocol_owed.proofs.Letters.{among-append_cases, among-more}
-use Rattle.protocol_owed.proofs.CourseEvents.{append_split, one_of}
-use Rattle.protocol_owed.proofs.CourseAll.{both_passed, passed}
-use Rattle.protocol_owed.proofs.CourseRuns.{OutOf, out_of}
-use Rattle.smallest_steps.proofs.Smallest.{AnyPassed}
+use Rattle.protocol_laws.specs.of_protocol.Numbered.{item_at, changed_at, changed_by}
+use Rattle.protocol_laws.specs.of_protocol.Sets.{repeated}
+use Rattle.protocol_laws.specs.of_protocol.Messages.{Letter, letter, Message, Party, TheWorker, TheNode, Ask, Give, Elsewhere, Wait, Back, Push, Finished, FinishedAck, Failed}
+use Rattle.protocol_laws.specs.of_protocol.Messages.{Where, At, Gone, Fetch, CopyOf, Missing, Hold, HoldAck, Unhold}
+use Rattle.protocol_laws.specs.of_protocol.Jobs.{Given, Handed, Job, Nothing, OfAnother, OfJob}
+use Rattle.protocol_laws.specs.of_protocol.Nodes.{Node, Scheduler, There, new_node, new_scheduler}
+use Rattle.protocol_laws.specs.of_protocol.Tables.{Out, Worker, has_stopped, new_worker}
+use Rattle.protocol_laws.specs.of_protocol.Steps.{Here}
+use Rattle.protocol_laws.specs.of_protocol.Slots.{forgets, node_reached}
+use Rattle.protocol_laws.specs.of_protocol.Releases.{release_step}
+use Rattle.protocol_laws.specs.of_protocol.Whole.{Whole, Moved, moved, node_at, worker_at, there, here, after_node, after_worker, node_does, node_does_by, worker_does}
+use Rattle.protocol_laws.specs.of_protocol.Whole.{worker_does_by, worker_does_at}
+use Rattle.protocol_laws.specs.of_protocol.Commits.{claim_step, commit_step}
+use Rattle.protocol_laws.specs.of_protocol.Notices.{notice_step, notice_node_step}
+use Rattle.protocol_laws.specs.of_protocol.Ticks.{tick_step}
+use Rattle.protocol_laws.specs.of_protocol.Deliveries.{reached}
+use Rattle.protocol_laws.specs.of_protocol.Events.{as_committed, claimed, committed_by, with_committed, delivered_by, delivered_to, with_delivered, is_live_worker, objects_made}
+use Rattle.protocol_laws.specs.of_protocol.Events.{is_live_node, killed_by, dead, dies_with, happens}
+use Rattle.protocol_laws.specs.of_protocol.Answers.{Refuses, answer, decided, takes, given_out, whole_after}
+use Rattle.protocol_laws.specs.of_protocol.Refusals.{commit_refusal, has_slot, is_of_job, is_out_by, is_ready, is_ready_on, is_ready_run, is_within_limits}
+use Rattle.protocol_laws.specs.of_protocol.Refusals.{no_worker, or_refusal, refusal, unless}
+use Rattle.protocol_laws.proofs.of_protocol_owed.Nodes.{changed_cases, push_cases, nothing_past, there_still, there_more}
+use Rattle.protocol_laws.proofs.of_protocol_owed.Letters.{among-append_cases, among-more}
+use Rattle.protocol_laws.proofs.of_protocol_owed.CourseEvents.{append_split, one_of}
+use Rattle.protocol_laws.proofs.of_protocol_owed.CourseAll.{both_passed, passed}
+use Rattle.protocol_laws.proofs.of_protocol_owed.CourseRuns.{OutOf, out_of}
+use Rattle.protocol_laws.proofs.of_smallest_steps.Smallest.{AnyPassed}
 use Rattle.lease_discipline.specs.Discipline.{Look, Gave, IsOfNode, KeepsLeases, NodeKeeps, WorkerKeeps, WorkersKeep}
 use Rattle.lease_discipline.proofs.Tame.{item_mapped}
 use Rattle.lease_discipline.proofs.Follows.{AllFollow, Follows, JobsStay, More, follow_grows, gave_more, jobs_more, node_follows, stays}

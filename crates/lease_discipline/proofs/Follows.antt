@@ -4,14 +4,14 @@ use Rattle.std.specs.Prelude.{true, false}
 use Rattle.std.proofs.lemmas.Bool.{both_ways, true_from_ne_false}
 use Rattle.event_log.specs.Entries.{Attempt}
 use Rattle.event_log.specs.Breaks.{Among}
-use Rattle.protocol.specs.Messages.{Letter, Message, Party, TheWorker, TheNode, Ask, Give, Elsewhere, Wait, Back, Push, Finished, FinishedAck, Failed}
-use Rattle.protocol.specs.Messages.{Where, At, Gone, Fetch, CopyOf, Missing, Hold, HoldAck, Unhold}
-use Rattle.protocol.specs.Numbered.{item_at}
-use Rattle.protocol.specs.Jobs.{Given}
-use Rattle.protocol.specs.Nodes.{Scheduler}
-use Rattle.protocol.specs.Runs.{is_free}
-use Rattle.protocol.specs.Tables.{OwnTask, Run, Worker, new_worker, task_of}
-use Rattle.protocol_owed.specs.Courses.{has_begun}
+use Rattle.protocol_laws.specs.of_protocol.Messages.{Letter, Message, Party, TheWorker, TheNode, Ask, Give, Elsewhere, Wait, Back, Push, Finished, FinishedAck, Failed}
+use Rattle.protocol_laws.specs.of_protocol.Messages.{Where, At, Gone, Fetch, CopyOf, Missing, Hold, HoldAck, Unhold}
+use Rattle.protocol_laws.specs.of_protocol.Numbered.{item_at}
+use Rattle.protocol_laws.specs.of_protocol.Jobs.{Given}
+use Rattle.protocol_laws.specs.of_protocol.Nodes.{Scheduler}
+use Rattle.protocol_laws.specs.of_protocol.Runs.{is_free}
+use Rattle.protocol_laws.specs.of_protocol.Tables.{OwnTask, Run, Worker, new_worker, task_of}
+use Rattle.protocol_laws.specs.of_protocol_owed.Courses.{has_begun}
 use Rattle.lease_discipline.specs.Discipline.{Look, Gave, IsDoneAt, NodeKeeps, IsOfNode, IsTrueBetween, IsTrue}
 use Rattle.lease_discipline.specs.Discipline.{SaysBack, SaysDone, SaysGiven, SaysPushed, IsBegunBy, WorkerKeeps}
 

@@ -7,32 +7,32 @@ use Rattle.meaning.specs.Values.{Birth, Id}
 use Rattle.event_log.specs.Entries.{Attempt, Begun, Entry, Faulted, Got}
 use Rattle.event_log.specs.Words.{attempt}
 use Rattle.event_log.specs.Breaks.{Among}
-use Rattle.protocol.specs.Numbered.{item_at, changed_at}
-use Rattle.numbered.specs.Counting.{item_of, changed}
-use Rattle.numbered.proofs.Places.{changed_is, item_is}
-use Rattle.numbered.proofs.Lists.{changed-length}
-use Rattle.protocol.specs.Sets.{object_id, repeated}
-use Rattle.protocol.specs.Messages.{Letter, letter, Message, Party, TheWorker, TheNode, Ask, Give, Elsewhere, Wait, Back, Push, Finished, FinishedAck, Failed}
-use Rattle.protocol.specs.Messages.{Where, At, Gone, Fetch, CopyOf, Missing, Hold, HoldAck, Unhold}
-use Rattle.protocol.specs.Tables.{Fetching, HasEnded, HasFaulted, Object, Out, OwnTask, Phase, Ready, Run, RunsOn, Waits, Worker, has_stopped, new_worker}
-use Rattle.protocol.specs.Tables.{owner_of, task_in, task_of, with_task}
-use Rattle.protocol.specs.Steps.{Here, logs, logs_all, own_id, says, with_run, with_task_of, with_there, with_worker}
-use Rattle.protocol.specs.Runs.{asks_for_slot, gives_slot_back, with_answer}
-use Rattle.protocol.specs.Asking.{with_begun}
-use Rattle.protocol.specs.Nodes.{posts}
-use Rattle.protocol.specs.Whole.{Whole}
-use Rattle.protocol_owed.specs.Courses.{HasStopped, has_begun}
-use Rattle.protocol_owed.proofs.Nodes.{changed_cases, there_still, there_more}
-use Rattle.protocol_owed.proofs.Letters.{among-more}
-use Rattle.protocol_owed.specs.Told.{pace_in}
-use Rattle.protocol_owed.proofs.TellingMore.{stopped_pace}
-use Rattle.smallest_steps.proofs.Smallest.{AnyPassed}
+use Rattle.protocol_laws.specs.of_protocol.Numbered.{item_at, changed_at}
+use Rattle.protocol_laws.specs.of_numbered.Counting.{item_of, changed}
+use Rattle.protocol_laws.proofs.of_numbered.Places.{changed_is, item_is}
+use Rattle.protocol_laws.proofs.of_numbered.Lists.{changed-length}
+use Rattle.protocol_laws.specs.of_protocol.Sets.{object_id, repeated}
+use Rattle.protocol_laws.specs.of_protocol.Messages.{Letter, letter, Message, Party, TheWorker, TheNode, Ask, Give, Elsewhere, Wait, Back, Push, Finished, FinishedAck, Failed}
+use Rattle.protocol_laws.specs.of_protocol.Messages.{Where, At, Gone, Fetch, CopyOf, Missing, Hold, HoldAck, Unhold}
+use Rattle.protocol_laws.specs.of_protocol.Tables.{Fetching, HasEnded, HasFaulted, Object, Out, OwnTask, Phase, Ready, Run, RunsOn, Waits, Worker, has_stopped, new_worker}
+use Rattle.protocol_laws.specs.of_protocol.Tables.{owner_of, task_in, task_of, with_task}
+use Rattle.protocol_laws.specs.of_protocol.Steps.{Here, logs, logs_all, own_id, says, with_run, with_task_of, with_there, with_worker}
+use Rattle.protocol_laws.specs.of_protocol.Runs.{asks_for_slot, gives_slot_back, with_answer}
+use Rattle.protocol_laws.specs.of_protocol.Asking.{with_begun}
+use Rattle.protocol_laws.specs.of_protocol.Nodes.{posts}
+use Rattle.protocol_laws.specs.of_protocol.Whole.{Whole}
+use Rattle.protocol_laws.specs.of_protocol_owed.Courses.{HasStopped, has_begun}
+use Rattle.protocol_laws.proofs.of_protocol_owed.Nodes.{changed_cases, there_still, there_more}
+use Rattle.protocol_laws.proofs.of_protocol_owed.Letters.{among-more}
+use Rattle.protocol_laws.specs.of_protocol_owed.Told.{pace_in}
+use Rattle.protocol_laws.proofs.of_protocol_owed.TellingMore.{stopped_pace}
+use Rattle.protocol_laws.proofs.of_smallest_steps.Smallest.{AnyPassed}
 use Rattle.lease_discipline.specs.Discipline.{Look, Gave, IsBack, IsDone, IsJobOf, IsTrue, IsTrueBetween, WorkerKeeps}
 use Rattle.lease_discipline.proofs.Tame.{IsTame}
 use Rattle.lease_discipline.proofs.Follows.{AllFollow, Follows, More, follow_grows, gave_more, never_busy, node_follows, stays, true_more}
 use Rattle.lease_discipline.proofs.Moves.{IsKept, is_plain}
-use Rattle.protocol.specs.Asking.{asks_at, rests}
-use Rattle.protocol.specs.Tables.{AskedAt}
+use Rattle.protocol_laws.specs.of_protocol.Asking.{asks_at, rests}
+use Rattle.protocol_laws.specs.of_protocol.Tables.{AskedAt}
 use Rattle.lease_discipline.proofs.Tame.{asked_not_run, born_tame, rest_not_run, task_tame}
 use Rattle.lease_discipline.proofs.Nodes.{IsUnwanted}
 use Rattle.lease_discipline.proofs.Theres.{Goes, asks_slot_goes, frees_goes, logs_goes, look_in, store_goes, worker_says_goes}

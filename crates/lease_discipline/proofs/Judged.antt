@@ -11,14 +11,14 @@ use Rattle.event_log.specs.Events.{accepted_events, is_live}
 use Rattle.event_log.specs.Rules.{Setting}
 use Rattle.event_log.specs.Words.{births}
 use Rattle.event_log.specs.Legal.{opening}
-use Rattle.protocol.specs.Messages.{Ask, Give, Letter, Push, TheNode, TheWorker, Wait, letter}
-use Rattle.protocol.specs.Numbered.{item_at}
-use Rattle.protocol.specs.Sets.{has, object_id}
-use Rattle.protocol_owed.specs.Courses.{course_from}
-use Rattle.protocol_owed.specs.Owed.{RepliesAreMade}
-use Rattle.protocol_owed.specs.Replies.{Brings, GiveIsBegun, Logs, Says}
-use Rattle.protocol_owed.specs.Turns.{AskStands, IsReady}
-use Rattle.protocol_owed.proofs.Letters.{among-nothing}
+use Rattle.protocol_laws.specs.of_protocol.Messages.{Ask, Give, Letter, Push, TheNode, TheWorker, Wait, letter}
+use Rattle.protocol_laws.specs.of_protocol.Numbered.{item_at}
+use Rattle.protocol_laws.specs.of_protocol.Sets.{has, object_id}
+use Rattle.protocol_laws.specs.of_protocol_owed.Courses.{course_from}
+use Rattle.protocol_laws.specs.of_protocol_owed.Owed.{RepliesAreMade}
+use Rattle.protocol_laws.specs.of_protocol_owed.Replies.{Brings, GiveIsBegun, Logs, Says}
+use Rattle.protocol_laws.specs.of_protocol_owed.Turns.{AskStands, IsReady}
+use Rattle.protocol_laws.proofs.of_protocol_owed.Letters.{among-nothing}
 use Rattle.lease_discipline.specs.Examples.{ClaimsAreJudged, GivesBegin, SlotsAreJudged, TicksOweNothing, first_one, give_comes, given_log, given_network}
 use Rattle.lease_discipline.specs.Examples.{nothing_comes}
 use Rattle.lease_discipline.specs.Examples.{one_once, pushed, scene, waiting_network}

@@ -3,12 +3,12 @@ use Rattle.std.proofs.Common.{◌≡◌, ℕ, Some, Option, ap, sym, subst, ◌�
 use Rattle.std.specs.Prelude.{false, true}
 use Rattle.meaning.specs.Values.{Birth}
 use Rattle.event_log.specs.Entries.{Attempt}
-use Rattle.protocol.specs.Messages.{Party, Push, TheWorker, letter}
-use Rattle.protocol.specs.Nodes.{Node}
-use Rattle.protocol.specs.Numbered.{item_at}
-use Rattle.protocol.specs.Tables.{Worker}
-use Rattle.protocol.specs.Whole.{Whole, node_at, worker_at}
-use Rattle.protocol_owed.specs.Courses.{has_begun}
+use Rattle.protocol_laws.specs.of_protocol.Messages.{Party, Push, TheWorker, letter}
+use Rattle.protocol_laws.specs.of_protocol.Nodes.{Node}
+use Rattle.protocol_laws.specs.of_protocol.Numbered.{item_at}
+use Rattle.protocol_laws.specs.of_protocol.Tables.{Worker}
+use Rattle.protocol_laws.specs.of_protocol.Whole.{Whole, node_at, worker_at}
+use Rattle.protocol_laws.specs.of_protocol_owed.Courses.{has_begun}
 use Rattle.lease_discipline.specs.Discipline.{Gave, IsOfNode, IsPromised, IsPushed, KeepsLeases}
 use Rattle.lease_discipline.specs.Law.{EventsKeepLeases, OpeningKeepsLeases, PushesFindFree}
 use Rattle.lease_discipline.proofs.Events.{among_at, events_keep}

@@ -17,3 +17,6 @@ pub mod Asking
 pub mod AskEvents
 pub mod AskLaw
 pub mod Begins
+pub use Rattle.protocol_laws.proofs.of_holding_steps as of_holding_steps
+pub use Rattle.protocol_laws.proofs as of_protocol_laws
+pub use Rattle.protocol_laws.proofs.of_protocol_legal as of_protocol_legal

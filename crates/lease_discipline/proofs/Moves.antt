@@ -5,26 +5,26 @@ use Rattle.std.specs.Prelude.{◌≡◌, ℕ, ◌+◌, Bool, true, false, filter
 use Rattle.meaning.specs.Values.{Id, Outcome, Birth, results_of}
 use Rattle.event_log.specs.Entries.{Attempt, Entry, Got, Fault, Faulted}
 use Rattle.event_log.specs.Words.{attempt}
-use Rattle.protocol.specs.Messages.{EndedResult}
-use Rattle.protocol.specs.Messages.{Message, Party, TheWorker, TheNode, Ask, Give, Elsewhere, Back, Push, Finished, FinishedAck, Failed}
-use Rattle.protocol.specs.Stores.{Store}
-use Rattle.protocol.specs.Tables.{AskedAt, Fetching, HasFaulted, OwnTask, Run, RunsOn, Waits, Worker, has_stopped, owner_of}
-use Rattle.protocol.specs.Tables.{task_of, with_asker, with_content, with_fault, without_askers}
-use Rattle.protocol.specs.Steps.{Here, with_task_of, with_phase, with_run, logs_all, logs, says, says_to_node, with_worker, with_store, own_id, own_object}
-use Rattle.protocol.specs.Steps.{object_at}
-use Rattle.protocol.specs.Runs.{with_answer, gives_slot_back, asks_for_slot, leaves_if_free, push_reached}
-use Rattle.protocol.specs.Asking.{asks_at, pushes, requests, rests, with_begun}
-use Rattle.protocol.specs.Holders.{holds_ids, passes_on}
-use Rattle.protocol.specs.Commits.{asks_where, bears_all, keeps_contents, needs, task_objects, with_objects}
-use Rattle.protocol.specs.Notices.{notice_step, notice_node_step, with_dead_node, with_dead_worker}
-use Rattle.protocol.specs.Ticks.{tick_step}
-use Rattle.protocol.specs.Releases.{release_step}
-use Rattle.protocol.specs.Deliveries.{reached}
-use Rattle.smallest_steps.specs.Steps.{IsNextOf, IsRunning}
-use Rattle.smallest_steps.proofs.Smallest.{KeepsHere, KeepsAccepted, KeepsBirths, KeepsHeard, KeepsOver, KeepsAnswers}
-use Rattle.smallest_steps.proofs.Moves as S
-use Rattle.protocol_owed.specs.Told.{pace_in}
-use Rattle.protocol_owed.proofs.RunMoves.{Alike}
+use Rattle.protocol_laws.specs.of_protocol.Messages.{EndedResult}
+use Rattle.protocol_laws.specs.of_protocol.Messages.{Message, Party, TheWorker, TheNode, Ask, Give, Elsewhere, Back, Push, Finished, FinishedAck, Failed}
+use Rattle.protocol_laws.specs.of_protocol.Stores.{Store}
+use Rattle.protocol_laws.specs.of_protocol.Tables.{AskedAt, Fetching, HasFaulted, OwnTask, Run, RunsOn, Waits, Worker, has_stopped, owner_of}
+use Rattle.protocol_laws.specs.of_protocol.Tables.{task_of, with_asker, with_content, with_fault, without_askers}
+use Rattle.protocol_laws.specs.of_protocol.Steps.{Here, with_task_of, with_phase, with_run, logs_all, logs, says, says_to_node, with_worker, with_store, own_id, own_object}
+use Rattle.protocol_laws.specs.of_protocol.Steps.{object_at}
+use Rattle.protocol_laws.specs.of_protocol.Runs.{with_answer, gives_slot_back, asks_for_slot, leaves_if_free, push_reached}
+use Rattle.protocol_laws.specs.of_protocol.Asking.{asks_at, pushes, requests, rests, with_begun}
+use Rattle.protocol_laws.specs.of_protocol.Holders.{holds_ids, passes_on}
+use Rattle.protocol_laws.specs.of_protocol.Commits.{asks_where, bears_all, keeps_contents, needs, task_objects, with_objects}
+use Rattle.protocol_laws.specs.of_protocol.Notices.{notice_step, notice_node_step, with_dead_node, with_dead_worker}
+use Rattle.protocol_laws.specs.of_protocol.Ticks.{tick_step}
+use Rattle.protocol_laws.specs.of_protocol.Releases.{release_step}
+use Rattle.protocol_laws.specs.of_protocol.Deliveries.{reached}
+use Rattle.protocol_laws.specs.of_smallest_steps.Steps.{IsNextOf, IsRunning}
+use Rattle.protocol_laws.proofs.of_smallest_steps.Smallest.{KeepsHere, KeepsAccepted, KeepsBirths, KeepsHeard, KeepsOver, KeepsAnswers}
+use Rattle.protocol_laws.proofs.of_smallest_steps.Moves as S
+use Rattle.protocol_laws.specs.of_protocol_owed.Told.{pace_in}
+use Rattle.protocol_laws.proofs.of_protocol_owed.RunMoves.{Alike}
 use Rattle.lease_discipline.proofs.Tame.{LeavesTasks, places_left, put_left, same_left, untouched_left}
 
 -- a message that says nothing of leases, and nothing of an attempt that is over

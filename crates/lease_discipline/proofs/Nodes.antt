@@ -8,16 +8,16 @@ use Rattle.meaning.proofs.BirthLaws.{at_test}
 use Rattle.event_log.specs.Entries.{Attempt}
 use Rattle.event_log.specs.Words.{same_attempt}
 use Rattle.event_log.proofs.WordLaws.{same_attempt-true, same_attempt-refl}
-use Rattle.protocol.specs.Sets.{first_item, has, without_number}
-use Rattle.protocol.specs.Messages.{Letter}
-use Rattle.protocol.specs.Nodes.{AskKey, AskReply, Lease, Leased, Scheduler}
-use Rattle.protocol.specs.Slots.{is_latest_lease, may_be_idle, reply_to, same_key, slot_taken, with_answered, with_idle, with_lease, with_reply}
-use Rattle.protocol.specs.Slots.{without_lease, without_slot, without_worker}
-use Rattle.protocol.specs.Runs.{is_free}
-use Rattle.protocol.specs.Tables.{Worker}
-use Rattle.protocol_owed.specs.Courses.{has_begun}
-use Rattle.protocol_owed.proofs.Asks.{reply-same, reply-other, same_key-true}
-use Rattle.protocol_owed.proofs.Sets.{has-left, has-gone, has-stays, has-push, has-last, has-first, has-rest, has-with}
+use Rattle.protocol_laws.specs.of_protocol.Sets.{first_item, has, without_number}
+use Rattle.protocol_laws.specs.of_protocol.Messages.{Letter}
+use Rattle.protocol_laws.specs.of_protocol.Nodes.{AskKey, AskReply, Lease, Leased, Scheduler}
+use Rattle.protocol_laws.specs.of_protocol.Slots.{is_latest_lease, may_be_idle, reply_to, same_key, slot_taken, with_answered, with_idle, with_lease, with_reply}
+use Rattle.protocol_laws.specs.of_protocol.Slots.{without_lease, without_slot, without_worker}
+use Rattle.protocol_laws.specs.of_protocol.Runs.{is_free}
+use Rattle.protocol_laws.specs.of_protocol.Tables.{Worker}
+use Rattle.protocol_laws.specs.of_protocol_owed.Courses.{has_begun}
+use Rattle.protocol_laws.proofs.of_protocol_owed.Asks.{reply-same, reply-other, same_key-true}
+use Rattle.protocol_laws.proofs.of_protocol_owed.Sets.{has-left, has-gone, has-stays, has-push, has-last, has-first, has-rest, has-with}
 use Rattle.lease_discipline.specs.Discipline.{Look, Gave, IsDone, IsIdle, IsLeasedFor, IsPromised, NodeKeeps}
 use Rattle.lease_discipline.proofs.Follows.{never_busy, free_unless_busy, More, gave_more}
 

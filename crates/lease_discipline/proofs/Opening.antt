@@ -6,16 +6,16 @@ use Rattle.sequence.proofs.Places.{or_cases, or_left}
 use Rattle.event_log.specs.Entries.{main_attempt}
 use Rattle.event_log.specs.Words.{same_attempt}
 use Rattle.event_log.proofs.WordLaws.{same_attempt-true, same_attempt-refl}
-use Rattle.protocol.specs.Numbered.{item_at}
-use Rattle.numbered.proofs.Places.{counted}
-use Rattle.protocol.specs.Sets.{repeated}
-use Rattle.protocol.specs.Nodes.{Node, new_node, new_scheduler}
-use Rattle.protocol.specs.Tables.{Out, OwnTask, Ready, Run, Worker, task_of}
-use Rattle.protocol.specs.Whole.{Whole, driver, first_whole, main_run, node_at, worker_at}
-use Rattle.protocol_owed.specs.Courses.{has_begun}
-use Rattle.protocol_owed.proofs.Nodes.{changed_cases, there_still}
-use Rattle.protocol_owed.proofs.CourseEvents.{one_of}
-use Rattle.protocol_owed.proofs.Letters.{among-nothing}
+use Rattle.protocol_laws.specs.of_protocol.Numbered.{item_at}
+use Rattle.protocol_laws.proofs.of_numbered.Places.{counted}
+use Rattle.protocol_laws.specs.of_protocol.Sets.{repeated}
+use Rattle.protocol_laws.specs.of_protocol.Nodes.{Node, new_node, new_scheduler}
+use Rattle.protocol_laws.specs.of_protocol.Tables.{Out, OwnTask, Ready, Run, Worker, task_of}
+use Rattle.protocol_laws.specs.of_protocol.Whole.{Whole, driver, first_whole, main_run, node_at, worker_at}
+use Rattle.protocol_laws.specs.of_protocol_owed.Courses.{has_begun}
+use Rattle.protocol_laws.proofs.of_protocol_owed.Nodes.{changed_cases, there_still}
+use Rattle.protocol_laws.proofs.of_protocol_owed.CourseEvents.{one_of}
+use Rattle.protocol_laws.proofs.of_protocol_owed.Letters.{among-nothing}
 use Rattle.lease_discipline.specs.Discipline.{KeepsLeases, NodeKeeps, WorkerKeeps}
 
 pub only_driver : (w : ℕ) (x : Worker) → item_at (driver ∷ []) w ≡ Some x → (w ≡ 1) × (driver ≡ x)

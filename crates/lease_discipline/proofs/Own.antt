@@ -10,21 +10,21 @@ use Rattle.event_log.specs.Entries.{Attempt, Entry}
 use Rattle.event_log.specs.Words.{same_attempt}
 use Rattle.event_log.specs.Breaks.{Among}
 use Rattle.event_log.proofs.WordLaws.{same_attempt-true, same_attempt-refl}
-use Rattle.protocol.specs.Numbered.{item_at}
-use Rattle.protocol.specs.Sets.{has}
-use Rattle.protocol.specs.Messages.{Letter, letter, Message, Party, TheWorker, TheNode, Push}
-use Rattle.protocol.specs.Jobs.{AtEnd, AtGet, Outcomes, Stopped, stop_of}
-use Rattle.protocol.specs.Nodes.{posts}
-use Rattle.protocol.specs.Tables.{Fetching, HasEnded, HasFaulted, Out, Phase, Ready, Run, Waits, Worker, has_stopped, new_run}
-use Rattle.protocol.specs.Steps.{Here, logs_all, own_id, with_phase, with_run}
-use Rattle.protocol.specs.Runs.{begins_run, is_free, leaves_if_free, push_reached}
-use Rattle.protocol.specs.Commits.{keeps_contents, bears_all, claim_by, claim_step, commit_by, commit_step, ends, next_id_here, stops_by, with_outcomes}
-use Rattle.protocol.specs.Refusals.{is_ready_phase, is_ready_run}
-use Rattle.protocol.specs.Whole.{Whole}
-use Rattle.protocol_owed.specs.Courses.{GoesOn, HasStopped, Rests, has_begun}
-use Rattle.protocol_owed.specs.Told.{pace_in, pace_by}
-use Rattle.protocol_owed.proofs.TellingMore.{stopped_pace, stopped_not, rests_not}
-use Rattle.smallest_steps.proofs.Smallest.{AnyPassed}
+use Rattle.protocol_laws.specs.of_protocol.Numbered.{item_at}
+use Rattle.protocol_laws.specs.of_protocol.Sets.{has}
+use Rattle.protocol_laws.specs.of_protocol.Messages.{Letter, letter, Message, Party, TheWorker, TheNode, Push}
+use Rattle.protocol_laws.specs.of_protocol.Jobs.{AtEnd, AtGet, Outcomes, Stopped, stop_of}
+use Rattle.protocol_laws.specs.of_protocol.Nodes.{posts}
+use Rattle.protocol_laws.specs.of_protocol.Tables.{Fetching, HasEnded, HasFaulted, Out, Phase, Ready, Run, Waits, Worker, has_stopped, new_run}
+use Rattle.protocol_laws.specs.of_protocol.Steps.{Here, logs_all, own_id, with_phase, with_run}
+use Rattle.protocol_laws.specs.of_protocol.Runs.{begins_run, is_free, leaves_if_free, push_reached}
+use Rattle.protocol_laws.specs.of_protocol.Commits.{keeps_contents, bears_all, claim_by, claim_step, commit_by, commit_step, ends, next_id_here, stops_by, with_outcomes}
+use Rattle.protocol_laws.specs.of_protocol.Refusals.{is_ready_phase, is_ready_run}
+use Rattle.protocol_laws.specs.of_protocol.Whole.{Whole}
+use Rattle.protocol_laws.specs.of_protocol_owed.Courses.{GoesOn, HasStopped, Rests, has_begun}
+use Rattle.protocol_laws.specs.of_protocol_owed.Told.{pace_in, pace_by}
+use Rattle.protocol_laws.proofs.of_protocol_owed.TellingMore.{stopped_pace, stopped_not, rests_not}
+use Rattle.protocol_laws.proofs.of_smallest_steps.Smallest.{AnyPassed}
 use Rattle.lease_discipline.specs.Discipline.{Look, Gave, IsBegunBy, IsDoneAt, IsJobOf, IsLeasedFor, IsOfNode, IsPromised, IsPushed, NodeKeeps, WorkerKeeps}
 use Rattle.lease_discipline.proofs.Follows.{Grows, true_more}
 use Rattle.lease_discipline.proofs.Moves.{IsKept, bears_all-kept, keeps_contents-kept, leaves_if_free-kept, needs-kept}
@@ -33,7 +33,7 @@ use Rattle.lease_discipline.proofs.Theres.{letter_cases}
 use Rattle.lease_discipline.proofs.Heres.{Does, IsToldBy, IsOverOf, IsGivenBy, at_me, at_other, busy_unwanted, by_number, does_kept, frees_does, logs_does}
 use Rattle.lease_discipline.proofs.Heres.{look_here, look_with, mine, run_does, sent_here}
 use Rattle.lease_discipline.proofs.Heres.{was_sent}
-use Rattle.numbered.proofs.Lists.{changed-length}
+use Rattle.protocol_laws.proofs.of_numbered.Lists.{changed-length}
 
 rests_not_stopped : Rests ≡ HasStopped → ⊥
 rests_not_stopped e = absurd (cc)

@@ -6,17 +6,17 @@ use Rattle.std.proofs.lemmas.Bool.{both_ways}
 use Rattle.meaning.proofs.BirthLaws.{at_test}
 use Rattle.meaning.specs.Mains.{KeepsMainApart}
 use Rattle.event_log.specs.Rules.{Setting}
-use Rattle.protocol.specs.Nodes.{Node, Scheduler, new_node}
-use Rattle.protocol.specs.Sets.{has, repeated}
-use Rattle.protocol.specs.Tables.{Worker}
-use Rattle.protocol.specs.Whole.{first_whole, node_at, worker_at}
-use Rattle.protocol_owed.specs.Courses.{GoesOn, IsLeased, IsOut, LivesOn, course}
-use Rattle.protocol_owed.specs.Runs.{Handing, Running, SlotsAreSound, after_event, after_events, holders_in, opening_run, seen}
-use Rattle.protocol_owed.specs.Turns.{AskStands, IsBusy, RunnerStands}
-use Rattle.protocol_owed.proofs.FullNodes.{NodesAreFull, answered-full}
-use Rattle.protocol_owed.proofs.Nodes.{NodesAreRight, answered-right, changed_cases}
-use Rattle.protocol_owed.proofs.Opening.{law_of_slots, opens-full, opens-right}
-use Rattle.protocol_owed.specs.Told.{IsAsTold, pace_by}
+use Rattle.protocol_laws.specs.of_protocol.Nodes.{Node, Scheduler, new_node}
+use Rattle.protocol_laws.specs.of_protocol.Sets.{has, repeated}
+use Rattle.protocol_laws.specs.of_protocol.Tables.{Worker}
+use Rattle.protocol_laws.specs.of_protocol.Whole.{first_whole, node_at, worker_at}
+use Rattle.protocol_laws.specs.of_protocol_owed.Courses.{GoesOn, IsLeased, IsOut, LivesOn, course}
+use Rattle.protocol_laws.specs.of_protocol_owed.Runs.{Handing, Running, SlotsAreSound, after_event, after_events, holders_in, opening_run, seen}
+use Rattle.protocol_laws.specs.of_protocol_owed.Turns.{AskStands, IsBusy, RunnerStands}
+use Rattle.protocol_laws.proofs.of_protocol_owed.FullNodes.{NodesAreFull, answered-full}
+use Rattle.protocol_laws.proofs.of_protocol_owed.Nodes.{NodesAreRight, answered-right, changed_cases}
+use Rattle.protocol_laws.proofs.of_protocol_owed.Opening.{law_of_slots, opens-full, opens-right}
+use Rattle.protocol_laws.specs.of_protocol_owed.Told.{IsAsTold, pace_by}
 use Rattle.lease_discipline.specs.Discipline.{Gave, IsOfNode}
 use Rattle.lease_discipline.specs.Slots.{AreRight, KeepsSlots, LawOfKeptSlots, SlotsAreKept}
 use Rattle.lease_discipline.specs.Told.{IsInStep}

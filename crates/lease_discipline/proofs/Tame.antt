@@ -3,14 +3,14 @@ use Rattle.std.proofs.Common.{◌≡◌, ℕ, zero, suc, List, [], ◌∷◌, �
 use Rattle.std.specs.Prelude.{slice_get}
 use Rattle.meaning.specs.Values.{Birth, Id}
 use Rattle.event_log.specs.Entries.{Attempt}
-use Rattle.protocol.specs.Commits.{task_objects}
-use Rattle.protocol.specs.Numbered.{item_at, changed_at}
-use Rattle.protocol.specs.Tables.{ByTask, Object, OwnTask, AtRest, AskedAt, RunsOn, WasPut}
-use Rattle.protocol.specs.Tables.{Worker}
-use Rattle.protocol.specs.Tables.{new_task, task_in, task_of, with_task, without_place}
-use Rattle.smallest_steps.proofs.Known.{new_tasks, same_tasks}
-use Rattle.protocol_owed.proofs.CourseEvents.{append_none}
-use Rattle.protocol_owed.proofs.Nodes.{changed_cases, push_cases, there_more}
+use Rattle.protocol_laws.specs.of_protocol.Commits.{task_objects}
+use Rattle.protocol_laws.specs.of_protocol.Numbered.{item_at, changed_at}
+use Rattle.protocol_laws.specs.of_protocol.Tables.{ByTask, Object, OwnTask, AtRest, AskedAt, RunsOn, WasPut}
+use Rattle.protocol_laws.specs.of_protocol.Tables.{Worker}
+use Rattle.protocol_laws.specs.of_protocol.Tables.{new_task, task_in, task_of, with_task, without_place}
+use Rattle.protocol_laws.proofs.of_smallest_steps.Known.{new_tasks, same_tasks}
+use Rattle.protocol_laws.proofs.of_protocol_owed.CourseEvents.{append_none}
+use Rattle.protocol_laws.proofs.of_protocol_owed.Nodes.{changed_cases, push_cases, there_more}
 
 -- the present attempt of the object's task ran there before
 pub record RanAlready (x : Worker) (k number v n : ℕ) : Type 0 where

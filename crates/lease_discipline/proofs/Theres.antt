@@ -8,24 +8,24 @@ use Rattle.sequence.proofs.Places.{slice_get-last}
 use Rattle.meaning.specs.Values.{Id, Outcome}
 use Rattle.event_log.specs.Entries.{Attempt, Entry}
 use Rattle.event_log.specs.Breaks.{Among}
-use Rattle.protocol.specs.Numbered.{item_at}
-use Rattle.protocol.specs.Sets.{first_item, has, least, repeated, rest_of}
-use Rattle.protocol.specs.Messages.{Letter, letter, Message, Party, TheWorker, TheNode, Ask, Give, Elsewhere, Wait, Back, Push, Finished, FinishedAck, Failed}
-use Rattle.protocol.specs.Messages.{Where, At, Gone, Fetch, CopyOf, Missing, Hold, HoldAck, Unhold}
-use Rattle.protocol.specs.Jobs.{Given}
-use Rattle.protocol.specs.Stores.{Store, copy_in}
-use Rattle.protocol.specs.Nodes.{AskKey, AskReply, Leased, Queued, Scheduler, SentOn, There, node_logs, posts, with_scheduler, with_store_there}
-use Rattle.protocol.specs.Slots.{ask_key, asked_by, asks_slot, fetched, forgets, frees, gives_worker, grants, grants_next, grants_queued, has_free_slot}
-use Rattle.protocol.specs.Slots.{has_no_slot_for, is_back, leases_idle}
-use Rattle.protocol.specs.Slots.{leases_worker, may_be_idle, next_in_circle, next_worker, node_reached, node_reached_from, opens_worker, queues, replies}
-use Rattle.protocol.specs.Slots.{replies_anew, reply_message, reply_to}
-use Rattle.protocol.specs.Slots.{slot_taken, with_answered, with_idle, with_queued, with_reply, without_slot, without_worker}
-use Rattle.protocol.specs.Runs.{is_free}
-use Rattle.protocol.specs.Tables.{Worker, new_worker}
-use Rattle.protocol_owed.proofs.Nodes.{push_cases, nothing_past, there_more}
-use Rattle.protocol_owed.proofs.FullNodes.{repeated-length}
-use Rattle.protocol_owed.proofs.Letters.{among-append_cases, among-push_cases, among-more, among-last, among-behind}
-use Rattle.protocol_owed.proofs.Sets.{repeated_more, least-in}
+use Rattle.protocol_laws.specs.of_protocol.Numbered.{item_at}
+use Rattle.protocol_laws.specs.of_protocol.Sets.{first_item, has, least, repeated, rest_of}
+use Rattle.protocol_laws.specs.of_protocol.Messages.{Letter, letter, Message, Party, TheWorker, TheNode, Ask, Give, Elsewhere, Wait, Back, Push, Finished, FinishedAck, Failed}
+use Rattle.protocol_laws.specs.of_protocol.Messages.{Where, At, Gone, Fetch, CopyOf, Missing, Hold, HoldAck, Unhold}
+use Rattle.protocol_laws.specs.of_protocol.Jobs.{Given}
+use Rattle.protocol_laws.specs.of_protocol.Stores.{Store, copy_in}
+use Rattle.protocol_laws.specs.of_protocol.Nodes.{AskKey, AskReply, Leased, Queued, Scheduler, SentOn, There, node_logs, posts, with_scheduler, with_store_there}
+use Rattle.protocol_laws.specs.of_protocol.Slots.{ask_key, asked_by, asks_slot, fetched, forgets, frees, gives_worker, grants, grants_next, grants_queued, has_free_slot}
+use Rattle.protocol_laws.specs.of_protocol.Slots.{has_no_slot_for, is_back, leases_idle}
+use Rattle.protocol_laws.specs.of_protocol.Slots.{leases_worker, may_be_idle, next_in_circle, next_worker, node_reached, node_reached_from, opens_worker, queues, replies}
+use Rattle.protocol_laws.specs.of_protocol.Slots.{replies_anew, reply_message, reply_to}
+use Rattle.protocol_laws.specs.of_protocol.Slots.{slot_taken, with_answered, with_idle, with_queued, with_reply, without_slot, without_worker}
+use Rattle.protocol_laws.specs.of_protocol.Runs.{is_free}
+use Rattle.protocol_laws.specs.of_protocol.Tables.{Worker, new_worker}
+use Rattle.protocol_laws.proofs.of_protocol_owed.Nodes.{push_cases, nothing_past, there_more}
+use Rattle.protocol_laws.proofs.of_protocol_owed.FullNodes.{repeated-length}
+use Rattle.protocol_laws.proofs.of_protocol_owed.Letters.{among-append_cases, among-push_cases, among-more, among-last, among-behind}
+use Rattle.protocol_laws.proofs.of_protocol_owed.Sets.{repeated_more, least-in}
 use Rattle.lease_discipline.specs.Discipline.{Look, Gave, IsBack, IsOfNode, NodeKeeps, IsTrue, WorkerKeeps, WorkersKeep}
 use Rattle.lease_discipline.proofs.Follows.{Adds, adds_grows, same_grows, true_more, worker_more, new_keeps, node_letters, node_adds, More}
 use Rattle.lease_discipline.proofs.Nodes.{IsUnwanted, Lessens, lessened, queue_lessens, reply_lessens, taken_lessens, slot_lessens, answered_lessens}

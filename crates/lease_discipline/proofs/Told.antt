@@ -15,25 +15,25 @@ use Rattle.event_log.specs.Words.{worker_of}
 use Rattle.event_log.proofs.WordLaws.{same_attempt-true}
 use Rattle.event_log.proofs.SaneLaws.{legal_logs_are_sane}
 use Rattle.event_log.specs.Breaks.{Among}
-use Rattle.protocol.specs.Answers.{Answer, Refuses, Takes, answer, logged, whole_after}
-use Rattle.protocol.specs.Jobs.{Given}
-use Rattle.protocol.specs.Messages.{Letter, Party, Push, TheWorker, letter}
-use Rattle.protocol.specs.Numbered.{item_at}
-use Rattle.protocol.specs.Tables.{Out, Phase, Ready, Waits, HasEnded, HasFaulted, Run, Worker}
-use Rattle.protocol.specs.Whole.{Whole, driver, first_whole, worker_at}
-use Rattle.protocol_legal.specs.Past.{past}
-use Rattle.protocol_legal.specs.Says.{IsPushed, Says}
-use Rattle.protocol_legal.specs.Whole.{Between, setting_of}
+use Rattle.protocol_laws.specs.of_protocol.Answers.{Answer, Refuses, Takes, answer, logged, whole_after}
+use Rattle.protocol_laws.specs.of_protocol.Jobs.{Given}
+use Rattle.protocol_laws.specs.of_protocol.Messages.{Letter, Party, Push, TheWorker, letter}
+use Rattle.protocol_laws.specs.of_protocol.Numbered.{item_at}
+use Rattle.protocol_laws.specs.of_protocol.Tables.{Out, Phase, Ready, Waits, HasEnded, HasFaulted, Run, Worker}
+use Rattle.protocol_laws.specs.of_protocol.Whole.{Whole, driver, first_whole, worker_at}
+use Rattle.protocol_laws.specs.of_protocol_legal.Past.{past}
+use Rattle.protocol_laws.specs.of_protocol_legal.Says.{IsPushed, Says}
+use Rattle.protocol_laws.specs.of_protocol_legal.Whole.{Between, setting_of}
 use Rattle.protocol_laws.specs.Sound.{IsSound}
 use Rattle.protocol_laws.proofs.Laws.{event_keeps_sound, opening_is_sound}
-use Rattle.protocol_owed.specs.Courses.{Course, GoesOn, HasStopped, IsOut, course, course_from, has_begun, is_attempt, opening_course}
-use Rattle.protocol_owed.specs.Runs.{seen}
-use Rattle.protocol_owed.specs.Turns.{ClaimIsAnswered}
-use Rattle.protocol_owed.proofs.Claims as C
-use Rattle.protocol_owed.proofs.CourseEvents.{HoldsAt}
-use Rattle.protocol_owed.proofs.CourseRuns.{IsDisciplined}
-use Rattle.protocol_owed.proofs.Tellings.{AllTold, event_told}
-use Rattle.protocol_owed.specs.Told.{pace_in, IsAsTold, pace_by, attempt_by}
+use Rattle.protocol_laws.specs.of_protocol_owed.Courses.{Course, GoesOn, HasStopped, IsOut, course, course_from, has_begun, is_attempt, opening_course}
+use Rattle.protocol_laws.specs.of_protocol_owed.Runs.{seen}
+use Rattle.protocol_laws.specs.of_protocol_owed.Turns.{ClaimIsAnswered}
+use Rattle.protocol_laws.proofs.of_protocol_owed.Claims as C
+use Rattle.protocol_laws.proofs.of_protocol_owed.CourseEvents.{HoldsAt}
+use Rattle.protocol_laws.proofs.of_protocol_owed.CourseRuns.{IsDisciplined}
+use Rattle.protocol_laws.proofs.of_protocol_owed.Tellings.{AllTold, event_told}
+use Rattle.protocol_laws.specs.of_protocol_owed.Told.{pace_in, IsAsTold, pace_by, attempt_by}
 use Rattle.lease_discipline.specs.Discipline as D
 use Rattle.lease_discipline.specs.Discipline.{IsOfNode, KeepsLeases}
 use Rattle.lease_discipline.specs.Told.{IsInStep, IsToldOf, TellsCourses, entries_of}

@@ -7,31 +7,31 @@ use Rattle.meaning.proofs.BirthLaws.{at_test}
 use Rattle.meaning.specs.Values.{Birth, Id, Outcome}
 use Rattle.event_log.specs.Commits.{commit_entries}
 use Rattle.event_log.specs.Entries.{Attempt, Entry, Faulted, Got}
-use Rattle.protocol.specs.Numbered.{item_at}
-use Rattle.protocol.specs.Sets.{first_item, has, least, repeated, rest_of}
-use Rattle.protocol.specs.Jobs.{AtEnd, AtGet, Outcomes, Stopped, stop_of}
-use Rattle.protocol.specs.Messages.{Message, Party, TheWorker, TheNode, Ask, Give, Elsewhere, Wait, Back, Push, Finished, FinishedAck, Failed}
-use Rattle.protocol.specs.Messages.{Where, At, Gone, Fetch, CopyOf, Missing, Hold, HoldAck, Unhold}
-use Rattle.protocol.specs.Stores.{copy_in}
-use Rattle.protocol.specs.Nodes.{AskKey, AskReply, Scheduler, SentOn, There, with_scheduler}
-use Rattle.protocol.specs.Slots.{ask_key, asked_by, asks_slot, fetched, forgets, frees, gives_worker, grants, grants_next, grants_queued, has_free_slot}
-use Rattle.protocol.specs.Slots.{has_no_slot_for, leases_idle, may_be_idle}
-use Rattle.protocol.specs.Slots.{next_in_circle, node_reached, node_reached_from, queues, replies_anew, reply_to, with_answered, with_idle, without_slot}
-use Rattle.protocol.specs.Slots.{without_worker}
-use Rattle.protocol.specs.Tables.{Fetching, HasEnded, HasFaulted, Out, OwnTask, Run, Waits, Worker, new_worker}
-use Rattle.protocol.specs.Steps.{Here, logs, logs_all, with_phase, with_run, with_task_of, with_worker}
-use Rattle.protocol.specs.Runs.{asks_for_slot, begins_run, gives_slot_back, leaves_if_free, with_answer}
-use Rattle.protocol.specs.Asking.{asks_at, rests, with_begun}
-use Rattle.protocol.specs.Tables.{AskedAt}
-use Rattle.protocol.specs.Commits.{bears_all, keeps_contents, task_objects, with_objects, claim_by, claim_step, commit_by, commit_step, ends, next_id_here, stops_by, with_outcomes}
-use Rattle.protocol.specs.Whole.{Whole}
-use Rattle.protocol_owed.specs.Courses.{GoesOn, HasStopped, IsOut, Rests}
-use Rattle.protocol_owed.proofs.CourseEvents.{append_split, one_of}
-use Rattle.protocol_owed.proofs.Nodes.{there_more}
-use Rattle.protocol_owed.specs.Told.{pace_in, pace_by}
-use Rattle.protocol_owed.proofs.Sets.{has-last, has-stays}
-use Rattle.protocol_owed.proofs.TellingMore.{stopped_not, rests_not}
-use Rattle.smallest_steps.proofs.Smallest.{AnyPassed}
+use Rattle.protocol_laws.specs.of_protocol.Numbered.{item_at}
+use Rattle.protocol_laws.specs.of_protocol.Sets.{first_item, has, least, repeated, rest_of}
+use Rattle.protocol_laws.specs.of_protocol.Jobs.{AtEnd, AtGet, Outcomes, Stopped, stop_of}
+use Rattle.protocol_laws.specs.of_protocol.Messages.{Message, Party, TheWorker, TheNode, Ask, Give, Elsewhere, Wait, Back, Push, Finished, FinishedAck, Failed}
+use Rattle.protocol_laws.specs.of_protocol.Messages.{Where, At, Gone, Fetch, CopyOf, Missing, Hold, HoldAck, Unhold}
+use Rattle.protocol_laws.specs.of_protocol.Stores.{copy_in}
+use Rattle.protocol_laws.specs.of_protocol.Nodes.{AskKey, AskReply, Scheduler, SentOn, There, with_scheduler}
+use Rattle.protocol_laws.specs.of_protocol.Slots.{ask_key, asked_by, asks_slot, fetched, forgets, frees, gives_worker, grants, grants_next, grants_queued, has_free_slot}
+use Rattle.protocol_laws.specs.of_protocol.Slots.{has_no_slot_for, leases_idle, may_be_idle}
+use Rattle.protocol_laws.specs.of_protocol.Slots.{next_in_circle, node_reached, node_reached_from, queues, replies_anew, reply_to, with_answered, with_idle, without_slot}
+use Rattle.protocol_laws.specs.of_protocol.Slots.{without_worker}
+use Rattle.protocol_laws.specs.of_protocol.Tables.{Fetching, HasEnded, HasFaulted, Out, OwnTask, Run, Waits, Worker, new_worker}
+use Rattle.protocol_laws.specs.of_protocol.Steps.{Here, logs, logs_all, with_phase, with_run, with_task_of, with_worker}
+use Rattle.protocol_laws.specs.of_protocol.Runs.{asks_for_slot, begins_run, gives_slot_back, leaves_if_free, with_answer}
+use Rattle.protocol_laws.specs.of_protocol.Asking.{asks_at, rests, with_begun}
+use Rattle.protocol_laws.specs.of_protocol.Tables.{AskedAt}
+use Rattle.protocol_laws.specs.of_protocol.Commits.{bears_all, keeps_contents, task_objects, with_objects, claim_by, claim_step, commit_by, commit_step, ends, next_id_here, stops_by, with_outcomes}
+use Rattle.protocol_laws.specs.of_protocol.Whole.{Whole}
+use Rattle.protocol_laws.specs.of_protocol_owed.Courses.{GoesOn, HasStopped, IsOut, Rests}
+use Rattle.protocol_laws.proofs.of_protocol_owed.CourseEvents.{append_split, one_of}
+use Rattle.protocol_laws.proofs.of_protocol_owed.Nodes.{there_more}
+use Rattle.protocol_laws.specs.of_protocol_owed.Told.{pace_in, pace_by}
+use Rattle.protocol_laws.proofs.of_protocol_owed.Sets.{has-last, has-stays}
+use Rattle.protocol_laws.proofs.of_protocol_owed.TellingMore.{stopped_not, rests_not}
+use Rattle.protocol_laws.proofs.of_smallest_steps.Smallest.{AnyPassed}
 use Rattle.lease_discipline.specs.Discipline.{Look}
 use Rattle.lease_discipline.specs.Slots.{HasTurn}
 use Rattle.lease_discipline.proofs.Moves.{IsKept, bears_all-kept, keeps_contents-kept, leaves_if_free-kept, needs-kept}

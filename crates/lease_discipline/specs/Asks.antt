@@ -3,15 +3,15 @@ use Rattle.std.specs.Prelude.{◌≡◌, ◌<◌, ◌≤◌, ℕ, false, List, [
 use Rattle.meaning.specs.Values.{Birth}
 use Rattle.event_log.specs.Entries.{Attempt}
 use Rattle.event_log.specs.Words.{attempt}
-use Rattle.protocol.specs.Messages.{Ask, Elsewhere, Give, Letter, TheNode, TheWorker}
-use Rattle.protocol.specs.Nodes.{AskKey, AskReply, Node}
-use Rattle.protocol.specs.Numbered.{item_at}
-use Rattle.protocol.specs.Sets.{object_id}
-use Rattle.protocol.specs.Slots.{reply_to}
-use Rattle.protocol.specs.Tables.{AskedAt, OwnTask, RunsOn, Worker, new_task, task_of}
-use Rattle.protocol.specs.Whole.{Whole, node_at, worker_at}
-use Rattle.protocol_owed.specs.Runs.{Handing, after_events, opening_run}
-use Rattle.protocol_owed.specs.Seen.{Sends}
+use Rattle.protocol_laws.specs.of_protocol.Messages.{Ask, Elsewhere, Give, Letter, TheNode, TheWorker}
+use Rattle.protocol_laws.specs.of_protocol.Nodes.{AskKey, AskReply, Node}
+use Rattle.protocol_laws.specs.of_protocol.Numbered.{item_at}
+use Rattle.protocol_laws.specs.of_protocol.Sets.{object_id}
+use Rattle.protocol_laws.specs.of_protocol.Slots.{reply_to}
+use Rattle.protocol_laws.specs.of_protocol.Tables.{AskedAt, OwnTask, RunsOn, Worker, new_task, task_of}
+use Rattle.protocol_laws.specs.of_protocol.Whole.{Whole, node_at, worker_at}
+use Rattle.protocol_laws.specs.of_protocol_owed.Runs.{Handing, after_events, opening_run}
+use Rattle.protocol_laws.specs.of_protocol_owed.Seen.{Sends}
 use Rattle.lease_discipline.specs.Discipline.{Pushed}
 
 -- ---- words

@@ -6,17 +6,17 @@ use Rattle.meaning.specs.Values.{Birth}
 use Rattle.event_log.specs.Entries.{Attempt, main_attempt}
 use Rattle.event_log.specs.Words.{attempt}
 use Rattle.event_log.specs.Breaks.{Among}
-use Rattle.protocol.specs.Numbered.{item_at}
-use Rattle.protocol.specs.Sets.{has, object_id}
-use Rattle.protocol.specs.Messages.{Letter, Message, Party, TheWorker, TheNode, Give, Back, Push, Finished, FinishedAck, Failed}
-use Rattle.protocol.specs.Jobs.{Given}
-use Rattle.protocol.specs.Nodes.{AskKey, Leased, Node, Scheduler}
-use Rattle.protocol.specs.Slots.{is_latest_lease, reply_to}
-use Rattle.protocol.specs.Runs.{is_free}
-use Rattle.protocol.specs.Tables.{OwnTask, Out, Run, RunsOn, Worker, has_stopped, task_of}
-use Rattle.protocol.specs.Whole.{Whole, node_at, worker_at}
-use Rattle.protocol_owed.specs.Seen.{Sends}
-use Rattle.protocol_owed.specs.Courses.{has_begun}
+use Rattle.protocol_laws.specs.of_protocol.Numbered.{item_at}
+use Rattle.protocol_laws.specs.of_protocol.Sets.{has, object_id}
+use Rattle.protocol_laws.specs.of_protocol.Messages.{Letter, Message, Party, TheWorker, TheNode, Give, Back, Push, Finished, FinishedAck, Failed}
+use Rattle.protocol_laws.specs.of_protocol.Jobs.{Given}
+use Rattle.protocol_laws.specs.of_protocol.Nodes.{AskKey, Leased, Node, Scheduler}
+use Rattle.protocol_laws.specs.of_protocol.Slots.{is_latest_lease, reply_to}
+use Rattle.protocol_laws.specs.of_protocol.Runs.{is_free}
+use Rattle.protocol_laws.specs.of_protocol.Tables.{OwnTask, Out, Run, RunsOn, Worker, has_stopped, task_of}
+use Rattle.protocol_laws.specs.of_protocol.Whole.{Whole, node_at, worker_at}
+use Rattle.protocol_laws.specs.of_protocol_owed.Seen.{Sends}
+use Rattle.protocol_laws.specs.of_protocol_owed.Courses.{has_begun}
 
 -- ---- words
 

@@ -6,12 +6,12 @@ use Rattle.event_log.specs.Entries.{NotReady}
 use Rattle.event_log.specs.Rules.{Setting}
 use Rattle.event_log.specs.Words.{attempt}
 use Rattle.event_log.specs.Legal.{opening}
-use Rattle.protocol.specs.Messages.{Ask, Give, Letter, Push, TheNode, TheWorker, Wait, letter}
-use Rattle.protocol.specs.Sets.{object_id}
-use Rattle.protocol_owed.specs.Owed.{RepliesAreMade}
-use Rattle.protocol_owed.specs.Replies.{GiveIsBegun, Happening}
-use Rattle.protocol_owed.specs.Seen.{Scene}
-use Rattle.protocol_owed.specs.Turns.{ClaimIsAnswered, SlotsAreRight}
+use Rattle.protocol_laws.specs.of_protocol.Messages.{Ask, Give, Letter, Push, TheNode, TheWorker, Wait, letter}
+use Rattle.protocol_laws.specs.of_protocol.Sets.{object_id}
+use Rattle.protocol_laws.specs.of_protocol_owed.Owed.{RepliesAreMade}
+use Rattle.protocol_laws.specs.of_protocol_owed.Replies.{GiveIsBegun, Happening}
+use Rattle.protocol_laws.specs.of_protocol_owed.Seen.{Scene}
+use Rattle.protocol_laws.specs.of_protocol_owed.Turns.{ClaimIsAnswered, SlotsAreRight}
 
 -- `remote(0) one()`
 abbrev pub one_once : Birth

@@ -2,14 +2,14 @@
 use Rattle.std.specs.Prelude.{◌≡◌, ◌<◌, ℕ, false, true, Some}
 use Rattle.meaning.specs.Values.{Birth}
 use Rattle.event_log.specs.Entries.{Attempt, Deliver, Event}
-use Rattle.protocol.specs.Answers.{Step, Takes, answer, whole_after}
-use Rattle.protocol.specs.Jobs.{Handed}
-use Rattle.protocol.specs.Messages.{Party, Push, TheWorker, letter}
-use Rattle.protocol.specs.Numbered.{item_at}
-use Rattle.protocol.specs.Runs.{is_free}
-use Rattle.protocol.specs.Tables.{Worker}
-use Rattle.protocol.specs.Whole.{Whole, first_whole, worker_at}
-use Rattle.protocol_owed.specs.Courses.{has_begun}
+use Rattle.protocol_laws.specs.of_protocol.Answers.{Step, Takes, answer, whole_after}
+use Rattle.protocol_laws.specs.of_protocol.Jobs.{Handed}
+use Rattle.protocol_laws.specs.of_protocol.Messages.{Party, Push, TheWorker, letter}
+use Rattle.protocol_laws.specs.of_protocol.Numbered.{item_at}
+use Rattle.protocol_laws.specs.of_protocol.Runs.{is_free}
+use Rattle.protocol_laws.specs.of_protocol.Tables.{Worker}
+use Rattle.protocol_laws.specs.of_protocol.Whole.{Whole, first_whole, worker_at}
+use Rattle.protocol_laws.specs.of_protocol_owed.Courses.{has_begun}
 use Rattle.lease_discipline.specs.Discipline.{KeepsLeases}
 
 -- in a cluster that has a node a run begins with its leases in order

@@ -4,15 +4,15 @@ use Rattle.event_log.specs.Entries.{Attempt, Entry, Event}
 use Rattle.event_log.specs.Legal.{opening}
 use Rattle.event_log.specs.Rules.{Setting}
 use Rattle.meaning.specs.Mains.{KeepsMainApart}
-use Rattle.protocol.specs.Answers.{answer, logged, whole_after}
-use Rattle.protocol.specs.Jobs.{Handed}
-use Rattle.protocol.specs.Tables.{Worker}
-use Rattle.protocol.specs.Whole.{Whole, first_whole, worker_at}
+use Rattle.protocol_laws.specs.of_protocol.Answers.{answer, logged, whole_after}
+use Rattle.protocol_laws.specs.of_protocol.Jobs.{Handed}
+use Rattle.protocol_laws.specs.of_protocol.Tables.{Worker}
+use Rattle.protocol_laws.specs.of_protocol.Whole.{Whole, first_whole, worker_at}
 use Rattle.protocol_laws.specs.Coming.{IsRight}
-use Rattle.protocol_owed.specs.Courses.{course, has_begun}
-use Rattle.protocol_owed.specs.Runs.{Running, seen}
-use Rattle.protocol_owed.specs.Turns.{ClaimIsAnswered}
-use Rattle.protocol_owed.specs.Told.{IsAsTold}
+use Rattle.protocol_laws.specs.of_protocol_owed.Courses.{course, has_begun}
+use Rattle.protocol_laws.specs.of_protocol_owed.Runs.{Running, seen}
+use Rattle.protocol_laws.specs.of_protocol_owed.Turns.{ClaimIsAnswered}
+use Rattle.protocol_laws.specs.of_protocol_owed.Told.{IsAsTold}
 use Rattle.lease_discipline.specs.Told.{IsInStep, entries_of}
 
 abbrev pub running : Whole → List Entry → Running

@@ -2,16 +2,16 @@
 use Rattle.std.specs.Prelude.{◌≡◌, ◌≤◌, ◌<◌, ℕ, true, length, List, [], ◌∷◌, Some, ◌⊎◌}
 use Rattle.event_log.specs.Rules.{Setting}
 use Rattle.meaning.specs.Mains.{KeepsMainApart}
-use Rattle.protocol.specs.Nodes.{Node, Scheduler}
-use Rattle.protocol.specs.Sets.{has}
-use Rattle.protocol.specs.Tables.{Worker}
-use Rattle.protocol.specs.Whole.{Whole, node_at, worker_at}
+use Rattle.protocol_laws.specs.of_protocol.Nodes.{Node, Scheduler}
+use Rattle.protocol_laws.specs.of_protocol.Sets.{has}
+use Rattle.protocol_laws.specs.of_protocol.Tables.{Worker}
+use Rattle.protocol_laws.specs.of_protocol.Whole.{Whole, node_at, worker_at}
 use Rattle.protocol_laws.specs.Coming.{IsRight}
-use Rattle.protocol_owed.specs.Courses.{GoesOn, IsLeased, IsOut, LivesOn}
-use Rattle.protocol_owed.specs.Runs.{Handing, Running, after_event, after_events, opening_run, seen}
-use Rattle.protocol_owed.specs.Seen.{Scene}
-use Rattle.protocol_owed.specs.Turns.{AreDistinct, AskStands, IsBusy, RunnerStands}
-use Rattle.protocol_owed.specs.Told.{pace_by}
+use Rattle.protocol_laws.specs.of_protocol_owed.Courses.{GoesOn, IsLeased, IsOut, LivesOn}
+use Rattle.protocol_laws.specs.of_protocol_owed.Runs.{Handing, Running, after_event, after_events, opening_run, seen}
+use Rattle.protocol_laws.specs.of_protocol_owed.Seen.{Scene}
+use Rattle.protocol_laws.specs.of_protocol_owed.Turns.{AreDistinct, AskStands, IsBusy, RunnerStands}
+use Rattle.protocol_laws.specs.of_protocol_owed.Told.{pace_by}
 use Rattle.lease_discipline.specs.Discipline.{Look}
 
 -- ---- by the tables

@@ -2,13 +2,13 @@
 use Rattle.std.specs.Prelude.{◌≡◌, ◌++◌, ◌∷◌, ℕ, true, List, [], length, None, Some}
 use Rattle.event_log.specs.Entries.{Entry, Refused}
 use Rattle.event_log.specs.Rules.{Setting}
-use Rattle.protocol.specs.Answers.{Answer, Refuses, Takes}
-use Rattle.protocol.specs.Messages.{Letter}
-use Rattle.protocol.specs.Tables.{Worker, new_worker}
-use Rattle.protocol.specs.Whole.{Whole, worker_at}
+use Rattle.protocol_laws.specs.of_protocol.Answers.{Answer, Refuses, Takes}
+use Rattle.protocol_laws.specs.of_protocol.Messages.{Letter}
+use Rattle.protocol_laws.specs.of_protocol.Tables.{Worker, new_worker}
+use Rattle.protocol_laws.specs.of_protocol.Whole.{Whole, worker_at}
 use Rattle.protocol_laws.specs.Sound.{IsSound}
-use Rattle.protocol_owed.specs.Courses.{Course, course_from, opening_course}
-use Rattle.protocol_owed.specs.Told.{IsAsTold}
+use Rattle.protocol_laws.specs.of_protocol_owed.Courses.{Course, course_from, opening_course}
+use Rattle.protocol_laws.specs.of_protocol_owed.Told.{IsAsTold}
 use Rattle.lease_discipline.specs.Discipline.{KeepsLeases}
 
 -- so of a live worker; of one that isn't there yet the log tells as of a new one

@@ -1,7 +1,7 @@
 -- Claims and commits: the jobs and the number of objects are noted after the worker's step.
 use Rattle.std.proofs.Common.{◌≡◌, ℕ, ◌+◌, Bool, true, false, List, [], ◌∷◌, ◌++◌, length, Some, None, refl, sym, ap, ◌∙◌}
 use Rattle.std.specs.Prelude.{if◌then◌else◌}
-use Rattle.event_log.specs.Entries.{Entry}
+use Rattle.protocol.specs.of_event_log.Entries.{Entry}
 use Rattle.limit_laws.specs.Later.{counted}
 use Rattle.limit_laws.specs.Limits.{entries_limited, entries_within, is_within, whole_limited, whole_within}
 use Rattle.limit_laws.proofs.Later.{counted_later, jobs_kept, made_kept}

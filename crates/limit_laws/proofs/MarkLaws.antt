@@ -1,7 +1,7 @@
 -- Deliveries: the mark is set after the message was handed over.
 use Rattle.std.proofs.Common.{◌≡◌, ℕ, ◌+◌, ◌<◌, Bool, true, false, List, length, Some, None, refl, sym, ap, ◌∙◌}
 use Rattle.std.specs.Prelude.{if◌then◌else◌}
-use Rattle.event_log.specs.Entries.{Entry}
+use Rattle.protocol.specs.of_event_log.Entries.{Entry}
 use Rattle.limit_laws.specs.Later.{marked}
 use Rattle.limit_laws.specs.Limits.{entries_limited, is_within, whole_limited}
 use Rattle.limit_laws.proofs.Later.{delivered_later, delivered_unmarked}

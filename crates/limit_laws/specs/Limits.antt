@@ -1,6 +1,6 @@
 -- What is left of an event that may pass a limit: it is taken, or nothing happens.
 use Rattle.std.specs.Prelude.{Bool, List, None, Option, Some, if◌then◌else◌, length, ℕ}
-use Rattle.event_log.specs.Entries.{Entry}
+use Rattle.protocol.specs.of_event_log.Entries.{Entry}
 use Rattle.protocol.specs.Whole.{Moved, Whole}
 use Rattle.limit_laws.specs.Opens.{fits}
 

@@ -5,7 +5,7 @@ use Rattle.std.specs.Fmt.{decimal}
 use Rattle.meaning.specs.Births.{objects_at}
 use Rattle.meaning.specs.Values.{Id, Outcome}
 use Rattle.values.specs.Listed.{ids_in_outcome, each_once}
-use Rattle.report.specs.Values.{id_text}
+use Rattle.report.specs.ValueTexts.{id_text}
 use Rattle.event_log.specs.Entries.{Attempt, Fault, Entry}
 use Rattle.event_log.specs.Words.{births}
 use Rattle.history.specs.Texts.{attempt_text, fault_text}

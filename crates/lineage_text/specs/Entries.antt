@@ -1,7 +1,7 @@
 -- What each entry adds to the graph.
 use Rattle.std.specs.Prelude.{ℕ, List, [], ◌++◌, codes}
 use Rattle.meaning.specs.Values.{Id}
-use Rattle.report.specs.Values.{id_text}
+use Rattle.report.specs.ValueTexts.{id_text}
 use Rattle.event_log.specs.Entries.{Fault, Entry, Begun, Born, Ended, Faulted, Resolved, Released}
 use Rattle.log_words.specs.declared.contents.Contents.{Contents}
 use Rattle.lineage_text.specs.Births.{born_text}

@@ -1,7 +1,7 @@
 -- The texts of events, as event files write them.
 use Rattle.std.specs.Prelude.{ℕ, List, ◌++◌, codes}
 use Rattle.std.specs.Fmt.{decimal}
-use Rattle.ids.specs.Texts.{object_text}
+use Rattle.held.specs.of_ids.Texts.{object_text}
 use Rattle.log_entries.specs.declared.event.Event.{Event}
 use Rattle.log_entries.specs.declared.event.Event.TheVariants.{Claim, Commit, Deliver, Tick, Notice, NoticeNode, Evict, Lose, Kill, KillNode, Join}
 

@@ -4,11 +4,11 @@ ghost use Rattle.std.specs.Prelude.{◌≡◌, ◌∷◌, [], IfOk};
 
 use crate::event::Event;
 use crate::refusal::Refusal;
+use held::ids::{AttemptId, NodeId, ObjectId, WorkerId};
+use held::values::Fault;
 use held::{Origin, Printed, SharedContent};
-use ids::{AttemptId, NodeId, ObjectId, WorkerId};
 use sequence::Seq;
 use std::alloc::{AllocError, Global};
-use values::Fault;
 
 /// What a log says, oldest first: each event, and behind it what came of it.
 #[derive(Drop)]

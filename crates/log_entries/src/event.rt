@@ -1,6 +1,6 @@
 // The events of a run, and their texts in event files.
 
-use ids::{NodeId, ObjectId, WorkerId};
+use held::ids::{NodeId, ObjectId, WorkerId};
 use std::fmt;
 
 /// What can happen to a run. Jobs and messages are numbered from 1. Its text is that of event files, such as `claim 2` or

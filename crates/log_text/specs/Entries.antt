@@ -1,10 +1,10 @@
 -- What an entry says in words: of an attempt, of an object, or of what came of an event.
 use Rattle.std.specs.Prelude.{ℕ, zero, suc, ◌+◌, Bool, List, [], ◌++◌, codes}
 use Rattle.std.specs.Fmt.{decimal}
-use Rattle.report.specs.Values.{id_text}
+use Rattle.report.specs.ValueTexts.{id_text}
 use Rattle.meaning.specs.Values.{Id, Value}
 use Rattle.meaning.specs.Births.{Bearing}
-use Rattle.event_log.specs.Entries.{Fault, Entry, In, Refused, Opened, Begun, Born, Got, Printed, Ended, Accepted, Faulted, Resolved, Released}
+use Rattle.log_words.specs.of_event_log.Entries.{Fault, Entry, In, Refused, Opened, Begun, Born, Got, Printed, Ended, Accepted, Faulted, Resolved, Released}
 use Rattle.log_words.specs.declared.contents.Contents.{Contents}
 use Rattle.log_words.specs.Calls.{birth_text}
 use Rattle.log_words.specs.Contents.{content_text, contents_text, shown_text}

@@ -1,10 +1,10 @@
 -- The line of an event: its number, its text, its seat, and what it does where it isn't refused.
 use Rattle.std.specs.Prelude.{ℕ, zero, suc, ◌+◌, Bool, if◌then◌else◌, List, [], Option, Some, None, ◌++◌, codes, length}
 use Rattle.std.specs.Fmt.{decimal}
-use Rattle.report.specs.Values.{id_text}
-use Rattle.event_log.specs.Entries.{Event, Claim, Commit, Deliver, Tick, Notice, NoticeNode, Evict, Lose, Kill, KillNode, Join}
-use Rattle.event_log.specs.Events.{from_one}
-use Rattle.history.specs.Texts.{event_text}
+use Rattle.report.specs.ValueTexts.{id_text}
+use Rattle.log_words.specs.of_event_log.Entries.{Event, Claim, Commit, Deliver, Tick, Notice, NoticeNode, Evict, Lose, Kill, KillNode, Join}
+use Rattle.log_words.specs.of_event_log.Events.{from_one}
+use Rattle.log_words.specs.of_history.Texts.{event_text}
 
 -- a commit of a job that was never given out is in no legal log
 abbrev pub done_text : Option ℕ → ℕ → List ℕ

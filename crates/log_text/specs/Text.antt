@@ -1,9 +1,9 @@
 -- A log in words: a line for each entry, told as the log goes on.
 use Rattle.std.specs.Prelude.{ℕ, List, [], ◌∷◌, ◌++◌}
 use Rattle.meaning.specs.Births.{Bearing}
-use Rattle.event_log.specs.Entries.{Entry}
-use Rattle.event_log.specs.Events.{refused_next}
-use Rattle.event_log.specs.Words.{births}
+use Rattle.log_words.specs.of_event_log.Entries.{Entry}
+use Rattle.log_words.specs.of_event_log.Events.{refused_next}
+use Rattle.log_words.specs.of_event_log.Words.{births}
 use Rattle.log_words.specs.declared.contents.Contents.{Contents}
 use Rattle.log_words.specs.Told.{Told, nothing_told, told_after}
 use Rattle.log_text.specs.Entries.{line}

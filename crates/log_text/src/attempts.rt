@@ -3,7 +3,7 @@
 ghost use Rattle.std.specs.Prelude.{◌≡◌, ◌++◌, OnOk, option_copied, string_bytes};
 ghost use Rattle.std.specs.Option.{option_map};
 ghost use Rattle.task_spec.specs.Births.{birth_of};
-ghost use Rattle.event_log.specs.Words.{births};
+ghost use Rattle.log_words.specs.of_event_log.Words.{births};
 ghost use Rattle.log_words.specs.Index.{IsIndexOf};
 ghost use Rattle.log_text.specs.Attempts.{again_note, begun_text, call_note, name_note, named_text};
 

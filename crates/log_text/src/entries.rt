@@ -1,7 +1,7 @@
 // What an entry says in words: of an attempt, of an object, or of what came of an event.
 
 ghost use Rattle.std.specs.Prelude.{◌≡◌, ◌+◌, ◌++◌, ◌<◌, ◌^◌, OnOk, string_bytes};
-ghost use Rattle.event_log.specs.Words.{births};
+ghost use Rattle.log_words.specs.of_event_log.Words.{births};
 ghost use Rattle.values.specs.Values.{value_of};
 ghost use Rattle.log_words.specs.Index.{IsIndexOf};
 ghost use Rattle.log_text.specs.Entries.{act_text, entry_text, indent, lack_head, lack_text, line, print_text};

@@ -8,7 +8,7 @@ use Rattle.meaning.specs.Values.{count, values_of}
 use Rattle.values.specs.declared.value.RunValue.{RunValue, List as AList}
 use Rattle.values.specs.Values.{value_of}
 use Rattle.values.proofs.Rows.{value_of-list}
-use Rattle.report.specs.Values.{separator}
+use Rattle.report.specs.ValueTexts.{separator}
 use Rattle.log_words.specs.Cut.{cut_text, is_cut, items_text, left_text}
 
 -- the text from a place of a list on

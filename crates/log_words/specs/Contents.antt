@@ -2,7 +2,7 @@
 use Rattle.std.specs.Prelude.{ℕ, List, [], ◌∷◌, ◌++◌, codes}
 use Rattle.std.specs.List.{flat_map}
 use Rattle.meaning.specs.Values.{Value, Outcome, Val, Trapped}
-use Rattle.report.specs.Values.{value_text}
+use Rattle.report.specs.ValueTexts.{value_text}
 use Rattle.report.specs.MainLines.{trap_name}
 use Rattle.log_words.specs.declared.contents.Contents.{Contents}
 use Rattle.log_words.specs.declared.contents.Contents.TheVariants.{Cut, Whole}

@@ -2,7 +2,7 @@
 use Rattle.std.specs.Prelude.{ℕ, suc, ◌-◌, ◌/◌, ◌%◌, Bool, ◌&&◌, ◌==◌, nat_lt, if◌then◌else◌, List, [], ◌++◌, codes}
 use Rattle.std.specs.Fmt.{decimal, signed_decimal}
 use Rattle.meaning.specs.Values.{Value, Int, Items, Named, Known, Values, none, more, count}
-use Rattle.report.specs.Values.{id_text, separator}
+use Rattle.report.specs.ValueTexts.{id_text, separator}
 
 -- of a list with more than eight items those from the fourth on are left out
 unfoldable pub is_cut : ℕ → ℕ → Bool

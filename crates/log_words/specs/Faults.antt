@@ -1,6 +1,6 @@
 -- The texts of faults, with what they mean.
 use Rattle.std.specs.Prelude.{ℕ, List, ◌++◌, codes}
-use Rattle.event_log.specs.Entries.{FaultKind, OwnerDied, PutLost, RetriesUsed, Fault}
+use Rattle.history.specs.of_event_log.Entries.{FaultKind, OwnerDied, PutLost, RetriesUsed, Fault}
 use Rattle.history.specs.Texts.{fault_text}
 
 -- what the kind says of the object in which the fault began

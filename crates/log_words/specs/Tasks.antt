@@ -1,10 +1,10 @@
 -- The task of which an object is a result, and the objects that a birth makes.
 use Rattle.std.specs.Prelude.{ℕ, if◌then◌else◌, List, [], ◌∷◌, ◌++◌, codes, Option, Some, None}
 use Rattle.std.specs.List.{flat_map}
-use Rattle.report.specs.Values.{id_text}
+use Rattle.report.specs.ValueTexts.{id_text}
 use Rattle.meaning.specs.Values.{Id, Birth}
 use Rattle.meaning.specs.Births.{Bearing, is_made_by, Part, part_at, objects_in}
-use Rattle.event_log.specs.Entries.{Entry, Born}
+use Rattle.history.specs.of_event_log.Entries.{Entry, Born}
 
 abbrev pub first_or : Id → Option Part → Id
 first_or o None = o

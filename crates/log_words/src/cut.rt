@@ -2,7 +2,7 @@
 
 ghost use Rattle.std.specs.Prelude.{◌≡◌, ◌++◌, OnOk, string_bytes};
 ghost use Rattle.values.specs.Values.{value_of};
-ghost use Rattle.report.specs.Values.{separator};
+ghost use Rattle.report.specs.ValueTexts.{separator};
 ghost use Rattle.log_words.specs.Cut.{count_text, cut_text, is_cut, left_text};
 
 use report::write_value;

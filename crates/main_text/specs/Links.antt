@@ -2,7 +2,7 @@
 use Rattle.std.specs.Prelude.{List, None, Option, Some, [], codes, if◌then◌else◌, ℕ, ◌+◌, ◌++◌, ◌-◌, ◌==◌, ◌∷◌}
 use Rattle.std.specs.List.{flat_map}
 use Rattle.std.specs.Fmt.{decimal}
-use Rattle.report.specs.Values.{id_text}
+use Rattle.report.specs.ValueTexts.{id_text}
 use Rattle.meaning.specs.Values.{Birth, Id}
 use Rattle.meaning.specs.Births.{Bearing, birth_at}
 use Rattle.event_log.specs.Entries.{Attempt, Claim, Commit, Deliver, Entry, Event, Kill, Notice, NoticeNode, Tick}

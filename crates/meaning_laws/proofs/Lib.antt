@@ -6,3 +6,4 @@ pub mod Steps
 pub mod LogLaw
 pub mod Headline
 pub mod Knowing
+pub use Rattle.event_log.proofs as of_event_log

@@ -2,7 +2,7 @@
 use Rattle.std.specs.Prelude.{ℕ, List, None, Option, Some, [], ◌∷◌, ◌++◌, codes}
 use Rattle.std.specs.List.{flat_map}
 use Rattle.std.specs.Fmt.{decimal}
-use Rattle.report.specs.Values.{id_text}
+use Rattle.report.specs.ValueTexts.{id_text}
 use Rattle.meaning.specs.Values.{Id, Birth, Outcome}
 use Rattle.event_log.specs.Entries.{Attempt}
 use Rattle.history.specs.Texts.{attempt_text, fault_text}

@@ -18,10 +18,10 @@ use Rattle.protocol.specs.Jobs.{AtEnd, AtGet, Handed, Job, OfJob, Outcomes, Stop
 use Rattle.protocol.specs.Whole.{Whole}
 use Rattle.protocol.specs.Answers.{Answer, answer, logged, whole_after}
 use Rattle.protocol.specs.Answers as answers
-use Rattle.protocol_board.specs.Cores.{stopped_of, work_of}
-use Rattle.protocol_board.specs.Cores.{RunState}
-use Rattle.protocol_board.specs.Cores.{Follows, GivesThat, IsApplied, IsHanded, IsHandedFor, IsOut, Reply, Tells}
-use Rattle.protocol_board.specs.Replays.{AllPlay, IsDoneOn, Play, PlaysHistory, Step, found_no_memory, job_at, job_for, left_by, next_line, with_given}
+use Rattle.seats.specs.of_protocol_board.Cores.{stopped_of, work_of}
+use Rattle.seats.specs.of_protocol_board.Cores.{RunState}
+use Rattle.seats.specs.of_protocol_board.Cores.{Follows, GivesThat, IsApplied, IsHanded, IsHandedFor, IsOut, Reply, Tells}
+use Rattle.seats.specs.of_protocol_board.Replays.{AllPlay, IsDoneOn, Play, PlaysHistory, Step, found_no_memory, job_at, job_for, left_by, next_line, with_given}
 use Rattle.histories.specs.Recorded.{recorded_in}
 use Rattle.migration.specs.Migration.{MigratedIsSame, OneRun}
 use Rattle.migration.proofs.Migrating.{histories_replay}

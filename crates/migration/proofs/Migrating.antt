@@ -21,11 +21,11 @@ use Rattle.protocol.specs.Events.{happens}
 use Rattle.protocol.specs.Refusals.{is_within_limits, refusal}
 use Rattle.protocol.specs.Answers.{Answer, Refuses, decided, given_out, logged, takes}
 use Rattle.protocol_owed.proofs.Counting.{happens-counted, no_event, not_refused}
-use Rattle.protocol_board.specs.Cores.{RunState}
-use Rattle.protocol_board.specs.Cores.{GivesThat, Reply, Tells, Answers, Follows}
-use Rattle.protocol_board.specs.Cores as replies
+use Rattle.seats.specs.of_protocol_board.Cores.{RunState}
+use Rattle.seats.specs.of_protocol_board.Cores.{GivesThat, Reply, Tells, Answers, Follows}
+use Rattle.seats.specs.of_protocol_board.Cores as replies
 use Rattle.seats.specs.Counted.{ClaimsGaveJobs}
-use Rattle.protocol_board.specs.Replays.{AllPlay, LinePlays, Play, PlaysHistory, Plays, Settles, Step, found_no_memory, given_by, next_line}
+use Rattle.seats.specs.of_protocol_board.Replays.{AllPlay, LinePlays, Play, PlaysHistory, Plays, Settles, Step, found_no_memory, given_by, next_line}
 use Rattle.migration.specs.Migration.{Begins, HistoriesReplay, Said, SaidPlays, claims_after, given_at, said_by, said_from}
 use Rattle.seats.proofs.Counted.{answers_counted, fresh_claims}
 use Rattle.seats.proofs.Jobs.{claim_gives}

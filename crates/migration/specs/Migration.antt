@@ -7,7 +7,7 @@ use Rattle.event_log.specs.Legal.{opening}
 use Rattle.event_files.specs.declared.line.Line.{Line}
 use Rattle.event_files.specs.declared.recorded.RecordedEvent.{RecordedEvent}
 use Rattle.histories.specs.Recorded.{recorded_in}
-use Rattle.protocol_board.specs.Replays.{Gives, Play, Plays, PlaysHistory, next_line}
+use Rattle.seats.specs.of_protocol_board.Replays.{Gives, Play, Plays, PlaysHistory, next_line}
 
 -- what a history says of an event
 pub record Said : Type 0 where

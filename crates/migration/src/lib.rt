@@ -2,3 +2,5 @@
 #![tactic(auto)]
 
 pub mod law;
+
+pub use seats::{Ended, Gate, RunName, Shared, run_on_threads};

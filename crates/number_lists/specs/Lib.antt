@@ -1,0 +1,1 @@
+pub use Rattle.protocol.specs as of_protocol

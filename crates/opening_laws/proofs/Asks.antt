@@ -3,16 +3,16 @@ use Rattle.std.proofs.Common.{List, None, Option, Some, [], ap, refl, suc, sym, 
 use Rattle.event_log.specs.Entries.{Fault, RetriesUsed}
 use Rattle.meaning.specs.Births.{same_id}
 use Rattle.meaning.specs.Values.{Id, results_of}
-use Rattle.protocol.specs.Asking.{answers_faulted, answers_faulted_by, answers_gone, breaks, faults_if_waiting, next_attempt, requests, resolves, resolves_used}
-use Rattle.protocol.specs.Asking.{resolves_used_by, rests, tells_gone}
-use Rattle.protocol.specs.Holders.{adds_holder, awaits_hold_by, hold_ack_by, hold_ack_reached, hold_reached, hold_reached_by, holding, holds_id, holds_ids}
-use Rattle.protocol.specs.Holders.{sends_hold, unheld_by, unhold_reached, with_holding, without_holding}
-use Rattle.protocol.specs.Messages.{Gone, Hold, HoldAck, Reason}
-use Rattle.protocol.specs.Recovery.{first_stop, gives_up, is_lost_here, members, recovers, recovers_by, recovers_if_lost, remakes, remakes_by, remakes_one}
-use Rattle.protocol.specs.Sets.{fault}
-use Rattle.protocol.specs.Steps.{Here, changes, each_from, each_result, is_own, own_id, object_at, own_object, says, with_run, with_task_of}
-use Rattle.protocol.specs.Tables.{first_by, Holding, is_pending_task, is_waiting_for, is_wanted, knows_dead, may_try_again, Object, OwnTask, Run, task_by}
-use Rattle.protocol.specs.Tables.{with_dead_holder, with_holder, without_askers}
+use Rattle.limit_laws.specs.of_protocol.Asking.{answers_faulted, answers_faulted_by, answers_gone, breaks, faults_if_waiting, next_attempt, requests, resolves, resolves_used}
+use Rattle.limit_laws.specs.of_protocol.Asking.{resolves_used_by, rests, tells_gone}
+use Rattle.limit_laws.specs.of_protocol.Holders.{adds_holder, awaits_hold_by, hold_ack_by, hold_ack_reached, hold_reached, hold_reached_by, holding, holds_id, holds_ids}
+use Rattle.limit_laws.specs.of_protocol.Holders.{sends_hold, unheld_by, unhold_reached, with_holding, without_holding}
+use Rattle.limit_laws.specs.of_protocol.Messages.{Gone, Hold, HoldAck, Reason}
+use Rattle.limit_laws.specs.of_protocol.Recovery.{first_stop, gives_up, is_lost_here, members, recovers, recovers_by, recovers_if_lost, remakes, remakes_by, remakes_one}
+use Rattle.limit_laws.specs.of_protocol.Sets.{fault}
+use Rattle.limit_laws.specs.of_protocol.Steps.{Here, changes, each_from, each_result, is_own, own_id, object_at, own_object, says, with_run, with_task_of}
+use Rattle.limit_laws.specs.of_protocol.Tables.{first_by, Holding, is_pending_task, is_waiting_for, is_wanted, knows_dead, may_try_again, Object, OwnTask, Run, task_by}
+use Rattle.limit_laws.specs.of_protocol.Tables.{with_dead_holder, with_holder, without_askers}
 use Rattle.opening_laws.specs.Spending.{Spends, waits_of}
 use Rattle.opening_laws.proofs.Spends.{faults_spends, leaves_if_free_spends, spends_if, spends_none, spends_same, spends_then, with_run_spends}
 

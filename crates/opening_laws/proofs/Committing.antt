@@ -6,18 +6,18 @@ use Rattle.event_log.specs.Entries.{Attempt, OwnerDied}
 use Rattle.event_log.specs.Holding.{ids_of_birth}
 use Rattle.meaning.specs.Runs.{next_id}
 use Rattle.meaning.specs.Values.{Birth, Id, Outcome, Put, Task, Val}
-use Rattle.protocol.specs.Commits.{asks_where, bears, bears_all, bears_as, commit_by, commit_step, ends, keeps_content, keeps_contents, needs, next_id_here}
-use Rattle.protocol.specs.Commits.{stops_by, task_objects, with_objects, with_outcomes}
-use Rattle.protocol.specs.Holders.{holds_ids, passes_on}
-use Rattle.protocol.specs.Jobs.{AtEnd, AtGet, Outcomes, Stopped, stop_of}
-use Rattle.protocol.specs.Messages.{Where}
-use Rattle.protocol.specs.Runs.{gives_slot_back, leaves_if_free}
-use Rattle.protocol.specs.Sets.{fault}
-use Rattle.protocol.specs.Slots.{frees}
-use Rattle.protocol.specs.Steps.{Here, is_own, logs_all, says, store_here, with_phase, with_run, with_store}
-use Rattle.protocol.specs.Stores.{with_ended, with_primary}
-use Rattle.protocol.specs.Tables.{HasEnded, HasFaulted, is_same_id, is_waiting_for, knows_dead, needed_by, new_task, object_needed, Out, Phase, put_object}
-use Rattle.protocol.specs.Tables.{Ready, Run, Waits}
+use Rattle.limit_laws.specs.of_protocol.Commits.{asks_where, bears, bears_all, bears_as, commit_by, commit_step, ends, keeps_content, keeps_contents, needs, next_id_here}
+use Rattle.limit_laws.specs.of_protocol.Commits.{stops_by, task_objects, with_objects, with_outcomes}
+use Rattle.limit_laws.specs.of_protocol.Holders.{holds_ids, passes_on}
+use Rattle.limit_laws.specs.of_protocol.Jobs.{AtEnd, AtGet, Outcomes, Stopped, stop_of}
+use Rattle.limit_laws.specs.of_protocol.Messages.{Where}
+use Rattle.limit_laws.specs.of_protocol.Runs.{gives_slot_back, leaves_if_free}
+use Rattle.limit_laws.specs.of_protocol.Sets.{fault}
+use Rattle.limit_laws.specs.of_protocol.Slots.{frees}
+use Rattle.limit_laws.specs.of_protocol.Steps.{Here, is_own, logs_all, says, store_here, with_phase, with_run, with_store}
+use Rattle.limit_laws.specs.of_protocol.Stores.{with_ended, with_primary}
+use Rattle.limit_laws.specs.of_protocol.Tables.{HasEnded, HasFaulted, is_same_id, is_waiting_for, knows_dead, needed_by, new_task, object_needed, Out, Phase, put_object}
+use Rattle.limit_laws.specs.of_protocol.Tables.{Ready, Run, Waits}
 use Rattle.values.specs.Listed.{each_once, ids_in_outcome}
 use Rattle.opening_laws.specs.Spending.{Spends, may_open, waits_in, waits_of}
 use Rattle.opening_laws.proofs.Spends.{faults_spends, frees_most, leaves_if_free_spends, spends_if, spends_none, spends_same, spends_then}

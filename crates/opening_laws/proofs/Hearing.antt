@@ -5,12 +5,12 @@ use Rattle.std.specs.Prelude.{not, ◌&&◌}
 use Rattle.event_log.specs.Entries.{Attempt}
 use Rattle.event_log.specs.Words.{same_attempt}
 use Rattle.meaning.specs.Values.{Birth}
-use Rattle.protocol.specs.Deliveries.{reached, reached_from_node, reached_from_worker}
-use Rattle.protocol.specs.Messages.{At, Back, CopyOf, Elsewhere, Failed, Finished, FinishedAck, Give, Gone, Hold, HoldAck, Message, Missing, Party, Push}
-use Rattle.protocol.specs.Messages.{TheNode, TheWorker, Unhold, Where}
-use Rattle.protocol.specs.Runs.{begins_run, finished_ack_reached, hears_by, is_free, push_reached}
-use Rattle.protocol.specs.Steps.{Here, says_to_node}
-use Rattle.protocol.specs.Tables.{Run}
+use Rattle.limit_laws.specs.of_protocol.Deliveries.{reached, reached_from_node, reached_from_worker}
+use Rattle.limit_laws.specs.of_protocol.Messages.{At, Back, CopyOf, Elsewhere, Failed, Finished, FinishedAck, Give, Gone, Hold, HoldAck, Message, Missing, Party, Push}
+use Rattle.limit_laws.specs.of_protocol.Messages.{TheNode, TheWorker, Unhold, Where}
+use Rattle.limit_laws.specs.of_protocol.Runs.{begins_run, finished_ack_reached, hears_by, is_free, push_reached}
+use Rattle.limit_laws.specs.of_protocol.Steps.{Here, says_to_node}
+use Rattle.limit_laws.specs.of_protocol.Tables.{Run}
 use Rattle.opening_laws.specs.Spending.{Spends, waits_of}
 use Rattle.opening_laws.proofs.Spends.{spends_if, spends_less, spends_none, spends_same, spends_then, with_run_spends}
 use Rattle.opening_laws.proofs.Asks.{hold_ack_spends, hold_spends, unhold_spends}

@@ -4,17 +4,17 @@ use Rattle.std.specs.List.{filter}
 use Rattle.std.specs.Prelude.{if◌then◌else◌, not, ◌&&◌, ◌==◌}
 use Rattle.event_log.specs.Entries.{Attempt, OwnerDied}
 use Rattle.meaning.specs.Values.{Id}
-use Rattle.protocol.specs.Asking.{asks_next, begins, elsewhere_by, elsewhere_reached, given_by, given_reached, if_asked, pushes, with_begun}
-use Rattle.protocol.specs.Holders.{collects, drops_dead, drops_dead_by, drops_holders, first_born_first, lets_go_of_dead}
-use Rattle.protocol.specs.Messages.{Hold, OwnerIsDead, TheNode, Unhold, Where}
-use Rattle.protocol.specs.Notices.{breaks_if, breaks_where, drops_holds, drops_holds_by, drops_stop, drops_stop_by, is_unheard, loses_fetch_at, loses_fetch_by}
-use Rattle.protocol.specs.Notices.{loses_fetch_of, loses_owner, loses_owner_of, loses_places, moves_ask, moves_ask_at, moves_asks, notice_node_step}
-use Rattle.protocol.specs.Notices.{notice_step, runs_on_node, runs_on_worker, with_dead_node, with_dead_worker}
-use Rattle.protocol.specs.Sets.{fault, has}
-use Rattle.protocol.specs.Steps.{Here, changes, is_own, object_at, own_id, own_object, says, with_run}
-use Rattle.protocol.specs.Tables.{AskedAt, AtRest, Fetching, HasEnded, HasFaulted, holders_of, Holding, knows_dead, needed_by, Object, Out, owner_of, OwnTask}
-use Rattle.protocol.specs.Tables.{Phase, Progress, Ready, Run, RunsOn, task_of, Waits, with_dead_holder}
-use Rattle.protocol.specs.Ticks.{asks_again, asks_place_again, sends_holds, sends_run, sends_stop, sends_task, sends_task_at, sends_tasks, tick_step}
+use Rattle.limit_laws.specs.of_protocol.Asking.{asks_next, begins, elsewhere_by, elsewhere_reached, given_by, given_reached, if_asked, pushes, with_begun}
+use Rattle.limit_laws.specs.of_protocol.Holders.{collects, drops_dead, drops_dead_by, drops_holders, first_born_first, lets_go_of_dead}
+use Rattle.limit_laws.specs.of_protocol.Messages.{Hold, OwnerIsDead, TheNode, Unhold, Where}
+use Rattle.limit_laws.specs.of_protocol.Notices.{breaks_if, breaks_where, drops_holds, drops_holds_by, drops_stop, drops_stop_by, is_unheard, loses_fetch_at, loses_fetch_by}
+use Rattle.limit_laws.specs.of_protocol.Notices.{loses_fetch_of, loses_owner, loses_owner_of, loses_places, moves_ask, moves_ask_at, moves_asks, notice_node_step}
+use Rattle.limit_laws.specs.of_protocol.Notices.{notice_step, runs_on_node, runs_on_worker, with_dead_node, with_dead_worker}
+use Rattle.limit_laws.specs.of_protocol.Sets.{fault, has}
+use Rattle.limit_laws.specs.of_protocol.Steps.{Here, changes, is_own, object_at, own_id, own_object, says, with_run}
+use Rattle.limit_laws.specs.of_protocol.Tables.{AskedAt, AtRest, Fetching, HasEnded, HasFaulted, holders_of, Holding, knows_dead, needed_by, Object, Out, owner_of, OwnTask}
+use Rattle.limit_laws.specs.of_protocol.Tables.{Phase, Progress, Ready, Run, RunsOn, task_of, Waits, with_dead_holder}
+use Rattle.limit_laws.specs.of_protocol.Ticks.{asks_again, asks_place_again, sends_holds, sends_run, sends_stop, sends_task, sends_task_at, sends_tasks, tick_step}
 use Rattle.opening_laws.specs.Spending.{Spends, waits_of}
 use Rattle.opening_laws.proofs.Spends.{each_spends, faults_spends, is_heard_spends, leaves_if_free_spends, spends_if, spends_none, spends_same, spends_then}
 use Rattle.opening_laws.proofs.Spends.{tells_stop_spends}

@@ -1,12 +1,12 @@
 -- A worker's step opens one worker at most.
 use Rattle.std.proofs.Common.{◌≡◌, ◌≤◌, ℕ, ◌+◌, Option, Some, None, refl, arith}
-use Rattle.protocol.specs.Commits.{claim_by, claim_step}
-use Rattle.protocol.specs.Deliveries.{reached}
-use Rattle.protocol.specs.Messages.{Message, Party}
-use Rattle.protocol.specs.Notices.{notice_node_step, notice_step}
-use Rattle.protocol.specs.Steps.{Here}
-use Rattle.protocol.specs.Tables.{Phase, Ready, Out, Waits, HasEnded, HasFaulted, Run}
-use Rattle.protocol.specs.Ticks.{tick_step}
+use Rattle.limit_laws.specs.of_protocol.Commits.{claim_by, claim_step}
+use Rattle.limit_laws.specs.of_protocol.Deliveries.{reached}
+use Rattle.limit_laws.specs.of_protocol.Messages.{Message, Party}
+use Rattle.limit_laws.specs.of_protocol.Notices.{notice_node_step, notice_step}
+use Rattle.limit_laws.specs.of_protocol.Steps.{Here}
+use Rattle.limit_laws.specs.of_protocol.Tables.{Phase, Ready, Out, Waits, HasEnded, HasFaulted, Run}
+use Rattle.limit_laws.specs.of_protocol.Ticks.{tick_step}
 use Rattle.opening_laws.specs.Spending.{Spends, waits_in, waits_of}
 use Rattle.opening_laws.proofs.Hearing.{reached_spends}
 use Rattle.opening_laws.proofs.Notices.{notice_node_spends, notice_spends, tick_spends}

@@ -3,21 +3,21 @@ use Rattle.std.proofs.Common.{List, None, Option, Some, [], refl, suc, zero, ℕ
 use Rattle.std.specs.Prelude.{is_none, ◌&&◌, ◌==◌}
 use Rattle.event_log.specs.Entries.{Attempt, Fault, OwnerDied}
 use Rattle.meaning.specs.Values.{Id, Outcome, results_of}
-use Rattle.protocol.specs.Asking.{answers_faulted, rests}
+use Rattle.limit_laws.specs.of_protocol.Asking.{answers_faulted, rests}
 use Rattle.meaning.specs.Runs.{next_id}
-use Rattle.protocol.specs.Sets.{fault, has, rest_of}
-use Rattle.protocol.specs.Ends.{accepts, failed_by, failed_reached, fails, first_result, resolves_open, resolves_open_by, settles, finished_by, finished_reached, hears_of_end, if_present}
-use Rattle.protocol.specs.Messages.{At, EndedResult, Gone, Party, TheNode, TheWorker}
-use Rattle.protocol.specs.Places.{adds_place, adds_place_by, adds_places, answered_here, answers_asker, answers_settled, answers_settled_by, asker_by}
-use Rattle.protocol.specs.Places.{at_answers, at_reached, copy_reached, finds_none, goes_to, gone_reached, is_present, looks_at_places, looks_elsewhere_by}
-use Rattle.protocol.specs.Places.{looks_for, looks_for_by, looks_here_by, makes_copy_known, may_gain_place, missing_from, missing_reached, needs_at, needs_by}
-use Rattle.protocol.specs.Places.{needs_own, needs_own_if_waiting, needs_released, reports_missing, takes_place, takes_place_by, tells_places, tells_released}
-use Rattle.protocol.specs.Places.{where_reached}
-use Rattle.protocol.specs.Runs.{fetches, with_fetching}
-use Rattle.protocol.specs.Steps.{Here, changes, is_own, object_at, says, store_here, with_store, with_task_of}
-use Rattle.protocol.specs.Stores.{copy_in, looked_up, with_secondary}
-use Rattle.protocol.specs.Tables.{chosen_place, has_content, is_lost, is_waiting_for, live_place, Object, OwnTask, settled_number, task_of, with_asker}
-use Rattle.protocol.specs.Tables.{with_content, with_place, without_askers, without_place, without_places}
+use Rattle.limit_laws.specs.of_protocol.Sets.{fault, has, rest_of}
+use Rattle.limit_laws.specs.of_protocol.Ends.{accepts, failed_by, failed_reached, fails, first_result, resolves_open, resolves_open_by, settles, finished_by, finished_reached, hears_of_end, if_present}
+use Rattle.limit_laws.specs.of_protocol.Messages.{At, EndedResult, Gone, Party, TheNode, TheWorker}
+use Rattle.limit_laws.specs.of_protocol.Places.{adds_place, adds_place_by, adds_places, answered_here, answers_asker, answers_settled, answers_settled_by, asker_by}
+use Rattle.limit_laws.specs.of_protocol.Places.{at_answers, at_reached, copy_reached, finds_none, goes_to, gone_reached, is_present, looks_at_places, looks_elsewhere_by}
+use Rattle.limit_laws.specs.of_protocol.Places.{looks_for, looks_for_by, looks_here_by, makes_copy_known, may_gain_place, missing_from, missing_reached, needs_at, needs_by}
+use Rattle.limit_laws.specs.of_protocol.Places.{needs_own, needs_own_if_waiting, needs_released, reports_missing, takes_place, takes_place_by, tells_places, tells_released}
+use Rattle.limit_laws.specs.of_protocol.Places.{where_reached}
+use Rattle.limit_laws.specs.of_protocol.Runs.{fetches, with_fetching}
+use Rattle.limit_laws.specs.of_protocol.Steps.{Here, changes, is_own, object_at, says, store_here, with_store, with_task_of}
+use Rattle.limit_laws.specs.of_protocol.Stores.{copy_in, looked_up, with_secondary}
+use Rattle.limit_laws.specs.of_protocol.Tables.{chosen_place, has_content, is_lost, is_waiting_for, live_place, Object, OwnTask, settled_number, task_of, with_asker}
+use Rattle.limit_laws.specs.of_protocol.Tables.{with_content, with_place, without_askers, without_place, without_places}
 use Rattle.opening_laws.specs.Spending.{Spends}
 use Rattle.opening_laws.proofs.Spends.{faults_spends, fetching_spends, gets_spends, spends_if, spends_none, spends_same, spends_then}
 use Rattle.opening_laws.proofs.Asks.{answers_faulted_spends, each_result_spends, faults_if_waiting_spends, recovers_if_lost_spends, recovers_spends, resolves_spends}

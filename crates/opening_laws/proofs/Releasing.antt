@@ -4,12 +4,12 @@ use Rattle.std.specs.Prelude.{if◌then◌else◌, map, ◌==◌}
 use Rattle.event_log.specs.Entries.{Released}
 use Rattle.meaning.specs.Runs.{ids_from}
 use Rattle.meaning.specs.Values.{Id}
-use Rattle.protocol.specs.Holders.{unhold_reached}
-use Rattle.protocol.specs.Messages.{Reason, Unhold, WasReleased}
-use Rattle.protocol.specs.Releases.{drops_copies, entries_made, going_with, lets_all_go, lets_go, lets_go_of, marks_released, may_release, release_pass}
-use Rattle.protocol.specs.Releases.{release_passes, release_step, releases_all, releases_by}
-use Rattle.protocol.specs.Steps.{Here, changes, each_from, is_own, logs_all, own_id, own_object, says_to_node}
-use Rattle.protocol.specs.Tables.{Object, released}
+use Rattle.limit_laws.specs.of_protocol.Holders.{unhold_reached}
+use Rattle.limit_laws.specs.of_protocol.Messages.{Reason, Unhold, WasReleased}
+use Rattle.limit_laws.specs.of_protocol.Releases.{drops_copies, entries_made, going_with, lets_all_go, lets_go, lets_go_of, marks_released, may_release, release_pass}
+use Rattle.limit_laws.specs.of_protocol.Releases.{release_passes, release_step, releases_all, releases_by}
+use Rattle.limit_laws.specs.of_protocol.Steps.{Here, changes, each_from, is_own, logs_all, own_id, own_object, says_to_node}
+use Rattle.limit_laws.specs.of_protocol.Tables.{Object, released}
 
 -- a step that opens none
 pub record OpensNone (h g : Here) : Type 0 where

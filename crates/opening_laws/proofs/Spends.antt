@@ -4,12 +4,12 @@ use Rattle.std.specs.Prelude.{if◌then◌else◌}
 use Rattle.meaning.specs.Values.{Outcome}
 use Rattle.event_log.specs.Entries.{Fault}
 use Rattle.event_log.specs.Entries as logged
-use Rattle.protocol.specs.Nodes.{There}
-use Rattle.protocol.specs.Slots.{frees}
-use Rattle.protocol.specs.Tables.{Fetching, Phase, Ready, Out, Waits, HasEnded, HasFaulted, Run}
-use Rattle.protocol.specs.Steps.{Here, each_from, logs, with_phase, with_run}
-use Rattle.protocol.specs.Runs.{asks_for_slot, faults, faults_at, faults_by, gets, gets_at, gets_by, gives_slot_back, is_heard, leaves, leaves_by}
-use Rattle.protocol.specs.Runs.{leaves_if_free, tells, tells_stop, with_answer, with_fetching, with_fetching_at, with_fetching_by}
+use Rattle.limit_laws.specs.of_protocol.Nodes.{There}
+use Rattle.limit_laws.specs.of_protocol.Slots.{frees}
+use Rattle.limit_laws.specs.of_protocol.Tables.{Fetching, Phase, Ready, Out, Waits, HasEnded, HasFaulted, Run}
+use Rattle.limit_laws.specs.of_protocol.Steps.{Here, each_from, logs, with_phase, with_run}
+use Rattle.limit_laws.specs.of_protocol.Runs.{asks_for_slot, faults, faults_at, faults_by, gets, gets_at, gets_by, gives_slot_back, is_heard, leaves, leaves_by}
+use Rattle.limit_laws.specs.of_protocol.Runs.{leaves_if_free, tells, tells_stop, with_answer, with_fetching, with_fetching_at, with_fetching_by}
 use Rattle.limit_laws.specs.Opens.{free_opens, one_if}
 use Rattle.limit_laws.proofs.Openings.{ask_slot_opens_none, free_open}
 use Rattle.opening_laws.specs.Spending.{Spends, may_open, waits_in, waits_of}

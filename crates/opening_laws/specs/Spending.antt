@@ -1,7 +1,7 @@
 -- What a worker's event may yet open. A slot is given back only as an attempt stops to wait, so that a waiting attempt counts as one worker.
 use Rattle.std.specs.Prelude.{None, Option, Some, ℕ, ◌+◌, ◌≤◌}
-use Rattle.protocol.specs.Tables.{Phase, Run, Waits}
-use Rattle.protocol.specs.Steps.{Here}
+use Rattle.limit_laws.specs.of_protocol.Tables.{Phase, Run, Waits}
+use Rattle.limit_laws.specs.of_protocol.Steps.{Here}
 
 -- 1 for an attempt that waits
 abbrev pub waits_in : Phase → ℕ

@@ -37,11 +37,11 @@ use Rattle.protocol.specs.Events.{committed_by, dead, delivered_by, delivered_to
 use Rattle.protocol.specs.Events.{with_delivered}
 use Rattle.protocol.specs.Answers.{Answer, Refuses, Step, Takes, answer, decided, given_out, logged, takes, whole_after}
 use Rattle.protocol.specs.Refusals.{is_within_limits, refusal}
-use Rattle.protocol_legal.specs.Past.{past}
-use Rattle.protocol_legal.specs.Knows.{IsBegun, KnowsMaker, KnowsProgress, KnowsTask, KnowsWorker}
-use Rattle.protocol_legal.specs.Lost.{RisingTo}
-use Rattle.protocol_legal.specs.Whole.{Between, setting_of}
-use Rattle.protocol_laws.specs.Coming.{IsRight}
+use Rattle.lease_discipline.specs.of_protocol_legal.Past.{past}
+use Rattle.lease_discipline.specs.of_protocol_legal.Knows.{IsBegun, KnowsMaker, KnowsProgress, KnowsTask, KnowsWorker}
+use Rattle.lease_discipline.specs.of_protocol_legal.Lost.{RisingTo}
+use Rattle.lease_discipline.specs.of_protocol_legal.Whole.{Between, setting_of}
+use Rattle.lease_discipline.specs.of_protocol_laws.Coming.{IsRight}
 use Rattle.protocol_owed.specs.Replies.{IsUnbegun}
 use Rattle.protocol_owed.specs.Runs.{Handing, Running, after_event, after_events, answer_to, opening_run, seen}
 use Rattle.protocol_owed.specs.Seen.{IsCalm, Sends}

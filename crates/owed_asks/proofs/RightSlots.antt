@@ -10,7 +10,7 @@ use Rattle.protocol.specs.Nodes.{Node}
 use Rattle.protocol.specs.Sets.{has}
 use Rattle.protocol.specs.Tables.{Worker}
 use Rattle.protocol.specs.Whole.{Whole, node_at, worker_at}
-use Rattle.protocol_legal.specs.Whole.{Between}
+use Rattle.lease_discipline.specs.of_protocol_legal.Whole.{Between}
 use Rattle.protocol_owed.specs.Courses.{LivesOn, course}
 use Rattle.protocol_owed.specs.Runs.{Handing, Running, after_event, after_events, holders_in, opening_run, seen}
 use Rattle.protocol_owed.specs.Turns.{IsOneToRun}

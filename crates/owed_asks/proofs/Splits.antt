@@ -27,7 +27,7 @@ use Rattle.event_log.proofs.WordLaws.{births_push, next_serial-push}
 use Rattle.holding.specs.Past as facts
 use Rattle.holding.specs.Past.{Fact, Has}
 use Rattle.holding.specs.Tells.{IsFactOf, Stands, Tells, facts_in}
-use Rattle.protocol_legal.proofs.Calm.{any_weaker}
+use Rattle.lease_discipline.proofs.of_protocol_legal.Calm.{any_weaker}
 use Rattle.protocol_owed.specs.Seen.{IsCalm, is_failure}
 use Rattle.protocol_owed.proofs.Letters.{among-push_cases}
 

@@ -10,8 +10,8 @@ use Rattle.event_log.specs.Words.{answers_of, births, own_births}
 use Rattle.protocol.specs.Tables.{Fetching, HasEnded, HasFaulted, Out, Phase, Ready, Waits, Worker}
 use Rattle.protocol.specs.Tables as T
 use Rattle.protocol.specs.Whole.{Whole, worker_at}
-use Rattle.protocol_legal.specs.Knows.{KnowsPhase, KnowsRun, piece_of}
-use Rattle.protocol_legal.specs.Whole.{Between, setting_of}
+use Rattle.lease_discipline.specs.of_protocol_legal.Knows.{KnowsPhase, KnowsRun, piece_of}
+use Rattle.lease_discipline.specs.of_protocol_legal.Whole.{Between, setting_of}
 use Rattle.protocol_owed.specs.Courses.{Rests, WaitsFor, course}
 use Rattle.protocol_owed.specs.Runs.{Running, seen}
 use Rattle.protocol_owed.specs.Told.{IsAsTold, attempt_by, pace_by, pace_in}

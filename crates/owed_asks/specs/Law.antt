@@ -9,7 +9,7 @@ use Rattle.protocol.specs.Messages.{TheWorker, Where}
 use Rattle.protocol.specs.Numbered.{item_at}
 use Rattle.protocol.specs.Tables.{AskedAt, OwnTask, Worker, task_of}
 use Rattle.protocol.specs.Whole.{Whole, worker_at}
-use Rattle.protocol_laws.specs.Coming.{IsRight}
+use Rattle.lease_discipline.specs.of_protocol_laws.Coming.{IsRight}
 use Rattle.protocol_owed.specs.Replies.{BirthIsAsked, CopyIsGot, ElsewhereIsAsked, GiveIsBegun, Happening, NewlyWaits, Says}
 use Rattle.protocol_owed.specs.Runs.{Handing, Running, after_event, after_events, answer_to, opening_run, seen}
 use Rattle.protocol_owed.specs.Seen.{IsCalm}

@@ -17,7 +17,7 @@ use Rattle.protocol.specs.Runs.{leaves_if_free}
 use Rattle.protocol.specs.Stores.{with_ended, with_primary}
 use Rattle.protocol.specs.Steps.{Here, logs_all, own_id, store_here, with_phase, with_run, with_store}
 use Rattle.protocol.specs.Tables.{HasEnded, Run, put_object}
-use Rattle.protocol_legal.proofs.Bearing.{still_holds}
+use Rattle.owed_asks.proofs.of_protocol_legal.Bearing.{still_holds}
 use Rattle.protocol_owed.proofs.Owing.{next_birth}
 use Rattle.smallest_steps.proofs.Over.{each_from-kept}
 use Rattle.protocol.specs.Sets.{object_id}

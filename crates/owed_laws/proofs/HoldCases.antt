@@ -38,18 +38,18 @@ use Rattle.protocol.specs.Runs.{begins_run, is_free, tells_stop}
 use Rattle.protocol.specs.Notices.{is_unheard}
 use Rattle.protocol.specs.Ticks.{asks_again, sends_holds, sends_run, sends_tasks, tick_step}
 use Rattle.protocol.specs.Whole.{Moved, Whole, here, node_at, worker_at}
-use Rattle.protocol_legal.specs.Knows.{GoesOn, KnowsPhase, KnowsRun, KnowsWorker}
-use Rattle.protocol_legal.specs.Past.{past}
-use Rattle.protocol_legal.specs.Says.{IsPushed, Says}
-use Rattle.protocol_legal.specs.Whole.{Between, setting_of}
+use Rattle.owed_asks.specs.of_protocol_legal.Knows.{GoesOn, KnowsPhase, KnowsRun, KnowsWorker}
+use Rattle.owed_asks.specs.of_protocol_legal.Past.{past}
+use Rattle.owed_asks.specs.of_protocol_legal.Says.{IsPushed, Says}
+use Rattle.owed_asks.specs.of_protocol_legal.Whole.{Between, setting_of}
 use Rattle.protocol_owed.specs.Courses.{has_begun}
 use Rattle.protocol_owed.proofs.Letters.{among-append_cases, among-behind, among-nothing}
 use Rattle.protocol_owed.proofs.Nodes.{there_more}
 use Rattle.smallest_steps.proofs.Untouched.{asks_again-worker, sends_holds-worker, sends_tasks-worker, tells_stop-worker}
-use Rattle.lease_discipline.specs.Told.{IsInStep}
-use Rattle.lease_discipline.proofs.Events.{among_at}
-use Rattle.lease_discipline.proofs.Heres.{changed_now}
-use Rattle.lease_discipline.proofs.Laws.{pushes_find_free}
+use Rattle.owed_asks.specs.of_lease_discipline.Told.{IsInStep}
+use Rattle.owed_asks.proofs.of_lease_discipline.Events.{among_at}
+use Rattle.owed_asks.proofs.of_lease_discipline.Heres.{changed_now}
+use Rattle.owed_asks.proofs.of_lease_discipline.Laws.{pushes_find_free}
 use Rattle.owed_replies.specs.Kept.{KeepsReplies}
 use Rattle.owed_replies.proofs.Advancing.{all_among, end_among}
 use Rattle.owed_replies.proofs.Committing.{release_step-run}

@@ -6,7 +6,7 @@ use Rattle.event_log.specs.Words.{births, same_attempt, worker_of}
 use Rattle.event_log.specs.Sane.{Sane}
 use Rattle.event_log.proofs.SaneLaws.{legal_logs_are_sane}
 use Rattle.event_log.proofs.Extending.{births-more}
-use Rattle.protocol_legal.specs.Whole.{Between, setting_of}
+use Rattle.owed_asks.specs.of_protocol_legal.Whole.{Between, setting_of}
 use Rattle.owed_laws.proofs.HoldMoves.{ack_of, IsHolder, IsOfRun, item_cases, item_within, result_more, run_more, RunHolds}
 use Rattle.std.proofs.Common.{[], ap, arith, inl, inr, length, length-append, List, None, Option, refl, Some, subst, suc, sym, zero, ℕ, ◌++◌, ◌+◌, ◌<◌, ◌∙◌}
 use Rattle.std.proofs.Common.{◌∷◌, ◌≡◌, ◌≤◌, ◌⊎◌}
@@ -22,16 +22,16 @@ use Rattle.protocol.specs.Sets.{repeated}
 use Rattle.protocol.specs.Steps.{Here}
 use Rattle.protocol.specs.Tables.{Holding, Run, Worker, new_worker}
 use Rattle.protocol.specs.Whole.{Moved, Whole, worker_at}
-use Rattle.protocol_legal.specs.Past.{past}
-use Rattle.protocol_legal.specs.Says.{IsPushed, Says}
+use Rattle.owed_asks.specs.of_protocol_legal.Past.{past}
+use Rattle.owed_asks.specs.of_protocol_legal.Says.{IsPushed, Says}
 use Rattle.protocol_owed.specs.Courses.{has_begun}
 use Rattle.protocol_owed.specs.Seen.{IsCalm}
 use Rattle.protocol_owed.proofs.CourseEvents.{append_split, one_of}
 use Rattle.protocol_owed.proofs.Letters.{among-append_cases, among-more}
 use Rattle.protocol_owed.proofs.Nodes.{changed_cases, there_more}
-use Rattle.lease_discipline.specs.Asks.{KeepsAsks, Touched}
-use Rattle.lease_discipline.specs.Told.{IsInStep}
-use Rattle.lease_discipline.proofs.Events.{among_at}
+use Rattle.owed_asks.specs.of_lease_discipline.Asks.{KeepsAsks, Touched}
+use Rattle.owed_asks.specs.of_lease_discipline.Told.{IsInStep}
+use Rattle.owed_asks.proofs.of_lease_discipline.Events.{among_at}
 use Rattle.owed_replies.specs.Kept.{KeepsReplies}
 use Rattle.owed_replies.proofs.Advancing.{all_among}
 use Rattle.owed_laws.proofs.HoldFacts.{only_first}

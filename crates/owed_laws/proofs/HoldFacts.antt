@@ -23,12 +23,12 @@ use Rattle.protocol.specs.Numbered.{item_at}
 use Rattle.protocol.specs.Sets.{object_id}
 use Rattle.protocol.specs.Tables.{AskedAt, AtRest, Beside, ByTask, Maker, Object, OwnTask, Progress, RunsOn, WasPut, Worker, task_in, task_of}
 use Rattle.protocol.specs.Whole.{Whole, worker_at}
-use Rattle.protocol_legal.specs.Knows.{KnowsMaker, KnowsObject, KnowsProgress, KnowsTask}
-use Rattle.protocol_legal.specs.Past.{past}
-use Rattle.protocol_legal.specs.Whole.{Between}
+use Rattle.owed_asks.specs.of_protocol_legal.Knows.{KnowsMaker, KnowsObject, KnowsProgress, KnowsTask}
+use Rattle.owed_asks.specs.of_protocol_legal.Past.{past}
+use Rattle.owed_asks.specs.of_protocol_legal.Whole.{Between}
 use Rattle.protocol_owed.specs.Seen.{IsCalm}
-use Rattle.lease_discipline.specs.Asks.{KeepsAsks, Touched}
-use Rattle.lease_discipline.proofs.Heres.{by_number}
+use Rattle.owed_asks.specs.of_lease_discipline.Asks.{KeepsAsks, Touched}
+use Rattle.owed_asks.proofs.of_lease_discipline.Heres.{by_number}
 use Rattle.owed_replies.proofs.Quiet.{begun_first, knows_of, none_begun}
 
 -- ---- the first of a kind

@@ -26,8 +26,8 @@ use Rattle.protocol_owed.specs.Courses.{has_begun}
 use Rattle.protocol_owed.specs.Seen.{IsCalm}
 use Rattle.protocol_owed.proofs.Letters.{among-nothing}
 use Rattle.smallest_steps.proofs.Untouched.{tells_stop-worker}
-use Rattle.lease_discipline.specs.Asks.{KeepsAsks}
-use Rattle.lease_discipline.specs.Told.{IsInStep}
+use Rattle.owed_asks.specs.of_lease_discipline.Asks.{KeepsAsks}
+use Rattle.owed_asks.specs.of_lease_discipline.Told.{IsInStep}
 use Rattle.owed_replies.specs.Kept.{KeepsReplies}
 use Rattle.owed_replies.proofs.Moves.{IsKept, release_step-kept}
 use Rattle.owed_replies.proofs.Paying.{kept_among}

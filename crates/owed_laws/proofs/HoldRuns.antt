@@ -48,10 +48,10 @@ use Rattle.protocol_owed.proofs.CourseRuns.{OutOf, out_of}
 use Rattle.protocol_owed.proofs.Counting.{happens-counted, no_event, not_refused}
 use Rattle.protocol_owed.proofs.Letters.{among-more, among-nothing}
 use Rattle.protocol_owed.proofs.NodeMoves.{node_reached-kept}
-use Rattle.lease_discipline.specs.Asks.{KeepsAsks}
-use Rattle.lease_discipline.specs.Slots.{AreRight}
-use Rattle.lease_discipline.specs.Told.{IsInStep}
-use Rattle.lease_discipline.proofs.Opening.{only_driver}
+use Rattle.owed_asks.specs.of_lease_discipline.Asks.{KeepsAsks}
+use Rattle.owed_asks.specs.of_lease_discipline.Slots.{AreRight}
+use Rattle.owed_asks.specs.of_lease_discipline.Told.{IsInStep}
+use Rattle.owed_asks.proofs.of_lease_discipline.Opening.{only_driver}
 use Rattle.owed_asks.proofs.Laws as A
 use Rattle.owed_asks.proofs.Laws.{all_right, happens_network, one_more}
 use Rattle.owed_replies.specs.Kept.{KeepsReplies}

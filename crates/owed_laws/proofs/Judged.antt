@@ -21,7 +21,7 @@ use Rattle.protocol_owed.specs.Ends.{EndsAreReported, HoldsAreAcknowledged, IsHo
 use Rattle.protocol_owed.specs.Replies.{BirthIsAsked, FetchIsAnswered, FinishIsAcknowledged, HasFirstCopy, IsRequest, RequestIsTold, Says}
 use Rattle.protocol_owed.specs.Seen.{IsContentOf, IsKnownAt, Tells, deliveries}
 use Rattle.protocol_owed.proofs.Letters.{among-nothing}
-use Rattle.lease_discipline.specs.Examples.{first_one, given_log, one_once}
+use Rattle.owed_asks.specs.of_lease_discipline.Examples.{first_one, given_log, one_once}
 
 -- ---- a birth
 

@@ -14,7 +14,7 @@ use Rattle.event_log.specs.Sane.{Sane}
 use Rattle.event_log.proofs.Extending.{parts-more}
 use Rattle.event_log.proofs.SaneLaws.{legal_logs_are_sane}
 use Rattle.event_log.specs.Words.{attempt, births, ended_in, ends_of}
-use Rattle.protocol_legal.specs.Whole.{Between, setting_of}
+use Rattle.owed_asks.specs.of_protocol_legal.Whole.{Between, setting_of}
 use Rattle.meaning.specs.Mains.{KeepsMainApart}
 use Rattle.event_log.specs.Breaks.{Among}
 use Rattle.event_log.specs.Entries.{Attempt, Claim, Commit, Deliver, Ended, Entry, Event, Evict, In, Join, Kill, KillNode, Limit, Lose, main_object, Notice}
@@ -34,16 +34,16 @@ use Rattle.protocol.specs.Refusals.{is_within_limits, refusal}
 use Rattle.protocol.specs.Stores.{Copy, is_copy_of}
 use Rattle.protocol.specs.Tables.{Worker}
 use Rattle.protocol.specs.Whole.{Moved, Whole, first_whole, node_at, worker_at}
-use Rattle.protocol_legal.specs.Made.{EndsSmall, IsMadeAt}
+use Rattle.owed_asks.specs.of_protocol_legal.Made.{EndsSmall, IsMadeAt}
 use Rattle.protocol_owed.specs.Replies.{HasFirstCopy}
 use Rattle.protocol_owed.specs.Runs.{Handing, Running, after_event, after_events, is_copy, keeps_in, opening_run, seen}
 use Rattle.protocol_owed.specs.Seen.{EndedAt, PutAt, delivered_in, letters_by}
 use Rattle.protocol_owed.proofs.Counting.{happens-counted, no_event, not_refused}
 use Rattle.protocol_owed.proofs.Letters.{among-behind, among-more, among-nothing}
 use Rattle.protocol_owed.proofs.Nodes.{there_more}
-use Rattle.lease_discipline.specs.Slots.{AreRight}
-use Rattle.lease_discipline.specs.Told.{IsInStep}
-use Rattle.lease_discipline.proofs.Told.{events_stay_in_step, nowhere, opening_is_in_step, places}
+use Rattle.owed_asks.specs.of_lease_discipline.Slots.{AreRight}
+use Rattle.owed_asks.specs.of_lease_discipline.Told.{IsInStep}
+use Rattle.owed_asks.proofs.of_lease_discipline.Told.{events_stay_in_step, nowhere, opening_is_in_step, places}
 use Rattle.owed_asks.proofs.Laws.{happens_network}
 use Rattle.owed_replies.specs.Kept.{came_by}
 use Rattle.owed_replies.proofs.Advancing.{among_flat, flat_among}

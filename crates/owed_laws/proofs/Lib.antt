@@ -20,3 +20,6 @@ pub mod HoldHappens
 pub mod HoldCases
 pub mod HoldRuns
 pub mod Reports
+pub use Rattle.owed_asks.proofs.of_lease_discipline as of_lease_discipline
+pub use Rattle.owed_replies.proofs as of_owed_replies
+pub use Rattle.owed_asks.proofs.of_protocol_laws as of_protocol_laws

@@ -18,8 +18,8 @@ use Rattle.event_log.specs.Sane.{Sane}
 use Rattle.event_log.specs.Words.{attempt, births, born_in, ended_in, ends_of, main_bearing, run_in, runs_of, worker_of}
 use Rattle.event_log.proofs.SaneLaws.{legal_logs_are_sane}
 use Rattle.protocol.specs.Whole.{Whole}
-use Rattle.protocol_legal.specs.Made.{EndsSmall, IsEndedAt, IsMadeAt, IsPutAt}
-use Rattle.protocol_legal.specs.Whole.{Between, setting_of}
+use Rattle.owed_asks.specs.of_protocol_legal.Made.{EndsSmall, IsEndedAt, IsMadeAt, IsPutAt}
+use Rattle.owed_asks.specs.of_protocol_legal.Whole.{Between, setting_of}
 use Rattle.protocol_owed.proofs.Letters.{among-append_cases, among-nothing}
 use Rattle.owed_replies.proofs.Advancing.{flat_among}
 use Rattle.owed_replies.proofs.Contents.{ended_entry}

@@ -14,7 +14,7 @@ use Rattle.event_log.specs.Entries.{Accepted, Attempt, Commit, Deliver, Entry, E
 use Rattle.event_log.specs.Events.{from_one}
 use Rattle.event_log.specs.Rules.{Setting}
 use Rattle.event_log.specs.Words.{attempt, births, same_attempt, worker_of}
-use Rattle.holding_steps.proofs.Known.{known_born}
+use Rattle.owed_asks.proofs.of_holding_steps.Known.{known_born}
 use Rattle.protocol.specs.Answers.{Step, Takes, decided}
 use Rattle.protocol.specs.Commits.{keeps_content, keeps_contents, asks_where, commit_by, commit_step, ends, rests_if_waiting, stops_by, with_outcomes}
 use Rattle.protocol.specs.Events.{objects_made, committed_by, happens, is_live_worker, with_committed}
@@ -30,12 +30,12 @@ use Rattle.protocol.specs.Stores.{with_ended}
 use Rattle.protocol.specs.Steps.{Here, store_here, with_phase, with_run, with_store}
 use Rattle.protocol.specs.Tables.{HasEnded, Out, Ready, Run, Waits, Worker, has_stopped, is_waiting_for, knows_dead, needed_by, new_worker, object_needed, owner_of}
 use Rattle.protocol.specs.Whole.{Moved, Whole, after_worker, worker_at, worker_does_at, worker_does_by}
-use Rattle.protocol_laws.specs.Coming.{IsRight}
-use Rattle.protocol_laws.specs.Sound.{IsSound}
-use Rattle.protocol_laws.proofs.Tests.{live_worker, or_none, out_run, unless_none}
-use Rattle.protocol_legal.specs.Done.{IsTrue}
-use Rattle.protocol_legal.specs.Whole.{setting_of}
-use Rattle.protocol_legal.proofs.Bearing.{still_holds}
+use Rattle.owed_asks.specs.of_protocol_laws.Coming.{IsRight}
+use Rattle.owed_asks.specs.of_protocol_laws.Sound.{IsSound}
+use Rattle.owed_asks.proofs.of_protocol_laws.Tests.{live_worker, or_none, out_run, unless_none}
+use Rattle.owed_asks.specs.of_protocol_legal.Done.{IsTrue}
+use Rattle.owed_asks.specs.of_protocol_legal.Whole.{setting_of}
+use Rattle.owed_asks.proofs.of_protocol_legal.Bearing.{still_holds}
 use Rattle.protocol_owed.specs.Replies.{NewWaitIsTended, NewWaitsAreTended, NewlyWaits, SaysFetch}
 use Rattle.protocol_owed.specs.Runs.{Handing, Running, after_event, after_events, answer_to, opening_run}
 use Rattle.protocol_owed.specs.Seen.{IsCalm}
@@ -43,10 +43,10 @@ use Rattle.protocol_owed.proofs.Letters.{among-append_cases, among-more}
 use Rattle.protocol_owed.proofs.Moves.{IsKept, asks_where-kept, release_step-kept, rests_if_waiting-kept}
 use Rattle.protocol_owed.proofs.NodeMoves.{IsKeptThere, asks_slot-kept, frees-kept}
 use Rattle.protocol_owed.proofs.Nodes.{there_more}
-use Rattle.lease_discipline.specs.Slots.{AreRight}
-use Rattle.lease_discipline.specs.Told.{IsInStep}
-use Rattle.lease_discipline.proofs.Heres.{changed_now}
-use Rattle.lease_discipline.proofs.Tame.{item_mapped}
+use Rattle.owed_asks.specs.of_lease_discipline.Slots.{AreRight}
+use Rattle.owed_asks.specs.of_lease_discipline.Told.{IsInStep}
+use Rattle.owed_asks.proofs.of_lease_discipline.Heres.{changed_now}
+use Rattle.owed_asks.proofs.of_lease_discipline.Tame.{item_mapped}
 use Rattle.owed_asks.specs.Law.{EveryEvent, happening}
 use Rattle.owed_asks.proofs.Laws.{IsTaken, RunKeeps, calm_so_far, is_taken, last_log, last_whole, next_keeps, runs_keep}
 use Rattle.owed_asks.proofs.Needs.{new_foreign_waits_are_asked}

@@ -20,7 +20,7 @@ use Rattle.protocol.specs.Tables.{Object, Ready, Run, Waits, has_content, is_los
 use Rattle.protocol_owed.proofs.Letters.{among-last}
 use Rattle.protocol_owed.proofs.Moves.{rests_if_waiting-kept}
 use Rattle.protocol_owed.proofs.Replying.{Sent, sent_after, sent_stays}
-use Rattle.protocol_legal.proofs.Needing.{has_without}
+use Rattle.owed_asks.proofs.of_protocol_legal.Needing.{has_without}
 use Rattle.owed_replies.proofs.Committing.{release_step-run}
 
 -- the attempt goes on

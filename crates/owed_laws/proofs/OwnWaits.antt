@@ -8,8 +8,8 @@ use Rattle.std.proofs.lemmas.Bool.Decides.{nat_tests}
 use Rattle.meaning.proofs.BirthLaws.{at_test, first_is_made}
 use Rattle.meaning.specs.Births.{Part, birth_at, part_at}
 use Rattle.event_log.specs.Words.{attempt, births, ends_of, worker_of}
-use Rattle.protocol_legal.specs.Made.{EndsSmall, IsEndedAt, IsMadeAt, IsTaken}
-use Rattle.protocol_legal.specs.Past.{past}
+use Rattle.owed_asks.specs.of_protocol_legal.Made.{EndsSmall, IsEndedAt, IsMadeAt, IsTaken}
+use Rattle.owed_asks.specs.of_protocol_legal.Past.{past}
 use Rattle.owed_replies.proofs.Quiet.{accepted_among, HasContentAt, IsHad, no_dead_nodes, no_run, node_alive, none_lost, none_lost_put, OfPut, OfTask, Origin}
 use Rattle.owed_replies.proofs.Quiet.{origin, part_is, put_known, released_among, worker_alive}
 use Rattle.meaning.specs.Mains.{KeepsMainApart}
@@ -37,26 +37,26 @@ use Rattle.protocol.specs.Stores.{Copy, copy_in, is_copy_of}
 use Rattle.protocol.specs.Steps.{Here, logs_all, object_at, store_here, with_phase, with_run}
 use Rattle.protocol.specs.Tables.{Object, Out, Run, Waits, Worker, new_worker}
 use Rattle.protocol.specs.Whole.{Whole, after_worker, here, node_at, worker_at}
-use Rattle.protocol_legal.specs.Done.{IsTrue}
-use Rattle.protocol_legal.specs.During.{Frame, HearsNoDeath, SoundHere}
-use Rattle.protocol_legal.specs.Frame.{Arrives}
-use Rattle.protocol_legal.specs.Steps.{EventsOfWorkers, frame_of}
-use Rattle.protocol_legal.specs.Steps as St
-use Rattle.protocol_legal.specs.Whole.{Between, committed_in, setting_of}
-use Rattle.protocol_legal.proofs.Bearing.{Ahead, Still, bears_sound, run_by}
-use Rattle.protocol_legal.proofs.Committing.{Arrived, IsJobOf, commit_logged}
-use Rattle.protocol_legal.proofs.FrameHolds.{steps_stay_legal}
-use Rattle.protocol_legal.proofs.FrameIn.{any_join}
-use Rattle.protocol_legal.proofs.FrameLists.{from_one_of}
-use Rattle.protocol_legal.proofs.Notices.{heeds_still}
-use Rattle.protocol_legal.proofs.OnlyMainPrints.{only_main_prints}
-use Rattle.protocol_legal.proofs.Runs.{here_runs}
-use Rattle.protocol_laws.specs.Sound.{IsSound}
+use Rattle.owed_asks.specs.of_protocol_legal.Done.{IsTrue}
+use Rattle.owed_asks.specs.of_protocol_legal.During.{Frame, HearsNoDeath, SoundHere}
+use Rattle.owed_asks.specs.of_protocol_legal.Frame.{Arrives}
+use Rattle.owed_asks.specs.of_protocol_legal.Steps.{EventsOfWorkers, frame_of}
+use Rattle.owed_asks.specs.of_protocol_legal.Steps as St
+use Rattle.owed_asks.specs.of_protocol_legal.Whole.{Between, committed_in, setting_of}
+use Rattle.owed_asks.proofs.of_protocol_legal.Bearing.{Ahead, Still, bears_sound, run_by}
+use Rattle.owed_asks.proofs.of_protocol_legal.Committing.{Arrived, IsJobOf, commit_logged}
+use Rattle.owed_asks.proofs.of_protocol_legal.FrameHolds.{steps_stay_legal}
+use Rattle.owed_asks.proofs.of_protocol_legal.FrameIn.{any_join}
+use Rattle.owed_asks.proofs.of_protocol_legal.FrameLists.{from_one_of}
+use Rattle.owed_asks.proofs.of_protocol_legal.Notices.{heeds_still}
+use Rattle.owed_asks.proofs.of_protocol_legal.OnlyMainPrints.{only_main_prints}
+use Rattle.owed_asks.proofs.of_protocol_legal.Runs.{here_runs}
+use Rattle.owed_asks.specs.of_protocol_laws.Sound.{IsSound}
 use Rattle.protocol_owed.specs.Seen.{IsCalm, IsKnownAt, is_failure}
 use Rattle.protocol_owed.proofs.Letters.{among-more}
 use Rattle.protocol_owed.proofs.Nodes.{there_more}
-use Rattle.lease_discipline.proofs.Heres.{changed_now}
-use Rattle.lease_discipline.proofs.Told.{places}
+use Rattle.owed_asks.proofs.of_lease_discipline.Heres.{changed_now}
+use Rattle.owed_asks.proofs.of_lease_discipline.Told.{places}
 use Rattle.owed_replies.proofs.Advancing.{owner_has}
 use Rattle.owed_replies.proofs.Known.{need_known}
 use Rattle.owed_laws.proofs.OwnNeeds.{GoesOnHere, IsServed, answers_here, fetches_then, goes_on_then, own_where, serves}

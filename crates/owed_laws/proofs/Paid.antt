@@ -1,7 +1,7 @@
 -- Every accepted event of every run pays what it owes, as far as that is proved.
 use Rattle.event_log.specs.Sane.{Sane}
 use Rattle.event_log.proofs.SaneLaws.{legal_logs_are_sane}
-use Rattle.protocol_legal.specs.Whole.{setting_of}
+use Rattle.owed_asks.specs.of_protocol_legal.Whole.{setting_of}
 use Rattle.std.proofs.Common.{◌≡◌, ℕ, ◌<◌, ◌≤◌, Bool, true, false, List, [], ◌∷◌, ◌++◌, Option, Some, None, refl, ap, sym, subst, ◌∙◌}
 use Rattle.meaning.specs.Mains.{KeepsMainApart}
 use Rattle.meaning.specs.Values.{Id, Outcome}
@@ -12,9 +12,9 @@ use Rattle.protocol.specs.Messages.{Letter, Missing, TheNode, TheWorker, letter}
 use Rattle.protocol.specs.Nodes.{Node}
 use Rattle.protocol.specs.Stores.{copy_in}
 use Rattle.protocol.specs.Whole.{Whole, node_at}
-use Rattle.protocol_legal.specs.Past.{past}
-use Rattle.protocol_legal.proofs.Placing.{copy_is_true}
-use Rattle.protocol_laws.specs.Coming.{IsRight}
+use Rattle.owed_asks.specs.of_protocol_legal.Past.{past}
+use Rattle.owed_asks.proofs.of_protocol_legal.Placing.{copy_is_true}
+use Rattle.owed_asks.specs.of_protocol_laws.Coming.{IsRight}
 use Rattle.protocol_owed.specs.Ends.{EndsAreReported}
 use Rattle.protocol_owed.specs.Runs.{AcknowledgementsAreMade, FetchIsMet, Handing, Running, after_event, after_events, answer_to, is_copy, keeps_in, opening_run, seen}
 use Rattle.protocol_owed.specs.Seen.{IsCalm, IsContentOf}
@@ -22,10 +22,10 @@ use Rattle.protocol_owed.specs.Turns.{AllSlotsAreRight, AsksAreAnswered, ClaimIs
 use Rattle.protocol_owed.proofs.Calm.{law_of_acknowledgements}
 use Rattle.protocol_owed.proofs.Counting.{law_of_asks}
 use Rattle.protocol_owed.proofs.Fetches.{law_of_fetches}
-use Rattle.lease_discipline.specs.Slots.{AreRight}
-use Rattle.lease_discipline.specs.Told.{entries_of}
-use Rattle.lease_discipline.proofs.Events.{among_at}
-use Rattle.lease_discipline.proofs.Told.{claims_are_answered, places}
+use Rattle.owed_asks.specs.of_lease_discipline.Slots.{AreRight}
+use Rattle.owed_asks.specs.of_lease_discipline.Told.{entries_of}
+use Rattle.owed_asks.proofs.of_lease_discipline.Events.{among_at}
+use Rattle.owed_asks.proofs.of_lease_discipline.Told.{claims_are_answered, places}
 use Rattle.owed_asks.specs.Law.{happening}
 use Rattle.owed_asks.proofs.Laws.{all_right, births_are_asked, calm_so_far, elsewheres_are_asked, gives_are_begun, last_log, last_whole, one_more, RunKeeps}
 use Rattle.owed_asks.proofs.Laws.{runs_keep}

@@ -2,7 +2,7 @@
 use Rattle.meaning.specs.Births.{birth_at, is_made_by}
 use Rattle.event_log.specs.Words.{births, same_attempt, worker_of}
 use Rattle.protocol.specs.Messages.{Finished, Letter, letter, TheWorker}
-use Rattle.lease_discipline.proofs.Events.{among_at}
+use Rattle.owed_asks.proofs.of_lease_discipline.Events.{among_at}
 use Rattle.owed_laws.proofs.HoldMoves.{hold_of, IsHeld, IsOfRun}
 use Rattle.std.proofs.Common.{◌≡◌, ℕ, zero, suc, ◌<◌, ◌≤◌, List, [], ◌∷◌, Some, Option, refl, ap, sym, subst, ◌∙◌, inl, inr, arith}
 use Rattle.std.specs.Prelude.{true, false, ◌||◌}
@@ -19,15 +19,15 @@ use Rattle.event_log.proofs.WordLaws.{same_attempt-true}
 use Rattle.protocol.specs.Numbered.{item_at}
 use Rattle.protocol.specs.Tables.{Holding, Run, Worker}
 use Rattle.protocol.specs.Whole.{worker_at}
-use Rattle.protocol_legal.specs.Past.{past}
-use Rattle.protocol_legal.specs.Says.{IsPushed, Says}
-use Rattle.protocol_legal.specs.Whole.{Between}
+use Rattle.owed_asks.specs.of_protocol_legal.Past.{past}
+use Rattle.owed_asks.specs.of_protocol_legal.Says.{IsPushed, Says}
+use Rattle.owed_asks.specs.of_protocol_legal.Whole.{Between}
 use Rattle.protocol_owed.specs.Courses.{has_begun}
 use Rattle.protocol_owed.specs.Ends.{EndsAreReported, HoldsAreAcknowledged, IsAcknowledged, IsEntryOf, IsHoldOf}
 use Rattle.protocol_owed.specs.Runs.{Handing, Running, after_events, opening_run, seen}
 use Rattle.protocol_owed.specs.Seen.{IsCalm, delivers}
-use Rattle.lease_discipline.specs.Discipline.{IsDone}
-use Rattle.lease_discipline.specs.Slots.{AreRight}
+use Rattle.owed_asks.specs.of_lease_discipline.Discipline.{IsDone}
+use Rattle.owed_asks.specs.of_lease_discipline.Slots.{AreRight}
 use Rattle.owed_asks.proofs.Laws as A
 use Rattle.owed_replies.specs.Kept.{IsReported}
 use Rattle.owed_replies.specs.Law.{AwaitsAcks}

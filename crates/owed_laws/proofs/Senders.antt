@@ -28,7 +28,7 @@ use Rattle.protocol_owed.proofs.Letters.{among-append_cases, among-nothing, amon
 use Rattle.protocol_owed.proofs.Moves.{IsKept, claim_step-kept, commit_step-kept, notice_node_step-kept, notice_step-kept, reached-kept, release_step-kept, tick_step-kept}
 use Rattle.protocol_owed.proofs.Nodes.{there_more, there_still}
 use Rattle.protocol_owed.specs.Runs.{Handing, Running, after_event, after_events, opening_run}
-use Rattle.lease_discipline.proofs.Events.{among_at}
+use Rattle.owed_asks.proofs.of_lease_discipline.Events.{among_at}
 use Rattle.smallest_steps.proofs.SlotMoves as S
 
 -- a worker that says something is there, and one to which a node says that it lacks a copy

@@ -31,14 +31,14 @@ use Rattle.protocol.specs.Stores.{Copy, Store, copy_in, is_copy_of, is_of, witho
 use Rattle.protocol.specs.Tables.{Run, Worker}
 use Rattle.protocol.specs.Ticks.{tick_step}
 use Rattle.protocol.specs.Whole.{Moved, Whole, after_worker, here, moved, node_at, node_does, node_does_by, there, worker_at, worker_does, worker_does_at, worker_does_by}
-use Rattle.protocol_legal.specs.Made.{IsEndedAt, IsPutAt}
-use Rattle.protocol_legal.specs.Whole.{Between}
+use Rattle.owed_asks.specs.of_protocol_legal.Made.{IsEndedAt, IsPutAt}
+use Rattle.owed_asks.specs.of_protocol_legal.Whole.{Between}
 use Rattle.protocol_owed.proofs.CourseAll.{LiveOne, both_passed, live_one, passed}
 use Rattle.protocol_owed.proofs.CourseRuns.{OutOf, out_of}
 use Rattle.protocol_owed.proofs.Letters.{among-nothing}
 use Rattle.protocol_owed.proofs.Nodes.{changed_cases, push_cases}
-use Rattle.lease_discipline.specs.Told.{IsInStep}
-use Rattle.lease_discipline.proofs.Told.{places}
+use Rattle.owed_asks.specs.of_lease_discipline.Told.{IsInStep}
+use Rattle.owed_asks.proofs.of_lease_discipline.Told.{places}
 use Rattle.owed_laws.proofs.CommitCopies as C
 use Rattle.owed_laws.proofs.CommitCopies.{IsStored, stored_stays}
 use Rattle.owed_laws.proofs.Made.{runs_more}

@@ -9,7 +9,7 @@ use Rattle.protocol.specs.Sets.{object_id}
 use Rattle.protocol_owed.specs.Ends.{EndsAreReported}
 use Rattle.protocol_owed.specs.Replies.{BirthIsAsked, FetchIsAnswered, FinishIsAcknowledged, Happening, HasFirstCopy, RequestIsTold}
 use Rattle.protocol_owed.specs.Seen.{Scene}
-use Rattle.lease_discipline.specs.Examples.{first_one, given_log, one_once, scene}
+use Rattle.owed_asks.specs.of_lease_discipline.Examples.{first_one, given_log, one_once, scene}
 
 -- ---- a birth
 

@@ -6,7 +6,7 @@ use Rattle.meaning.specs.Mains.{KeepsMainApart}
 use Rattle.meaning.specs.Values.{Id}
 use Rattle.protocol.specs.Answers.{Step, Takes}
 use Rattle.protocol.specs.Messages.{Fetch, TheNode, TheWorker}
-use Rattle.protocol_laws.specs.Coming.{IsRight}
+use Rattle.owed_asks.specs.of_protocol_laws.Coming.{IsRight}
 use Rattle.protocol_owed.specs.Ends.{EndsAreReported}
 use Rattle.protocol_owed.specs.Owed.{Owed}
 use Rattle.protocol_owed.specs.Replies.{AcknowledgedGoesBack, BirthIsAsked, Brings, CopyIsGot, ElsewhereIsAsked, FetchIsAnswered, GiveIsBegun, Happening}
@@ -14,8 +14,8 @@ use Rattle.protocol_owed.specs.Replies.{MissingIsHandedOn, NewWaitsAreTended}
 use Rattle.protocol_owed.specs.Runs.{Handing, Running, after_event, after_events, answer_to, opening_run, seen}
 use Rattle.protocol_owed.specs.Seen.{IsCalm}
 use Rattle.protocol_owed.specs.Turns.{AllSlotsAreRight, AsksAreAnswered, ClaimIsAnswered}
-use Rattle.lease_discipline.specs.Slots.{AreRight}
-use Rattle.lease_discipline.specs.Told.{entries_of}
+use Rattle.owed_asks.specs.of_lease_discipline.Slots.{AreRight}
+use Rattle.owed_asks.specs.of_lease_discipline.Told.{entries_of}
 use Rattle.owed_asks.specs.Law.{happening}
 use Rattle.owed_replies.specs.Law.{IsPaid}
 

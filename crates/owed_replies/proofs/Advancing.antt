@@ -24,11 +24,11 @@ use Rattle.protocol.specs.Messages.{Where, At, Gone, Fetch, CopyOf, Missing, Hol
 use Rattle.protocol.specs.Numbered.{item_at}
 use Rattle.protocol.specs.Tables.{HasEnded, HasFaulted, Object, Out, Phase, Ready, Run, Waits, Worker}
 use Rattle.protocol.specs.Whole.{Moved, Whole, worker_at}
-use Rattle.protocol_legal.specs.Knows.{KnowsPhase, KnowsRun, KnowsWorker}
-use Rattle.protocol_legal.specs.Made.{IsMade}
-use Rattle.protocol_legal.specs.Past.{past}
-use Rattle.protocol_legal.specs.Says.{Says}
-use Rattle.protocol_legal.specs.Whole.{Between, setting_of}
+use Rattle.lease_discipline.specs.of_protocol_legal.Knows.{KnowsPhase, KnowsRun, KnowsWorker}
+use Rattle.lease_discipline.specs.of_protocol_legal.Made.{IsMade}
+use Rattle.lease_discipline.specs.of_protocol_legal.Past.{past}
+use Rattle.lease_discipline.specs.of_protocol_legal.Says.{Says}
+use Rattle.lease_discipline.specs.of_protocol_legal.Whole.{Between, setting_of}
 use Rattle.protocol_owed.specs.Replies.{IsRequest}
 use Rattle.protocol_owed.specs.Seen.{delivered_in, letters_by}
 use Rattle.protocol_owed.proofs.Letters.{among-append_cases, among-behind, among-more, among-nothing}

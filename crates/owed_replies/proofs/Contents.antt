@@ -11,10 +11,10 @@ use Rattle.event_log.specs.Words.{attempt, ended_in, same_attempt}
 use Rattle.event_log.proofs.WordLaws.{same_attempt-true}
 use Rattle.protocol.specs.Messages.{At, Letter, TheWorker, letter}
 use Rattle.protocol.specs.Whole.{Whole}
-use Rattle.protocol_legal.specs.Made.{IsCarried, IsCopy}
-use Rattle.protocol_legal.specs.Past.{past}
-use Rattle.protocol_legal.specs.Says.{Says}
-use Rattle.protocol_legal.specs.Whole.{Between}
+use Rattle.lease_discipline.specs.of_protocol_legal.Made.{IsCarried, IsCopy}
+use Rattle.lease_discipline.specs.of_protocol_legal.Past.{past}
+use Rattle.lease_discipline.specs.of_protocol_legal.Says.{Says}
+use Rattle.lease_discipline.specs.of_protocol_legal.Whole.{Between}
 use Rattle.protocol_owed.specs.Seen.{IsContentOf}
 use Rattle.protocol_owed.proofs.Letters.{among-behind, among-nothing}
 use Rattle.owed_replies.proofs.Advancing.{all_among, flat_among}

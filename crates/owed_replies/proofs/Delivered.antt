@@ -29,7 +29,7 @@ use Rattle.protocol.specs.Releases.{release_step}
 use Rattle.protocol.specs.Steps.{Here}
 use Rattle.protocol.specs.Tables.{Worker}
 use Rattle.protocol.specs.Whole.{Moved, Whole, here, moved, node_at, worker_at, worker_does, worker_does_at, worker_does_by}
-use Rattle.protocol_legal.specs.Whole.{Between}
+use Rattle.lease_discipline.specs.of_protocol_legal.Whole.{Between}
 use Rattle.protocol_owed.specs.Seen.{IsCalm}
 use Rattle.protocol_owed.proofs.Letters.{among-nothing}
 use Rattle.lease_discipline.proofs.Told.{lives_there}

@@ -59,8 +59,8 @@ use Rattle.lease_discipline.specs.Told.{IsInStep}
 use Rattle.lease_discipline.proofs.Events.{item_map}
 use Rattle.lease_discipline.proofs.Heres.{changed_now}
 use Rattle.lease_discipline.proofs.Tame.{item_mapped}
-use Rattle.protocol_legal.specs.Knows.{KnowsObject}
-use Rattle.protocol_legal.specs.Past.{Past, past}
+use Rattle.lease_discipline.specs.of_protocol_legal.Knows.{KnowsObject}
+use Rattle.lease_discipline.specs.of_protocol_legal.Past.{Past, past}
 use Rattle.owed_replies.specs.Kept.{IsAwaitedBy, IsRightLetter, KeepsReplies}
 use Rattle.owed_replies.proofs.Objects.{grows_itself, put_grows, same_grows}
 use Rattle.owed_replies.proofs.Moves as R

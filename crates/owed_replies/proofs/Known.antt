@@ -22,16 +22,16 @@ use Rattle.meaning.specs.Runs.{next_id}
 use Rattle.holding.specs.Past.{Accepted, Among, Born, Ended, Has, IsFilled, IsOneOf}
 use Rattle.holding.specs.Tells.{IsFactOf, Stands, Tells, facts_in, ids_in_each, is_put}
 use Rattle.holding.proofs.Words.{IsBorn as IsBornPast, agree, born_known, ended_known}
-use Rattle.holding_steps.proofs.Committing.{once_among}
-use Rattle.holding_steps.proofs.Known.{known_born}
+use Rattle.lease_discipline.proofs.of_holding_steps.Committing.{once_among}
+use Rattle.lease_discipline.proofs.of_holding_steps.Known.{known_born}
 use Rattle.event_log.proofs.WordLaws.{deeds}
 use Rattle.meaning_laws.proofs.Good.{GoodLog, Stands as StandsSo, Told, objects_born, spec_named}
 use Rattle.meaning_laws.proofs.LogLaw.{good_log}
 use Rattle.protocol.specs.Tables.{HasEnded, HasFaulted, Out, Phase, Ready, Run, Waits, Worker, object_needed}
 use Rattle.protocol.specs.Whole.{Whole, worker_at}
-use Rattle.protocol_legal.specs.Knows.{KnowsPhase, KnowsRun, piece_of}
-use Rattle.protocol_legal.specs.Whole.{Between, setting_of}
-use Rattle.protocol_laws.specs.Sound.{IsSound}
+use Rattle.lease_discipline.specs.of_protocol_legal.Knows.{KnowsPhase, KnowsRun, piece_of}
+use Rattle.lease_discipline.specs.of_protocol_legal.Whole.{Between, setting_of}
+use Rattle.lease_discipline.specs.of_protocol_laws.Sound.{IsSound}
 use Rattle.owed_replies.specs.Kept.{IsBornIn}
 
 -- ---- what is waited for

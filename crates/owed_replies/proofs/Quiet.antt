@@ -18,18 +18,18 @@ use Rattle.event_log.proofs.WordLaws.{same_attempt-refl}
 use Rattle.owed_replies.proofs.Objects.{there_is}
 use Rattle.event_log.specs.Sane.{Sane}
 use Rattle.event_log.proofs.SaneLaws.{legal_logs_are_sane}
-use Rattle.protocol_legal.proofs.Placing.{lone}
+use Rattle.lease_discipline.proofs.of_protocol_legal.Placing.{lone}
 use Rattle.values.specs.Cells.{if_small, is_small}
 use Rattle.protocol.specs.Numbered.{item_at}
 use Rattle.protocol.specs.Sets.{has, object_id}
 use Rattle.protocol.specs.Tables.{AskedAt, AtRest, Beside, ByTask, Maker, task_by, task_in, task_of, is_pending_task, Object, OwnTask, Progress, RunsOn, WasPut, Worker, has_content, is_under_way, settled_number, is_nowhere}
 use Rattle.protocol.specs.Whole.{Whole, worker_at}
-use Rattle.protocol_legal.specs.Knows.{IsBegun, IsPartOf, IsPlaced, IsSettled, IsTask, KnowsMaker, KnowsObject, KnowsProgress, KnowsPut, KnowsResult}
-use Rattle.protocol_legal.specs.Knows.{KnowsTask, kept_until, once}
-use Rattle.protocol_legal.specs.Lost.{IsLost, RisingTo}
-use Rattle.protocol_legal.specs.Made.{IsMadeAt, EndsSmall}
-use Rattle.protocol_legal.specs.Past.{Past, past}
-use Rattle.protocol_legal.specs.Whole.{Between, setting_of}
+use Rattle.lease_discipline.specs.of_protocol_legal.Knows.{IsBegun, IsPartOf, IsPlaced, IsSettled, IsTask, KnowsMaker, KnowsObject, KnowsProgress, KnowsPut, KnowsResult}
+use Rattle.lease_discipline.specs.of_protocol_legal.Knows.{KnowsTask, kept_until, once}
+use Rattle.lease_discipline.specs.of_protocol_legal.Lost.{IsLost, RisingTo}
+use Rattle.lease_discipline.specs.of_protocol_legal.Made.{IsMadeAt, EndsSmall}
+use Rattle.lease_discipline.specs.of_protocol_legal.Past.{Past, past}
+use Rattle.lease_discipline.specs.of_protocol_legal.Whole.{Between, setting_of}
 use Rattle.protocol_owed.specs.Seen.{AcceptedAt, IsCalm, IsKnownAt, PutAt, is_failure}
 use Rattle.lease_discipline.proofs.Told.{places}
 use Rattle.owed_replies.proofs.Advancing.{among_flat, flat_among}

@@ -32,13 +32,13 @@ use Rattle.protocol.specs.Steps.{changes, each_result, Here, object_at, own_id, 
 use Rattle.protocol.specs.Tables.{AskedAt, AtRest, is_pending_task, is_under_way, Object, OwnTask, places_for, Progress, Run, RunsOn, task_in}
 use Rattle.protocol.specs.Tables.{task_of, with_content, with_task, without_askers, Worker}
 use Rattle.protocol.specs.Whole.{Whole, here, node_at, worker_at}
-use Rattle.protocol_legal.specs.Knows.{IsSettled, KnowsProgress, KnowsPut, KnowsTask, once}
-use Rattle.protocol_legal.proofs.EndRows.{IsToldOf, settled_in, settled_rows, settles_rows, told_of}
+use Rattle.lease_discipline.specs.of_protocol_legal.Knows.{IsSettled, KnowsProgress, KnowsPut, KnowsTask, once}
+use Rattle.lease_discipline.proofs.of_protocol_legal.EndRows.{IsToldOf, settled_in, settled_rows, settles_rows, told_of}
 use Rattle.protocol_owed.proofs.Letters.{among-nothing}
-use Rattle.protocol_legal.specs.Made.{AreSmallEnds, IsEndedAt, IsTaken, IsWhollyEndedAt}
-use Rattle.protocol_legal.specs.Past.{past}
-use Rattle.protocol_legal.specs.Says.{Says}
-use Rattle.protocol_legal.specs.Whole.{Between, setting_of}
+use Rattle.lease_discipline.specs.of_protocol_legal.Made.{AreSmallEnds, IsEndedAt, IsTaken, IsWhollyEndedAt}
+use Rattle.lease_discipline.specs.of_protocol_legal.Past.{past}
+use Rattle.lease_discipline.specs.of_protocol_legal.Says.{Says}
+use Rattle.lease_discipline.specs.of_protocol_legal.Whole.{Between, setting_of}
 use Rattle.protocol_owed.specs.Replies.{AcceptedIsTold, FinishIsAcknowledged, Happening}
 use Rattle.protocol_owed.specs.Runs.{Running}
 use Rattle.protocol_owed.specs.Seen.{IsCalm, Tells}

@@ -24,10 +24,10 @@ use Rattle.protocol.specs.Sets.{has, without_number}
 use Rattle.protocol.specs.Steps.{Here, changes, is_own, object_at}
 use Rattle.protocol.specs.Tables.{Object, Worker, is_whole, settled_number, without_place, is_nowhere}
 use Rattle.protocol.specs.Whole.{Whole, here, worker_at}
-use Rattle.protocol_legal.specs.Made.{IsNotAt, EndsSmall}
-use Rattle.protocol_legal.specs.Past.{past}
-use Rattle.protocol_legal.specs.Says.{Says}
-use Rattle.protocol_legal.specs.Whole.{Between, setting_of}
+use Rattle.lease_discipline.specs.of_protocol_legal.Made.{IsNotAt, EndsSmall}
+use Rattle.lease_discipline.specs.of_protocol_legal.Past.{past}
+use Rattle.lease_discipline.specs.of_protocol_legal.Says.{Says}
+use Rattle.lease_discipline.specs.of_protocol_legal.Whole.{Between, setting_of}
 use Rattle.protocol_owed.specs.Replies.{Happening, IsRequest, RequestIsTold}
 use Rattle.protocol_owed.specs.Runs.{Running}
 use Rattle.protocol_owed.specs.Seen.{IsCalm, IsKnownAt, Tells}

@@ -19,7 +19,7 @@ use Rattle.protocol.specs.Messages.{TheWorker, letter}
 use Rattle.protocol.specs.Refusals.{is_within_limits, refusal}
 use Rattle.protocol.specs.Tables.{HasEnded, HasFaulted, Out, Phase, Ready, Run, Waits, Worker, has_stopped}
 use Rattle.protocol.specs.Whole.{Whole, first_whole, main_run, worker_at}
-use Rattle.protocol_laws.specs.Coming.{IsRight}
+use Rattle.lease_discipline.specs.of_protocol_laws.Coming.{IsRight}
 use Rattle.protocol_owed.specs.Runs.{Handing, Running, after_event, after_events, opening_run}
 use Rattle.protocol_owed.specs.Seen.{IsCalm, delivered_in}
 use Rattle.protocol_owed.proofs.Letters.{among-append_cases, among-nothing}
@@ -27,9 +27,9 @@ use Rattle.lease_discipline.specs.Slots.{AreRight}
 use Rattle.lease_discipline.specs.Told.{IsInStep}
 use Rattle.lease_discipline.proofs.Opening.{only_driver}
 use Rattle.lease_discipline.proofs.Told.{events_stay_in_step, opening_is_in_step}
-use Rattle.protocol_legal.specs.Knows.{KnowsPhase, KnowsRun}
-use Rattle.protocol_legal.specs.Whole.{Between, setting_of}
-use Rattle.protocol_legal.proofs.FrameOpens.{accepted_none}
+use Rattle.lease_discipline.specs.of_protocol_legal.Knows.{KnowsPhase, KnowsRun}
+use Rattle.lease_discipline.specs.of_protocol_legal.Whole.{Between, setting_of}
+use Rattle.lease_discipline.proofs.of_protocol_legal.FrameOpens.{accepted_none}
 use Rattle.owed_replies.specs.Kept.{IsGoingOn, IsOverInTime, KeepsReplies, RunIsRight}
 use Rattle.owed_replies.specs.Law.{AwaitsAcks, EventsKeepReplies, LawOfEnds, OpeningKeepsReplies}
 use Rattle.owed_replies.proofs.Advancing.{born_more, end_among, known_more, right_more}

@@ -24,7 +24,7 @@ use Rattle.protocol.specs.Tables.{is_same_id, is_waiting_for, needed_by, Object,
 use Rattle.protocol.specs.Tables.{Run, settled_number, Waits, without_askers}
 use Rattle.protocol.specs.Tables.{Worker}
 use Rattle.protocol.specs.Whole.{Whole, here, worker_at}
-use Rattle.protocol_legal.specs.Whole.{Between, setting_of}
+use Rattle.lease_discipline.specs.of_protocol_legal.Whole.{Between, setting_of}
 use Rattle.protocol_owed.specs.Replies.{AcceptedIsUsed, Happening, IsGot, SaysFetch}
 use Rattle.protocol_owed.specs.Runs.{Running}
 use Rattle.protocol_owed.specs.Seen.{IsCalm}

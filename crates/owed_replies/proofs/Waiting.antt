@@ -24,8 +24,8 @@ use Rattle.protocol.specs.Steps.{Here, object_at}
 use Rattle.protocol.specs.Tables.{HasEnded, HasFaulted, Out, Phase, Ready, Run, Waits, Worker, object_needed}
 use Rattle.protocol.specs.Nodes.{Node}
 use Rattle.protocol.specs.Whole.{Whole, here, node_at, worker_at}
-use Rattle.protocol_legal.specs.Knows.{KnowsPhase, KnowsRun, piece_of}
-use Rattle.protocol_legal.specs.Whole.{Between, setting_of}
+use Rattle.lease_discipline.specs.of_protocol_legal.Knows.{KnowsPhase, KnowsRun, piece_of}
+use Rattle.lease_discipline.specs.of_protocol_legal.Whole.{Between, setting_of}
 use Rattle.protocol_owed.specs.Courses.{Rests, WaitsFor, course}
 use Rattle.protocol_owed.specs.Replies.{AtIsUsed, Happening, HoldIsAcknowledged, IsGot}
 use Rattle.protocol_owed.specs.Runs.{Running, seen}

@@ -11,7 +11,7 @@ use Rattle.protocol.specs.Answers.{Step, Takes, answer, logged, whole_after}
 use Rattle.protocol.specs.Jobs.{Handed}
 use Rattle.protocol.specs.Tables.{Run, Worker}
 use Rattle.protocol.specs.Whole.{Whole, first_whole, worker_at}
-use Rattle.protocol_laws.specs.Coming.{IsRight}
+use Rattle.lease_discipline.specs.of_protocol_laws.Coming.{IsRight}
 use Rattle.protocol_owed.specs.Replies.{AcceptedIsTold, AcceptedIsUsed, AtIsUsed, FinishIsAcknowledged, Happening, HoldIsAcknowledged, RequestIsTold}
 use Rattle.protocol_owed.specs.Runs.{Handing, Running, after_events, answer_to, opening_run, seen}
 use Rattle.protocol_owed.specs.Seen.{IsCalm}

@@ -10,4 +10,5 @@ mod sites;
 mod text;
 mod workers;
 
+pub use main_text;
 pub use text::{node_text, worker_text};

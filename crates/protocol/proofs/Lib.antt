@@ -1,3 +1,4 @@
-mod Held
+mod Holders
 mod Plans
 mod Stops
+pub use Rattle.protocol_data.proofs.of_event_log as of_event_log

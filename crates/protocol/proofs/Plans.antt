@@ -4,9 +4,9 @@ use Rattle.std.specs.Prelude.{◌==◌, ◌||◌, ◌⊎◌, if◌then◌else◌
 use Rattle.std.specs.List.{filter}
 use Rattle.std.proofs.lemmas.Bool.Decides.{nat_tests}
 use Rattle.sequence.proofs.Places.{list_any-push_left, list_any-push_right}
-use Rattle.meaning.specs.Values.{Id}
-use Rattle.meaning.proofs.BirthLaws.{at_test}
-use Rattle.event_log.specs.Breaks.{Among}
+use Rattle.protocol_data.specs.of_meaning.Values.{Id}
+use Rattle.protocol_data.proofs.of_meaning.BirthLaws.{at_test}
+use Rattle.protocol_data.specs.of_event_log.Breaks.{Among}
 use Rattle.protocol.specs.Numbered.{item_at}
 use Rattle.protocol.specs.Sets.{has, with_number}
 use Rattle.protocol.specs.Steps.{Here, is_own}

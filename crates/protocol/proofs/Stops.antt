@@ -2,8 +2,8 @@
 use Rattle.std.proofs.Common.{◌≡◌, ℕ, zero, suc, ◌+◌, ◌≤◌, Bool, List, [], ◌∷◌, Option, Some, None, refl, ap, arith}
 use Rattle.std.specs.Prelude.{if◌then◌else◌}
 use Rattle.std.specs.List.{filter}
-use Rattle.meaning.proofs.BirthLaws.{at_test}
-use Rattle.event_log.specs.Entries.{Fault}
+use Rattle.protocol_data.proofs.of_meaning.BirthLaws.{at_test}
+use Rattle.protocol_data.specs.of_event_log.Entries.{Fault}
 use Rattle.protocol.specs.Sets.{has}
 use Rattle.protocol.specs.Steps.{Here}
 use Rattle.protocol.specs.Recovery.{counted_from, first_stop, members, members_below, or_fault, stop_at}

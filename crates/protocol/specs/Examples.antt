@@ -1,10 +1,10 @@
 -- Worked examples of the definitions, which compute: stores, holders, plans, releases, asks and slots, what is handed in, and a run with a death.
 use Rattle.std.specs.Prelude.{List, None, Some, [], codes, false, map, pos, true, ℕ, ◌≡◌, ◌∷◌}
-use Rattle.meaning.specs.Values.{Birth, Int, Named, Outcome, Task, Val, main_birth}
-use Rattle.event_log.specs.Entries.{Begun, Born, Claim, Commit, Deliver, Faulted, In, Kill, Notice, Opened, PutLost, Released, Resolved}
-use Rattle.event_log.specs.Entries.{RetriesUsed, main_attempt}
-use Rattle.event_log.specs.Entries.{Pinned, NoCopy, NoJob}
-use Rattle.event_log.specs.Words.{attempt}
+use Rattle.protocol_data.specs.of_meaning.Values.{Birth, Int, Named, Outcome, Task, Val, main_birth}
+use Rattle.protocol_data.specs.of_event_log.Entries.{Begun, Born, Claim, Commit, Deliver, Faulted, In, Kill, Notice, Opened, PutLost, Released, Resolved}
+use Rattle.protocol_data.specs.of_event_log.Entries.{RetriesUsed, main_attempt}
+use Rattle.protocol_data.specs.of_event_log.Entries.{Pinned, NoCopy, NoJob}
+use Rattle.protocol_data.specs.of_event_log.Words.{attempt}
 use Rattle.protocol.specs.Sets.{fault, object_id}
 use Rattle.protocol.specs.Messages.{Ask, Elsewhere, Give, Letter, Push, TheNode, TheWorker, Unhold, Wait, WasReleased, letter}
 use Rattle.protocol.specs.Jobs.{AtGet, Nothing, OfAnother}

@@ -1,9 +1,9 @@
 -- What the functions on holders and plans mean, said without going through their lists.
 use Rattle.std.specs.Prelude.{Bool, List, None, Some, [], false, true, ℕ, ◌++◌, ◌+◌, ◌<◌, ◌≡◌, ◌≤◌, ◌∷◌}
 use Rattle.std.specs.List.{AllByRecursion}
-use Rattle.meaning.specs.Values.{Id}
-use Rattle.event_log.specs.Entries.{Fault}
-use Rattle.event_log.specs.Breaks.{Among}
+use Rattle.protocol_data.specs.of_meaning.Values.{Id}
+use Rattle.protocol_data.specs.of_event_log.Entries.{Fault}
+use Rattle.protocol_data.specs.of_event_log.Breaks.{Among}
 use Rattle.protocol.specs.Sets.{has, has_id}
 use Rattle.protocol.specs.Tables.{Object, is_held}
 use Rattle.protocol.specs.Steps.{Here}

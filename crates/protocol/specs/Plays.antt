@@ -2,8 +2,8 @@
 -- entries and what each event adds.
 use Rattle.std.specs.Prelude.{List, None, Option, Some, [], map, suc, take, zero, ℕ, ◌++◌, ◌==◌, ◌≡◌, ◌∷◌}
 use Rattle.std.specs.List.{find}
-use Rattle.event_log.specs.Entries.{Commit, Entry, Event}
-use Rattle.event_log.specs.Legal.{opening}
+use Rattle.protocol_data.specs.of_event_log.Entries.{Commit, Entry, Event}
+use Rattle.protocol_data.specs.of_event_log.Legal.{opening}
 use Rattle.protocol.specs.Messages.{Letter}
 use Rattle.protocol.specs.Jobs.{Handed, Job, Nothing, OfJob, Outcomes}
 use Rattle.protocol.specs.Whole.{Whole, first_whole}

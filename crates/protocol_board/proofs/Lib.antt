@@ -2,3 +2,4 @@ mod Jobs
 mod Own
 mod Playing
 mod Turning
+pub use Rattle.protocol_core.proofs.of_count_laws as of_count_laws

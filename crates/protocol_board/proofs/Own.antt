@@ -9,8 +9,8 @@ use Rattle.event_log.specs.Words.{answers_of}
 use Rattle.kept_frames.specs.Known.{Agrees, AllAgree, IsOfJob, KeepsWith, KnownData}
 use Rattle.protocol.specs.Answers.{answer, logged}
 use Rattle.protocol.specs.Numbered.{changed_by, item_at}
-use Rattle.protocol_laws.proofs.Given.{begins_longer}
-use Rattle.protocol_laws.specs.Given.{IsOfLog}
+use Rattle.protocol_core.proofs.of_protocol_laws.Given.{begins_longer}
+use Rattle.protocol_core.specs.of_protocol_laws.Given.{IsOfLog}
 use Rattle.segment.specs.Jobs.{Done, JobParts}
 use Rattle.protocol_core.specs.Own.{GivesOwn, IsOwn}
 use Rattle.protocol_core.specs.States.{RunState}

@@ -4,7 +4,7 @@ use Rattle.meaning.specs.Lists.{IsFirst}
 use Rattle.event_log.specs.Entries.{Entry}
 use Rattle.event_log.specs.Words.{answers_of}
 use Rattle.kept_frames.specs.Known.{AllAgree, KeepsWith, KnownData}
-use Rattle.protocol_laws.specs.Given.{IsOfLog}
+use Rattle.protocol_core.specs.of_protocol_laws.Given.{IsOfLog}
 use Rattle.segment.specs.Jobs.{JobParts}
 
 -- the job, if there is one

@@ -3,7 +3,7 @@
 ghost use Rattle.std.specs.Prelude.{◌≡◌, IfOk, OnOk, IfErr};
 ghost use Rattle.script_check.specs.Trees.{script_of};
 ghost use Rattle.log_entries.specs.declared.refusal.Refusal.TheVariants.{NoMemory};
-ghost use Rattle.protocol_laws.specs.Given.{IsOfLog};
+ghost use Rattle.protocol_core.specs.of_protocol_laws.Given.{IsOfLog};
 ghost use Rattle.protocol_core.specs.Own.{GivesOwn, IsOwn};
 ghost use Rattle.protocol_core.specs.Steps.{Refuses, reply_of};
 ghost use Rattle.protocol_board.specs.Drives.{BreaksAfter, BreaksOff, Commits, EndsSo, Goes, IsTaken, StopsSo, Turn};

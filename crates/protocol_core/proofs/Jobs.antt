@@ -26,7 +26,7 @@ use Rattle.protocol.specs.Numbered.{item_at}
 use Rattle.protocol.specs.Refusals.{is_within_limits, refusal}
 use Rattle.protocol.specs.Tables.{Run, Worker}
 use Rattle.protocol.specs.Whole.{Moved, Whole, worker_at}
-use Rattle.protocol_legal.specs.Knows.{IsTask}
+use Rattle.count_laws.specs.of_protocol_legal.Knows.{IsTask}
 use Rattle.protocol_laws.specs.Coming.{IsRight}
 use Rattle.protocol_laws.specs.Given.{ClaimsGiveGoodJobs, ClaimsGiveJobsOfTheLog, GivesGood, GivesOfLog, IsGood, IsOfLog, RunsAreGood, RunsHaveTheLogsAnswers}
 use Rattle.protocol_laws.specs.Sound.{IsSound}

@@ -5,3 +5,5 @@ pub mod Recency
 pub mod Searches
 pub mod Serials
 pub mod Shelving
+pub use Rattle.event_log.proofs as of_event_log
+pub use Rattle.event_log.proofs.of_meaning as of_meaning

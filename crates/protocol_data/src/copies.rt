@@ -266,7 +266,7 @@ impl Model for Copies {
     ghost use Rattle.std.specs.Prelude.{List, ◌++◌};
     ghost use Rattle.std.specs.Coded.{codes};
     ghost use Rattle.ids.specs.Codes.{id_code};
-    ghost use Rattle.held.specs.Codes.{outcome_code};
+    ghost use Rattle.log_entries.specs.of_held.Codes.{outcome_code};
     ghost use Rattle.protocol_data.specs.declared.store.Copy.{Copy};
 
     ghost Value = { List Copy };

@@ -26,9 +26,9 @@ impl Model for Objects {
     ghost use Rattle.std.specs.Prelude.{List};
     ghost use Rattle.std.specs.Coded.{codes};
     ghost use Rattle.ids.specs.Codes.{id_code};
-    ghost use Rattle.held.specs.Codes.{value_code, outcome_code, birth_code};
+    ghost use Rattle.log_entries.specs.of_held.Codes.{value_code, outcome_code, birth_code};
     ghost use Rattle.ids.specs.Codes.{attempt_code};
-    ghost use Rattle.values.specs.FaultCodes.{fault_code};
+    ghost use Rattle.log_entries.specs.of_values.FaultCodes.{fault_code};
     ghost use Rattle.protocol_data.specs.declared.tables.Object.{Object};
 
     ghost Value = { List Object };

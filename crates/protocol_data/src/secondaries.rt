@@ -9,8 +9,8 @@ ghost use Rattle.protocol_data.specs.Recent.{brought_to_front, copies_of, key_in
 ghost use Rattle.protocol_data.specs.Shelves.{is_sought, without};
 
 use crate::store::Copy;
-use held::SharedContent;
 use ids::ObjectId;
+use log_entries::SharedContent;
 use lru::LruCache;
 use std::alloc::{AllocError, Global};
 use std::marker::Model;
@@ -144,7 +144,7 @@ impl Model for Secondaries {
     ghost use Rattle.std.specs.Prelude.{List};
     ghost use Rattle.std.specs.Coded.{codes};
     ghost use Rattle.ids.specs.Codes.{id_code};
-    ghost use Rattle.held.specs.Codes.{outcome_code};
+    ghost use Rattle.log_entries.specs.of_held.Codes.{outcome_code};
     ghost use Rattle.protocol_data.specs.declared.store.Copy.{Copy};
 
     ghost Value = { List Copy };

@@ -12,24 +12,24 @@ use Rattle.event_log.specs.Events.{from_one, has_job_out, is_killed, node_is_kil
 use Rattle.event_log.specs.Words.{births, next_serial}
 use Rattle.event_log.specs.Causes.{IsRefusal}
 use Rattle.event_log.specs.Rules.{Setting, ToWorker, worker_to}
-use Rattle.protocol.specs.Numbered.{changed_at, item_at}
-use Rattle.protocol.specs.Messages.{Letter, Party, TheWorker, TheNode, goes_to_by, receiver_of}
-use Rattle.protocol.specs.Jobs.{Given, Handed, Nothing, OfAnother, OfJob}
-use Rattle.protocol.specs.Nodes.{Node}
-use Rattle.protocol.specs.Slots.{forgets, node_reached}
-use Rattle.protocol.specs.Stores.{evict_refusal, lose_refusal}
-use Rattle.protocol.specs.Tables.{Out, Run, Worker}
-use Rattle.protocol.specs.Steps.{Here}
-use Rattle.protocol.specs.Commits.{claim_by, claim_step, commit_step}
-use Rattle.protocol.specs.Notices.{notice_step, notice_node_step}
-use Rattle.protocol.specs.Ticks.{tick_step}
-use Rattle.protocol.specs.Deliveries.{reached}
-use Rattle.protocol.specs.Releases.{release_step}
-use Rattle.protocol.specs.Whole.{Whole, Moved, moved, node_at, worker_at, here, there, after_node, after_worker, worker_does, worker_does_by, worker_does_at, node_does, node_does_by}
-use Rattle.protocol.specs.Events.{is_live_worker, is_live_node, with_committed, with_delivered, delivered_to, delivered_by, committed_by, dead, dies_with, killed, killed_by, happens, objects_made}
-use Rattle.protocol.specs.Refusals.{no_worker, is_ready_run, has_slot, is_ready_on, commit_refusal, is_out_by, is_dead_worker, is_dead_node, refusal, is_within_limits, unless}
-use Rattle.protocol.specs.Answers.{Answer, Refuses, answer, decided, takes, given_out, whole_after, logged}
-use Rattle.holding.specs.Past.{Fact}
+use Rattle.holding_steps.specs.of_protocol.Numbered.{changed_at, item_at}
+use Rattle.holding_steps.specs.of_protocol.Messages.{Letter, Party, TheWorker, TheNode, goes_to_by, receiver_of}
+use Rattle.holding_steps.specs.of_protocol.Jobs.{Given, Handed, Nothing, OfAnother, OfJob}
+use Rattle.holding_steps.specs.of_protocol.Nodes.{Node}
+use Rattle.holding_steps.specs.of_protocol.Slots.{forgets, node_reached}
+use Rattle.holding_steps.specs.of_protocol.Stores.{evict_refusal, lose_refusal}
+use Rattle.holding_steps.specs.of_protocol.Tables.{Out, Run, Worker}
+use Rattle.holding_steps.specs.of_protocol.Steps.{Here}
+use Rattle.holding_steps.specs.of_protocol.Commits.{claim_by, claim_step, commit_step}
+use Rattle.holding_steps.specs.of_protocol.Notices.{notice_step, notice_node_step}
+use Rattle.holding_steps.specs.of_protocol.Ticks.{tick_step}
+use Rattle.holding_steps.specs.of_protocol.Deliveries.{reached}
+use Rattle.holding_steps.specs.of_protocol.Releases.{release_step}
+use Rattle.holding_steps.specs.of_protocol.Whole.{Whole, Moved, moved, node_at, worker_at, here, there, after_node, after_worker, worker_does, worker_does_by, worker_does_at, node_does, node_does_by}
+use Rattle.holding_steps.specs.of_protocol.Events.{is_live_worker, is_live_node, with_committed, with_delivered, delivered_to, delivered_by, committed_by, dead, dies_with, killed, killed_by, happens, objects_made}
+use Rattle.holding_steps.specs.of_protocol.Refusals.{no_worker, is_ready_run, has_slot, is_ready_on, commit_refusal, is_out_by, is_dead_worker, is_dead_node, refusal, is_within_limits, unless}
+use Rattle.holding_steps.specs.of_protocol.Answers.{Answer, Refuses, answer, decided, takes, given_out, whole_after, logged}
+use Rattle.holding_steps.specs.of_holding.Past.{Fact}
 use Rattle.holding_steps.specs.Clauses.{During, Goes, HereTrue, MessageTrue}
 use Rattle.holding_steps.specs.Landing.{Ext, Lands}
 use Rattle.holding_steps.specs.Whole.{StillTrue, WholeTrue}
@@ -55,7 +55,7 @@ use Rattle.protocol_laws.proofs.StaysOut.{out_at_message, out_at_node_notice, ou
 use Rattle.protocol_laws.specs.Coming.{IsRight}
 use Rattle.protocol_laws.proofs.Premises.{births_in, dead_on, refused_true, runs_begun, untouched, worker_killed_in}
 use Rattle.protocol_laws.proofs.Tests.{WorkerThere, dead_node, dead_worker, live_node, live_worker, or_none, out_run, ready_run, unless_none}
-use Rattle.numbered.proofs.Lists.{item_within, changed-length}
+use Rattle.holding_steps.proofs.of_numbered.Lists.{item_within, changed-length}
 
 -- after the event, which made this of the whole, the run is sound
 abbrev pub Follows : Setting → List Entry → Event → ℕ → Moved → Type 0

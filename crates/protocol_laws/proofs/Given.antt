@@ -18,13 +18,13 @@ use Rattle.event_log.specs.Rules.{Setting, Allowed}
 use Rattle.event_log.specs.Legal.{opening}
 use Rattle.event_log.proofs.Extending.{births-more}
 use Rattle.event_log.proofs.SaneLaws.{always, none_at, one_at, word_last}
-use Rattle.kind_laws.proofs.Laws.{legal_logs_keep}
-use Rattle.protocol.specs.Jobs.{Handed}
-use Rattle.protocol.specs.Tables.{Run, Worker}
-use Rattle.protocol.specs.Whole.{Whole, node_at, worker_at}
-use Rattle.protocol.specs.Events.{happens, is_live_worker}
-use Rattle.protocol.specs.Refusals.{has_slot, is_ready_on, is_ready_run, is_within_limits, no_worker, refusal, unless}
-use Rattle.protocol.specs.Answers.{Refuses, decided, given_out, job_at, job_by, job_of, takes}
+use Rattle.protocol_legal.proofs.of_kind_laws.Laws.{legal_logs_keep}
+use Rattle.holding_steps.specs.of_protocol.Jobs.{Handed}
+use Rattle.holding_steps.specs.of_protocol.Tables.{Run, Worker}
+use Rattle.holding_steps.specs.of_protocol.Whole.{Whole, node_at, worker_at}
+use Rattle.holding_steps.specs.of_protocol.Events.{happens, is_live_worker}
+use Rattle.holding_steps.specs.of_protocol.Refusals.{has_slot, is_ready_on, is_ready_run, is_within_limits, no_worker, refusal, unless}
+use Rattle.holding_steps.specs.of_protocol.Answers.{Refuses, decided, given_out, job_at, job_by, job_of, takes}
 use Rattle.protocol_legal.specs.Knows.{IsTask, KnowsRun}
 use Rattle.protocol_legal.specs.Whole.{setting_of}
 use Rattle.protocol_laws.specs.Sound.{IsSound}

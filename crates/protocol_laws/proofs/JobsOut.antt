@@ -6,15 +6,15 @@ use Rattle.std.proofs.lemmas.Option.{same_Some}
 use Rattle.std.proofs.lemmas.List.{length-append}
 use Rattle.event_log.specs.Entries.{Entry}
 use Rattle.event_log.specs.Events.{claims, has_job_out, is_committed, is_out_from}
-use Rattle.protocol.specs.Numbered.{item_at, changed_at}
-use Rattle.numbered.specs.Counting.{item_of}
-use Rattle.numbered.proofs.Places.{placed}
-use Rattle.numbered.proofs.Lists.{changed_cases, changed-length, item_within, pushed_cases, joined_cases, counted_repeated_at}
-use Rattle.protocol.specs.Sets.{repeated}
-use Rattle.protocol.specs.Jobs.{Given}
-use Rattle.protocol.specs.Tables.{Out, Ready, Run, Worker, new_worker}
-use Rattle.protocol.specs.Whole.{Whole, worker_at}
-use Rattle.protocol.specs.Events.{as_committed, dead, dies_with}
+use Rattle.holding_steps.specs.of_protocol.Numbered.{item_at, changed_at}
+use Rattle.holding_steps.specs.of_numbered.Counting.{item_of}
+use Rattle.holding_steps.proofs.of_numbered.Places.{placed}
+use Rattle.holding_steps.proofs.of_numbered.Lists.{changed_cases, changed-length, item_within, pushed_cases, joined_cases, counted_repeated_at}
+use Rattle.holding_steps.specs.of_protocol.Sets.{repeated}
+use Rattle.holding_steps.specs.of_protocol.Jobs.{Given}
+use Rattle.holding_steps.specs.of_protocol.Tables.{Out, Ready, Run, Worker, new_worker}
+use Rattle.holding_steps.specs.of_protocol.Whole.{Whole, worker_at}
+use Rattle.holding_steps.specs.of_protocol.Events.{as_committed, dead, dies_with}
 use Rattle.holding_steps.proofs.Happening.{item_first, item_later}
 use Rattle.holding_steps.proofs.NodeNotices.{mapped_cases}
 use Rattle.protocol_laws.specs.Sound.{IsOutAs, JobsAreOut}

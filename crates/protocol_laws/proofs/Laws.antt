@@ -4,14 +4,14 @@ use Rattle.meaning.specs.Mains.{KeepsMainApart}
 use Rattle.event_log.specs.Entries.{Entry, Released, main_attempt}
 use Rattle.event_log.specs.Rules.{Setting}
 use Rattle.event_log.proofs.Growing.{entries_have_their_needs}
-use Rattle.protocol.specs.Answers.{answer, logged, whole_after}
-use Rattle.protocol.specs.Whole.{Whole, first_whole}
-use Rattle.holding.specs.Past.{Begun}
+use Rattle.holding_steps.specs.of_protocol.Answers.{answer, logged, whole_after}
+use Rattle.holding_steps.specs.of_protocol.Whole.{Whole, first_whole}
+use Rattle.holding_steps.specs.of_holding.Past.{Begun}
 use Rattle.holding_steps.proofs.Keeping.{steps_keep}
 use Rattle.protocol_legal.specs.Whole.{setting_of}
 use Rattle.protocol_legal.proofs.FrameHolds.{steps_stay_legal}
-use Rattle.numbered.proofs.Places.{counted}
-use Rattle.protocol.specs.Jobs.{Given}
+use Rattle.holding_steps.proofs.of_numbered.Places.{counted}
+use Rattle.holding_steps.specs.of_protocol.Jobs.{Given}
 use Rattle.protocol_laws.specs.Sound.{IsSound, JobsAreOut}
 use Rattle.protocol_laws.specs.Coming.{AllRight, all_after, log_after}
 use Rattle.protocol_laws.specs.Law.{EventsKeepSound, NothingHeldIsReleased, OpeningIsSound, ProtocolStaysLegal, SoundIsLegal}

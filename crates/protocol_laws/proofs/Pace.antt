@@ -17,11 +17,11 @@ use Rattle.event_log.specs.Rules.{Setting, Allowed, MayBear, MayGet, MayPrint, R
 use Rattle.event_log.specs.Legal.{LegalFrom, opening}
 use Rattle.event_log.proofs.Extending.{births-more}
 use Rattle.event_log.proofs.WordLaws.{same_attempt-refl, same_attempt-true, word_push}
-use Rattle.meaning_laws.proofs.Good.{GoodLog}
-use Rattle.meaning_laws.proofs.LogLaw.{step, good_opening}
-use Rattle.kind_laws.proofs.Numbers.{births_in, numbered_first}
-use Rattle.kind_laws.proofs.Laws.{kept_fit, typed_opening}
-use Rattle.kind_laws.proofs.Typed.{Typed, typed_step}
+use Rattle.holding_steps.proofs.of_meaning_laws.Good.{GoodLog}
+use Rattle.holding_steps.proofs.of_meaning_laws.LogLaw.{step, good_opening}
+use Rattle.protocol_legal.proofs.of_kind_laws.Numbers.{births_in, numbered_first}
+use Rattle.protocol_legal.proofs.of_kind_laws.Laws.{kept_fit, typed_opening}
+use Rattle.protocol_legal.proofs.of_kind_laws.Typed.{Typed, typed_step}
 use Rattle.protocol_laws.specs.Pace.{IsInStep, KeepsPace}
 
 -- ---- replays

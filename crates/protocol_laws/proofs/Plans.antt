@@ -16,19 +16,19 @@ use Rattle.event_log.specs.Rules.{Allowed, Setting}
 use Rattle.event_log.specs.Words.{births, born_in, next_serial}
 use Rattle.event_log.proofs.SaneLaws.{always}
 use Rattle.event_log.proofs.WordLaws.{births_push, next_serial-push}
-use Rattle.protocol.specs.Laws.{AreOlder}
-use Rattle.protocol.specs.Nodes.{Node}
-use Rattle.protocol.specs.Numbered.{item_at}
-use Rattle.protocol.specs.Recovery.{arguments_by, is_lost_at, task_for}
-use Rattle.protocol.specs.Sets.{object_id}
-use Rattle.protocol.specs.Steps.{object_at}
-use Rattle.protocol.specs.Tables.{Beside, ByTask, Maker, Object, OwnTask, WasPut, Worker, task_by, task_in, task_of}
-use Rattle.protocol.specs.Whole.{Whole, here, worker_at}
+use Rattle.holding_steps.specs.of_protocol.Laws.{AreOlder}
+use Rattle.holding_steps.specs.of_protocol.Nodes.{Node}
+use Rattle.holding_steps.specs.of_protocol.Numbered.{item_at}
+use Rattle.holding_steps.specs.of_protocol.Recovery.{arguments_by, is_lost_at, task_for}
+use Rattle.holding_steps.specs.of_protocol.Sets.{object_id}
+use Rattle.holding_steps.specs.of_protocol.Steps.{object_at}
+use Rattle.holding_steps.specs.of_protocol.Tables.{Beside, ByTask, Maker, Object, OwnTask, WasPut, Worker, task_by, task_in, task_of}
+use Rattle.holding_steps.specs.of_protocol.Whole.{Whole, here, worker_at}
 use Rattle.protocol_legal.specs.Knows.{IsResultOf, KnowsMaker, KnowsObject, KnowsTask}
 use Rattle.protocol_legal.specs.Past.{Past, past}
 use Rattle.protocol_legal.specs.Whole.{setting_of}
 use Rattle.protocol_owed.proofs.Letters.{among-append_cases, among-nothing}
-use Rattle.meaning_laws.proofs.LogLaw.{legal_logs_read}
+use Rattle.holding_steps.proofs.of_meaning_laws.LogLaw.{legal_logs_read}
 use Rattle.protocol_laws.specs.Plans.{PlansHavePremises}
 use Rattle.protocol_laws.specs.Sound.{IsSound}
 

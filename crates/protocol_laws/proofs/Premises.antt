@@ -10,15 +10,15 @@ use Rattle.event_log.specs.Events.{accepted_events, from_one, is_killed, kills, 
 use Rattle.event_log.specs.Rules.{Setting}
 use Rattle.event_log.proofs.Extending.{node_of-more}
 use Rattle.event_log.proofs.WordLaws.{births_push}
-use Rattle.holding.proofs.Growth.{past_grows}
-use Rattle.protocol.specs.Numbered.{item_at}
-use Rattle.protocol.specs.Sets.{object_id}
-use Rattle.protocol.specs.Messages.{Message, Push, TheWorker}
-use Rattle.protocol.specs.Nodes.{Node}
-use Rattle.protocol.specs.Tables.{RunsOn, Maker, WasPut, Beside, ByTask, Object, OwnTask, Worker, task_in, task_of}
-use Rattle.protocol.specs.Steps.{Here, own_object}
-use Rattle.protocol.specs.Whole.{Whole, here, node_at, worker_at}
-use Rattle.holding.specs.Past.{Fact, Killed, Has}
+use Rattle.holding_steps.proofs.of_holding.Growth.{past_grows}
+use Rattle.holding_steps.specs.of_protocol.Numbered.{item_at}
+use Rattle.holding_steps.specs.of_protocol.Sets.{object_id}
+use Rattle.holding_steps.specs.of_protocol.Messages.{Message, Push, TheWorker}
+use Rattle.holding_steps.specs.of_protocol.Nodes.{Node}
+use Rattle.holding_steps.specs.of_protocol.Tables.{RunsOn, Maker, WasPut, Beside, ByTask, Object, OwnTask, Worker, task_in, task_of}
+use Rattle.holding_steps.specs.of_protocol.Steps.{Here, own_object}
+use Rattle.holding_steps.specs.of_protocol.Whole.{Whole, here, node_at, worker_at}
+use Rattle.holding_steps.specs.of_holding.Past.{Fact, Killed, Has}
 use Rattle.holding_steps.specs.Clauses.{MessageTrue}
 use Rattle.holding_steps.specs.Landing.{DeadOn, IsUntouched, RunsBegun}
 use Rattle.holding_steps.specs.Whole.{WholeTrue}

@@ -14,16 +14,16 @@ use Rattle.event_log.specs.Entries.{Refusal, Pinned, NoCopy, NoWorker, NotReady,
 use Rattle.event_log.specs.Events.{accepted_events, from_one, has_job_out, is_committed, is_killed, is_live, joins, kills, node_is_killed, node_lives, node_of, on_node, worker_of_job, worker_lives}
 use Rattle.event_log.specs.Rules.{Setting}
 use Rattle.event_log.proofs.CauseLaws.{as_shown, as_unseen, no_job, no_worker, not_ready}
-use Rattle.protocol.specs.Jobs.{Given, Handed}
-use Rattle.protocol.specs.Messages.{Letter, goes_to_by}
-use Rattle.protocol.specs.Nodes.{Node}
-use Rattle.protocol.specs.Numbered.{item_at}
-use Rattle.protocol.specs.Stores.{Store, evict_refusal, is_of, lose_refusal}
-use Rattle.protocol.specs.Tables.{Worker}
-use Rattle.protocol.specs.Whole.{Whole, node_at, worker_at}
-use Rattle.protocol.specs.Events.{is_live_node, is_live_worker}
-use Rattle.protocol.specs.Refusals as tables
-use Rattle.protocol.specs.Refusals.{commit_refusal, is_dead_node, is_dead_worker, is_of_job, is_out_by, is_ready, is_ready_on, or_refusal, refusal, store_refusal}
+use Rattle.holding_steps.specs.of_protocol.Jobs.{Given, Handed}
+use Rattle.holding_steps.specs.of_protocol.Messages.{Letter, goes_to_by}
+use Rattle.holding_steps.specs.of_protocol.Nodes.{Node}
+use Rattle.holding_steps.specs.of_protocol.Numbered.{item_at}
+use Rattle.holding_steps.specs.of_protocol.Stores.{Store, evict_refusal, is_of, lose_refusal}
+use Rattle.holding_steps.specs.of_protocol.Tables.{Worker}
+use Rattle.holding_steps.specs.of_protocol.Whole.{Whole, node_at, worker_at}
+use Rattle.holding_steps.specs.of_protocol.Events.{is_live_node, is_live_worker}
+use Rattle.holding_steps.specs.of_protocol.Refusals as tables
+use Rattle.holding_steps.specs.of_protocol.Refusals.{commit_refusal, is_dead_node, is_dead_worker, is_of_job, is_out_by, is_ready, is_ready_on, or_refusal, refusal, store_refusal}
 use Rattle.protocol_legal.specs.Whole.{Between, committed_in, setting_of}
 use Rattle.protocol_legal.proofs.FrameDeaths.{killed_if_dead}
 use Rattle.protocol_legal.proofs.FrameEnters.{node_lives_log}

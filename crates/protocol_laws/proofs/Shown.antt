@@ -12,17 +12,17 @@ use Rattle.event_log.specs.Entries.{Event, Claim, Commit, Deliver, Tick, Notice,
 use Rattle.event_log.specs.Entries.{Refusal, Pinned, NoCopy, NoWorker, NotReady, NoJob, Stale, NoMessage, NotDead, NoNode, Limit}
 use Rattle.event_log.specs.Events.{from_one, has_job_out, is_committed, is_killed, is_live, node_is_killed, node_lives, worker_of_job, worker_lives}
 use Rattle.event_log.specs.Rules.{Setting}
-use Rattle.protocol.specs.Answers.{Refuses, answer, decided, given_out, takes}
-use Rattle.protocol.specs.Events.{happens, is_live_node, is_live_worker}
-use Rattle.protocol.specs.Jobs.{Given, Handed}
-use Rattle.protocol.specs.Messages.{Letter, goes_to_by}
-use Rattle.protocol.specs.Nodes.{Node}
-use Rattle.protocol.specs.Numbered.{item_at}
-use Rattle.protocol.specs.Refusals as tables
-use Rattle.protocol.specs.Refusals.{commit_refusal, has_slot, is_dead_node, is_dead_worker, is_job, is_of_job, is_out_by, is_ready, is_ready_on, is_ready_run, is_within_limits, job_in_phase, job_in_run, or_refusal, refusal, store_refusal}
-use Rattle.protocol.specs.Stores.{Store, evict_refusal, is_of, lose_refusal}
-use Rattle.protocol.specs.Tables.{Worker}
-use Rattle.protocol.specs.Whole.{Whole, node_at, worker_at}
+use Rattle.holding_steps.specs.of_protocol.Answers.{Refuses, answer, decided, given_out, takes}
+use Rattle.holding_steps.specs.of_protocol.Events.{happens, is_live_node, is_live_worker}
+use Rattle.holding_steps.specs.of_protocol.Jobs.{Given, Handed}
+use Rattle.holding_steps.specs.of_protocol.Messages.{Letter, goes_to_by}
+use Rattle.holding_steps.specs.of_protocol.Nodes.{Node}
+use Rattle.holding_steps.specs.of_protocol.Numbered.{item_at}
+use Rattle.holding_steps.specs.of_protocol.Refusals as tables
+use Rattle.holding_steps.specs.of_protocol.Refusals.{commit_refusal, has_slot, is_dead_node, is_dead_worker, is_job, is_of_job, is_out_by, is_ready, is_ready_on, is_ready_run, is_within_limits, job_in_phase, job_in_run, or_refusal, refusal, store_refusal}
+use Rattle.holding_steps.specs.of_protocol.Stores.{Store, evict_refusal, is_of, lose_refusal}
+use Rattle.holding_steps.specs.of_protocol.Tables.{Worker}
+use Rattle.holding_steps.specs.of_protocol.Whole.{Whole, node_at, worker_at}
 use Rattle.protocol_legal.specs.Whole.{Between, committed_in, setting_of}
 use Rattle.protocol_legal.proofs.FrameNodesChange.{from_one_from}
 use Rattle.protocol_laws.specs.Shown.{AreAlike, IsAsShown, IsHidden, RefusalsAreAsShown, RefusalsAreShown, hidden, in_the_log, refusal_of}

@@ -7,14 +7,14 @@ use Rattle.std.proofs.lemmas.Bool.{false≢true}
 use Rattle.meaning.specs.Values.{Birth, Id}
 use Rattle.event_log.specs.Entries.{Attempt}
 use Rattle.event_log.specs.Words.{same_attempt}
-use Rattle.protocol.specs.Messages.{Message, Party, TheNode, TheWorker, Ask, Give, Elsewhere, Wait, Back, Push, Finished, FinishedAck, Failed, Where, At, Gone, Fetch, CopyOf, Missing, Hold, HoldAck, Unhold}
-use Rattle.protocol.specs.Tables.{Phase, Ready, Out, Waits, HasEnded, HasFaulted, Fetching, Run, Worker, has_stopped}
-use Rattle.protocol.specs.Steps.{Here}
-use Rattle.protocol.specs.Runs.{begins_run, is_free, push_reached}
-use Rattle.protocol.specs.Deliveries.{reached}
-use Rattle.protocol.specs.Notices.{notice_node_step, notice_step}
-use Rattle.protocol.specs.Releases.{release_step}
-use Rattle.protocol.specs.Ticks.{tick_step}
+use Rattle.holding_steps.specs.of_protocol.Messages.{Message, Party, TheNode, TheWorker, Ask, Give, Elsewhere, Wait, Back, Push, Finished, FinishedAck, Failed, Where, At, Gone, Fetch, CopyOf, Missing, Hold, HoldAck, Unhold}
+use Rattle.holding_steps.specs.of_protocol.Tables.{Phase, Ready, Out, Waits, HasEnded, HasFaulted, Fetching, Run, Worker, has_stopped}
+use Rattle.holding_steps.specs.of_protocol.Steps.{Here}
+use Rattle.holding_steps.specs.of_protocol.Runs.{begins_run, is_free, push_reached}
+use Rattle.holding_steps.specs.of_protocol.Deliveries.{reached}
+use Rattle.holding_steps.specs.of_protocol.Notices.{notice_node_step, notice_step}
+use Rattle.holding_steps.specs.of_protocol.Releases.{release_step}
+use Rattle.holding_steps.specs.of_protocol.Ticks.{tick_step}
 use Rattle.protocol_owed.specs.Courses.{IsOut}
 use Rattle.protocol_owed.proofs.RunMoves.{IsHeard, IsHeardFrom, IsKept, notice_node_step-kept, notice_step-kept, reached-kept, release_step-kept, tick_step-kept}
 use Rattle.protocol_owed.specs.Told.{pace_in}

@@ -1,11 +1,11 @@
 -- What follows of it that an event isn't refused.
 use Rattle.std.proofs.Common.{◌≡◌, ℕ, Bool, true, false, Option, Some, None, refl, ap}
 use Rattle.std.proofs.lemmas.Bool.{eqb-true, not-true}
-use Rattle.protocol.specs.Nodes.{Node}
-use Rattle.protocol.specs.Tables.{Run, Worker, Ready, Out, Phase, Waits, HasEnded, HasFaulted}
-use Rattle.protocol.specs.Whole.{Whole, node_at, worker_at}
-use Rattle.protocol.specs.Events.{is_live_node, is_live_worker}
-use Rattle.protocol.specs.Refusals.{is_dead_node, is_dead_worker, is_job, is_ready_phase, is_ready_run, job_in_phase, job_in_run, or_refusal, unless}
+use Rattle.holding_steps.specs.of_protocol.Nodes.{Node}
+use Rattle.holding_steps.specs.of_protocol.Tables.{Run, Worker, Ready, Out, Phase, Waits, HasEnded, HasFaulted}
+use Rattle.holding_steps.specs.of_protocol.Whole.{Whole, node_at, worker_at}
+use Rattle.holding_steps.specs.of_protocol.Events.{is_live_node, is_live_worker}
+use Rattle.holding_steps.specs.of_protocol.Refusals.{is_dead_node, is_dead_worker, is_job, is_ready_phase, is_ready_run, job_in_phase, job_in_run, or_refusal, unless}
 use Rattle.event_log.specs.Entries.{Refusal}
 
 pub or_none : (a b : Option Refusal) → or_refusal a b ≡ None → (a ≡ None) × (b ≡ None)

@@ -2,11 +2,11 @@
 use Rattle.std.specs.Prelude.{◌≡◌, List, [], ◌∷◌, ◌++◌, Some}
 use Rattle.event_log.specs.Entries.{Commit, Entry, Event}
 use Rattle.event_log.specs.Rules.{Setting}
-use Rattle.protocol.specs.Answers.{answer, logged, whole_after}
-use Rattle.protocol.specs.Jobs.{Given, Handed, OfJob}
-use Rattle.protocol.specs.Numbered.{item_at}
-use Rattle.protocol.specs.Tables.{Out, Run, Worker}
-use Rattle.protocol.specs.Whole.{Whole, worker_at}
+use Rattle.holding_steps.specs.of_protocol.Answers.{answer, logged, whole_after}
+use Rattle.holding_steps.specs.of_protocol.Jobs.{Given, Handed, OfJob}
+use Rattle.holding_steps.specs.of_protocol.Numbered.{item_at}
+use Rattle.holding_steps.specs.of_protocol.Tables.{Out, Run, Worker}
+use Rattle.holding_steps.specs.of_protocol.Whole.{Whole, worker_at}
 use Rattle.protocol_legal.specs.Done.{IsTrue}
 use Rattle.protocol_owed.specs.Runs.{Handing}
 

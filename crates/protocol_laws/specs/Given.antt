@@ -3,16 +3,16 @@ use Rattle.std.specs.Prelude.{◌≡◌, ◌++◌, ◌∷◌, List, [], None, Op
 use Rattle.event_log.specs.Entries.{Claim, Entry}
 use Rattle.event_log.specs.Rules.{Setting}
 use Rattle.event_log.specs.Words.{answers_of}
-use Rattle.kind_laws.specs.Law.{HasKinds}
+use Rattle.protocol_legal.specs.of_kind_laws.Law.{HasKinds}
 use Rattle.meaning.specs.Kinds.{AnswersFit, IsBirthOf, ScriptChecks}
 use Rattle.meaning.specs.Lists.{IsFirst}
 use Rattle.meaning.specs.Meaning.{replay, run_birth}
 use Rattle.meaning.specs.Syntax.{Number, Script}
 use Rattle.meaning.specs.Values.{main_birth}
-use Rattle.protocol.specs.Answers.{Answer, Refuses, Takes, answer, job_of}
-use Rattle.protocol.specs.Jobs.{Handed, Job}
-use Rattle.protocol.specs.Tables.{Run, Worker}
-use Rattle.protocol.specs.Whole.{Whole, worker_at}
+use Rattle.holding_steps.specs.of_protocol.Answers.{Answer, Refuses, Takes, answer, job_of}
+use Rattle.holding_steps.specs.of_protocol.Jobs.{Handed, Job}
+use Rattle.holding_steps.specs.of_protocol.Tables.{Run, Worker}
+use Rattle.holding_steps.specs.of_protocol.Whole.{Whole, worker_at}
 use Rattle.protocol_legal.specs.Knows.{IsTask}
 use Rattle.protocol_laws.specs.Sound.{IsSound}
 

@@ -6,9 +6,9 @@ use Rattle.event_log.specs.Legal.{Legal, opening}
 use Rattle.event_log.specs.Rules.{Setting}
 use Rattle.meaning.specs.Mains.{KeepsMainApart}
 use Rattle.meaning.specs.Values.{Id}
-use Rattle.protocol.specs.Answers.{answer, logged, whole_after}
-use Rattle.protocol.specs.Jobs.{Handed}
-use Rattle.protocol.specs.Whole.{Whole, first_whole}
+use Rattle.holding_steps.specs.of_protocol.Answers.{answer, logged, whole_after}
+use Rattle.holding_steps.specs.of_protocol.Jobs.{Handed}
+use Rattle.holding_steps.specs.of_protocol.Whole.{Whole, first_whole}
 use Rattle.protocol_legal.specs.Whole.{setting_of}
 use Rattle.protocol_laws.specs.Coming.{AllRight, IsRight, all_after, log_after}
 use Rattle.protocol_laws.specs.Sound.{IsSound}

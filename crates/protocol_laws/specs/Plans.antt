@@ -2,12 +2,12 @@
 use Rattle.std.specs.Prelude.{◌≡◌, ◌≤◌, ℕ, List, Some, true}
 use Rattle.event_log.specs.Entries.{Entry}
 use Rattle.event_log.specs.Rules.{Setting}
-use Rattle.protocol.specs.Laws.{AreOlder}
-use Rattle.protocol.specs.Nodes.{Node}
-use Rattle.protocol.specs.Numbered.{item_at}
-use Rattle.protocol.specs.Steps.{Here}
-use Rattle.protocol.specs.Tables.{Object, Worker}
-use Rattle.protocol.specs.Whole.{Whole, here, worker_at}
+use Rattle.holding_steps.specs.of_protocol.Laws.{AreOlder}
+use Rattle.holding_steps.specs.of_protocol.Nodes.{Node}
+use Rattle.holding_steps.specs.of_protocol.Numbered.{item_at}
+use Rattle.holding_steps.specs.of_protocol.Steps.{Here}
+use Rattle.holding_steps.specs.of_protocol.Tables.{Object, Worker}
+use Rattle.holding_steps.specs.of_protocol.Whole.{Whole, here, worker_at}
 use Rattle.protocol_laws.specs.Sound.{IsSound}
 
 -- what an object is made from and is lost is older than it, and objects are counted from 1

@@ -5,10 +5,10 @@ use Rattle.event_log.specs.Causes.{shown}
 use Rattle.event_log.specs.Entries.{Claim, Entry, Event, Evict, Lose}
 use Rattle.event_log.specs.Entries.{Refusal, Pinned, NoCopy, NoWorker, NotReady, NoJob, Stale, NoMessage, NotDead, NoNode, Limit}
 use Rattle.event_log.specs.Rules.{Setting}
-use Rattle.protocol.specs.Answers.{Answer, Refuses, Takes, answer}
-use Rattle.protocol.specs.Jobs.{Handed}
-use Rattle.protocol.specs.Refusals.{is_of_job}
-use Rattle.protocol.specs.Whole.{Whole}
+use Rattle.holding_steps.specs.of_protocol.Answers.{Answer, Refuses, Takes, answer}
+use Rattle.holding_steps.specs.of_protocol.Jobs.{Handed}
+use Rattle.holding_steps.specs.of_protocol.Refusals.{is_of_job}
+use Rattle.holding_steps.specs.of_protocol.Whole.{Whole}
 use Rattle.protocol_legal.specs.Whole.{setting_of}
 use Rattle.protocol_laws.specs.Sound.{IsSound}
 

@@ -2,12 +2,12 @@
 use Rattle.std.specs.Prelude.{◌≡◌, ◌<◌, ℕ, ◌+◌, false, List, Some, length}
 use Rattle.event_log.specs.Entries.{Entry}
 use Rattle.event_log.specs.Rules.{Setting}
-use Rattle.holding.specs.Past.{Fact}
+use Rattle.holding_steps.specs.of_holding.Past.{Fact}
 use Rattle.holding_steps.specs.Whole.{WholeTrue}
-use Rattle.protocol.specs.Jobs.{Given}
-use Rattle.protocol.specs.Numbered.{item_at}
-use Rattle.protocol.specs.Tables.{Out, Run, Worker}
-use Rattle.protocol.specs.Whole.{Whole, worker_at}
+use Rattle.holding_steps.specs.of_protocol.Jobs.{Given}
+use Rattle.holding_steps.specs.of_protocol.Numbered.{item_at}
+use Rattle.holding_steps.specs.of_protocol.Tables.{Out, Run, Worker}
+use Rattle.holding_steps.specs.of_protocol.Whole.{Whole, worker_at}
 use Rattle.protocol_legal.specs.Whole.{Between}
 
 -- the worker's attempt is out as that job

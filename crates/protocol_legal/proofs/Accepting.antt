@@ -9,22 +9,22 @@ use Rattle.meaning.specs.Runs.{ids_from}
 use Rattle.meaning.specs.Births.{Bearing, Part, is_made_by, objects_with, part_at, part_of}
 use Rattle.meaning.specs.Values.{Id, Outcome, Put, results_of}
 use Rattle.meaning.proofs.BirthLaws.{at_test, made_from, made_owner}
-use Rattle.event_log.specs.Entries.{Attempt, Fault, Entry, Accepted, RetriesUsed}
-use Rattle.event_log.specs.Words.{attempt, births, same_attempt, next_serial, runs_of, worker_of, run_in, accepted_in, ends_of, resolved_in, resolves_of, released_in}
-use Rattle.event_log.specs.Breaks.{Among}
-use Rattle.event_log.specs.Rules.{AreUnspent, IsUnresolved, MayAccept}
-use Rattle.event_log.proofs.WordLaws.{same_attempt-true}
-use Rattle.protocol.specs.Numbered.{item_at, changed_at}
-use Rattle.protocol.specs.Sets.{fault, has, object_id}
-use Rattle.protocol.specs.Tables.{Beside, Progress, AtRest, AskedAt, RunsOn, OwnTask, Maker, ByTask, WasPut, Object, Worker, first_by, is_pending_task, is_under_way, is_wanted, task_in, task_of, with_task, with_content, places_for}
-use Rattle.protocol.specs.Messages.{EndedResult}
-use Rattle.protocol.specs.Steps.{Here, logs, with_task_of}
-use Rattle.protocol.specs.Asking.{rests}
-use Rattle.protocol.specs.Ends.{accepts}
+use Rattle.kind_laws.specs.of_event_log.Entries.{Attempt, Fault, Entry, Accepted, RetriesUsed}
+use Rattle.kind_laws.specs.of_event_log.Words.{attempt, births, same_attempt, next_serial, runs_of, worker_of, run_in, accepted_in, ends_of, resolved_in, resolves_of, released_in}
+use Rattle.kind_laws.specs.of_event_log.Breaks.{Among}
+use Rattle.kind_laws.specs.of_event_log.Rules.{AreUnspent, IsUnresolved, MayAccept}
+use Rattle.kind_laws.proofs.of_event_log.WordLaws.{same_attempt-true}
+use Rattle.numbered.specs.of_protocol.Numbered.{item_at, changed_at}
+use Rattle.numbered.specs.of_protocol.Sets.{fault, has, object_id}
+use Rattle.numbered.specs.of_protocol.Tables.{Beside, Progress, AtRest, AskedAt, RunsOn, OwnTask, Maker, ByTask, WasPut, Object, Worker, first_by, is_pending_task, is_under_way, is_wanted, task_in, task_of, with_task, with_content, places_for}
+use Rattle.numbered.specs.of_protocol.Messages.{EndedResult}
+use Rattle.numbered.specs.of_protocol.Steps.{Here, logs, with_task_of}
+use Rattle.numbered.specs.of_protocol.Asking.{rests}
+use Rattle.numbered.specs.of_protocol.Ends.{accepts}
 use Rattle.protocol_legal.specs.Past.{Asking, Past}
 use Rattle.values.specs.Cells.{if_small}
 use Rattle.values.specs.Listed.{adding}
-use Rattle.event_log.specs.Holding.{HasId}
+use Rattle.kind_laws.specs.of_event_log.Holding.{HasId}
 use Rattle.protocol_legal.specs.Made.{AreSmallEnds, HaveTheirIds, IsWhollyEndedAt}
 use Rattle.protocol_legal.specs.Names.{NamesOf}
 use Rattle.protocol_legal.specs.Grows.{Grows}
@@ -478,8 +478,8 @@ module _ (f : Frame) (asked : List Asking) (h : Here) (s : SoundHere f asked h) 
         let same_told : t.result ≡ (told km.0 km.1).result = let e : slice_get rs pl.place ≡ slice_get rs km.0 = ap (slice_get rs) place_is in cc in
         let res = result_of j z t.result.ids km row.new v (v_is ∙ ap (λ (r : EndedResult). with_content task.number m t.result.ids r.kept row.new) same_told) (row.is_released ∙ row.released ∙ kt.kept pending) in
         record {
-          bearer = subst (λ b. Among b (Rattle.event_log.specs.Words.bearers_of (object_id h.me j) q.log)) (sym bearer) (word_grows p q way z.bearer (Rattle.event_log.specs.Words.bearer_in (object_id h.me j)) ko.bearer);
-          stopped = subst (λ b. Rattle.protocol_legal.specs.Knows.HasStopped q.log b ⊎ ((u : Rattle.protocol.specs.Tables.Run) × (h.worker.run ≡ Some u) × (u.attempt ≡ b))) (sym bearer) (kept_stop p q way h.worker ys z.bearer ko.stopped);
+          bearer = subst (λ b. Among b (Rattle.kind_laws.specs.of_event_log.Words.bearers_of (object_id h.me j) q.log)) (sym bearer) (word_grows p q way z.bearer (Rattle.kind_laws.specs.of_event_log.Words.bearer_in (object_id h.me j)) ko.bearer);
+          stopped = subst (λ b. Rattle.protocol_legal.specs.Knows.HasStopped q.log b ⊎ ((u : Rattle.numbered.specs.of_protocol.Tables.Run) × (h.worker.run ≡ Some u) × (u.attempt ≡ b))) (sym bearer) (kept_stop p q way h.worker ys z.bearer ko.stopped);
           resolved = same_word p q way (resolved_in (object_id h.me j)) refl ∙ ko.resolved ∙ ap listed (sym faults);
           known = λ g e. way.faults g (ko.known g (sym faults ∙ e));
           released = same_word p q way (released_in (object_id h.me j)) refl ∙ ko.released ∙ ap (λ b. Rattle.protocol_legal.specs.Knows.once b (object_id h.me j)) (sym release);

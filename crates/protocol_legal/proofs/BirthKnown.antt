@@ -8,24 +8,24 @@ use Rattle.meaning.specs.Values.{Value, Birth, Put, others_of, results_of, Id}
 use Rattle.meaning.specs.Runs.{past as past_ids}
 use Rattle.meaning.specs.Births.{Bearing, birth_at, same_id, is_made_by, numbered, Part, part_of, part_at, IsNew}
 use Rattle.meaning.proofs.BirthLaws.{at_test, same_id-refl, or_else, birth_at-push, first_is_made, is_made, made_from, made_owner, part_new}
-use Rattle.event_log.specs.Entries.{Attempt, Entry, Born}
-use Rattle.event_log.specs.Words.{attempt, same_attempt, births, next_serial, own_in, own_births, printed_in, bearer_in, bearers_of, run_in, worker_of, got_in, ended_in, faulted_in, resolved_in, released_in}
-use Rattle.event_log.specs.Breaks.{Among}
-use Rattle.event_log.specs.Extends.{Extends}
-use Rattle.event_log.specs.Fresh.{FreshIsUnknown}
-use Rattle.event_log.specs.Holding.{HasId, InBirth, ids_of_birth}
-use Rattle.event_log.specs.Rules.{Setting, MayBear}
-use Rattle.event_log.specs.Sane.{Sane}
-use Rattle.event_log.proofs.OwnLaws.{told-plain}
-use Rattle.event_log.proofs.FreshLaws.{born_if_first}
-use Rattle.event_log.proofs.WordLaws.{word_push, births_push, next_serial-push, same_attempt-true, same_attempt-refl}
+use Rattle.kind_laws.specs.of_event_log.Entries.{Attempt, Entry, Born}
+use Rattle.kind_laws.specs.of_event_log.Words.{attempt, same_attempt, births, next_serial, own_in, own_births, printed_in, bearer_in, bearers_of, run_in, worker_of, got_in, ended_in, faulted_in, resolved_in, released_in}
+use Rattle.kind_laws.specs.of_event_log.Breaks.{Among}
+use Rattle.kind_laws.specs.of_event_log.Extends.{Extends}
+use Rattle.kind_laws.specs.of_event_log.Fresh.{FreshIsUnknown}
+use Rattle.kind_laws.specs.of_event_log.Holding.{HasId, InBirth, ids_of_birth}
+use Rattle.kind_laws.specs.of_event_log.Rules.{Setting, MayBear}
+use Rattle.kind_laws.specs.of_event_log.Sane.{Sane}
+use Rattle.kind_laws.proofs.of_event_log.OwnLaws.{told-plain}
+use Rattle.kind_laws.proofs.of_event_log.FreshLaws.{born_if_first}
+use Rattle.kind_laws.proofs.of_event_log.WordLaws.{word_push, births_push, next_serial-push, same_attempt-true, same_attempt-refl}
 use Rattle.values.specs.Listed.{each_once}
-use Rattle.protocol.specs.Numbered.{item_at}
+use Rattle.numbered.specs.of_protocol.Numbered.{item_at}
 use Rattle.numbered.specs.Counting.{item_of}
 use Rattle.numbered.proofs.Lists.{joined_cases}
-use Rattle.protocol.specs.Sets.{object_id}
-use Rattle.protocol.specs.Tables.{Maker, WasPut, ByTask, Beside, Object, OwnTask, Ready, Run, Worker, first_by, task_of}
-use Rattle.protocol.specs.Events.{objects_made}
+use Rattle.numbered.specs.of_protocol.Sets.{object_id}
+use Rattle.numbered.specs.of_protocol.Tables.{Maker, WasPut, ByTask, Beside, Object, OwnTask, Ready, Run, Worker, first_by, task_of}
+use Rattle.numbered.specs.of_protocol.Events.{objects_made}
 use Rattle.protocol_legal.specs.Past.{Asking, Past, past, asking, WasAskedAt}
 use Rattle.protocol_legal.specs.Grows.{Grows}
 use Rattle.protocol_legal.specs.Knows.{GoesOn, KnowsTask, listed, once, IsPartOf, IsRow, IsTask, IsUntouched, KnowsMaker, KnowsObject, KnowsPhase, KnowsResult, KnowsRun, KnowsWorker}

@@ -8,18 +8,18 @@ use Rattle.meaning.specs.Values.{Value, Outcome, Val, Birth, Put, Task, results_
 use Rattle.meaning.specs.Runs.{next_id}
 use Rattle.meaning.specs.Births.{birth_at, same_id, is_made_by, Part, part_of, part_at}
 use Rattle.meaning.proofs.BirthLaws.{at_test, same_id-true, same_id-refl, is_made, made_from, made_owner, part_is_made}
-use Rattle.event_log.specs.Entries.{Attempt, Entry, Born}
-use Rattle.event_log.specs.Words.{attempt, same_attempt, births, worker_of, ended_in, ends_of}
-use Rattle.event_log.specs.Events.{node_of}
-use Rattle.event_log.specs.Breaks.{Among}
-use Rattle.event_log.specs.Rules.{Setting, MayBear}
-use Rattle.event_log.specs.Sane.{Sane}
-use Rattle.event_log.proofs.OwnLaws.{live-plain}
-use Rattle.event_log.proofs.FreshLaws.{born_if_first}
-use Rattle.event_log.proofs.WordLaws.{same_attempt-true}
+use Rattle.kind_laws.specs.of_event_log.Entries.{Attempt, Entry, Born}
+use Rattle.kind_laws.specs.of_event_log.Words.{attempt, same_attempt, births, worker_of, ended_in, ends_of}
+use Rattle.kind_laws.specs.of_event_log.Events.{node_of}
+use Rattle.kind_laws.specs.of_event_log.Breaks.{Among}
+use Rattle.kind_laws.specs.of_event_log.Rules.{Setting, MayBear}
+use Rattle.kind_laws.specs.of_event_log.Sane.{Sane}
+use Rattle.kind_laws.proofs.of_event_log.OwnLaws.{live-plain}
+use Rattle.kind_laws.proofs.of_event_log.FreshLaws.{born_if_first}
+use Rattle.kind_laws.proofs.of_event_log.WordLaws.{same_attempt-true}
 use Rattle.values.specs.Cells.{is_small}
-use Rattle.protocol.specs.Stores.{Copy, Store, copy, is_copy_of, with_ended, with_primary}
-use Rattle.protocol.specs.Nodes.{Node}
+use Rattle.numbered.specs.of_protocol.Stores.{Copy, Store, copy, is_copy_of, with_ended, with_primary}
+use Rattle.numbered.specs.of_protocol.Nodes.{Node}
 use Rattle.protocol_legal.specs.Past.{Asking, Past, past}
 use Rattle.protocol_legal.specs.Made.{HasResult, IsPutAt, IsEndedAt, IsMadeAt, IsCopy, IsTaken}
 use Rattle.protocol_legal.specs.Grows.{Grows}

@@ -9,15 +9,15 @@ use Rattle.meaning.specs.Runs.{past as past_ids, behind}
 use Rattle.meaning.specs.Births.{numbered}
 use Rattle.meaning.proofs.BirthLaws.{at_test}
 use Rattle.values.specs.Listed.{each_once}
-use Rattle.event_log.specs.Entries.{Attempt}
-use Rattle.event_log.specs.Holding.{ids_of_birth}
-use Rattle.protocol.specs.Numbered.{item_at, changed_at}
+use Rattle.kind_laws.specs.of_event_log.Entries.{Attempt}
+use Rattle.kind_laws.specs.of_event_log.Holding.{ids_of_birth}
+use Rattle.numbered.specs.of_protocol.Numbered.{item_at, changed_at}
 use Rattle.numbered.specs.Counting.{item_of, changed}
 use Rattle.numbered.proofs.Places.{changed_is, placed}
 use Rattle.numbered.proofs.Lists.{counted_item_within, counted_repeated_at}
-use Rattle.protocol.specs.Sets.{repeated}
-use Rattle.protocol.specs.Tables.{AskedAt, OwnTask, Maker, ByTask, Beside, Object, new_task, new_object, put_object}
-use Rattle.protocol.specs.Events.{objects_made}
+use Rattle.numbered.specs.of_protocol.Sets.{repeated}
+use Rattle.numbered.specs.of_protocol.Tables.{AskedAt, OwnTask, Maker, ByTask, Beside, Object, new_task, new_object, put_object}
+use Rattle.numbered.specs.of_protocol.Events.{objects_made}
 
 -- ---- lists
 

@@ -8,12 +8,12 @@ use Rattle.meaning.specs.Runs.{next_id}
 use Rattle.meaning.specs.Values.{Id, Outcome}
 use Rattle.meaning.proofs.BirthLaws.{at_test}
 use Rattle.values.specs.Cells.{if_small}
-use Rattle.protocol.specs.Numbered.{item_at, changed_at}
-use Rattle.protocol.specs.Sets.{object_id, rest_of}
-use Rattle.protocol.specs.Tables.{Object, Worker, first_by, with_content}
-use Rattle.protocol.specs.Messages.{EndedResult}
-use Rattle.protocol.specs.Steps.{Here, with_worker}
-use Rattle.protocol.specs.Ends.{first_result, settles}
+use Rattle.numbered.specs.of_protocol.Numbered.{item_at, changed_at}
+use Rattle.numbered.specs.of_protocol.Sets.{object_id, rest_of}
+use Rattle.numbered.specs.of_protocol.Tables.{Object, Worker, first_by, with_content}
+use Rattle.numbered.specs.of_protocol.Messages.{EndedResult}
+use Rattle.numbered.specs.of_protocol.Steps.{Here, with_worker}
+use Rattle.numbered.specs.of_protocol.Ends.{first_result, settles}
 use Rattle.protocol_legal.specs.Past.{Past}
 use Rattle.protocol_legal.specs.Grows.{Grows}
 use Rattle.protocol_legal.specs.Knows.{KnowsObject}

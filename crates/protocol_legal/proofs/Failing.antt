@@ -5,17 +5,17 @@ use Rattle.std.proofs.lemmas.Bool.{and_parts, eqb-true}
 use Rattle.meaning.proofs.BirthLaws.{at_test}
 use Rattle.meaning.specs.Values.{Id, results_of}
 use Rattle.meaning.specs.Births.{same_id}
-use Rattle.event_log.specs.Entries.{Attempt, Entry, Fault, Resolved, main_object}
-use Rattle.event_log.specs.Words.{attempt, faulted_in, resolves_of, run_in}
-use Rattle.event_log.specs.Breaks.{Among}
-use Rattle.event_log.specs.Rules.{IsOwn, LastFaulted, MayResolve, Setting}
-use Rattle.event_log.proofs.Extending.{parts-more}
-use Rattle.protocol.specs.Sets.{object_id}
-use Rattle.protocol.specs.Tables.{Object, OwnTask, RunsOn, is_pending_task, task_of}
-use Rattle.protocol.specs.Ends.{failed_by, failed_reached, fails, hears_of_end, if_present, resolves_open_by}
-use Rattle.protocol.specs.Asking.{answers_faulted, rests}
-use Rattle.protocol.specs.Messages.{FinishedAck}
-use Rattle.protocol.specs.Steps.{Here, each_result, object_at, with_task_of}
+use Rattle.kind_laws.specs.of_event_log.Entries.{Attempt, Entry, Fault, Resolved, main_object}
+use Rattle.kind_laws.specs.of_event_log.Words.{attempt, faulted_in, resolves_of, run_in}
+use Rattle.kind_laws.specs.of_event_log.Breaks.{Among}
+use Rattle.kind_laws.specs.of_event_log.Rules.{IsOwn, LastFaulted, MayResolve, Setting}
+use Rattle.kind_laws.proofs.of_event_log.Extending.{parts-more}
+use Rattle.numbered.specs.of_protocol.Sets.{object_id}
+use Rattle.numbered.specs.of_protocol.Tables.{Object, OwnTask, RunsOn, is_pending_task, task_of}
+use Rattle.numbered.specs.of_protocol.Ends.{failed_by, failed_reached, fails, hears_of_end, if_present, resolves_open_by}
+use Rattle.numbered.specs.of_protocol.Asking.{answers_faulted, rests}
+use Rattle.numbered.specs.of_protocol.Messages.{FinishedAck}
+use Rattle.numbered.specs.of_protocol.Steps.{Here, each_result, object_at, with_task_of}
 use Rattle.protocol_legal.specs.Past.{Asking, Past}
 use Rattle.protocol_legal.specs.Lost.{IsKnownFault}
 use Rattle.protocol_legal.specs.Says.{HasFault}

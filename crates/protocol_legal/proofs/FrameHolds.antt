@@ -3,11 +3,11 @@ use Rattle.std.proofs.Common.{◌≡◌, ℕ, ◌+◌, Bool, true, false, List, 
 use Rattle.std.specs.Prelude.{if◌then◌else◌, ◌==◌}
 use Rattle.std.specs.List.{AllByRecursion}
 use Rattle.std.proofs.lemmas.Option.{same_Some}
-use Rattle.event_log.specs.Entries.{Deliver, Entry, In}
-use Rattle.event_log.specs.Rules.{Setting}
-use Rattle.event_log.proofs.Extending.{logs_extend}
-use Rattle.protocol.specs.Messages.{Letter}
-use Rattle.protocol.specs.Whole.{Whole}
+use Rattle.kind_laws.specs.of_event_log.Entries.{Deliver, Entry, In}
+use Rattle.kind_laws.specs.of_event_log.Rules.{Setting}
+use Rattle.kind_laws.proofs.of_event_log.Extending.{logs_extend}
+use Rattle.numbered.specs.of_protocol.Messages.{Letter}
+use Rattle.numbered.specs.of_protocol.Whole.{Whole}
 use Rattle.numbered.specs.Counting.{item_of}
 use Rattle.numbered.proofs.Places.{counted}
 use Rattle.protocol_legal.specs.Past.{past}
@@ -24,7 +24,7 @@ use Rattle.protocol_legal.proofs.FrameNodesChange.{joins_whole, node_dies_whole}
 use Rattle.protocol_legal.proofs.FrameBegins.{first_sound}
 use Rattle.protocol_legal.specs.Steps.{EventsOfOthers, EventsOfWorkers}
 use Rattle.protocol_legal.specs.Law.{StepsStayLegal}
-use Rattle.protocol.specs.Numbered.{item_at}
+use Rattle.numbered.specs.of_protocol.Numbered.{item_at}
 use Rattle.protocol_legal.specs.Whole.{Between}
 
 pub item_said : (P : Letter → Type 0) (ls : List Letter) (i k : ℕ) (l : Letter) → AllByRecursion P ls → item_of i ls k ≡ Some l → P l

@@ -3,12 +3,12 @@ use Rattle.std.proofs.Common.{◌≡◌, ℕ, true, false, List, [], ◌∷◌, 
 use Rattle.std.specs.Prelude.{if◌then◌else◌, not}
 use Rattle.std.specs.List.{list_any}
 use Rattle.std.proofs.lemmas.Option.{same_Some}
-use Rattle.event_log.specs.Entries.{Event, Claim, Commit, Deliver, Tick, Notice, NoticeNode, Evict, Lose, Kill, KillNode, Join, Entry, In}
-use Rattle.event_log.specs.Events.{accepted_events, is_live, kills, node_of, on_node, refused_next, under_way}
-use Rattle.event_log.specs.Legal.{has_event}
-use Rattle.event_log.specs.Rules.{Receiver, ToWorker, ToNode, worker_to, actor, Setting, IsHeard, IsOwn}
-use Rattle.event_log.proofs.EventLaws.{accepted-event}
-use Rattle.event_log.proofs.Extending.{node_of-more}
+use Rattle.kind_laws.specs.of_event_log.Entries.{Event, Claim, Commit, Deliver, Tick, Notice, NoticeNode, Evict, Lose, Kill, KillNode, Join, Entry, In}
+use Rattle.kind_laws.specs.of_event_log.Events.{accepted_events, is_live, kills, node_of, on_node, refused_next, under_way}
+use Rattle.kind_laws.specs.of_event_log.Legal.{has_event}
+use Rattle.kind_laws.specs.of_event_log.Rules.{Receiver, ToWorker, ToNode, worker_to, actor, Setting, IsHeard, IsOwn}
+use Rattle.kind_laws.proofs.of_event_log.EventLaws.{accepted-event}
+use Rattle.kind_laws.proofs.of_event_log.Extending.{node_of-more}
 use Rattle.protocol_legal.proofs.FrameIn.{lives_more}
 
 to_worker : (r : Option Receiver) (w : ℕ) → worker_to r ≡ Some w → r ≡ Some (ToWorker w)

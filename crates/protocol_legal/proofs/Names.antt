@@ -4,14 +4,14 @@ use Rattle.std.specs.Prelude.{suc, if◌then◌else◌, nat_lt}
 use Rattle.std.specs.List.{AllByRecursion, filter, list_any}
 use Rattle.meaning.specs.Values.{Birth, Id}
 use Rattle.meaning.specs.Births.{Part, part_at, same_id}
-use Rattle.event_log.specs.Entries.{Entry}
-use Rattle.event_log.specs.Words.{attempt, births, ends_of}
+use Rattle.kind_laws.specs.of_event_log.Entries.{Entry}
+use Rattle.kind_laws.specs.of_event_log.Words.{attempt, births, ends_of}
 use Rattle.meaning.proofs.BirthLaws.{at_test}
 use Rattle.values.specs.Listed.{without, each_once, adding}
-use Rattle.event_log.specs.Breaks.{Among}
-use Rattle.event_log.specs.Holding.{HasId, InBirth, InContents, ids_of_birth}
-use Rattle.protocol.specs.Tables.{Holding}
-use Rattle.protocol.specs.Holders.{first_born, first_born_first}
+use Rattle.kind_laws.specs.of_event_log.Breaks.{Among}
+use Rattle.kind_laws.specs.of_event_log.Holding.{HasId, InBirth, InContents, ids_of_birth}
+use Rattle.numbered.specs.of_protocol.Tables.{Holding}
+use Rattle.numbered.specs.of_protocol.Holders.{first_born, first_born_first}
 use Rattle.protocol_legal.specs.Past.{Past}
 use Rattle.protocol_legal.specs.Grows.{Grows}
 use Rattle.protocol_legal.specs.Names.{IsDeadIfAny, AllHave, KnowsNames}

@@ -7,15 +7,15 @@ use Rattle.meaning.specs.Runs.{ids_from}
 use Rattle.meaning.specs.Values.{Id}
 use Rattle.meaning.specs.Births.{same_id}
 use Rattle.meaning.proofs.BirthLaws.{same_id-refl}
-use Rattle.event_log.specs.Entries.{Entry, Released}
-use Rattle.event_log.specs.Words.{released_in}
-use Rattle.event_log.specs.Events.{refused_next}
-use Rattle.event_log.specs.Legal.{has_event}
-use Rattle.protocol.specs.Numbered.{item_at, changed_at}
-use Rattle.protocol.specs.Sets.{object_id}
-use Rattle.protocol.specs.Tables.{Object, released}
-use Rattle.protocol.specs.Steps.{Here, with_worker}
-use Rattle.protocol.specs.Releases.{marks_released}
+use Rattle.kind_laws.specs.of_event_log.Entries.{Entry, Released}
+use Rattle.kind_laws.specs.of_event_log.Words.{released_in}
+use Rattle.kind_laws.specs.of_event_log.Events.{refused_next}
+use Rattle.kind_laws.specs.of_event_log.Legal.{has_event}
+use Rattle.numbered.specs.of_protocol.Numbered.{item_at, changed_at}
+use Rattle.numbered.specs.of_protocol.Sets.{object_id}
+use Rattle.numbered.specs.of_protocol.Tables.{Object, released}
+use Rattle.numbered.specs.of_protocol.Steps.{Here, with_worker}
+use Rattle.numbered.specs.of_protocol.Releases.{marks_released}
 use Rattle.protocol_legal.proofs.Numbers.{item-same, item-elsewhere}
 use Rattle.protocol_legal.proofs.Resolving.{same_serial}
 use Rattle.numbered.proofs.Lists.{changed-length}

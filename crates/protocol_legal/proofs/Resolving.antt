@@ -7,16 +7,16 @@ use Rattle.std.proofs.lemmas.Bool.Decides.{nat_tests}
 use Rattle.meaning.specs.Births.{same_id}
 use Rattle.meaning.specs.Values.{Id}
 use Rattle.meaning.proofs.BirthLaws.{at_test, same_id-refl, same_id-true}
-use Rattle.event_log.specs.Entries.{Attempt, Entry, Fault, Resolved, main_object}
-use Rattle.event_log.specs.Words.{opened_in, resolved_in, resolves_of}
-use Rattle.event_log.specs.Rules.{Allowed, IsOwn, MayResolve, Setting}
-use Rattle.event_log.proofs.OwnLaws.{own-plain}
-use Rattle.event_log.proofs.WordLaws.{word_push}
-use Rattle.protocol.specs.Numbered.{item_at, changed_at}
-use Rattle.protocol.specs.Sets.{object_id}
-use Rattle.protocol.specs.Tables.{Object, with_fault}
-use Rattle.protocol.specs.Steps.{Here, each_from, logs, logs_all, object_at, own_id, own_object, with_worker}
-use Rattle.protocol.specs.Asking.{resolves}
+use Rattle.kind_laws.specs.of_event_log.Entries.{Attempt, Entry, Fault, Resolved, main_object}
+use Rattle.kind_laws.specs.of_event_log.Words.{opened_in, resolved_in, resolves_of}
+use Rattle.kind_laws.specs.of_event_log.Rules.{Allowed, IsOwn, MayResolve, Setting}
+use Rattle.kind_laws.proofs.of_event_log.OwnLaws.{own-plain}
+use Rattle.kind_laws.proofs.of_event_log.WordLaws.{word_push}
+use Rattle.numbered.specs.of_protocol.Numbered.{item_at, changed_at}
+use Rattle.numbered.specs.of_protocol.Sets.{object_id}
+use Rattle.numbered.specs.of_protocol.Tables.{Object, with_fault}
+use Rattle.numbered.specs.of_protocol.Steps.{Here, each_from, logs, logs_all, object_at, own_id, own_object, with_worker}
+use Rattle.numbered.specs.of_protocol.Asking.{resolves}
 use Rattle.protocol_legal.specs.Past.{Asking, WasAskedAt}
 use Rattle.protocol_legal.specs.Grows.{Grows}
 use Rattle.protocol_legal.specs.Knows.{KnowsWorker}

@@ -7,17 +7,17 @@ use Rattle.std.proofs.lemmas.Bool.Decides.{nat_tests}
 use Rattle.meaning.specs.Values.{Id}
 use Rattle.meaning.proofs.BirthLaws.{at_test}
 use Rattle.meaning.specs.Births.{same_id}
-use Rattle.event_log.specs.Entries.{Entry, Fault, Resolved, In, main_object}
-use Rattle.event_log.specs.Rules.{IsOwn, MayResolve, Setting}
-use Rattle.event_log.specs.Words.{attempt, accepted_in, bearers_of, bearer_in, births, own_in, resolved_in, resolves_of, released_in, run_in}
-use Rattle.event_log.specs.Events.{refused_next}
-use Rattle.event_log.specs.Legal.{has_event}
-use Rattle.event_log.specs.Breaks.{Among}
-use Rattle.protocol.specs.Numbered.{item_at}
-use Rattle.protocol.specs.Sets.{object_id}
-use Rattle.protocol.specs.Tables.{Beside, ByTask, Maker, Object, OwnTask, Run, WasPut, Worker, first_by, is_pending_task, task_of, with_fault, with_task}
-use Rattle.protocol.specs.Steps.{Here, with_worker}
-use Rattle.protocol.specs.Asking.{rests}
+use Rattle.kind_laws.specs.of_event_log.Entries.{Entry, Fault, Resolved, In, main_object}
+use Rattle.kind_laws.specs.of_event_log.Rules.{IsOwn, MayResolve, Setting}
+use Rattle.kind_laws.specs.of_event_log.Words.{attempt, accepted_in, bearers_of, bearer_in, births, own_in, resolved_in, resolves_of, released_in, run_in}
+use Rattle.kind_laws.specs.of_event_log.Events.{refused_next}
+use Rattle.kind_laws.specs.of_event_log.Legal.{has_event}
+use Rattle.kind_laws.specs.of_event_log.Breaks.{Among}
+use Rattle.numbered.specs.of_protocol.Numbered.{item_at}
+use Rattle.numbered.specs.of_protocol.Sets.{object_id}
+use Rattle.numbered.specs.of_protocol.Tables.{Beside, ByTask, Maker, Object, OwnTask, Run, WasPut, Worker, first_by, is_pending_task, task_of, with_fault, with_task}
+use Rattle.numbered.specs.of_protocol.Steps.{Here, with_worker}
+use Rattle.numbered.specs.of_protocol.Asking.{rests}
 use Rattle.protocol_legal.specs.Past.{Asking, Past}
 use Rattle.protocol_legal.specs.Lost.{IsKnownFault}
 use Rattle.protocol_legal.specs.Grows.{Grows}
@@ -102,12 +102,12 @@ module _ (test : Object → Bool) (cause : ℕ → ℕ → Fault) where
     pub speak : SpeakOfObjects es
     speak = record {
       no_event = (no_event_in xs h.me k r).0;
-      births = none_in test cause Rattle.event_log.specs.Words.born_in (λ _ _. refl) xs h.me k r;
+      births = none_in test cause Rattle.kind_laws.specs.of_event_log.Words.born_in (λ _ _. refl) xs h.me k r;
       own = λ a. none_in test cause (own_in a) (λ _ _. refl) xs h.me k r;
-      prints = λ a. none_in test cause (Rattle.event_log.specs.Words.printed_in a) (λ _ _. refl) xs h.me k r;
-      answers = λ a. none_in test cause (Rattle.event_log.specs.Words.got_in a) (λ _ _. refl) xs h.me k r;
-      ended = λ a. none_in test cause (Rattle.event_log.specs.Words.ended_in a) (λ _ _. refl) xs h.me k r;
-      faulted = λ a. none_in test cause (Rattle.event_log.specs.Words.faulted_in a) (λ _ _. refl) xs h.me k r;
+      prints = λ a. none_in test cause (Rattle.kind_laws.specs.of_event_log.Words.printed_in a) (λ _ _. refl) xs h.me k r;
+      answers = λ a. none_in test cause (Rattle.kind_laws.specs.of_event_log.Words.got_in a) (λ _ _. refl) xs h.me k r;
+      ended = λ a. none_in test cause (Rattle.kind_laws.specs.of_event_log.Words.ended_in a) (λ _ _. refl) xs h.me k r;
+      faulted = λ a. none_in test cause (Rattle.kind_laws.specs.of_event_log.Words.faulted_in a) (λ _ _. refl) xs h.me k r;
     }
 
     -- what it comes to

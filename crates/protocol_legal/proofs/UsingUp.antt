@@ -3,13 +3,13 @@ use Rattle.std.proofs.Common.{◌≡◌, ℕ, ◌+◌, true, false, List, [], �
 use Rattle.std.specs.Prelude.{◌&&◌, is_none, if◌then◌else◌}
 use Rattle.std.specs.List.{flat_map}
 use Rattle.meaning.specs.Values.{Id}
-use Rattle.event_log.specs.Entries.{Entry, Fault, Resolved, RetriesUsed}
-use Rattle.event_log.specs.Words.{attempt, resolved_in, resolves_of}
-use Rattle.event_log.specs.Breaks.{Among, RetriesAreUsed, breaks_of}
-use Rattle.protocol.specs.Sets.{fault, is_empty, object_id}
-use Rattle.protocol.specs.Tables.{Object, OwnTask, is_nowhere, is_pending_task, is_wanted, may_try_again}
-use Rattle.protocol.specs.Steps.{Here, each_result, with_task_of}
-use Rattle.protocol.specs.Asking.{resolves_used, resolves_used_by, rests}
+use Rattle.kind_laws.specs.of_event_log.Entries.{Entry, Fault, Resolved, RetriesUsed}
+use Rattle.kind_laws.specs.of_event_log.Words.{attempt, resolved_in, resolves_of}
+use Rattle.kind_laws.specs.of_event_log.Breaks.{Among, RetriesAreUsed, breaks_of}
+use Rattle.numbered.specs.of_protocol.Sets.{fault, is_empty, object_id}
+use Rattle.numbered.specs.of_protocol.Tables.{Object, OwnTask, is_nowhere, is_pending_task, is_wanted, may_try_again}
+use Rattle.numbered.specs.of_protocol.Steps.{Here, each_result, with_task_of}
+use Rattle.numbered.specs.of_protocol.Asking.{resolves_used, resolves_used_by, rests}
 use Rattle.protocol_legal.specs.Past.{Asking, Past, past}
 use Rattle.protocol_legal.specs.Lost.{IsKnownFault}
 use Rattle.protocol_legal.specs.Grows.{Grows}

@@ -1,10 +1,10 @@
 -- What comes back from a job is what the job's attempt does.
 use Rattle.std.specs.Prelude.{◌≡◌, [], ◌++◌, ◌⊎◌}
-use Rattle.event_log.specs.Entries.{main_attempt}
-use Rattle.event_log.specs.Rules.{Setting}
+use Rattle.kind_laws.specs.of_event_log.Entries.{main_attempt}
+use Rattle.kind_laws.specs.of_event_log.Rules.{Setting}
 use Rattle.meaning.specs.Meaning.{replay}
-use Rattle.protocol.specs.Jobs.{Outcomes, stop_of}
-use Rattle.protocol.specs.Tables.{Run}
+use Rattle.numbered.specs.of_protocol.Jobs.{Outcomes, stop_of}
+use Rattle.numbered.specs.of_protocol.Tables.{Run}
 
 -- the outcomes go on as the attempt's replay on its answers does
 abbrev pub IsTrue : Setting → Run → Outcomes → Type 0

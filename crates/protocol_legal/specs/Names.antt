@@ -2,10 +2,10 @@
 use Rattle.std.specs.Prelude.{◌≡◌, true, List, Option, Some, None}
 use Rattle.std.specs.List.{AllByRecursion}
 use Rattle.meaning.specs.Values.{Id}
-use Rattle.event_log.specs.Entries.{Entry}
-use Rattle.event_log.specs.Events.{is_killed}
-use Rattle.event_log.specs.Holding.{HasId}
-use Rattle.protocol.specs.Tables.{Holding, Object}
+use Rattle.kind_laws.specs.of_event_log.Entries.{Entry}
+use Rattle.kind_laws.specs.of_event_log.Events.{is_killed}
+use Rattle.kind_laws.specs.of_event_log.Holding.{HasId}
+use Rattle.numbered.specs.of_protocol.Tables.{Holding, Object}
 
 -- the entry has the id, and its owner is dead
 abbrev pub IsDeadHolder : List Entry → Id → Id → Type 0

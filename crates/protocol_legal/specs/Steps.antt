@@ -1,27 +1,27 @@
 -- What the steps of the protocol keep: the families of a worker's steps within its event, and how an event begins and ends on the whole.
 use Rattle.std.specs.Prelude.{◌≡◌, ℕ, true, false, Bool, List, [], ◌∷◌, ◌++◌, Some}
 use Rattle.meaning.specs.Values.{Id}
-use Rattle.event_log.specs.Entries.{Claim, Commit, Deliver, Entry, Event, Evict, In, Join, Kill, KillNode, Lose, Notice, Refused, Released}
-use Rattle.event_log.specs.Entries.{Refusal}
-use Rattle.event_log.specs.Events.{claim_in, commit_in, is_committed, is_killed, node_is_killed, node_lives, tells, worker_of_job}
-use Rattle.event_log.specs.Holding.{IsHeld}
-use Rattle.event_log.specs.Legal.{Happens}
-use Rattle.event_log.specs.Causes.{IsRefusal}
-use Rattle.event_log.specs.Rules.{Receiver, Setting}
-use Rattle.protocol.specs.Commits.{claim_step, commit_step}
-use Rattle.protocol.specs.Deliveries.{reached}
-use Rattle.protocol.specs.Events.{happens, killed, node_killed, with_committed}
-use Rattle.protocol.specs.Jobs.{Given, Nothing, Outcomes}
-use Rattle.protocol.specs.Messages.{Letter, Message, Party, TheNode, TheWorker}
-use Rattle.protocol.specs.Nodes.{Node}
-use Rattle.protocol.specs.Notices.{notice_node_step, notice_step}
-use Rattle.protocol.specs.Numbered.{item_at}
-use Rattle.protocol.specs.Releases.{release_step}
-use Rattle.protocol.specs.Slots.{node_reached}
-use Rattle.protocol.specs.Steps.{Here}
-use Rattle.protocol.specs.Tables.{Out, Ready, Run, Worker}
-use Rattle.protocol.specs.Ticks.{tick_step}
-use Rattle.protocol.specs.Whole.{Moved, Whole, after_node, after_worker, here, node_at, there, worker_at}
+use Rattle.kind_laws.specs.of_event_log.Entries.{Claim, Commit, Deliver, Entry, Event, Evict, In, Join, Kill, KillNode, Lose, Notice, Refused, Released}
+use Rattle.kind_laws.specs.of_event_log.Entries.{Refusal}
+use Rattle.kind_laws.specs.of_event_log.Events.{claim_in, commit_in, is_committed, is_killed, node_is_killed, node_lives, tells, worker_of_job}
+use Rattle.kind_laws.specs.of_event_log.Holding.{IsHeld}
+use Rattle.kind_laws.specs.of_event_log.Legal.{Happens}
+use Rattle.kind_laws.specs.of_event_log.Causes.{IsRefusal}
+use Rattle.kind_laws.specs.of_event_log.Rules.{Receiver, Setting}
+use Rattle.numbered.specs.of_protocol.Commits.{claim_step, commit_step}
+use Rattle.numbered.specs.of_protocol.Deliveries.{reached}
+use Rattle.numbered.specs.of_protocol.Events.{happens, killed, node_killed, with_committed}
+use Rattle.numbered.specs.of_protocol.Jobs.{Given, Nothing, Outcomes}
+use Rattle.numbered.specs.of_protocol.Messages.{Letter, Message, Party, TheNode, TheWorker}
+use Rattle.numbered.specs.of_protocol.Nodes.{Node}
+use Rattle.numbered.specs.of_protocol.Notices.{notice_node_step, notice_step}
+use Rattle.numbered.specs.of_protocol.Numbered.{item_at}
+use Rattle.numbered.specs.of_protocol.Releases.{release_step}
+use Rattle.numbered.specs.of_protocol.Slots.{node_reached}
+use Rattle.numbered.specs.of_protocol.Steps.{Here}
+use Rattle.numbered.specs.of_protocol.Tables.{Out, Ready, Run, Worker}
+use Rattle.numbered.specs.of_protocol.Ticks.{tick_step}
+use Rattle.numbered.specs.of_protocol.Whole.{Moved, Whole, after_node, after_worker, here, node_at, there, worker_at}
 use Rattle.protocol_legal.specs.Done.{IsDone}
 use Rattle.protocol_legal.specs.During.{Frame, HearsNoDeath, SoundHere, past_of, so_far}
 use Rattle.protocol_legal.specs.Frame.{Arrives, ComesTo, IsOwnEvent, JobsFollow, in_event}

@@ -5,7 +5,7 @@ use Rattle.std.proofs.lemmas.Bool.{eq-eqb, eqb-true}
 use Rattle.std.proofs.lemmas.Bool.Decides.{nat_tests}
 use Rattle.sequence.proofs.Places.{list_any-push_cases, list_any-push_right, or_cases, or_left, or_right}
 use Rattle.meaning.proofs.BirthLaws.{at_test}
-use Rattle.protocol.specs.Sets.{first_item, has, least, least_from, repeated, rest_of, with_number, without_number}
+use Rattle.smallest_steps.specs.of_protocol.Sets.{first_item, has, least, least_from, repeated, rest_of, with_number, without_number}
 
 pub has-push : (xs : List ℕ) (w v : ℕ) → has (xs ++ w ∷ []) v ≡ true → (has xs v ≡ true) ⊎ (w ≡ v)
 has-push xs w v e = elim (list_any-push_cases (λ y. y == v) xs w e) [ inl f ↦ inl f | inr f ↦ inr (eqb-true w v f) ]

@@ -1,8 +1,8 @@
 -- How far a worker is with its attempt by its tables, and that the log's account of it says the same.
 use Rattle.std.specs.Prelude.{◌≡◌, Option, None, Some}
-use Rattle.event_log.specs.Entries.{Attempt}
-use Rattle.protocol.specs.Sets.{first_item}
-use Rattle.protocol.specs.Tables.{HasEnded, HasFaulted, Out, Phase, Ready, Run, Waits, Worker}
+use Rattle.smallest_steps.specs.of_event_log.Entries.{Attempt}
+use Rattle.smallest_steps.specs.of_protocol.Sets.{first_item}
+use Rattle.smallest_steps.specs.of_protocol.Tables.{HasEnded, HasFaulted, Out, Phase, Ready, Run, Waits, Worker}
 use Rattle.protocol_owed.specs.Courses.{Course, GoesOn, HasStopped, IsOut, Pace, Rests, has_begun}
 
 -- how far an attempt is, by its phase

@@ -3,7 +3,7 @@ use Rattle.std.proofs.Common.{ℕ, List, Option, None, Some, inl, inr}
 use Rattle.std.specs.Prelude.{IfSome}
 use Rattle.meaning.specs.Syntax.{Script}
 use Rattle.event_files.specs.declared.plan.PlanLine.{PlanLine}
-use Rattle.protocol_board.specs.Cores.{Size}
+use Rattle.run_commands.specs.of_protocol_board.Cores.{Size}
 use Rattle.raysim_streams.specs.declared.Failure.TheVariants.{Read, Write, Closed}
 use Rattle.raysim_streams.specs.declared.CommandRefusal.{CommandRefusal}
 use Rattle.raysim_streams.specs.declared.CommandRefusal.TheVariants.{At, NoMemory, Stopped, BadLine, WrongJob, Failed}

@@ -15,13 +15,13 @@ use Rattle.event_files.specs.declared.event_file.EventFile.TheVariants as files
 use Rattle.event_files.specs.declared.line.Line.{Line}
 use Rattle.event_files.specs.declared.line.Line.TheVariants as lines
 use Rattle.histories.specs.Recorded.{recorded_in}
-use Rattle.migration.proofs.Alike.{migrated_is_same}
-use Rattle.migration.proofs.Migrating.{histories_replay}
-use Rattle.migration.specs.Migration.{Begins}
-use Rattle.protocol_board.specs.Cores.{Size}
-use Rattle.protocol_board.specs.Cores.{IsSoundLog}
-use Rattle.protocol_board.specs.Replays.{LineStops, Play, PlayStops, Plays}
-use Rattle.protocol_board.specs.declared.stopped.ReplayStop.TheVariants as stops
+use Rattle.replay_laws.proofs.of_migration.Alike.{migrated_is_same}
+use Rattle.replay_laws.proofs.of_migration.Migrating.{histories_replay}
+use Rattle.replay_laws.specs.of_migration.Migration.{Begins}
+use Rattle.run_commands.specs.of_protocol_board.Cores.{Size}
+use Rattle.run_commands.specs.of_protocol_board.Cores.{IsSoundLog}
+use Rattle.run_commands.specs.of_protocol_board.Replays.{LineStops, Play, PlayStops, Plays}
+use Rattle.run_commands.specs.of_protocol_board.declared.stopped.ReplayStop.TheVariants as stops
 use Rattle.raysim_streams.specs.Settled.{IsOfWriting}
 use Rattle.raysim_streams.specs.declared.Failure.{Failure}
 use Rattle.raysim_streams.specs.declared.Failure.TheVariants.{Read, Write, Closed}

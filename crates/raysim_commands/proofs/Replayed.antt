@@ -4,12 +4,12 @@ use Rattle.meaning.specs.Syntax.{Script}
 use Rattle.script_check.specs.Scripts.{IsWellTyped}
 use Rattle.event_files.specs.declared.plan.PlanLine.{PlanLine}
 use Rattle.histories.specs.Recorded.{recorded_in}
-use Rattle.protocol_board.specs.Cores.{RunState, Size}
+use Rattle.run_commands.specs.of_protocol_board.Cores.{RunState, Size}
 use Rattle.replay_laws.specs.Replaying.{CameSo, IsFirst, RunsReplay, RunsReplayToThemselves}
-use Rattle.seats.specs.Ends.{IsAtLimit, IsEnd, IsOver}
-use Rattle.seats.specs.declared.end.Ended.{Ended}
-use Rattle.seats.specs.declared.end.Ended.TheVariants as ends
-use Rattle.seats.specs.Seated.{AreFrom}
+use Rattle.replay_laws.specs.of_seats.Ends.{IsAtLimit, IsEnd, IsOver}
+use Rattle.replay_laws.specs.of_seats.declared.end.Ended.{Ended}
+use Rattle.replay_laws.specs.of_seats.declared.end.Ended.TheVariants as ends
+use Rattle.replay_laws.specs.of_seats.Seated.{AreFrom}
 use Rattle.run_commands.specs.declared.form.Form.{Form}
 use Rattle.run_commands.specs.SimReports.{first_play}
 use Rattle.raysim_commands.specs.ThreadReports.{AreOutputs, IsRunOn, MayBeReplayed, ReplaysTo}

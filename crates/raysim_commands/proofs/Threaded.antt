@@ -4,7 +4,7 @@ use Rattle.std.specs.Prelude.{IfSome}
 use Rattle.std.specs.Io.KnownBytes.{Appends}
 use Rattle.meaning.specs.Syntax.{Script}
 use Rattle.event_files.specs.declared.plan.PlanLine.{PlanLine}
-use Rattle.protocol_board.specs.Cores.{Size}
+use Rattle.run_commands.specs.of_protocol_board.Cores.{Size}
 use Rattle.run_commands.specs.declared.form.Form.{Form}
 use Rattle.run_commands.specs.SimReports.{IfBoth}
 use Rattle.run_commands.proofs.AsSerial.{as_serial}

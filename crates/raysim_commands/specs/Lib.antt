@@ -1,2 +1,3 @@
 pub mod Migrations
 pub mod ThreadReports
+pub use Rattle.replay_laws.specs.of_seats as of_seats

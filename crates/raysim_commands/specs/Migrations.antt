@@ -9,8 +9,8 @@ use Rattle.event_files.specs.Recorded.{header, recorded_file}
 use Rattle.event_files.specs.declared.event_file.EventFile.TheVariants as files
 use Rattle.event_files.specs.declared.line.Line.{Line}
 use Rattle.histories.specs.Recorded.{recorded_in}
-use Rattle.protocol_board.specs.Cores.{Size}
-use Rattle.protocol_board.specs.Replays.{Play, PlaysFile}
+use Rattle.run_commands.specs.of_protocol_board.Cores.{Size}
+use Rattle.run_commands.specs.of_protocol_board.Replays.{Play, PlaysFile}
 use Rattle.raysim_streams.specs.declared.Failure.TheVariants.{Read, Write, Closed}
 use Rattle.raysim_streams.specs.declared.CommandRefusal.{CommandRefusal}
 use Rattle.raysim_streams.specs.declared.CommandRefusal.TheVariants.{At, NoMemory, Stopped as Stops, BadLine, WrongJob, Failed}

@@ -10,12 +10,12 @@ use Rattle.event_files.specs.Files.{IsBadAt, IsFile}
 use Rattle.event_files.specs.Plans.{IsPlanLine, plan_line_text}
 use Rattle.event_files.specs.Recorded.{recorded_file}
 use Rattle.history.specs.Main.{status_of}
-use Rattle.protocol_board.specs.Cores.{RunState, Size}
-use Rattle.protocol_board.specs.Cores.{IsSoundLog}
-use Rattle.protocol_board.specs.Replays.{Play, PlaysFile}
-use Rattle.run_paths.specs.Handing.{HandsInOnce}
-use Rattle.seats.specs.Ends.{IsAtLimit, IsOver}
-use Rattle.seats.specs.Seated.{AreFrom}
+use Rattle.run_commands.specs.of_protocol_board.Cores.{RunState, Size}
+use Rattle.run_commands.specs.of_protocol_board.Cores.{IsSoundLog}
+use Rattle.run_commands.specs.of_protocol_board.Replays.{Play, PlaysFile}
+use Rattle.replay_laws.specs.of_run_paths.Handing.{HandsInOnce}
+use Rattle.replay_laws.specs.of_seats.Ends.{IsAtLimit, IsOver}
+use Rattle.replay_laws.specs.of_seats.Seated.{AreFrom}
 use Rattle.raysim_streams.specs.declared.Failure.TheVariants.{Read, Write, Closed}
 use Rattle.raysim_streams.specs.declared.CommandRefusal.{CommandRefusal}
 use Rattle.raysim_streams.specs.declared.CommandRefusal.TheVariants.{At, NoMemory, Stopped as Stops, BadLine, WrongJob, Failed}

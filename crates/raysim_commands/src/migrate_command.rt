@@ -4,7 +4,7 @@ ghost use Rattle.std.specs.Prelude.{◌≡◌, ◌⊎◌, IfOk, IfErr, IfSome, s
 ghost use Rattle.script_check.specs.Trees.{script_of};
 ghost use Rattle.event_files.specs.Files.{IsFile};
 ghost use Rattle.event_files.specs.Lines.{IsLine, line_text};
-ghost use Rattle.protocol_board.specs.Cores.{Size};
+ghost use Rattle.run_commands.specs.of_protocol_board.Cores.{Size};
 ghost use Rattle.script_commands.specs.Scripts.{Counts, IsScript, IsUnwritten};
 ghost use Rattle.run_commands.specs.SimReports.{IfBoth};
 ghost use Rattle.raysim_commands.specs.Migrations.{ExplainsLines, ExplainsMigration, IsHistoryOf, IsLinesStop, IsMigrated, IsMigrationBegun};
@@ -12,8 +12,8 @@ ghost use Rattle.raysim_commands.specs.Migrations.{ExplainsLines, ExplainsMigrat
 use event_files::laws::one_bad_line;
 use event_files::{EventError, Line, parse_events};
 use histories::history;
-use protocol_board::{Cluster, Core, Replay, ReplayStop};
 use raysim_streams::{CommandRefusal, Sink, Source, put_all, read_at_most};
+use run_commands::{Cluster, Core, Replay, ReplayStop};
 use script_commands::read_compiled;
 use segment::{Compiled, ScriptName};
 use sequence::Seq;

@@ -1,6 +1,6 @@
 // The gate of the program.
 
-use seats::Gate;
+use replay_laws::Gate;
 
 /// Lets every job in at once.
 #[derive(Clone, Copy, Debug, PartialEq, Eq)]

@@ -3,19 +3,18 @@
 ghost use Rattle.std.specs.Prelude.{◌≡◌, ◌≤◌, ℕ, List, false, IfOk, IfErr, string_bytes};
 ghost use Rattle.script_check.specs.Trees.{script_of};
 ghost use Rattle.event_files.specs.declared.plan.PlanLine.{PlanLine};
-ghost use Rattle.protocol_board.specs.Cores.{Size};
-ghost use Rattle.seats.specs.Ends.{IsAtLimit};
-ghost use Rattle.seats.specs.Seated.{AreFrom};
+ghost use Rattle.run_commands.specs.of_protocol_board.Cores.{Size};
+ghost use Rattle.replay_laws.specs.of_seats.Ends.{IsAtLimit};
+ghost use Rattle.replay_laws.specs.of_seats.Seated.{AreFrom};
 ghost use Rattle.raysim_commands.specs.ThreadReports.{AreOutputs, IsRunOn, IsStop};
 
 use event_files::RunPlan;
 use histories::history;
 use log_entries::Refusal as EventRefusal;
-use protocol_board::{Board, Cluster, Core};
 use raysim_streams::CommandRefusal;
 use replay_laws::law::runs_replay;
-use run_commands::{Form, report};
-use seats::{Ended, Gate, run_on_threads};
+use replay_laws::{Ended, Gate, run_on_threads};
+use run_commands::{Board, Cluster, Core, Form, report};
 use segment::{Compiled, ScriptName};
 use sequence::Seq;
 use std::alloc::{AllocError, Global};

@@ -8,10 +8,9 @@ ghost use Rattle.raysim_commands.specs.ThreadReports.{AreWritten, AreUnwritten, 
 use crate::thread_inputs::{Inputs, read_inputs};
 use crate::thread_outputs::write_outputs;
 use crate::thread_run::run_script;
-use protocol_board::Cluster;
 use raysim_streams::{CommandRefusal, Sink, Source};
-use run_commands::Form;
-use seats::Gate;
+use replay_laws::Gate;
+use run_commands::{Cluster, Form};
 use std::alloc::Global;
 use std::marker::Brand;
 use std::rt::Clock;

@@ -15,17 +15,17 @@ use Rattle.segment.specs.Jobs.{Done, IsTrueOf, JobParts}
 use Rattle.event_log.specs.Entries.{Commit, Event}
 use Rattle.event_log.specs.Entries.{NoJob, Stale}
 use Rattle.event_log.specs.Rules.{Setting}
-use Rattle.protocol_board.specs.Cores.{stopped_of, work_of}
+use Rattle.migration.specs.of_protocol_board.Cores.{stopped_of, work_of}
 use Rattle.protocol.specs.Answers.{job_of}
 use Rattle.protocol.specs.Events.{is_live_worker}
 use Rattle.protocol.specs.Jobs.{Given, Handed, Job, Nothing, OfAnother, OfJob, Outcomes}
 use Rattle.protocol.specs.Jobs as jobs
 use Rattle.protocol.specs.Refusals.{commit_refusal, is_out_by, or_refusal, unless}
 use Rattle.protocol.specs.Whole.{Whole, worker_at}
-use Rattle.protocol_board.specs.Cores.{IsHanded, IsHandedFor, IsOut}
+use Rattle.migration.specs.of_protocol_board.Cores.{IsHanded, IsHandedFor, IsOut}
 use Rattle.protocol_laws.specs.Coming.{IsRight}
-use Rattle.protocol_board.specs.Replays.{IsDoneOn, job_at, job_for}
-use Rattle.run_paths.specs.Paths.{IsTrueDone}
+use Rattle.migration.specs.of_protocol_board.Replays.{IsDoneOn, job_at, job_for}
+use Rattle.migration.specs.of_run_paths.Paths.{IsTrueDone}
 use Rattle.job_laws.proofs.Standing.{one_is_out}
 
 -- ---- it goes on as the attempt's replay does

@@ -15,20 +15,20 @@ use Rattle.protocol.specs.Jobs.{Given, Handed}
 use Rattle.protocol.specs.Numbered.{item_at}
 use Rattle.protocol.specs.Refusals.{refusal}
 use Rattle.protocol.specs.Whole.{Whole}
-use Rattle.protocol_board.specs.Cores.{beside}
-use Rattle.protocol_board.specs.Cores.{Applies, IsApplied, IsHanded}
+use Rattle.migration.specs.of_protocol_board.Cores.{beside}
+use Rattle.migration.specs.of_protocol_board.Cores.{Applies, IsApplied, IsHanded}
 use Rattle.protocol_laws.specs.Sound.{IsSound}
 use Rattle.protocol_laws.proofs.Laws.{event_keeps_sound, opening_is_sound}
-use Rattle.protocol_board.specs.Cores.{Answers, Follows, Reply, RunState, first_state}
-use Rattle.protocol_board.specs.Replays.{AllPlay, IsAnswered, Play, Step, given_by, left_by, next_line, with_given}
-use Rattle.seats.specs.Counted.{ClaimsGaveJobs}
-use Rattle.seats.proofs.Counted.{answers_counted, fresh_claims}
+use Rattle.migration.specs.of_protocol_board.Cores.{Answers, Follows, Reply, RunState, first_state}
+use Rattle.migration.specs.of_protocol_board.Replays.{AllPlay, IsAnswered, Play, Step, given_by, left_by, next_line, with_given}
+use Rattle.migration.specs.of_seats.Counted.{ClaimsGaveJobs}
+use Rattle.migration.proofs.of_seats.Counted.{answers_counted, fresh_claims}
 use Rattle.migration.specs.Migration.{SaidPlays, said_by, said_from}
 use Rattle.migration.proofs.Alike.{one_run}
 use Rattle.migration.proofs.Migrating.{all_more, count_from, follows_said, none_play, recorded_plays, said, said-append, same_said}
-use Rattle.run_paths.specs.Handing.{HandsInOnce, has_commit}
-use Rattle.run_paths.specs.Paths.{Comes, ComesIn, IsTrueDone}
-use Rattle.run_paths.proofs.Paths.{none_lead, one_more_leads}
+use Rattle.migration.specs.of_run_paths.Handing.{HandsInOnce, has_commit}
+use Rattle.migration.specs.of_run_paths.Paths.{Comes, ComesIn, IsTrueDone}
+use Rattle.migration.proofs.of_run_paths.Paths.{none_lead, one_more_leads}
 use Rattle.replay_laws.specs.Replaying.{CameSo, IsFirst, LogsReplay, RunsReplay, RunsReplayToThemselves}
 use Rattle.replay_laws.proofs.Handing.{HandsAgain, IsOfJob, KeepsJob, commit_again, of_job, right}
 use Rattle.replay_laws.proofs.Steps.{keeps_behind, logged_first, long_behind, told_memory}

@@ -18,16 +18,16 @@ use Rattle.protocol.specs.Jobs.{Given, Handed, Job}
 use Rattle.protocol.specs.Numbered.{item_at}
 use Rattle.protocol.specs.Refusals.{is_within_limits, refusal}
 use Rattle.protocol.specs.Whole.{Moved, Whole}
-use Rattle.protocol_board.specs.Cores as replies
-use Rattle.protocol_board.specs.Cores.{Accepts, GivesJob, GivesThat, IsOut, Reply, Tells}
+use Rattle.migration.specs.of_protocol_board.Cores as replies
+use Rattle.migration.specs.of_protocol_board.Cores.{Accepts, GivesJob, GivesThat, IsOut, Reply, Tells}
 use Rattle.protocol_laws.specs.Sound.{IsSound}
-use Rattle.protocol_board.specs.Replays.{found_no_memory, is_no_memory, job_at, left_by, with_given}
+use Rattle.migration.specs.of_protocol_board.Replays.{found_no_memory, is_no_memory, job_at, left_by, with_given}
 use Rattle.lease_discipline.proofs.Heres.{changed_elsewhere}
-use Rattle.seats.specs.Counted.{is_logged}
-use Rattle.seats.proofs.Codes.{is_low, refusal_low}
-use Rattle.seats.proofs.Jobs.{claim_gives, happens-jobs}
-use Rattle.run_paths.specs.Handing.{has_commit}
-use Rattle.run_paths.proofs.Handing.{no_commit}
+use Rattle.migration.specs.of_seats.Counted.{is_logged}
+use Rattle.migration.proofs.of_seats.Codes.{is_low, refusal_low}
+use Rattle.migration.proofs.of_seats.Jobs.{claim_gives, happens-jobs}
+use Rattle.migration.specs.of_run_paths.Handing.{has_commit}
+use Rattle.migration.proofs.of_run_paths.Handing.{no_commit}
 use Rattle.job_laws.proofs.Places.{item_before, item_last}
 use Rattle.job_laws.proofs.Standing.{claims_give_jobs_out, jobs_stand}
 use Rattle.replay_laws.proofs.Handing.{KeepsJob}

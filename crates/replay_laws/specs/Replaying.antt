@@ -4,10 +4,10 @@ use Rattle.meaning.specs.Mains.{KeepsMainApart}
 use Rattle.meaning.specs.Syntax.{Script}
 use Rattle.event_log.specs.Entries.{Entry}
 use Rattle.histories.specs.Recorded.{recorded_in}
-use Rattle.protocol_board.specs.Cores.{RunState, first_state}
-use Rattle.protocol_board.specs.Replays.{Play, PlaysHistory}
-use Rattle.run_paths.specs.Handing.{HandsInOnce}
-use Rattle.run_paths.specs.Paths.{Comes}
+use Rattle.migration.specs.of_protocol_board.Cores.{RunState, first_state}
+use Rattle.migration.specs.of_protocol_board.Replays.{Play, PlaysHistory}
+use Rattle.migration.specs.of_run_paths.Handing.{HandsInOnce}
+use Rattle.migration.specs.of_run_paths.Paths.{Comes}
 
 -- a replay that begins on a cluster of so many nodes with so many slots each
 pub record IsFirst (nodes slots : ℕ) (p : Play) : Type 0 where

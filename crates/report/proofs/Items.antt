@@ -5,11 +5,11 @@ use Rattle.std.proofs.Math.Seq.{take-suc}
 use Rattle.std.proofs.lemmas.List.{take_all}
 use Rattle.std.specs.declared.vec.Vec.{Vec}
 use Rattle.std.specs.declared.alloc.Global.{Global}
-use Rattle.meaning.specs.Values.{Value, Items, values_of}
+use Rattle.values.specs.of_meaning.Values.{Value, Items, values_of}
 use Rattle.values.specs.declared.value.RunValue.{RunValue, List as AList}
 use Rattle.values.specs.Values.{value_of}
 use Rattle.values.proofs.Rows.{value_of-list}
-use Rattle.report.specs.Values.{value_text, items_text, others_text, separator}
+use Rattle.report.specs.ValueTexts.{value_text, items_text, others_text, separator}
 use Rattle.report.specs.MainLines.{print_lines}
 
 -- the text of the first items of a list

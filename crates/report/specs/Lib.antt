@@ -1,2 +1,2 @@
-pub mod Values
+pub mod ValueTexts
 pub mod MainLines

@@ -1,7 +1,7 @@
 -- The lines of what main printed, and of its end.
 use Rattle.std.specs.Prelude.{List, [], ◌∷◌, ℕ, ◌++◌, codes}
-use Rattle.meaning.specs.Values.{Value, Trap, Overflow, DivZero, Index, TooLong, Loop, TooDeep, Broken, Outcome, Val, Trapped}
-use Rattle.report.specs.Values.{value_text}
+use Rattle.values.specs.of_meaning.Values.{Value, Trap, Overflow, DivZero, Index, TooLong, Loop, TooDeep, Broken, Outcome, Val, Trapped}
+use Rattle.report.specs.ValueTexts.{value_text}
 
 -- no checked script has the last
 abbrev pub trap_name : Trap → List ℕ

@@ -2,12 +2,12 @@
 
 ghost use Rattle.std.specs.Prelude.{◌≡◌, ◌++◌, OnOk, string_bytes};
 ghost use Rattle.values.specs.Values.{value_of};
-ghost use Rattle.report.specs.Values.{id_text, separator, value_text};
+ghost use Rattle.report.specs.ValueTexts.{id_text, separator, value_text};
 
-use ids::ObjectId;
 use itoa::Buffer;
 use std::alloc::AllocError;
 use values::RunValue;
+use values::ids::ObjectId;
 
 fn write_object(text: &mut String, object: ObjectId) -> Result<(), AllocError>
     ensures { OnOk result (string_bytes text.new ≡ string_bytes text.old ++ id_text object) }

@@ -2,7 +2,7 @@
 use Rattle.serde_json.specs.Data.{Data, null, number, string, array, Items, no_items, item}
 use Rattle.serde_json.specs.Find.{of_integer}
 use Rattle.meaning.specs.Values.{Value, Int, Items as AList, Named, Known, Values, none, more, Id}
-use Rattle.report.specs.Values.{id_text}
+use Rattle.report.specs.ValueTexts.{id_text}
 
 -- "o1.2"
 abbrev pub id_data : Id → Data

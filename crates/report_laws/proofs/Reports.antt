@@ -20,7 +20,7 @@ use Rattle.history.specs.Attempts.{attempt_in}
 use Rattle.history.specs.Objects.{resolve_in, release_in}
 use Rattle.history.specs.Refusals.{refused_lines}
 use Rattle.history.specs.Report.{report_text}
-use Rattle.report.specs.Values.{value_text}
+use Rattle.report.specs.ValueTexts.{value_text}
 use Rattle.serde_json.specs.Data.{array}
 use Rattle.serde_json.specs.View.{items_of}
 use Rattle.serde_json.specs.Written.{compact_text}

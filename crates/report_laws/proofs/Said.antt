@@ -5,7 +5,7 @@ use Rattle.std.specs.List.{flat_map}
 use Rattle.meaning.specs.Births.{same_id}
 use Rattle.event_log.specs.Entries.{Entry, In, Refused, Opened, Begun, Born, Got, Printed, Ended, Accepted, Faulted, Resolved, Released, main_attempt}
 use Rattle.event_log.specs.Words.{same_attempt, printed_by}
-use Rattle.report.specs.Values.{value_text}
+use Rattle.report.specs.ValueTexts.{value_text}
 use Rattle.report.specs.MainLines.{print_lines}
 use Rattle.history.specs.Main.{print_in}
 use Rattle.report_json.specs.Values.{value_data}

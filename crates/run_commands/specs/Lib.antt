@@ -6,3 +6,4 @@ pub mod SimReports
 pub mod SoFar
 pub mod States
 pub mod TrapReports
+pub use Rattle.protocol_board.specs as of_protocol_board

@@ -12,9 +12,8 @@ use crate::replays::replayed;
 use fault_lists::{
     FaultChoice, Tried, attempts_in, events_in, fault_lists, first_lists, status_of_all, table_text,
 };
-use fault_runs::{TrialWatcher, try_lists};
+use fault_runs::{Cluster, TrialWatcher, try_lists};
 use log_entries::{Entry, Event};
-use protocol_board::Cluster;
 use raysim_streams::{CommandRefusal, Sink, Source, put_all};
 use segment::{Compiled, ScriptName};
 use sequence::Seq;

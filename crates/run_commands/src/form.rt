@@ -9,6 +9,7 @@ ghost use Rattle.state_text.specs.Text.{event_count, state_text};
 ghost use Rattle.summary_text.specs.Text.{summary_text};
 
 use books::book_lines;
+use fault_runs::Board;
 use history::report_text;
 use ids::{NodeId, ObjectId, WorkerId};
 use limit_text::limit_text;
@@ -19,7 +20,6 @@ use log_words::Contents;
 use main_text::main_text;
 use message_text::log_with_messages;
 use party_text::{node_text, worker_text};
-use protocol_board::Board;
 use protocol_data::{Letter, Whole};
 use report_json::report_json;
 use segment::ScriptName;

@@ -15,12 +15,11 @@ mod telling;
 mod trap_command;
 
 pub use fault_lists::{EndKind, FaultChoice, RunEnd, Tried, first_of, list_file};
-pub use fault_runs::TrialWatcher;
+pub use fault_runs::{Board, Cluster, Core, Replay, ReplayStop, Reply, TrialWatcher};
 pub use faults_command::{TriedFaults, faults};
 pub use form::{Form, report};
 pub use log_words::Contents;
 pub use page_command::page;
-pub use protocol_board::Cluster;
 pub use run_command::run;
 pub use run_watch::{Unwatched, Watcher};
 pub use sim_command::sim;

@@ -10,9 +10,9 @@ ghost use Rattle.run_commands.specs.Pages.{IsPageBegun, IsPageIn, IsPageOf, IsPa
 use crate::event_lines::EventLines;
 use crate::replay_inputs::read_replay_inputs;
 use crate::replays::replayed;
+use fault_runs::{Cluster, Replay};
 use log_words::Contents;
 use page_text::page_text;
-use protocol_board::{Cluster, Replay};
 use raysim_streams::{CommandRefusal, Sink, Source, put_all};
 use segment::{Compiled, ScriptName};
 use std::alloc::Global;

@@ -8,7 +8,7 @@ ghost use Rattle.run_commands.specs.SoFar.{IsPlayed, IsReplayedSoFar};
 
 use crate::event_lines::{EventLines, number_of};
 use event_files::EventFile;
-use protocol_board::{Cluster, Core, Replay, ReplayStop};
+use fault_runs::{Cluster, Core, Replay, ReplayStop};
 use raysim_streams::CommandRefusal;
 use segment::{Compiled, ScriptName};
 use std::alloc::Global;

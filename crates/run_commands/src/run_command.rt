@@ -7,7 +7,7 @@ ghost use Rattle.run_commands.specs.RunReports.{ExplainsRun, IsReportOf, IsRunBe
 
 use crate::form::Form;
 use crate::telling::{SoFar, told};
-use protocol_board::{Board, Cluster, Core, drive};
+use fault_runs::{Board, Cluster, Core, drive};
 use raysim_streams::{CommandRefusal, Sink, Source, put_all};
 use run_watch::Watcher;
 use script_commands::read_compiled;

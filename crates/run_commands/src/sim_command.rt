@@ -10,7 +10,7 @@ use crate::form::Form;
 use crate::replay_inputs::read_replay_inputs;
 use crate::replays::replayed;
 use crate::telling::{SoFar, told_replay};
-use protocol_board::Cluster;
+use fault_runs::Cluster;
 use raysim_streams::{CommandRefusal, Sink, Source, put_all};
 use segment::{Compiled, ScriptName};
 use std::alloc::Global;

@@ -10,7 +10,7 @@ use crate::event_lines::{EventLines, event_lines};
 use crate::form::Form;
 use crate::replays::replayed_so_far;
 use crate::telling::{SoFar, told, told_replay};
-use protocol_board::{Board, Cluster, Core, drive};
+use fault_runs::{Board, Cluster, Core, drive};
 use raysim_streams::CommandRefusal;
 use run_watch::Unwatched;
 use script_commands::compiled_script;

@@ -6,7 +6,7 @@ ghost use Rattle.run_commands.specs.SoFar.{IsToldOf, IsToldOfReplay};
 
 use crate::event_lines::lines_in_file;
 use crate::form::{Form, report};
-use protocol_board::{Board, Replay};
+use fault_runs::{Board, Replay};
 use raysim_streams::CommandRefusal;
 use segment::ScriptName;
 use sequence::Seq;

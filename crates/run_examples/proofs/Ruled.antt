@@ -21,15 +21,15 @@ use Rattle.protocol.specs.Settling.{next}
 use Rattle.protocol.specs.Whole.{Whole, first_whole}
 use Rattle.protocol_owed.specs.Runs.{Handing, Running, after_event, after_events, answer_to, opening_run}
 use Rattle.protocol_owed.proofs.Counting.{happens-counted, not_refused}
-use Rattle.count_laws.specs.Law.{IsReached}
-use Rattle.count_laws.proofs.Reached.{reached_goes_on}
-use Rattle.count_laws.specs.Counts.{borne, counted}
-use Rattle.count_laws.specs.Law.{IsFull}
-use Rattle.count_laws.proofs.Laws.{events_are_limited}
-use Rattle.protocol_board.specs.Cores.{Size}
-use Rattle.protocol_board.specs.Cores.{IsReachedRun, RunState, beside}
+use Rattle.seats.specs.of_count_laws.Law.{IsReached}
+use Rattle.seats.proofs.of_count_laws.Reached.{reached_goes_on}
+use Rattle.seats.specs.of_count_laws.Counts.{borne, counted}
+use Rattle.seats.specs.of_count_laws.Law.{IsFull}
+use Rattle.seats.proofs.of_count_laws.Laws.{events_are_limited}
+use Rattle.seats.specs.of_protocol_board.Cores.{Size}
+use Rattle.seats.specs.of_protocol_board.Cores.{IsReachedRun, RunState, beside}
 use Rattle.event_files.specs.declared.plan.PlanLine.{PlanLine}
-use Rattle.run_paths.specs.Handing.{AllHandedIn}
+use Rattle.seats.specs.of_run_paths.Handing.{AllHandedIn}
 use Rattle.seats.specs.Ends.{IsAtLimit, IsOverBeside, WasLimited, first_events}
 use Rattle.seats.specs.Outside.{is_outside, outside}
 use Rattle.run_examples.specs.Examples.{BooksAreTrue, LimitsAreTrue, OpeningIsNotOver, OverIsTrue, SeatsAreTrue, dropped_job, early_limit}

@@ -6,9 +6,9 @@ use Rattle.script_check.specs.Scripts.{IsWellTyped}
 use Rattle.event_log.specs.Entries.{Claim, Entry, In, Join, Kill, Refused, Tick}
 use Rattle.event_log.specs.Entries.{Limit}
 use Rattle.event_log.specs.Legal.{opening}
-use Rattle.protocol_board.specs.Cores.{IsCluster, Size}
-use Rattle.protocol_board.specs.Cores.{RunState}
-use Rattle.protocol_board.specs.Cores.{IsSoundLog}
+use Rattle.seats.specs.of_protocol_board.Cores.{IsCluster, Size}
+use Rattle.seats.specs.of_protocol_board.Cores.{RunState}
+use Rattle.seats.specs.of_protocol_board.Cores.{IsSoundLog}
 use Rattle.seat_books.specs.Seats.{new_seats}
 use Rattle.seats.specs.Ends.{AddUp, IsAtLimit, IsOverBeside, WasLimited}
 use Rattle.seats.specs.Seated.{AreFrom}

@@ -7,3 +7,4 @@ pub mod Scopes
 pub mod Typings
 pub mod Sizes
 pub mod Scripts
+pub use Rattle.script_syntax.specs as of_script_syntax

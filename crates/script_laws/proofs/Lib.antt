@@ -7,3 +7,4 @@ pub mod Mains
 pub mod Given
 pub mod Agreeing
 pub mod Dens
+pub use Rattle.meaning.proofs as of_meaning

@@ -1,7 +1,6 @@
 // Two jobs run at once, and the history replays.
 
-use raysim_commands::{Cluster, Form, Tracked, run_threaded, sim};
-use seats::Gate;
+use raysim_commands::{Cluster, Form, Gate, Tracked, run_threaded, sim};
 use std::sync::atomic::{AtomicU64, Ordering};
 use std::test::Fail;
 

@@ -4,16 +4,14 @@ ghost use Rattle.std.specs.Prelude.{◌≡◌, [], true};
 ghost use Rattle.script_check.specs.Trees.{script_of};
 ghost use Rattle.seat_books.specs.Holdings.{SameParts};
 ghost use Rattle.seat_books.specs.Seats.{AreParts};
-ghost use Rattle.seats.specs.Counted.{IsFresh};
+ghost use Rattle.raysim_commands.specs.of_seats.Counted.{IsFresh};
 
 use crate::scripts::script;
 use event_files::RunPlan;
 use ids::WorkerId;
 use log_entries::Event;
-use protocol_board::Board;
-use protocol_core::{Cluster, Core, Reply};
+use raysim_commands::{Board, Cluster, Core, Reply, RunName, Shared};
 use seat_books::{Blanks, Seat};
-use seats::{RunName, Shared};
 use segment::{Compiled, ScriptName};
 use sequence::Seq;
 use std::alloc::Global;

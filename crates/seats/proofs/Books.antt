@@ -8,7 +8,7 @@ use Rattle.meaning.specs.Syntax.{Script}
 use Rattle.books.specs.Laws.{from_seat}
 use Rattle.books.specs.SeatTotals.{seat_totals}
 use Rattle.event_files.specs.declared.plan.PlanLine.{PlanLine}
-use Rattle.protocol_board.specs.Cores.{Size}
+use Rattle.run_paths.specs.of_protocol_board.Cores.{Size}
 use Rattle.seat_books.specs.Seats.{LedgersOf, SeatOf, with_counted}
 use Rattle.seats.specs.Counted.{AddsFrom}
 use Rattle.seats.specs.declared.end.Ended.{Ended}

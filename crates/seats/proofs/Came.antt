@@ -1,7 +1,7 @@
 -- A run that begins is in the first state of its cluster.
 use Rattle.std.proofs.Common.{◌≡◌, subst}
 use Rattle.meaning.specs.Syntax.{Script}
-use Rattle.protocol_board.specs.Cores.{IsReachedRun, RunState, Size, first_state}
+use Rattle.run_paths.specs.of_protocol_board.Cores.{IsReachedRun, RunState, Size, first_state}
 use Rattle.run_paths.specs.Paths.{Comes, NoneCame, NoneLead}
 use Rattle.seats.specs.Counted.{IsFresh}
 use Rattle.seats.specs.Ends.{size_of}

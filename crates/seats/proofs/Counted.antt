@@ -18,7 +18,7 @@ use Rattle.protocol.specs.Events.{happens}
 use Rattle.protocol.specs.Refusals.{is_within_limits, refusal}
 use Rattle.protocol.specs.Answers.{Answer, Refuses, answer, decided, given_out, logged, takes, whole_after}
 use Rattle.protocol_owed.proofs.Counting.{are_parts, happens-counted, no_event, not_refused}
-use Rattle.protocol_board.specs.Cores.{RunState, GivesThat, Reply, Tells, Answers, Follows}
+use Rattle.run_paths.specs.of_protocol_board.Cores.{RunState, GivesThat, Reply, Tells, Answers, Follows}
 use Rattle.books.specs.SeatTotals.{seat_totals}
 use Rattle.books.specs.Laws.{from_seat}
 use Rattle.books.proofs.SeatLaws.{seat_totals-event, no_totals as no_seat_totals}

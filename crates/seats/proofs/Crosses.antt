@@ -40,8 +40,8 @@ use Rattle.protocol_data.specs.contracts.message.Message as Message
 use Rattle.protocol_data.specs.contracts.node.Node as Node
 use Rattle.protocol_data.specs.contracts.tables.Worker as Worker
 use Rattle.protocol_data.specs.contracts.whole.Whole as Whole
-use Rattle.protocol_board.specs.Cores.Core as Core
-use Rattle.protocol_board.specs.contracts.board.Board as Board
+use Rattle.run_paths.specs.of_protocol_board.Cores.Core as Core
+use Rattle.run_paths.specs.of_protocol_board.contracts.board.Board as Board
 use Rattle.seat_books.proofs.ledgers.Ledgers.TheSendSync as ledgers
 use Rattle.seat_books.specs.contracts.ledgers.Ledgers as Ledgers
 use Rattle.seat_books.specs.declared.watching.Watching as watching

@@ -12,3 +12,5 @@ mod Planned
 mod Seated
 mod Sizes
 mod Standing
+pub use Rattle.run_paths.proofs.of_count_laws as of_count_laws
+pub use Rattle.run_paths.proofs as of_run_paths

@@ -4,7 +4,7 @@ use Rattle.meaning.specs.Syntax.{Script}
 use Rattle.event_files.specs.declared.plan.PlanLine.{PlanLine}
 use Rattle.log_entries.specs.declared.refusal.Refusal.{Refusal}
 use Rattle.log_entries.specs.declared.refusal.Refusal.TheVariants as refusals
-use Rattle.protocol_board.specs.Cores.{RunState, Size, first_state}
+use Rattle.run_paths.specs.of_protocol_board.Cores.{RunState, Size, first_state}
 use Rattle.run_paths.specs.Paths.{Comes}
 use Rattle.seats.specs.Ends.{IsAtLimit, Stands, first_events}
 use Rattle.seats.specs.Outside.{KeepsToThem}

@@ -21,7 +21,7 @@ use Rattle.protocol.specs.Refusals.{is_within_limits, refusal}
 use Rattle.protocol.specs.Settling.{next}
 use Rattle.protocol.specs.Whole.{Whole}
 use Rattle.protocol_owed.proofs.Counting.{happens-counted, no_event}
-use Rattle.protocol_board.specs.Cores.{RunState, Reply, Refuses, Answers, Follows}
+use Rattle.run_paths.specs.of_protocol_board.Cores.{RunState, Reply, Refuses, Answers, Follows}
 use Rattle.seats.specs.Ends.{first_events}
 use Rattle.seats.specs.Outside.{HasNoOther, KeepsToThem, MayApply, Passes, is_outside, outside}
 use Rattle.seats.specs.Turns.{Choice, Does, Ends, KeepsOut, TurnState, busy, choice, due, given_up_by, or_claim, or_first, or_message, or_plan, or_wait}

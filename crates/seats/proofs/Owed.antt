@@ -21,7 +21,7 @@ use Rattle.protocol.specs.Answers.{answer, decided, given_out, logged, takes}
 use Rattle.protocol.specs.Answers as answers
 use Rattle.protocol_owed.proofs.Counting.{are_parts, happens-counted, is_part, no_event, not_refused}
 use Rattle.protocol_owed.proofs.Letters.{among-append_cases, among-nothing}
-use Rattle.protocol_board.specs.Cores.{RunState, GivesJob, GivesThat, Reply, Accepts, Refuses, Tells, Answers, Follows}
+use Rattle.run_paths.specs.of_protocol_board.Cores.{RunState, GivesJob, GivesThat, Reply, Accepts, Refuses, Tells, Answers, Follows}
 use Rattle.run_paths.specs.Handing.{AllHandedIn, is_handed_in, takes_done}
 use Rattle.seats.specs.Counted.{ClaimsGaveJobs}
 use Rattle.seats.specs.Ends.{IsWithinLimits, WasLimited}

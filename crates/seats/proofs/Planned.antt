@@ -12,7 +12,7 @@ use Rattle.protocol.specs.Answers.{Answer, answer, logged}
 use Rattle.protocol.specs.Answers as answers
 use Rattle.protocol.specs.Jobs.{Job}
 use Rattle.protocol.specs.Settling.{next}
-use Rattle.protocol_board.specs.Cores.{RunState, GivesThat, Reply, Refuses, Tells, Answers, Follows}
+use Rattle.run_paths.specs.of_protocol_board.Cores.{RunState, GivesThat, Reply, Refuses, Tells, Answers, Follows}
 use Rattle.seats.specs.Ends.{AreIn, Stands, first_events}
 use Rattle.seats.specs.Outside.{Passes}
 use Rattle.seats.specs.Turns.{Choice, Ends, Plans, TurnState, busy, choice, due, given_up_by, or_claim, or_message, or_plan, or_wait}

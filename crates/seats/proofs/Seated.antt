@@ -12,7 +12,7 @@ use Rattle.protocol.specs.Jobs.{Handed}
 use Rattle.protocol.specs.Refusals.{is_within_limits, refusal}
 use Rattle.protocol.specs.Whole.{Whole}
 use Rattle.protocol_owed.proofs.Counting.{happens-counted, no_event}
-use Rattle.protocol_board.specs.Cores.{RunState, Reply, Answers, Follows}
+use Rattle.run_paths.specs.of_protocol_board.Cores.{RunState, Reply, Answers, Follows}
 use Rattle.seat_books.specs.Seats.{IsSeat}
 use Rattle.seats.specs.Seated.{AreFrom, StaysFrom}
 

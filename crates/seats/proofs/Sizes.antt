@@ -22,7 +22,7 @@ use Rattle.protocol.specs.Answers.{decided, given_out, whole_after, takes}
 use Rattle.protocol.specs.Answers as answers
 use Rattle.log_entries.specs.declared.refusal.Refusal.{Refusal}
 use Rattle.log_entries.specs.declared.refusal.Refusal.TheVariants as refusals
-use Rattle.protocol_board.specs.Cores.{RunState, Reply, Refuses, Answers, Follows}
+use Rattle.run_paths.specs.of_protocol_board.Cores.{RunState, Reply, Refuses, Answers, Follows}
 use Rattle.seats.specs.Ends.{GoesOn}
 use Rattle.seats.specs.Turns.{KeepsOut, given_up_by, or_first}
 use Rattle.seats.specs.declared.outs.JobOut.{JobOut}

@@ -8,7 +8,7 @@ use Rattle.log_entries.specs.declared.refusal.Refusal.TheVariants as refusals
 use Rattle.protocol.specs.Jobs.{Job}
 use Rattle.protocol.specs.Answers.{Answer, answer, logged}
 use Rattle.protocol.specs.Answers as answers
-use Rattle.protocol_board.specs.Cores.{RunState, GivesThat, Reply, Refuses, Tells, Answers, Follows}
+use Rattle.run_paths.specs.of_protocol_board.Cores.{RunState, GivesThat, Reply, Refuses, Tells, Answers, Follows}
 use Rattle.sequence.proofs.Places.{slice_get-append}
 use Rattle.seats.specs.Ends.{AreIn, Stands, WasLimited}
 use Rattle.seats.specs.Turns.{KeepsOut, given_up_by, or_first}

@@ -7,7 +7,7 @@ use Rattle.event_log.specs.Books.{Totals}
 use Rattle.event_log.specs.Laws.{nothing, plus}
 use Rattle.books.specs.SeatTotals.{seat_totals}
 use Rattle.books.specs.Laws.{from_seat}
-use Rattle.protocol_board.specs.Cores.{RunState, Reply, GivesJob, Accepts, Refuses}
+use Rattle.run_paths.specs.of_protocol_board.Cores.{RunState, Reply, GivesJob, Accepts, Refuses}
 
 abbrev pub one_event : Totals
 one_event = record nothing { events = 1 }

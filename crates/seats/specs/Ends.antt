@@ -9,7 +9,7 @@ use Rattle.log_entries.specs.declared.refusal.Refusal.{Refusal}
 use Rattle.log_entries.specs.declared.refusal.Refusal.TheVariants as refusals
 use Rattle.protocol.specs.Settling.{next}
 use Rattle.meaning.specs.Syntax.{Script}
-use Rattle.protocol_board.specs.Cores.{RunState, Size, first_state}
+use Rattle.run_paths.specs.of_protocol_board.Cores.{RunState, Size, first_state}
 use Rattle.run_paths.specs.Handing.{AllHandedIn}
 use Rattle.run_paths.specs.Paths.{Comes}
 use Rattle.books.specs.SeatTotals.{seat_totals}

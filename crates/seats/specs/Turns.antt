@@ -10,7 +10,7 @@ use Rattle.log_entries.specs.declared.refusal.Refusal.TheVariants as refusals
 use Rattle.event_files.specs.declared.plan.PlanLine.{PlanLine}
 use Rattle.protocol.specs.Settling.{next}
 use Rattle.segment.specs.Jobs.{JobParts}
-use Rattle.protocol_board.specs.Cores.{RunState, Answers, Reply, GivesJob, Accepts, Refuses}
+use Rattle.run_paths.specs.of_protocol_board.Cores.{RunState, Answers, Reply, GivesJob, Accepts, Refuses}
 use Rattle.seats.specs.Counted.{one_event, refused_totals}
 use Rattle.seats.specs.declared.outs.JobOut.{JobOut}
 

@@ -1,6 +1,6 @@
 // How a run on threads ends.
 
-use protocol_board::Board;
+use run_paths::Board;
 use segment::ScriptName;
 
 /// How a run on threads ended.

@@ -1,12 +1,12 @@
 // Which jobs are out, kept up to date behind each event.
 
 ghost use Rattle.std.specs.Prelude.{◌≡◌, IfOk, OnOk, OnErr};
-ghost use Rattle.protocol_board.specs.Cores.{reply_of};
+ghost use Rattle.run_paths.specs.of_protocol_board.Cores.{reply_of};
 ghost use Rattle.seats.specs.Turns.{KeepsOut, busy, given_up_by, or_first, out_behind, without};
 
 use ids::WorkerId;
 use log_entries::{Event, Refusal};
-use protocol_board::Reply;
+use run_paths::Reply;
 use segment::ScriptName;
 use sequence::Seq;
 use std::alloc::{AllocError, Global};

@@ -2,7 +2,7 @@
 
 ghost use Rattle.std.specs.Prelude.{Bool, List};
 ghost use Rattle.event_files.specs.declared.plan.PlanLine.{PlanLine};
-ghost use Rattle.protocol_board.specs.Cores.{Size};
+ghost use Rattle.run_paths.specs.of_protocol_board.Cores.{Size};
 
 use seat_books::Watching;
 use std::marker::Brand;

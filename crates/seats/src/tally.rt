@@ -1,7 +1,7 @@
 // What an event counts in a book.
 
 ghost use Rattle.std.specs.Prelude.{◌≡◌};
-ghost use Rattle.protocol_board.specs.Cores.{reply_of};
+ghost use Rattle.run_paths.specs.of_protocol_board.Cores.{reply_of};
 ghost use Rattle.seat_books.specs.Tallies.{totals_in};
 ghost use Rattle.seats.specs.Counted.{counted, refused_totals, taken_totals};
 ghost use Rattle.seats.specs.Turns.{turn_counted};
@@ -9,7 +9,7 @@ ghost use Rattle.seats.specs.Views.{told_of};
 
 use crate::turn::Turn;
 use log_entries::{Event, Refusal};
-use protocol_board::Reply;
+use run_paths::Reply;
 use seat_books::Tally;
 use segment::ScriptName;
 

@@ -13,7 +13,7 @@ use crate::run_name::RunName;
 use crate::shared::Shared;
 use crate::working::work;
 use event_files::RunPlan;
-use protocol_board::Board;
+use run_paths::Board;
 use seat_books::{Blanks, Seat};
 use segment::{Compiled, ScriptName};
 use std::alloc::{AllocError, Global};

@@ -3,7 +3,7 @@
 ghost use Rattle.std.specs.Prelude.{◌≡◌, IfOk};
 ghost use Rattle.script_check.specs.Trees.{script_of};
 ghost use Rattle.event_log.specs.Entries.{Commit};
-ghost use Rattle.protocol_board.specs.Cores.{reply_of};
+ghost use Rattle.run_paths.specs.of_protocol_board.Cores.{reply_of};
 ghost use Rattle.seat_books.specs.Seats.{with_more};
 ghost use Rattle.seats.specs.Counted.{counted};
 
@@ -12,7 +12,7 @@ use crate::run_name::RunName;
 use crate::shared::Shared;
 use crate::turn::Turn;
 use kept_frames::Frames;
-use protocol_board::Reply;
+use run_paths::Reply;
 use seat_books::Seat;
 use segment::{Compiled, Job, NoMemory, ScriptName};
 use std::alloc::Global;

@@ -2,8 +2,8 @@
 use Rattle.std.proofs.Common.{◌≡◌, List, [], ◌∷◌, ◌++◌, map, refl, sym, ap, ◌∙◌, subst}
 use Rattle.meaning.specs.Syntax.{Script}
 use Rattle.meaning.specs.Values.{Outcome}
-use Rattle.frames.specs.Frames.{IsWaiting}
-use Rattle.frames.specs.declared.frame.Frame.{Frame}
+use Rattle.evaluation.specs.of_frames.Frames.{IsWaiting}
+use Rattle.evaluation.specs.of_frames.declared.frame.Frame.{Frame}
 use Rattle.segment.specs.Frames.{Fits, before_of}
 use Rattle.segment.specs.Jobs.{JobParts}
 

@@ -2,9 +2,9 @@
 use Rattle.std.specs.Prelude.{◌≡◌, List, ◌++◌, ◌∷◌, []}
 use Rattle.meaning.specs.Syntax.{Script}
 use Rattle.meaning.specs.Values.{Outcome}
-use Rattle.frames.specs.Courses.{Past}
-use Rattle.frames.specs.Frames.{IsWaiting}
-use Rattle.frames.specs.declared.frame.Frame.{Frame}
+use Rattle.evaluation.specs.of_frames.Courses.{Past}
+use Rattle.evaluation.specs.of_frames.Frames.{IsWaiting}
+use Rattle.evaluation.specs.of_frames.declared.frame.Frame.{Frame}
 use Rattle.segment.specs.Jobs.{Done, JobParts, whole_of}
 
 -- what the job's task did on these of its answers

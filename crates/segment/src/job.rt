@@ -1,7 +1,7 @@
 // Jobs that are given out: an attempt with its answers so far, and the frame from which it goes on.
 
 ghost use Rattle.std.specs.Prelude.{◌≡◌, IfOk};
-ghost use Rattle.script_check.specs.Trees.{script_of};
+ghost use Rattle.evaluation.specs.of_script_check.Trees.{script_of};
 ghost use Rattle.segment.specs.Jobs.{IsBegun, IsTrueOf};
 ghost use Rattle.segment.specs.Frames.{Fits};
 

@@ -2,7 +2,7 @@
 
 ghost use Rattle.std.specs.Prelude.{◌≡◌, IfOk, IfErr, IfSome, drop};
 ghost use Rattle.meaning.specs.Values.{others_of};
-ghost use Rattle.script_check.specs.Trees.{script_of};
+ghost use Rattle.evaluation.specs.of_script_check.Trees.{script_of};
 ghost use Rattle.evaluation.specs.Pieces.{IsBrokenStop, piece_of};
 ghost use Rattle.evaluation.specs.TaskValues.{IsTaskBirth};
 ghost use Rattle.segment.specs.Jobs.{replay_of, beyond, HasStepsOf, IsBegun, IsTrueOf};

@@ -7,14 +7,14 @@ use Rattle.meaning.proofs.BirthLaws.{at_test}
 use Rattle.meaning.specs.Runs.{next_id}
 use Rattle.meaning.specs.Values.{Id}
 use Rattle.numbered.proofs.Lists.{changed_cases}
-use Rattle.protocol.specs.Ends.{first_result, settles}
-use Rattle.protocol.specs.Messages.{EndedResult}
-use Rattle.protocol.specs.Places.{answers_settled, answers_settled_by}
-use Rattle.event_log.specs.Entries.{Faulted}
-use Rattle.protocol.specs.Runs.{gives_slot_back}
-use Rattle.protocol.specs.Sets.{rest_of}
-use Rattle.protocol.specs.Steps.{changes, Here, logs, own_id, own_object, with_phase}
-use Rattle.protocol.specs.Tables.{HasFaulted, is_nowhere, Object, with_content}
+use Rattle.numbered.specs.of_protocol.Ends.{first_result, settles}
+use Rattle.numbered.specs.of_protocol.Messages.{EndedResult}
+use Rattle.numbered.specs.of_protocol.Places.{answers_settled, answers_settled_by}
+use Rattle.numbered.specs.of_event_log.Entries.{Faulted}
+use Rattle.numbered.specs.of_protocol.Runs.{gives_slot_back}
+use Rattle.numbered.specs.of_protocol.Sets.{rest_of}
+use Rattle.numbered.specs.of_protocol.Steps.{changes, Here, logs, own_id, own_object, with_phase}
+use Rattle.numbered.specs.of_protocol.Tables.{HasFaulted, is_nowhere, Object, with_content}
 use Rattle.smallest_steps.proofs.Known.{own_here, somewhere}
 use Rattle.smallest_steps.proofs.Needing as N
 use Rattle.smallest_steps.proofs.Over as O

@@ -8,3 +8,5 @@ pub mod Moves
 pub mod Plain
 pub mod SlotMoves
 pub mod NodeMoves
+pub use Rattle.numbered.proofs.of_event_log as of_event_log
+pub use Rattle.numbered.proofs as of_numbered

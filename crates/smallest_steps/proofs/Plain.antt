@@ -2,19 +2,19 @@
 use Rattle.std.proofs.Common.{refl}
 use Rattle.std.specs.Prelude.{[], filter, List, None, Option, Some, ℕ, ◌∷◌, ◌≡◌}
 use Rattle.meaning.specs.Values.{Id, Outcome, results_of, Val, Value}
-use Rattle.event_log.specs.Entries.{Accepted, Attempt, Begun, Fault, Faulted, Got, Released, Resolved, RetriesUsed}
-use Rattle.event_log.specs.Words.{attempt}
-use Rattle.protocol.specs.Messages.{At, Message}
-use Rattle.protocol.specs.Stores.{looked_up, with_ended, with_primary, with_secondary}
-use Rattle.protocol.specs.Tables.{HasEnded, HasFaulted, is_wanted, may_try_again, Object, OwnTask, Run, settled_number, Worker}
-use Rattle.protocol.specs.Steps.{each_result, Here, logs, object_at, says, says_to_node, store_here, with_phase, with_run, with_store, with_task_of}
-use Rattle.protocol.specs.Steps.{with_worker}
-use Rattle.protocol.specs.Runs.{asks_for_slot, gives_slot_back}
-use Rattle.protocol.specs.Asking.{answers_faulted, breaks, resolves_used, resolves_used_by, rests}
-use Rattle.protocol.specs.Places.{answers_settled, answers_settled_by, tells_places}
-use Rattle.protocol.specs.Commits.{asks_where, claim_by, claim_step, ends, stops_by}
-use Rattle.protocol.specs.Sets.{fault}
-use Rattle.protocol.specs.Jobs.{AtEnd, AtGet, Stopped}
+use Rattle.numbered.specs.of_event_log.Entries.{Accepted, Attempt, Begun, Fault, Faulted, Got, Released, Resolved, RetriesUsed}
+use Rattle.numbered.specs.of_event_log.Words.{attempt}
+use Rattle.numbered.specs.of_protocol.Messages.{At, Message}
+use Rattle.numbered.specs.of_protocol.Stores.{looked_up, with_ended, with_primary, with_secondary}
+use Rattle.numbered.specs.of_protocol.Tables.{HasEnded, HasFaulted, is_wanted, may_try_again, Object, OwnTask, Run, settled_number, Worker}
+use Rattle.numbered.specs.of_protocol.Steps.{each_result, Here, logs, object_at, says, says_to_node, store_here, with_phase, with_run, with_store, with_task_of}
+use Rattle.numbered.specs.of_protocol.Steps.{with_worker}
+use Rattle.numbered.specs.of_protocol.Runs.{asks_for_slot, gives_slot_back}
+use Rattle.numbered.specs.of_protocol.Asking.{answers_faulted, breaks, resolves_used, resolves_used_by, rests}
+use Rattle.numbered.specs.of_protocol.Places.{answers_settled, answers_settled_by, tells_places}
+use Rattle.numbered.specs.of_protocol.Commits.{asks_where, claim_by, claim_step, ends, stops_by}
+use Rattle.numbered.specs.of_protocol.Sets.{fault}
+use Rattle.numbered.specs.of_protocol.Jobs.{AtEnd, AtGet, Stopped}
 use Rattle.smallest_steps.proofs.Smallest.{AnyGiven, AnyHeard, AnyOver, AnyPassed, AnyTold, KeepsAccepted, KeepsAnswers, KeepsBirths, KeepsHeard, KeepsHere}
 use Rattle.smallest_steps.proofs.Smallest.{KeepsOver}
 use Rattle.smallest_steps.proofs.Moves as S

@@ -2,7 +2,7 @@
 use Rattle.std.proofs.Common.{◌≡◌, ℕ, ◌+◌, ◌<◌, List, [], ◌∷◌, ◌++◌, length, take, get_or, map, sym, ap, ◌∙◌, append_assoc, arith}
 use Rattle.std.proofs.lemmas.List.{take_more, map-append}
 use Rattle.std.proofs.lemmas.Grind.{common_steps}
-use Rattle.meaning.specs.Values.{Argument as AnArgument}
+use Rattle.values.specs.of_meaning.Values.{Argument as AnArgument}
 use Rattle.task_spec.specs.declared.birth.Argument.{Argument}
 use Rattle.task_spec.specs.Births.{argument_of}
 use Rattle.task_spec.specs.Dereferenced.{id_read, ids_read}

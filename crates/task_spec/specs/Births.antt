@@ -1,6 +1,6 @@
 -- What the code's births stand for.
 use Rattle.std.specs.Prelude.{map, string_bytes}
-use Rattle.meaning.specs.Values as meant
+use Rattle.values.specs.of_meaning.Values as meant
 use Rattle.values.specs.Values.{value_of}
 use Rattle.task_spec.specs.declared.birth.Argument.{Argument}
 use Rattle.task_spec.specs.declared.birth.Birth.{Birth}

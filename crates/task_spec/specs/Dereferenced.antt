@@ -1,6 +1,6 @@
 -- Which objects a task's worker gets before the body.
 use Rattle.std.specs.Prelude.{if◌then◌else◌, List, [], ◌∷◌, ◌++◌}
-use Rattle.meaning.specs.Values.{Value, Named, Id, Argument, Birth, Put, Task}
+use Rattle.values.specs.of_meaning.Values.{Value, Named, Id, Argument, Birth, Put, Task}
 
 -- the id that a value is
 abbrev pub id_in : Value → List Id

@@ -4,9 +4,9 @@ ghost use Rattle.std.specs.Prelude.{◌≡◌, ◌++◌, IfOk, OnOk, map};
 ghost use Rattle.task_spec.specs.Births.{argument_of, birth_of};
 ghost use Rattle.task_spec.specs.Dereferenced.{id_read, ids_read, dereferenced_in};
 
-use ids::ObjectId;
 use std::alloc::{AllocError, Global};
 use values::RunValue;
+use values::ids::ObjectId;
 
 /// An argument of a remote call.
 #[derive(Drop)]

@@ -6,3 +6,4 @@ mod same;
 
 pub use birth::{Argument, Birth, dereferenced};
 pub use same::are_same_births;
+pub use values::ids;

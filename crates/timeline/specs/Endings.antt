@@ -3,7 +3,7 @@ use Rattle.std.specs.Prelude.{ℕ, Bool, if◌then◌else◌, List, [], ◌∷�
 use Rattle.serde_json.specs.Data.{Data}
 use Rattle.meaning.specs.Values.{Id}
 use Rattle.meaning.specs.Births.{Bearing}
-use Rattle.report.specs.Values.{id_text}
+use Rattle.report.specs.ValueTexts.{id_text}
 use Rattle.log_entries.specs.declared.event.Event.{Event}
 use Rattle.log_entries.specs.declared.event.Event.TheVariants.{Kill, KillNode}
 use Rattle.event_log.specs.Entries.{Entry, In, Got, Ended, Faulted}

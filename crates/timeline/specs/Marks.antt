@@ -1,7 +1,7 @@
 -- The names of rows, and what happens in a moment.
 use Rattle.std.specs.Prelude.{ℕ, Bool, if◌then◌else◌, List, [], ◌∷◌, ◌++◌, codes}
 use Rattle.serde_json.specs.Data.{Data, number, unsigned, string, object, member, no_members}
-use Rattle.report.specs.Values.{id_text}
+use Rattle.report.specs.ValueTexts.{id_text}
 use Rattle.ids.specs.Texts.{worker_text}
 use Rattle.log_entries.specs.declared.event.Event.{Event}
 use Rattle.log_entries.specs.declared.event.Event.TheVariants.{Lose, KillNode}

@@ -3,7 +3,7 @@
 ghost use Rattle.std.specs.Prelude.{◌≡◌, ◌++◌, ◌∷◌, [], IfOk, OnOk, codes, map, string_bytes};
 ghost use Rattle.serde_json.specs.View.{view};
 ghost use Rattle.ids.specs.Texts.{worker_text};
-ghost use Rattle.report.specs.Values.{id_text};
+ghost use Rattle.report.specs.ValueTexts.{id_text};
 ghost use Rattle.timeline.specs.Marks.{entry_marks, event_marks, mark_data, name_data};
 
 use ids::{NodeId, ObjectId, WorkerId};

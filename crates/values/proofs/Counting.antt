@@ -5,7 +5,7 @@ use Rattle.std.specs.declared.vec.Vec.{Vec}
 use Rattle.std.specs.declared.alloc.Global.{Global}
 use Rattle.std.specs.Prelude.{IfNone, IfSome, None, Option, Some, false, is_some, nat_lt, not, true}
 use Rattle.std.proofs.lemmas.Bool.Decides.{nat_tests}
-use Rattle.meaning.specs.Values.{Trap, Trapped, Val, Value, values_of}
+use Rattle.ids.specs.of_meaning.Values.{Trap, Trapped, Val, Value, values_of}
 use Rattle.values.specs.declared.value.RunValue.{RunValue, List as AList}
 use Rattle.values.specs.Values.{value_of}
 use Rattle.values.proofs.Rows.{value_of-list}

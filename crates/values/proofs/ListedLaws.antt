@@ -5,9 +5,9 @@ use Rattle.std.specs.List.{list_any}
 use Rattle.std.proofs.lemmas.List.{take_all, take_more}
 use Rattle.std.specs.declared.vec.Vec.{Vec}
 use Rattle.std.specs.declared.alloc.Global.{Global}
-use Rattle.meaning.specs.Values.{values_of, Id}
-use Rattle.meaning.specs.Births.{same_id}
-use Rattle.meaning.proofs.BirthLaws.{same_id-true, at_test}
+use Rattle.ids.specs.of_meaning.Values.{values_of, Id}
+use Rattle.ids.specs.of_meaning.Births.{same_id}
+use Rattle.ids.proofs.of_meaning.BirthLaws.{same_id-true, at_test}
 use Rattle.std.proofs.lemmas.Bool.Decides.{nat_tests}
 use Rattle.values.specs.declared.value.RunValue.{RunValue, List as AList}
 use Rattle.values.specs.Values.{value_of}

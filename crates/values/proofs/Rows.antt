@@ -3,7 +3,7 @@ use Rattle.std.proofs.Common.{ℕ, ◌≤◌, length, take, ◌≡◌, List, map
 use Rattle.std.proofs.lemmas.List.{take_all}
 use Rattle.std.specs.declared.vec.Vec.{Vec}
 use Rattle.std.specs.declared.alloc.Global.{Global}
-use Rattle.meaning.specs.Values.{Items, more, values_of}
+use Rattle.ids.specs.of_meaning.Values.{Items, more, values_of}
 use Rattle.values.specs.declared.value.RunValue.{RunValue, List as AList, List', Row_of-RunValue, end_of-RunValue, more_of-RunValue, items-the_row-RunValue, items_hidden-the_row-RunValue-0, items_shown-the_row-RunValue-0}
 use Rattle.values.specs.Values.{value_of, values_in}
 

@@ -2,7 +2,7 @@
 use Rattle.std.proofs.Common.{◌≡◌, ℕ, zero, suc, ◌<◌, List, [], ◌∷◌, length, get_or, map, refl, sym, ap, ◌∙◌, arith}
 use Rattle.std.specs.declared.vec.Vec.{Vec}
 use Rattle.std.specs.declared.alloc.Global.{Global}
-use Rattle.meaning.specs.Values.{Value, Int as AnInt, Items, Named, Known, list_of, values_of}
+use Rattle.ids.specs.of_meaning.Values.{Value, Int as AnInt, Items, Named, Known, list_of, values_of}
 use Rattle.values.specs.declared.value.RunValue.{RunValue, List as AList}
 use Rattle.values.specs.Values.{value_of}
 use Rattle.values.proofs.Rows.{value_of-list}

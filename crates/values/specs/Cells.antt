@@ -1,6 +1,6 @@
 -- How many cells a content takes. A small one is put in no store: its owner keeps it.
 use Rattle.std.specs.Prelude.{Bool, None, Option, Some, if◌then◌else◌, nat_lt, not, ℕ, ◌+◌}
-use Rattle.meaning.specs.Values.{Int, Items, Known, Named, Outcome, Trapped, Val, Value, Values, more, none}
+use Rattle.ids.specs.of_meaning.Values.{Int, Items, Known, Named, Outcome, Trapped, Val, Value, Values, more, none}
 
 -- an integer and an id take one each, a list one and those of its items
 abbrev mutual

@@ -1,7 +1,7 @@
 -- How the logic stores faults.
 use Rattle.std.specs.Prelude.{◌≡◌, ℕ, refl, cond, ◌==◌}
 use Rattle.std.specs.Coded.{Coded, code_by, coded×, coded_ℕ}
-use Rattle.meaning.specs.Values.{Id}
+use Rattle.ids.specs.of_meaning.Values.{Id}
 use Rattle.ids.specs.Codes.{id_code}
 use Rattle.values.specs.declared.fault.FaultKind.{FaultKind}
 use Rattle.values.specs.declared.fault.FaultKind.TheVariants.{OwnerDied, PutLost, RetriesUsed}

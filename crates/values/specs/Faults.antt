@@ -1,5 +1,5 @@
 -- Faults, as the definitions have them.
-use Rattle.meaning.specs.Values.{Id}
+use Rattle.ids.specs.of_meaning.Values.{Id}
 use Rattle.values.specs.declared.fault.FaultKind.{FaultKind}
 
 -- why an object has no content, and the object in which the fault began

@@ -1,8 +1,8 @@
 -- The ids that stand in a value, in order.
 use Rattle.std.specs.Prelude.{if◌then◌else◌, List, [], ◌∷◌, ◌++◌}
 use Rattle.std.specs.List.{list_any}
-use Rattle.meaning.specs.Values.{Value, Items, Named, Values, none, more, Outcome, Val, Trapped, Id}
-use Rattle.meaning.specs.Births.{same_id}
+use Rattle.ids.specs.of_meaning.Values.{Value, Items, Named, Values, none, more, Outcome, Val, Trapped, Id}
+use Rattle.ids.specs.of_meaning.Births.{same_id}
 
 abbrev mutual
   pub ids_listed : Value → List Id

@@ -1,5 +1,5 @@
 -- What the code's values stand for.
-use Rattle.meaning.specs.Values.{
+use Rattle.ids.specs.of_meaning.Values.{
   Value,
   Int as AnInt,
   Items,

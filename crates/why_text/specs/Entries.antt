@@ -1,7 +1,7 @@
 -- What each entry says of an object.
 use Rattle.std.specs.Prelude.{ℕ, Bool, if◌then◌else◌, List, [], ◌++◌, codes}
 use Rattle.std.specs.Fmt.{decimal}
-use Rattle.report.specs.Values.{id_text}
+use Rattle.report.specs.ValueTexts.{id_text}
 use Rattle.meaning.specs.Values.{Id, Birth, Outcome}
 use Rattle.meaning.specs.Births.{Bearing, same_id}
 use Rattle.event_log.specs.Entries.{Attempt, Fault, Entry, In, Begun, Born, Got, Ended, Accepted, Faulted, Resolved, Released}

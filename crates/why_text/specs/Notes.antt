@@ -2,7 +2,7 @@
 use Rattle.std.specs.Prelude.{ℕ, nat_lt, if◌then◌else◌, List, [], ◌∷◌, ◌++◌, codes, length, Option, Some, None}
 use Rattle.std.specs.List.{filter}
 use Rattle.std.specs.Fmt.{decimal}
-use Rattle.report.specs.Values.{id_text}
+use Rattle.report.specs.ValueTexts.{id_text}
 use Rattle.meaning.specs.Values.{Id}
 use Rattle.meaning.specs.Births.{Bearing}
 use Rattle.event_log.specs.Entries.{Attempt, Fault, Entry}

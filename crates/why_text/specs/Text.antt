@@ -1,7 +1,7 @@
 -- Why an object is as it is.
 use Rattle.std.specs.Prelude.{ℕ, zero, suc, ◌+◌, if◌then◌else◌, List, [], ◌∷◌, ◌++◌, codes, length, Option, Some, None, take}
 use Rattle.std.specs.List.{flat_map}
-use Rattle.report.specs.Values.{id_text}
+use Rattle.report.specs.ValueTexts.{id_text}
 use Rattle.meaning.specs.Values.{Id, Birth}
 use Rattle.meaning.specs.Births.{Bearing, birth_at, same_id}
 use Rattle.event_log.specs.Entries.{Entry, Faulted, Resolved}

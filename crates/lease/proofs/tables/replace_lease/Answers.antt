@@ -2,7 +2,7 @@ use Rattle.std.proofs.Common.{◌∙◌, ◌++◌, ◌∷◌, [], ap, rules}
 use Rattle.std.specs.Prelude.{not, ◌==◌}
 use Rattle.std.specs.List.{filter}
 use Rattle.std.proofs.lemmas.Fn.{filter_same}
-use Rattle.protocol.specs.Nodes.{Lease}
+use Rattle.number_lists.specs.of_protocol.Nodes.{Lease}
 use Rattle.lease.proofs.tables.replace_lease.Goals as goal
 
 pub returns-clause-leases : goal.returns-clause-leases

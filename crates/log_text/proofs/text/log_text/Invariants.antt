@@ -1,5 +1,5 @@
 use Rattle.std.proofs.Common.{◌≡◌, ◌≤◌, ◌++◌, string_bytes, drop}
-use Rattle.event_log.specs.Words.{births}
+use Rattle.log_words.specs.of_event_log.Words.{births}
 use Rattle.log_words.specs.Told.{told_of}
 use Rattle.log_text.specs.Text.{lines, log_text}
 use Rattle.log_text.proofs.text.log_text.Given as goal

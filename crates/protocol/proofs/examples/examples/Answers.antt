@@ -1,6 +1,6 @@
 use Rattle.std.specs.Prelude.{refl}
-use Rattle.meaning.specs.Births.{same_id}
-use Rattle.event_log.specs.Words.{same_attempt}
+use Rattle.protocol_data.specs.of_meaning.Births.{same_id}
+use Rattle.protocol_data.specs.of_event_log.Words.{same_attempt}
 use Rattle.protocol.proofs.examples.examples.Goals as goal
 
 -- each by computing small tables through one rule

@@ -1,5 +1,5 @@
 use Rattle.std.proofs.Common.{subst, sym}
-use Rattle.protocol_laws.specs.Given.{IsOfLog}
+use Rattle.protocol_core.specs.of_protocol_laws.Given.{IsOfLog}
 use Rattle.protocol_core.specs.Steps.{reply_of}
 use Rattle.protocol_board.specs.Views.{course_of}
 use Rattle.protocol_board.proofs.Own.{all_agree, frames_behind, kept_with}

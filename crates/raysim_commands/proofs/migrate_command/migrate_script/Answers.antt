@@ -1,7 +1,7 @@
 use Rattle.std.proofs.Common.{◌≡◌, ◌∙◌, refl, rules}
 use Rattle.std.specs.Prelude.{string_bytes}
 use Rattle.script_check.specs.Trees.{script_of}
-use Rattle.protocol_board.specs.Replays.{Play, from_first}
+use Rattle.run_commands.specs.of_protocol_board.Replays.{Play, from_first}
 use Rattle.run_commands.specs.SimReports.{first_play}
 use Rattle.raysim_commands.proofs.Migrated.{history_so, too_long_so}
 use Rattle.raysim_commands.proofs.migrate_command.migrate_script.Goals as goal

@@ -2,7 +2,7 @@ use Rattle.std.proofs.Common.{rules, ◌≡◌, subst}
 use Rattle.std.specs.Prelude.{string_bytes}
 use Rattle.script_check.specs.Scripts.{IsWellTyped}
 use Rattle.script_check.specs.Trees.{script_of}
-use Rattle.seats.specs.Ends.{size_of}
+use Rattle.replay_laws.specs.of_seats.Ends.{size_of}
 use Rattle.raysim_commands.proofs.Replayed.{at_limit_so, over_so, run_on_so}
 use Rattle.raysim_commands.proofs.thread_run.run_script.Goals as goal
 

@@ -1,7 +1,7 @@
 use Rattle.std.proofs.Common.{◌∙◌, ap, drop, length, map}
 use Rattle.values.specs.Values.{content_of}
 use Rattle.task_spec.specs.Births.{birth_of}
-use Rattle.script_check.specs.Trees.{script_of}
+use Rattle.evaluation.specs.of_script_check.Trees.{script_of}
 use Rattle.evaluation.specs.Pieces.{piece_of}
 use Rattle.segment.specs.Jobs.{JobParts, replay_of}
 use Rattle.segment.proofs.Beyond.{beyond_made, replayed_as}

@@ -1,11 +1,11 @@
 use Rattle.std.proofs.Common.{◌≡◌, IfSome, [], ◌∷◌, ◌++◌, map, sym, ap, ◌∙◌, subst}
 use Rattle.meaning.specs.Values.{others_of}
 use Rattle.meaning.specs.Meaning.{replay}
-use Rattle.script_check.specs.Trees.{script_of}
+use Rattle.evaluation.specs.of_script_check.Trees.{script_of}
 use Rattle.values.specs.Values.{content_of}
 use Rattle.frame_laws.specs.Steps.{HasSteps}
-use Rattle.frames.specs.Frames.{IsWaiting}
-use Rattle.frames.proofs.Doing.{if_ok, on_err}
+use Rattle.evaluation.specs.of_frames.Frames.{IsWaiting}
+use Rattle.evaluation.proofs.of_frames.Doing.{if_ok, on_err}
 use Rattle.evaluation.specs.TaskValues.{IsTaskBirth}
 use Rattle.evaluation.specs.Pieces.{IsBrokenStop}
 use Rattle.evaluation.proofs.Standing.{both_ok}

@@ -1,4 +1,4 @@
-use Rattle.protocol_board.specs.Cores.{reply_of}
+use Rattle.run_paths.specs.of_protocol_board.Cores.{reply_of}
 use Rattle.seat_books.specs.Tallies.{totals_in}
 use Rattle.seats.specs.Counted.{counted}
 use Rattle.seats.proofs.Books.{all_add, watched_add}

@@ -1,5 +1,5 @@
 use Rattle.std.proofs.Common.{sym, subst, ◌∙◌}
-use Rattle.protocol_board.specs.Cores.{RunState}
+use Rattle.run_paths.specs.of_protocol_board.Cores.{RunState}
 use Rattle.seats.specs.Seated.{AreFrom}
 use Rattle.seats.proofs.shared.Shared.close.Goals as goal
 

@@ -1,7 +1,7 @@
 use Rattle.std.proofs.Common.{◌≡◌, ◌+◌, ◌≤◌, ◌∙◌, sym, subst}
 use Rattle.event_log.specs.Books.{totals_of}
 use Rattle.event_log.specs.Laws.{plus}
-use Rattle.protocol_board.specs.Cores.{first_state, reply_of}
+use Rattle.run_paths.specs.of_protocol_board.Cores.{first_state, reply_of}
 use Rattle.seats.specs.Counted.{AddsFrom, counted}
 use Rattle.seats.specs.Ends.{first_events}
 use Rattle.seats.specs.Outside.{Passes}

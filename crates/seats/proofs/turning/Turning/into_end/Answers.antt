@@ -1,6 +1,6 @@
 use Rattle.std.proofs.Common.{◌≡◌, ◌∙◌, Some, ap, rules, subst, sym}
 use Rattle.log_entries.specs.declared.refusal.Refusal.TheVariants as refusals
-use Rattle.protocol_board.specs.Cores.{RunState}
+use Rattle.run_paths.specs.of_protocol_board.Cores.{RunState}
 use Rattle.seats.specs.Ends.{IsAtLimit}
 use Rattle.seats.specs.Turns.{TurnState}
 use Rattle.seats.proofs.Limited.{is_at_limit}

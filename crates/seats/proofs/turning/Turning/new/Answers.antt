@@ -1,6 +1,6 @@
 use Rattle.std.proofs.Common.{None, ap, subst, sym}
 use Rattle.event_log.specs.Books.{Totals}
-use Rattle.protocol_board.specs.Cores.{Size}
+use Rattle.run_paths.specs.of_protocol_board.Cores.{Size}
 use Rattle.seats.proofs.Came.{fresh_came}
 use Rattle.seats.proofs.Counted.{fresh_claims, fresh_seat_totals, fresh_totals}
 use Rattle.seats.proofs.Outside.{none_yet}

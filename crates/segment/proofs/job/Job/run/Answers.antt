@@ -1,7 +1,7 @@
 use Rattle.std.proofs.Common.{sym, subst}
 use Rattle.meaning.specs.Syntax.{Script}
-use Rattle.script_check.specs.Trees.{script_of}
-use Rattle.script_check.specs.Scripts.{IsWellTyped}
+use Rattle.evaluation.specs.of_script_check.Trees.{script_of}
+use Rattle.evaluation.specs.of_script_check.Scripts.{IsWellTyped}
 use Rattle.segment.specs.Jobs.{IsBegun}
 use Rattle.segment.proofs.Safe.{never_broken}
 use Rattle.segment.proofs.job.Job.run.Goals as goal

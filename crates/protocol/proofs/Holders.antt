@@ -2,9 +2,9 @@
 use Rattle.std.proofs.Common.{◌≡◌, zero, suc, Bool, true, false, List, [], ◌∷◌, refl, sym, ap, subst}
 use Rattle.std.specs.Prelude.{◌||◌, not}
 use Rattle.std.specs.List.{list_any}
-use Rattle.meaning.specs.Values.{Id}
-use Rattle.meaning.proofs.BirthLaws.{at_test}
-use Rattle.event_log.specs.Breaks.{Among}
+use Rattle.protocol_data.specs.of_meaning.Values.{Id}
+use Rattle.protocol_data.proofs.of_meaning.BirthLaws.{at_test}
+use Rattle.protocol_data.specs.of_event_log.Breaks.{Among}
 use Rattle.protocol.specs.Sets.{has_id}
 use Rattle.protocol.specs.Tables.{Object, is_held}
 use Rattle.protocol.specs.Laws.{IsHolder}

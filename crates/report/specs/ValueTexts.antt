@@ -1,7 +1,7 @@
 -- The texts of values.
 use Rattle.std.specs.Prelude.{List, [], ℕ, zero, suc, ◌++◌, codes}
 use Rattle.std.specs.Fmt.{decimal, signed_decimal}
-use Rattle.meaning.specs.Values.{Value, Int, Items, Named, Known, Values, none, more, Id}
+use Rattle.values.specs.of_meaning.Values.{Value, Int, Items, Named, Known, Values, none, more, Id}
 
 -- o1.2
 abbrev pub id_text : Id → List ℕ

@@ -1,0 +1,1 @@
+pub use Rattle.meaning.specs as of_meaning
